@@ -1,0 +1,96 @@
+ghost use Rattle.std.specs.Prelude.{◌≡◌, [], ◌∷◌, ◌++◌, length, OnOk, OnErr};
+
+use std::alloc::{AllocError, Global};
+use std::marker::Model;
+
+/// A list of items in order, over a `Vec`, which contracts see as a list.
+///
+/// Crates give it a name for each kind of item, as `HostList` for `ListOf<Host>`.
+#[derive(Debug, Drop)]
+pub struct ListOf<T> {
+    items: Vec<T>,
+}
+
+impl<T> Model for ListOf<T> {
+    ghost use Rattle.std.specs.Prelude.{List};
+
+    ghost Value = { List T };
+
+    ghost view = { λ s. s.items.items };
+}
+
+impl<T: Drop> ListOf<T> {
+    /// The empty list, which takes no memory.
+    pub fn new(alloc: Global) -> ListOf<T>
+        ensures items { result ≡ [] }
+    {
+        ListOf {
+            items: Vec::new(alloc),
+        }
+    }
+
+    /// The list of these items, which takes no memory.
+    pub fn from_vec(items: Vec<T>) -> ListOf<T>
+        ensures items { result ≡ items.items }
+    {
+        ListOf { items }
+    }
+
+    /// The items back, without taking memory.
+    pub fn into_vec(self) -> Vec<T>
+        ensures items { result.items ≡ self }
+    {
+        let ListOf { items } = self;
+        items
+    }
+
+    /// Adds an item at the end; want of memory leaves the list as it was.
+    pub fn push(&mut self, item: T) -> Result<(), AllocError>
+        ensures ok { OnOk result (self.new ≡ self.old ++ item ∷ []) }
+        ensures err { OnErr result (self.new ≡ self.old) }
+    {
+        self.items.push(item)?;
+        Ok(())
+    }
+
+    /// The items in order.
+    pub fn as_slice(&self) -> &[T]
+        ensures items { result.now ≡ self.now }
+    {
+        &self.items
+    }
+
+    /// How many items there are.
+    pub fn len(&self) -> usize
+        ensures count { result ≡ length self.now }
+    {
+        self.items.len()
+    }
+
+    /// The allocator of the list.
+    pub fn allocator(&self) -> Global {
+        *self.items.allocator()
+    }
+}
+
+#[cfg(test)]
+mod tests {
+    use super::*;
+    use std::test::Fail;
+
+    #[test]
+    fn items_stand_in_the_order_of_their_pushes(rt: HostRuntime) -> Result<(), Fail> {
+        let mut list = ListOf::new(rt.alloc());
+        assert_eq!(rt; list.len(), 0);
+        for item in [3u32, 1, 3] {
+            list.push(item)?;
+        }
+        assert_eq!(rt; list.as_slice(), [3, 1, 3].as_slice());
+        let mut other = ListOf::new(list.allocator());
+        other.push(7u32)?;
+        assert_eq!(rt; other.as_slice(), [7].as_slice());
+        let items = list.into_vec();
+        assert_eq!(rt; ListOf::from_vec(items).as_slice(), [3, 1, 3].as_slice());
+        Ok(())
+    }
+}
