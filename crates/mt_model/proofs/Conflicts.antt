@@ -1,0 +1,73 @@
+-- Bounds of a log that conflict leave it no timing: the times of a walk's ends differ by at most the sum of its bounds.
+use Rattle.std.proofs.Common.{◌≡◌, refl, ℕ, ◌<◌, List, [], ◌∷◌, length, Bool, true, false, Option, Some, None, All, ℤ, pos, ◌+ℤ◌, ◌≤ℤ◌, arith}
+use Rattle.std.specs.Prelude.{option_map, slice_get, position, if◌then◌else◌}
+use Rattle.std.proofs.lemmas.Bool.{ltb-true}
+use Rattle.std.proofs.lemmas.Int.{ints}
+use Rattle.std.proofs.lemmas.List.Elements.{All-head, All-tail}
+use Rattle.std.proofs.lemmas.Option.{cond_some, option_and_then_some, slice_get_within}
+use Rattle.mt_model.specs.declared.step.Step.{Step}
+use Rattle.mt_model.specs.declared.step.Step.TheVariants.{Low, High, Rise, Message, Extra, Order}
+use Rattle.mt_model.specs.Log.{Logged, received_by}
+use Rattle.mt_model.specs.Timing.{Admissible, previous_row, received_in, is_send_of, send_of}
+use Rattle.mt_model.specs.Walks.{Edge, node_time, is_row, edge_of, LeadsTo, IsClosedWalk, HasEdges, sum_of_bounds}
+use Rattle.mt_model.specs.Laws.{IsBound, ConflictExcludesTimings}
+
+-- the time of an edge's first end less that of its last is at most its bound
+abbrev pub Holds : List ℤ → Edge → Type 0
+Holds t x = node_time t x.from ≤ℤ (node_time t x.to +ℤ x.bound)
+
+mapped_some : {A B : Type 0} (f : A → B) (o : Option A) (y : B) → option_map f o ≡ Some y → (x : A) × (o ≡ Some x) × (f x ≡ y)
+mapped_some f None y is = absurd (cc)
+mapped_some f (Some x) y is = (x, refl, cc)
+
+guarded_some : {A : Type 0} (b : Bool) (o : Option A) (y : A) → (if b then o else None) ≡ Some y → (b ≡ true) × (o ≡ Some y)
+guarded_some false o y is = absurd (cc)
+guarded_some true o y is = (refl, is)
+
+-- a row that receives what was sent is in the log
+receive_within : (log : Logged) (r s : ℕ) → send_of log r ≡ Some s → r < length log.rows
+receive_within log r s is =
+    option_and_then_some (λ message. position (is_send_of message) log.rows) (received_in log r) s is
+    (λ message received sent. option_and_then_some (λ x. received_by x.act) (slice_get log.rows r) message received
+    (λ x at receives. slice_get_within log.rows r x at))
+
+module _ (log : Logged) (t : List ℤ) (ok : Admissible log t) where
+  pub edge_holds : (step : Step) (x : Edge) → IsBound step → edge_of log step ≡ Some x → Holds t x
+  edge_holds (Low e) x bound is =
+      let parts = cond_some _ _ _ is in
+      rw (← parts.1) (omega (arith, ints, ok.low e (ltb-true _ _ parts.0)))
+  edge_holds (High e) x bound is =
+      let parts = cond_some _ _ _ is in
+      rw (← parts.1) (omega (arith, ints, ok.high e (ltb-true _ _ parts.0)))
+  edge_holds (Rise f) x bound is =
+      let guarded = guarded_some (is_row log f) (option_map _ (previous_row log f)) x is in
+      let parts = mapped_some _ _ _ guarded.1 in
+      rw (← parts.2) (omega (arith, ints, ok.rise parts.0 f (ltb-true _ _ guarded.0) parts.1))
+  edge_holds (Message r) x bound is =
+      let parts = mapped_some _ _ _ is in
+      rw (← parts.2) (omega (arith, ints, ok.message parts.0 r (receive_within log r parts.0 parts.1) parts.1))
+  edge_holds (Extra k) x bound is =
+      let parts = mapped_some _ _ _ is in
+      rw (← parts.2) (omega (arith, ints, ok.extra k parts.0 parts.1))
+  edge_holds (Order e f c) x bound is = absurd bound
+
+  walk_holds : (steps : List Step) (edges : List Edge) (a b : ℕ) → All IsBound steps → HasEdges log steps edges → LeadsTo a edges b → node_time t a ≤ℤ (node_time t b +ℤ sum_of_bounds edges)
+  walk_holds [] [] a b bounds found leads = rw leads (omega (arith, ints))
+  walk_holds [] (x ∷ xs) a b bounds found leads = absurd (cc)
+  walk_holds (s ∷ ss) [] a b bounds found leads = absurd (cc)
+  walk_holds (s ∷ ss) (x ∷ xs) a b bounds found leads =
+      let here : edge_of log s ≡ Some x = cc in
+      let others : HasEdges log ss xs = cc in
+      let first = rw leads.0 at (edge_holds s x (All-head IsBound s ss bounds) here) in
+      let rest = walk_holds ss xs x.to b (All-tail IsBound s ss bounds) others leads.1 in
+      omega (arith, ints, first, rest)
+
+  closed_walk_holds : (steps : List Step) (edges : List Edge) → All IsBound steps → HasEdges log steps edges → IsClosedWalk edges → pos 0 ≤ℤ sum_of_bounds edges
+  closed_walk_holds steps [] bounds found closed = absurd closed
+  closed_walk_holds steps (x ∷ xs) bounds found closed =
+      let whole = walk_holds steps (x ∷ xs) x.from x.from bounds found (refl, closed) in
+      omega (arith, ints, whole)
+
+pub excludes_timings : ConflictExcludesTimings
+excludes_timings log steps t bounds conflict ok =
+    absurd (omega (arith, ints, closed_walk_holds log t ok steps conflict.edges bounds conflict.found conflict.closed, conflict.negative))

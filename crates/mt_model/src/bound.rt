@@ -1,0 +1,20 @@
+use crate::EventId;
+use mt_list::ListOf;
+
+/// A bound that a log sets to the true times of its rows.
+#[derive(Clone, Copy, Debug, PartialEq, Eq)]
+pub enum Bound {
+    /// A row's true time is at least its local time less its host's skew.
+    Low(EventId),
+    /// A row's true time is at most its local time and its host's skew.
+    High(EventId),
+    /// A row comes at least its host's gap after the row before it there.
+    Rise(EventId),
+    /// A receive comes after its send.
+    Message(EventId),
+    /// An extra bound, by its place from 0.
+    Extra(u32),
+}
+
+/// Bounds in order.
+pub type BoundList = ListOf<Bound>;

@@ -1,0 +1,23 @@
+//! Logs of several hosts, their timings, and the walks of bounds that exclude them.
+#![tactic(auto)]
+
+mod bound;
+mod ids;
+mod laws;
+mod limits;
+mod log;
+mod name;
+mod step;
+mod times;
+
+pub use bound::{Bound, BoundList};
+pub use ids::{EventId, HostId, NodeId, PropId};
+pub use laws::{bounds_are_admissible, conflict_excludes_timings, previous_row_is_last};
+pub use limits::{
+    MAX_EXTRA, MAX_EXTRAS, MAX_GAP, MAX_HOSTS, MAX_LOCAL, MAX_NAME_LENGTH, MAX_ORDER, MAX_ROWS,
+    MAX_SKEW, MAX_WRITTEN_SKEW,
+};
+pub use log::{Act, Extra, ExtraList, Host, HostList, Log, Row, RowList};
+pub use name::Name;
+pub use step::{Step, Steps};
+pub use times::{Bits, Times, Walk};

@@ -1,0 +1,31 @@
+//! The limits of a log, in one place. Times, skews, gaps and bounds are in the log's one unit of time.
+
+/// The most bytes of a name.
+pub const MAX_NAME_LENGTH: usize = 32;
+
+/// The most hosts of a log.
+pub const MAX_HOSTS: usize = 64;
+
+/// The most rows of a log.
+pub const MAX_ROWS: usize = 64;
+
+/// The most extra bounds of a log.
+pub const MAX_EXTRAS: usize = 1_048_576;
+
+/// The greatest magnitude of a local time.
+pub const MAX_LOCAL: i128 = 4_000_000_000_000_000_000;
+
+/// The greatest skew that a log file may state.
+pub const MAX_WRITTEN_SKEW: i128 = 1_000_000_000_000_000_000;
+
+/// The greatest skew of a host, a log with widened skews included.
+pub const MAX_SKEW: i128 = 2_000_000_000_000_000_000;
+
+/// The greatest gap of a host.
+pub const MAX_GAP: i128 = 1_000_000_000_000_000_000;
+
+/// The greatest magnitude of an extra bound.
+pub const MAX_EXTRA: i128 = 100_000_000_000_000_000_000;
+
+/// The greatest magnitude of the bound of an order step.
+pub const MAX_ORDER: i128 = 1_000_000_000_000_000_000_000;

@@ -1,0 +1,114 @@
+ghost use Rattle.std.specs.Prelude.{◌≡◌, IfOk, IfSome, is_some};
+ghost use Rattle.std.specs.List.{list_all};
+ghost use Rattle.mt_model.specs.Name.{is_name, is_letter, is_name_byte};
+
+use crate::MAX_NAME_LENGTH;
+use std::alloc::{AllocError, Global};
+use std::marker::Model;
+
+/// A name of a host, a proposition or a message: 1 to 32 bytes, the first of them `a` to `z`, the
+/// others `a` to `z`, `0` to `9` or `_`. Contracts see it as its bytes.
+#[derive(Debug, Drop)]
+pub struct Name {
+    bytes: Vec<u8>,
+}
+
+impl Model for Name {
+    ghost use Rattle.std.specs.Prelude.{◌≡◌, List, ℕ, true};
+    ghost use Rattle.mt_model.specs.Name.{is_name};
+
+    ghost Value = { List ℕ };
+
+    ghost view = { λ n. n.bytes.items };
+
+    ghost invariant = { λ n. is_name n.bytes.items ≡ true };
+}
+
+fn is_start(b: u8) -> bool
+    ensures { result ≡ is_letter b }
+{
+    b >= b'a' && b <= b'z'
+}
+
+fn is_part(b: u8) -> bool
+    ensures { result ≡ is_name_byte b }
+{
+    is_start(b) || (b >= b'0' && b <= b'9') || b == b'_'
+}
+
+fn are_parts(bytes: &[u8]) -> bool
+    ensures { result ≡ list_all is_name_byte bytes.now }
+{
+    bytes.iter().all(|b| is_part(*b))
+}
+
+fn names(bytes: &[u8]) -> bool
+    ensures { result ≡ is_name bytes.now }
+{
+    match bytes {
+        [] => false,
+        [first, rest @ ..] => {
+            is_start(*first) && are_parts(rest) && bytes.len() <= MAX_NAME_LENGTH
+        }
+    }
+}
+
+impl Name {
+    /// The name of these bytes, and None exactly where they are no name.
+    pub fn new(alloc: Global, bytes: &[u8]) -> Result<Option<Name>, AllocError>
+        ensures found { IfOk result (λ n. is_some n ≡ is_name bytes.now) }
+        ensures same { IfOk result (λ n. IfSome n (λ name. name ≡ bytes.now)) }
+    {
+        if names(bytes) {
+            Ok(Some(Name {
+                bytes: bytes.to_vec(alloc)?,
+            }))
+        } else {
+            Ok(None)
+        }
+    }
+
+    /// Its bytes.
+    pub fn bytes(&self) -> &[u8]
+        ensures same { result.now ≡ self.now }
+    {
+        &self.bytes
+    }
+}
+
+#[cfg(test)]
+mod tests {
+    use super::*;
+    use std::test::Fail;
+
+    #[test]
+    fn names_are_told_from_other_bytes(rt: HostRuntime) -> Result<(), Fail> {
+        let cases = [
+            (b"a".as_slice(), true),
+            (b"z9_".as_slice(), true),
+            (b"abcdefghijklmnopqrstuvwxyz012345".as_slice(), true),
+            (b"abcdefghijklmnopqrstuvwxyz0123456".as_slice(), false),
+            (b"".as_slice(), false),
+            (b"1a".as_slice(), false),
+            (b"_a".as_slice(), false),
+            (b"A".as_slice(), false),
+            (b"aB".as_slice(), false),
+            (b"a-b".as_slice(), false),
+            (b"a b".as_slice(), false),
+            (b"a\0".as_slice(), false),
+            (b"a`".as_slice(), false),
+            (b"a{".as_slice(), false),
+            (b"a/".as_slice(), false),
+            (b"a:".as_slice(), false),
+            (b"caf\xc3\xa9".as_slice(), false),
+        ];
+        for (bytes, valid) in cases {
+            let name = Name::new(rt.alloc(), bytes)?;
+            assert_eq!(rt; name.is_some(), valid, "at {bytes:?}");
+            if let Some(name) = name {
+                assert_eq!(rt; name.bytes(), bytes);
+            }
+        }
+        Ok(())
+    }
+}

@@ -1,0 +1,63 @@
+use mt_list::ListOf;
+use std::fmt;
+
+/// A step of a walk from a node x to a node y, which says `x - y <= c`. Rows and extras count from 0.
+#[derive(Clone, Copy, Debug, PartialEq, Eq)]
+pub enum Step {
+    /// The true time of a row is at least its local time less its host's skew.
+    Low(u32),
+    /// The true time of a row is at most its local time and its host's skew.
+    High(u32),
+    /// A row comes its host's gap after the row before it there.
+    Rise(u32),
+    /// A receive comes after its send.
+    Message(u32),
+    /// An extra bound of the log.
+    Extra(u32),
+    /// `t_e - t_f <= c`, which is no bound of the log.
+    Order { e: u32, f: u32, c: i128 },
+}
+
+/// Steps one after another.
+pub type Steps = ListOf<Step>;
+
+impl fmt::Display for Step {
+    ghost use Rattle.std.specs.Prelude.{Some};
+    ghost use Rattle.mt_model.specs.Texts.{step_text};
+
+    ghost output = { λ s. Some (step_text s) };
+
+    fn fmt<W: fmt::Write>(&self, f: &mut fmt::Formatter<W>) -> fmt::Result {
+        match self {
+            Step::Low(e) => write!(f, "low {e}"),
+            Step::High(e) => write!(f, "high {e}"),
+            Step::Rise(e) => write!(f, "rise {e}"),
+            Step::Message(e) => write!(f, "message {e}"),
+            Step::Extra(k) => write!(f, "extra {k}"),
+            Step::Order { e, f: other, c } => write!(f, "order {e} {other} {c}"),
+        }
+    }
+}
+
+#[cfg(test)]
+mod tests {
+    use super::*;
+    use std::test::Fail;
+
+    #[test]
+    fn a_step_reads_as_its_word_and_its_numbers(rt: HostRuntime) -> Result<(), Fail> {
+        let cases = [
+            (Step::Low(3), "low 3"),
+            (Step::High(0), "high 0"),
+            (Step::Rise(1), "rise 1"),
+            (Step::Message(2), "message 2"),
+            (Step::Extra(7), "extra 7"),
+            (Step::Order { e: 0, f: 1, c: -5 }, "order 0 1 -5"),
+        ];
+        for (step, text) in cases {
+            let written = format!(in rt.alloc(); "{step}")?;
+            assert_eq!(rt; written.as_str(), text);
+        }
+        Ok(())
+    }
+}
