@@ -1,0 +1,18 @@
+use Rattle.std.proofs.Common.{◌≡◌, ◌+◌, ◌-◌, ◌≤◌, ◌++◌, length, true, Some, vec_len}
+use Rattle.mt_port.specs.Port.{file_of}
+use Rattle.mt_port.proofs.whole.read_all.Given as goal
+
+abbrev pub invariant-loop-bytes : goal.invariant-loop-bytes
+invariant-loop-bytes g l = record {
+  is_open : g.S.Shelf.is_open l.shelf ≡ true;
+  size : length l.buf ≡ 4096;
+  within : vec_len l.bytes ≤ l.limit;
+  bytes : g.S.Shelf.tells l.fn.shelf ≡ true → file_of (g.S.Shelf.files l.fn.shelf) l.name ≡ Some (l.bytes.items ++ g.S.Shelf.left l.shelf);
+  later : g.S.Shelf.faults l.fn.shelf ≤ g.S.Shelf.faults l.shelf;
+  steady : g.S.Shelf.steady l.fn.shelf → g.S.Shelf.steady l.shelf;
+  files : g.S.Shelf.files l.shelf ≡ g.S.Shelf.files l.fn.shelf;
+  telling : g.S.Shelf.tells l.shelf ≡ g.S.Shelf.tells l.fn.shelf;
+}
+
+abbrev pub decreases-loop-bytes : goal.decreases-loop-bytes
+decreases-loop-bytes g l = l.limit + 1 - vec_len l.bytes

@@ -1,0 +1,81 @@
+-- What contracts see of the shelf and the sink in memory.
+use Rattle.std.specs.Prelude.{◌≢◌, ℕ, ◌+◌, ◌-◌, ◌^◌, ◌<◌, ◌≤◌, List, [], ◌∷◌, ◌++◌, map, length, min, All, Contains, Bool, true, false, string_bytes, String, Vec, Option, Some, None, IsNone, slice_index_or, drop}
+use Rattle.std.specs.declared.alloc.Global.{Global}
+use Rattle.mt_port.specs.Port.{Files, file_of}
+
+-- the bytes so far, the most that it holds, the most that one call takes, the calls that fail, and the counts
+pub record Sunk : Type 0 where
+  pub bytes : List ℕ
+  pub room : ℕ
+  pub piece : ℕ
+  pub fails : List ℕ
+  pub calls : ℕ
+  pub faults : ℕ
+
+-- the files, what is left of the open one, the most that one call gives, the calls that fail, and the counts
+pub record Shelved : Type 0 where
+  pub files : Files
+  pub is_open : Bool
+  pub left : List ℕ
+  pub piece : ℕ
+  pub fails : List ℕ
+  pub calls : ℕ
+  pub faults : ℕ
+
+-- a count after one more, which stays at its end
+abbrev pub one_more : ℕ → ℕ
+one_more count = min (count + 1) (2 ^ 64 - 1)
+
+-- the call after this many is one of those that fail
+abbrev pub IsToFail : List ℕ → ℕ → Type 0
+IsToFail fails calls = Contains fails (one_more calls)
+
+-- no call after this many is to fail
+abbrev pub IsSteady : List ℕ → ℕ → Type 0
+IsSteady fails calls = All (λ n. (n ≤ calls) × (n ≢ 2 ^ 64 - 1)) fails
+
+-- each file has a name that no later one has
+abbrev pub AreDistinct : Files → Type 0
+AreDistinct [] = Unit {0}
+AreDistinct (f ∷ rest) = IsNone (file_of rest f.0) × AreDistinct rest
+
+-- the names and bytes of files
+abbrev pub named : List (String Global × Vec ℕ Global) → Files
+named files = map (λ f. (string_bytes f.0, f.1.items)) files
+
+-- the bytes of the file at an index
+abbrev pub bytes_of : Files → ℕ → List ℕ
+bytes_of files i = slice_index_or (map (λ f. f.1) files) i []
+
+-- the bytes from a place on of the file at an index
+abbrev pub left_at : Files → Option ℕ → ℕ → List ℕ
+left_at files None place = []
+left_at files (Some i) place = drop place (bytes_of files i)
+
+-- the shelf after it opened a file of these bytes
+abbrev pub opened : Shelved → List ℕ → Shelved
+opened s bytes = record s { is_open = true; left = bytes; calls = one_more s.calls }
+
+-- the shelf after an opening that failed
+abbrev pub not_opened : Shelved → Shelved
+not_opened s = record s { is_open = false; left = []; calls = one_more s.calls; faults = one_more s.faults }
+
+-- the shelf after it gave this many bytes
+abbrev pub gave : Shelved → ℕ → Shelved
+gave s n = record s { left = drop n s.left; calls = one_more s.calls }
+
+-- the shelf after a read that failed
+abbrev pub not_read : Shelved → Shelved
+not_read s = record s { calls = one_more s.calls; faults = one_more s.faults }
+
+-- a piece that isn't empty, and no room for it
+abbrev pub IsFullFor : Sunk → List ℕ → Type 0
+IsFullFor s piece = (0 < length piece) × (s.room ≤ length s.bytes)
+
+-- the sink after it took these bytes
+abbrev pub took : Sunk → List ℕ → Sunk
+took s bytes = record s { bytes = s.bytes ++ bytes; calls = one_more s.calls }
+
+-- the sink after a write that failed
+abbrev pub not_written : Sunk → Sunk
+not_written s = record s { calls = one_more s.calls; faults = one_more s.faults }

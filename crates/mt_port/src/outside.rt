@@ -1,0 +1,155 @@
+//! The real files and streams behind the traits, a few lines each.
+
+ghost use Rattle.std.specs.Prelude.{[], false, true, codes, bytes_eq, ◌≡◌, ◌↔◌, ◌||◌, ◌≤◌, IsErr, IfOk, OnErr, OnOk, length};
+ghost use Rattle.mt_port.specs.Port.{HasCause};
+
+use crate::{Failed, Shelf, Sink};
+use std::fs;
+use std::io::{self, Read, Write};
+use std::marker::Model;
+use std::rt::Files;
+
+// What a shelf of real files reads from.
+#[derive(Drop)]
+enum Source<F, I> {
+    Nothing,
+    Opened(F),
+    Input(I),
+}
+
+/// The real files by their paths, and the standard input under the name `-`. It tells no content.
+#[derive(Drop)]
+pub struct FileShelf<'a, R: Files + Input> {
+    rt: &'a R,
+    source: Source<R::File, R::Reader>,
+    input_taken: bool,
+    faults: u64,
+}
+
+impl<'a, R: Files + Input> Model for FileShelf<'a, R> {
+    ghost use Rattle.mt_port.specs.Outside.{Reached, stands_open};
+
+    ghost Value = { Reached };
+
+    ghost view = { λ s. record { faults = s.faults; is_open = stands_open s.source; input_taken = s.input_taken } };
+}
+
+impl<'a, R: Files + Input> FileShelf<'a, R> {
+    /// A shelf over what the program was given, with nothing open and no fault so far.
+    pub fn new(rt: &'a R) -> FileShelf<'a, R>
+        ensures { result ≡ record { faults = 0; is_open = false; input_taken = false } }
+    {
+        FileShelf {
+            rt,
+            source: Source::Nothing,
+            input_taken: false,
+            faults: 0,
+        }
+    }
+}
+
+impl<R: Files + Input> Shelf for FileShelf<'_, R> {
+    ghost faults = { λ s. s.faults };
+
+    ghost is_open = { λ s. s.is_open };
+
+    ghost tells = { λ s. false };
+
+    ghost files = { λ s. [] };
+
+    ghost left = { λ s. [] };
+
+    ghost steady = { λ s. ⊥ };
+
+    /// Opens the file of this path, or the standard input, which can be opened once.
+    fn open(&mut self, name: &str) -> Result<(), Failed>
+        ensures opened { OnOk result (self.new.is_open ≡ true) }
+        ensures closed { OnErr result (self.new.is_open ≡ false) }
+        ensures cause { HasCause self.old.faults self.new.faults result }
+
+        // The standard input opens at first, and never again.
+        ensures input { name.now ≡ codes "-" → (IsErr result ↔ (self.old.input_taken ≡ true)) }
+        ensures taken { self.new.input_taken ≡ (self.old.input_taken || bytes_eq name.now (codes "-")) }
+    {
+        self.source = Source::Nothing;
+        if name == "-" {
+            if !self.input_taken {
+                self.input_taken = true;
+                self.source = Source::Input(self.rt.reader());
+                return Ok(());
+            }
+        } else if let Ok(file) = fs::open(self.rt, name) {
+            self.source = Source::Opened(file);
+            return Ok(());
+        }
+        self.faults = self.faults.saturating_add(1);
+        Err(Failed)
+    }
+
+    fn read(&mut self, buf: &mut [u8]) -> Result<usize, Failed>
+        requires { self.old.is_open ≡ true }
+        ensures open { self.new.is_open ≡ true }
+        ensures count { IfOk result (λ n. n ≤ length buf.old) }
+        ensures cause { HasCause self.old.faults self.new.faults result }
+        ensures taken { self.new.input_taken ≡ self.old.input_taken }
+    {
+        let given = match &mut self.source {
+            Source::Nothing => unreachable!(),
+            Source::Opened(file) => file.read(buf),
+            Source::Input(input) => input.read(buf),
+        };
+        match given {
+            Ok(count) => Ok(count),
+            Err(_) => {
+                self.faults = self.faults.saturating_add(1);
+                Err(Failed)
+            }
+        }
+    }
+}
+
+/// The standard output. It tells no content.
+#[derive(Drop)]
+pub struct StdSink<'a, R: Print> {
+    rt: &'a R,
+    faults: u64,
+}
+
+impl<'a, R: Print> Model for StdSink<'a, R> {
+    ghost use Rattle.std.specs.Prelude.{ℕ};
+
+    ghost Value = { ℕ };
+
+    ghost view = { λ s. s.faults };
+}
+
+impl<'a, R: Print> StdSink<'a, R> {
+    /// A sink over what the program was given, with no fault so far. Contracts see the count alone.
+    pub fn new(rt: &'a R) -> StdSink<'a, R>
+        ensures { result ≡ 0 }
+    {
+        StdSink { rt, faults: 0 }
+    }
+}
+
+impl<R: Print> Sink for StdSink<'_, R> {
+    ghost faults = { λ s. s };
+
+    ghost tells = { λ s. false };
+
+    ghost bytes = { λ s. [] };
+
+    /// Fails where the system does, and where it takes nothing of a piece that isn't empty.
+    fn write(&mut self, piece: &[u8]) -> Result<usize, Failed> {
+        match io::writer(self.rt).write(piece) {
+            Ok(count) if count > 0 || piece.is_empty() => Ok(count),
+            _ => {
+                self.faults = self.faults.saturating_add(1);
+                Err(Failed)
+            }
+        }
+    }
+}
+
+#[cfg(test)]
+mod tests;
