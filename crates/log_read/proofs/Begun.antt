@@ -1,0 +1,203 @@
+-- What was read so far stays the beginning of a valid log.
+use Rattle.std.proofs.Common.{◌≡◌, ◌∙◌, sym, ap, refl, arith, ℕ, ◌<◌, ◌≤◌, Bool, true, false, List, [], ◌∷◌, ◌++◌, length, length-append, get_or, Option, Some, None, ℤ, pos, neg_ℤ, ◌≤ℤ◌, ◌==◌, lit≤}
+use Rattle.std.specs.Prelude.{All, IfSome, if◌then◌else◌, ◌&&◌, ◌||◌, not, int_le, option_map, option_and_then, nat_le, bytes_eq, is_none}
+use Rattle.std.specs.Option.{option_map_or}
+use Rattle.std.specs.Ordering.{int_eq}
+use Rattle.std.specs.Str.Parse.{digits_value}
+use Rattle.std.proofs.lemmas.Int.{ints}
+use Rattle.std.proofs.lemmas.Bool.Decides.{nat_tests}
+use Rattle.std.proofs.lemmas.List.Elements.{All-nil, All-push}
+use Rattle.std.proofs.lemmas.List.Quantifiers.{all_pairs_push, position-Some}
+use Rattle.std.proofs.lemmas.List.Folds.{list_any_at}
+use Rattle.std.proofs.lemmas.Slice.Eq.{bytes_eq-Decides}
+use Rattle.mt_model.specs.declared.log.Act.{Act}
+use Rattle.mt_model.specs.declared.log.Host.{Host}
+use Rattle.mt_model.specs.declared.log.Row.{Row}
+use Rattle.mt_model.specs.declared.limits.TheConstants.{MAX_HOSTS, MAX_ROWS, MAX_WRITTEN_SKEW, MAX_GAP, MAX_LOCAL}
+use Rattle.mt_model.specs.Log.{Logged, IsLog, IsHost, IsRow, IsExtra, IsWithin, IsSent, SendSame, sent_by, received_by}
+use Rattle.mt_model.specs.Name.{is_name, is_reserved}
+use Rattle.mt_model.specs.Timing.{is_send_of}
+use Rattle.log_read.specs.declared.fault.LogFault.{LogFault}
+use Rattle.log_read.specs.declared.kind.EventKind.{EventKind}
+use Rattle.log_read.specs.declared.kind.EventKind.TheVariants as event
+use Rattle.log_read.specs.Numbers.{is_number, number_up_to, negated, signed_up_to}
+use Rattle.log_read.specs.Records.{host_with, row_with, place_of_host, act_of}
+use Rattle.log_read.specs.LogOf.{host_fault, event_fault, is_declared, sends_again}
+use Rattle.log_read.specs.Reading.{IsBegun}
+
+-- where the first test that fails is none, each test passed
+four_pass : (a b c d : Bool) (w x y z : LogFault) → (if a then Some w else if b then Some x else if c then Some y else if d then Some z else None) ≡ None
+    → (a ≡ false) × (b ≡ false) × (c ≡ false) × (d ≡ false)
+four_pass true b c d w x y z h = cc
+four_pass false true c d w x y z h = cc
+four_pass false false true d w x y z h = cc
+four_pass false false false true w x y z h = cc
+four_pass false false false false w x y z h = (refl, refl, refl, refl)
+
+either_none : (a b : Bool) → (a || b) ≡ false → (a ≡ false) × (b ≡ false)
+either_none true b h = cc
+either_none false b h = (refl, h)
+
+found_is : (b : Bool) (v z : ℤ) → (if b then Some v else None) ≡ Some z → (v ≡ z) × (b ≡ true)
+found_is true v z h = (cc, refl)
+found_is false v z h = cc
+
+both_true : (a b : Bool) → (a && b) ≡ true → b ≡ true
+both_true true b h = h
+both_true false b h = cc
+
+-- a number that was read is in its range
+pub number_in_range : (most : ℤ) (bytes : List ℕ) (z : ℤ) → number_up_to most bytes ≡ Some z → (pos 0 ≤ℤ z) × (z ≤ℤ most)
+number_in_range most bytes z h =
+    let found = found_is (is_number bytes && int_le (pos (digits_value 10 bytes)) most) (pos (digits_value 10 bytes)) z h in
+    let within = both_true (is_number bytes) (int_le (pos (digits_value 10 bytes)) most) found.1 in
+    rw (← found.0) (omega (arith, ints), grind (arith, ints))
+
+-- the fields of a host that was read
+record HostRead (name first second : List ℕ) (h : Host) : Type 0 where
+  named : h.name ≡ name
+  skew : number_up_to MAX_WRITTEN_SKEW first ≡ Some h.skew
+  gap : number_up_to MAX_GAP second ≡ Some h.gap
+
+host_of_numbers : (name : List ℕ) (s g : Option ℤ) (h : Host) → option_and_then (λ x. option_map (λ y. let made : Host = record { name = name; skew = x; gap = y } in made) g) s ≡ Some h
+    → (h.name ≡ name) × (s ≡ Some h.skew) × (g ≡ Some h.gap)
+host_of_numbers name None g h e = cc
+host_of_numbers name (Some x) None h e = cc
+host_of_numbers name (Some x) (Some y) h e =
+    (ap (λ o. option_map_or (λ (k : Host). k.name) o name) (sym e), ap (λ o. Some (option_map_or (λ (k : Host). k.skew) o x)) e, ap (λ o. Some (option_map_or (λ (k : Host). k.gap) o y)) e)
+
+host_read : (name skew gap : List ℕ) (h : Host) → host_with name skew gap ≡ Some h → HostRead name skew gap h
+host_read name skew gap h e =
+    let parts = host_of_numbers name (number_up_to MAX_WRITTEN_SKEW skew) (number_up_to MAX_GAP gap) h e in
+    record { named = parts.0; skew = parts.1; gap = parts.2 }
+
+-- no host of a list is named so, where the test finds none
+not_declared : (hosts : List Host) (name : List ℕ) (k : ℕ) (d : Host) → is_declared hosts name ≡ false → k < length hosts → (get_or hosts k d).name ≡ name → ⊥
+not_declared hosts name k d none within same =
+    let test : bytes_eq (get_or hosts k d).name name ≡ true = (bytes_eq-Decides (get_or hosts k d).name name).1 same in
+    let some = list_any_at (λ h. bytes_eq h.name name) hosts k d within test in
+    absurd (cc)
+
+-- a host that has no fault may be added
+pub begun_host : (place : ℕ) (log : Logged) (h : Host) (name skew gap : List ℕ) → IsBegun log → host_fault place log.hosts name skew gap ≡ None → host_with name skew gap ≡ Some h
+    → IsBegun (record { hosts = log.hosts ++ h ∷ []; rows = log.rows; extras = [] })
+begun_host place log h name skew gap begun clear e =
+    let read = host_read name skew gap h e in
+    let tests = four_pass (not (is_name name) || is_reserved name) (is_declared log.hosts name) (nat_le MAX_HOSTS (length log.hosts)) (is_none (number_up_to MAX_WRITTEN_SKEW skew) || is_none (number_up_to MAX_GAP gap)) _ _ _ _ clear in
+    let skews = number_in_range MAX_WRITTEN_SKEW skew h.skew read.skew in
+    let gaps = number_in_range MAX_GAP gap h.gap read.gap in
+    let host : IsHost h = record {
+      name = rw read.named ((either_none (not (is_name name)) (is_reserved name) tests.0).1);
+      skew_low = skews.0;
+      skew_high = omega (arith, ints, skews.1);
+      gap_low = gaps.0;
+      gap_high = gaps.1;
+    } in
+    record {
+      few_hosts = let room = tests.2 in grind (arith, nat_tests, length-append);
+      few_rows = begun.few_rows;
+      names = all_pairs_push (λ (g k : Host). k.name ≡ g.name → ⊥) log.hosts h begun.names (λ k d within same. not_declared log.hosts name k d tests.1 within (sym same ∙ read.named));
+      hosts = All-push IsHost log.hosts h begun.hosts host;
+      rows = λ k d within. let row = begun.rows k d within in record { host = omega (arith, row.host, length-append log.hosts (h ∷ [])); local = row.local };
+      sent_once = begun.sent_once;
+    }
+
+-- the fields of a row that was read
+pub record RowRead (hosts : List Host) (e : EventKind) (first second third : List ℕ) (r : Row) : Type 0 where
+  pub host : place_of_host hosts first ≡ Some r.host
+  pub local : signed_up_to MAX_LOCAL second ≡ Some r.local
+  pub act : r.act ≡ act_of e third
+
+row_of_parts : (a : Act) (o : Option ℕ) (l : Option ℤ) (r : Row) → option_and_then (λ x. option_map (λ y. let made : Row = record { host = x; local = y; act = a } in made) l) o ≡ Some r
+    → (o ≡ Some r.host) × (l ≡ Some r.local) × (r.act ≡ a)
+row_of_parts a None l r e = cc
+row_of_parts a (Some x) None r e = cc
+row_of_parts a (Some x) (Some y) r e =
+    (ap (λ o. Some (option_map_or (λ (k : Row). k.host) o x)) e, ap (λ o. Some (option_map_or (λ (k : Row). k.local) o y)) e, ap (λ o. option_map_or (λ (k : Row). k.act) o a) (sym e))
+
+pub row_read : (hosts : List Host) (e : EventKind) (host local name : List ℕ) (r : Row) → row_with hosts e host local name ≡ Some r → RowRead hosts e host local name r
+row_read hosts e host local name r h =
+    let parts = row_of_parts (act_of e name) (place_of_host hosts host) (signed_up_to MAX_LOCAL local) r h in
+    record { host = parts.0; local = parts.1; act = parts.2 }
+
+negated_is : (v z : ℤ) → negated v ≡ Some z → neg_ℤ v ≡ z
+negated_is v z = opposite (int_eq v (pos 0))
+  where
+    opposite : (b : Bool) → (if b then None else Some (neg_ℤ v)) ≡ Some z → neg_ℤ v ≡ z
+    opposite true h = cc
+    opposite false h = cc
+
+opposite_in_range : (most : ℤ) (n : Option ℤ) (z : ℤ) → ((v : ℤ) → n ≡ Some v → (pos 0 ≤ℤ v) × (v ≤ℤ most)) → option_and_then negated n ≡ Some z → IsWithin most z
+opposite_in_range most None z within h = cc
+opposite_in_range most (Some v) z within h =
+    let range = within v refl in
+    let same = negated_is v z h in
+    record { low = rw (← same) (omega (arith, ints, range.0, range.1)); high = rw (← same) (omega (arith, ints, range.0, range.1)) }
+
+signed_in_range : (most : ℤ) (bytes : List ℕ) (z : ℤ) → signed_up_to most bytes ≡ Some z → IsWithin most z
+signed_in_range most [] z = λ h. cc
+signed_in_range most (b ∷ bs) z = by (b == 45)
+  where
+    by : (minus : Bool) → (if minus then option_and_then negated (number_up_to most bs) else number_up_to most (b ∷ bs)) ≡ Some z → IsWithin most z
+    by true h = opposite_in_range most (number_up_to most bs) z (number_in_range most bs) h
+    by false h =
+        let range = number_in_range most (b ∷ bs) z h in
+        record { low = omega (arith, ints, range.0, range.1); high = range.1 }
+
+five_pass : (a b c d f : Bool) (v w x y z : LogFault) → (if a then Some v else if b then Some w else if c then Some x else if d then Some y else if f then Some z else None) ≡ None
+    → (a ≡ false) × (b ≡ false) × (c ≡ false) × (d ≡ false) × (f ≡ false)
+five_pass true b c d f v w x y z h = cc
+five_pass false true c d f v w x y z h = cc
+five_pass false false true d f v w x y z h = cc
+five_pass false false false true f v w x y z h = cc
+five_pass false false false false true v w x y z h = cc
+five_pass false false false false false v w x y z h = (refl, refl, refl, refl, refl)
+
+-- no row of a list sends what is sent for the first time
+not_sent : (rows : List Row) (e : EventKind) (name : List ℕ) (r : Row) (k : ℕ) (d : Row) → sends_again e rows name ≡ false → r.act ≡ act_of e name → k < length rows → SendSame (get_or rows k d) r → ⊥
+not_sent rows event.Send name r k d new act within same =
+    let second : Some name ≡ Some same.message = ap sent_by (sym act) ∙ same.second in
+    let test : is_send_of name (get_or rows k d) ≡ true = rw same.first ((bytes_eq-Decides same.message name).1 (cc)) in
+    let some = list_any_at (is_send_of name) rows k d within test in
+    absurd (cc)
+not_sent rows event.Set name r k d new act within same = absurd (cc (ap sent_by (sym act), same.second))
+not_sent rows event.Clear name r k d new act within same = absurd (cc (ap sent_by (sym act), same.second))
+not_sent rows event.Recv name r k d new act within same = absurd (cc (ap sent_by (sym act), same.second))
+not_sent rows event.Note name r k d new act within same = absurd (cc (ap sent_by (sym act), same.second))
+
+-- a row that has no fault may be added
+pub begun_row : (place : ℕ) (log : Logged) (r : Row) (e : EventKind) (host local name : List ℕ) → IsBegun log → event_fault place log.hosts log.rows e host local name ≡ None
+    → row_with log.hosts e host local name ≡ Some r → IsBegun (record { hosts = log.hosts; rows = log.rows ++ r ∷ []; extras = [] })
+begun_row place log r e host local name begun clear h =
+    let read = row_read log.hosts e host local name r h in
+    let tests = five_pass (is_none (place_of_host log.hosts host)) (is_none (signed_up_to MAX_LOCAL local)) (not (is_name name)) (sends_again e log.rows name) (nat_le MAX_ROWS (length log.rows)) _ _ _ _ _ clear in
+    let row : IsRow (length log.hosts) r = record {
+      host = (position-Some (λ h. bytes_eq h.name host) log.hosts r.host (record { name = name; skew = pos 0; gap = pos 0 }) read.host).0;
+      local = signed_in_range MAX_LOCAL local r.local read.local;
+    } in
+    record {
+      few_hosts = begun.few_hosts;
+      few_rows = let room = tests.4 in grind (arith, nat_tests, length-append);
+      names = begun.names;
+      hosts = begun.hosts;
+      rows = All-push (IsRow (length log.hosts)) log.rows r begun.rows row;
+      sent_once = all_pairs_push (λ (q p : Row). SendSame q p → ⊥) log.rows r begun.sent_once (λ k d within same. not_sent log.rows e name r k d tests.3 read.act within same);
+    }
+
+some_host : (hosts : ℕ) (rows : List Row) → All (IsRow hosts) rows → 1 ≤ length rows → 1 ≤ hosts
+some_host hosts [] all some = absurd (omega arith)
+some_host hosts (r ∷ rs) all some = let row = all 0 r (omega arith) in omega (arith, row.host)
+
+-- what was read is a valid log, where it has a row and each message that is received is sent
+pub finished : (log : Logged) → IsBegun log → log.extras ≡ [] → 1 ≤ length log.rows → All (λ r. IfSome (received_by r.act) (IsSent log.rows)) log.rows → IsLog log
+finished log begun none some sent = record {
+  some_hosts = some_host (length log.hosts) log.rows begun.rows some;
+  few_hosts = begun.few_hosts;
+  some_rows = some;
+  few_rows = begun.few_rows;
+  few_extras = rw none (lit≤ tt);
+  names = begun.names;
+  hosts = begun.hosts;
+  rows = record { each = begun.rows; sent_once = begun.sent_once; sent = sent };
+  extras = rw none (All-nil (IsExtra (length log.rows)));
+}

@@ -1,0 +1,21 @@
+-- The faults of log files by number.
+use Rattle.std.specs.Prelude.{ℕ}
+use Rattle.log_read.specs.declared.fault.LogFault.{LogFault}
+use Rattle.log_read.specs.declared.fault.LogFault.TheVariants as fault
+
+-- the number of a fault; want of memory has 0
+abbrev pub number_of : LogFault → ℕ
+number_of fault.Memory = 0
+number_of (fault.Header place) = 1
+number_of (fault.Width place) = 2
+number_of (fault.Kind place) = 3
+number_of (fault.HostName place) = 4
+number_of (fault.DuplicateHost place) = 5
+number_of (fault.UnknownHost place) = 6
+number_of (fault.Number place) = 7
+number_of (fault.Name place) = 8
+number_of (fault.DoubleSend place) = 9
+number_of (fault.UnmatchedReceive place) = 10
+number_of fault.NoEvent = 11
+number_of (fault.TooManyHosts place) = 12
+number_of (fault.TooManyEvents place) = 13

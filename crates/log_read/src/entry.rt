@@ -1,0 +1,130 @@
+ghost use Rattle.std.specs.Prelude.{◌≡◌, ◌≤◌, length};
+ghost use Rattle.mt_model.specs.Name.{is_reserved};
+ghost use Rattle.mt_model.specs.Timing.{is_send_of};
+ghost use Rattle.log_read.specs.LogOf.{host_fault, event_fault, is_declared, is_sent, sends_again};
+ghost use Rattle.log_read.specs.Reading.{Enters};
+ghost use Rattle.log_read.specs.Records.{host_with, row_with, place_of_host};
+
+use crate::LogFault;
+use crate::kind::EventKind;
+use crate::number::{number, signed};
+use mt_model::{
+    Host, HostId, MAX_GAP, MAX_HOSTS, MAX_LOCAL, MAX_ROWS, MAX_WRITTEN_SKEW, Name, Row,
+};
+use std::alloc::Global;
+
+fn names_no_host(name: &[u8]) -> bool
+    ensures { result ≡ is_reserved name.now }
+{
+    name == b"true".as_slice() || name == b"false".as_slice() || name == b"inf".as_slice()
+}
+
+fn declares(hosts: &[Host], name: &[u8]) -> bool
+    ensures { result ≡ is_declared hosts.now name.now }
+{
+    hosts.iter().any(|h| h.name.bytes() == name)
+}
+
+// The place of the host of a name.
+fn place_of(hosts: &[Host], name: &[u8]) -> Option<usize>
+    ensures { result ≡ place_of_host hosts.now name.now }
+{
+    hosts.iter().position(|h| h.name.bytes() == name)
+}
+
+fn sends(row: &Row, message: &[u8]) -> bool
+    ensures { result ≡ is_send_of message.now row.now }
+{
+    match row.act.sent() {
+        Some(name) => name.bytes() == message,
+        None => false,
+    }
+}
+
+/// Whether one of the rows sends the message.
+pub fn sent(rows: &[Row], message: &[u8]) -> bool
+    ensures { result ≡ is_sent rows.now message.now }
+{
+    rows.iter().any(|row| sends(row, message))
+}
+
+fn repeats(kind: EventKind, rows: &[Row], message: &[u8]) -> bool
+    ensures { result ≡ sends_again kind rows.now message.now }
+{
+    match kind {
+        EventKind::Send => sent(rows, message),
+        EventKind::Set | EventKind::Clear | EventKind::Recv | EventKind::Note => false,
+    }
+}
+
+/// The host of a host record's fields, after hosts that were declared before it.
+pub fn host_entry(
+    alloc: Global,
+    place: u32,
+    hosts: &[Host],
+    name: &[u8],
+    skew: &[u8],
+    gap: &[u8],
+) -> Result<Host, LogFault>
+    ensures entry { Enters result (host_fault place hosts.now name.now skew.now gap.now) (host_with name.now skew.now gap.now) }
+{
+    let Some(new_name) = Name::new(alloc, name)? else {
+        return Err(LogFault::HostName { place });
+    };
+    if names_no_host(name) {
+        return Err(LogFault::HostName { place });
+    }
+    if declares(hosts, name) {
+        return Err(LogFault::DuplicateHost { place });
+    }
+    if hosts.len() >= MAX_HOSTS {
+        return Err(LogFault::TooManyHosts { place });
+    }
+    let Some(skew) = number(skew, MAX_WRITTEN_SKEW) else {
+        return Err(LogFault::Number { place });
+    };
+    let Some(gap) = number(gap, MAX_GAP) else {
+        return Err(LogFault::Number { place });
+    };
+    Ok(Host {
+        name: new_name,
+        skew,
+        gap,
+    })
+}
+
+/// The row of an event record's fields, after hosts and rows that stand before it.
+pub fn row_entry(
+    alloc: Global,
+    place: u32,
+    hosts: &[Host],
+    rows: &[Row],
+    kind: EventKind,
+    host: &[u8],
+    local: &[u8],
+    name: &[u8],
+) -> Result<Row, LogFault>
+    requires { length hosts.now ≤ MAX_HOSTS }
+    ensures entry { Enters result (event_fault place hosts.now rows.now kind host.now local.now name.now) (row_with hosts.now kind host.now local.now name.now) }
+{
+    let Some(host) = place_of(hosts, host) else {
+        return Err(LogFault::UnknownHost { place });
+    };
+    let Some(local) = signed(local, MAX_LOCAL) else {
+        return Err(LogFault::Number { place });
+    };
+    let Some(new_name) = Name::new(alloc, name)? else {
+        return Err(LogFault::Name { place });
+    };
+    if repeats(kind, rows, name) {
+        return Err(LogFault::DoubleSend { place });
+    }
+    if rows.len() >= MAX_ROWS {
+        return Err(LogFault::TooManyEvents { place });
+    }
+    Ok(Row {
+        host: HostId::new(host as u32),
+        local,
+        act: kind.act(new_name),
+    })
+}

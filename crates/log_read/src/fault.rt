@@ -1,0 +1,153 @@
+ghost use Rattle.std.specs.Prelude.{◌≡◌};
+ghost use Rattle.log_read.specs.Faults.{number_of};
+
+use std::alloc::AllocError;
+use thiserror::Error;
+
+/// What is wrong with a log file, or want of memory. A `place` is the number of the faulty record,
+/// from 1, the header included.
+#[derive(Clone, Copy, Debug, PartialEq, Eq, Error)]
+pub enum LogFault {
+    #[error("record {place} is not the header `kind,host,time,name`")]
+    Header { place: u32 },
+    #[error("record {place} has not four fields")]
+    Width { place: u32 },
+    #[error("record {place} is of no known kind")]
+    Kind { place: u32 },
+    #[error("record {place} declares a host with a word that names none")]
+    HostName { place: u32 },
+    #[error("record {place} declares a host of a name that was declared")]
+    DuplicateHost { place: u32 },
+    #[error("record {place} is of a host that was not declared")]
+    UnknownHost { place: u32 },
+    #[error("record {place} has a number out of form or range")]
+    Number { place: u32 },
+    #[error("record {place} has a word that is no name")]
+    Name { place: u32 },
+    #[error("record {place} sends a message that was sent")]
+    DoubleSend { place: u32 },
+    #[error("record {place} receives a message that is sent nowhere")]
+    UnmatchedReceive { place: u32 },
+    #[error("there is no row")]
+    NoEvent,
+    #[error("record {place} declares a host too many")]
+    TooManyHosts { place: u32 },
+    #[error("record {place} is a row too many")]
+    TooManyEvents { place: u32 },
+    #[error("out of memory")]
+    Memory,
+}
+
+impl LogFault {
+    /// Its number, 1 to 13, and 0 for want of memory.
+    pub fn number(&self) -> u8
+        ensures number { result ≡ number_of self.now }
+    {
+        match self {
+            LogFault::Memory => 0,
+            LogFault::Header { .. } => 1,
+            LogFault::Width { .. } => 2,
+            LogFault::Kind { .. } => 3,
+            LogFault::HostName { .. } => 4,
+            LogFault::DuplicateHost { .. } => 5,
+            LogFault::UnknownHost { .. } => 6,
+            LogFault::Number { .. } => 7,
+            LogFault::Name { .. } => 8,
+            LogFault::DoubleSend { .. } => 9,
+            LogFault::UnmatchedReceive { .. } => 10,
+            LogFault::NoEvent => 11,
+            LogFault::TooManyHosts { .. } => 12,
+            LogFault::TooManyEvents { .. } => 13,
+        }
+    }
+}
+
+impl From<AllocError> for LogFault {
+    ghost use Rattle.std.specs.Prelude.{◌≡◌};
+    ghost use Rattle.log_read.specs.declared.fault.LogFault.TheVariants.{Memory};
+
+    ghost from_gives = { λ _ f. f ≡ Memory };
+
+    fn from(_: AllocError) -> Self {
+        LogFault::Memory
+    }
+}
+
+#[cfg(test)]
+mod tests {
+    use super::*;
+    use std::test::Fail;
+
+    #[test]
+    fn faults_have_numbers_and_texts(rt: HostRuntime) -> Result<(), Fail> {
+        let cases = [
+            (
+                LogFault::Header { place: 1 },
+                1,
+                "record 1 is not the header `kind,host,time,name`",
+            ),
+            (
+                LogFault::Width { place: 3 },
+                2,
+                "record 3 has not four fields",
+            ),
+            (
+                LogFault::Kind { place: 3 },
+                3,
+                "record 3 is of no known kind",
+            ),
+            (
+                LogFault::HostName { place: 3 },
+                4,
+                "record 3 declares a host with a word that names none",
+            ),
+            (
+                LogFault::DuplicateHost { place: 3 },
+                5,
+                "record 3 declares a host of a name that was declared",
+            ),
+            (
+                LogFault::UnknownHost { place: 3 },
+                6,
+                "record 3 is of a host that was not declared",
+            ),
+            (
+                LogFault::Number { place: 3 },
+                7,
+                "record 3 has a number out of form or range",
+            ),
+            (
+                LogFault::Name { place: 3 },
+                8,
+                "record 3 has a word that is no name",
+            ),
+            (
+                LogFault::DoubleSend { place: 4 },
+                9,
+                "record 4 sends a message that was sent",
+            ),
+            (
+                LogFault::UnmatchedReceive { place: 3 },
+                10,
+                "record 3 receives a message that is sent nowhere",
+            ),
+            (LogFault::NoEvent, 11, "there is no row"),
+            (
+                LogFault::TooManyHosts { place: 66 },
+                12,
+                "record 66 declares a host too many",
+            ),
+            (
+                LogFault::TooManyEvents { place: 67 },
+                13,
+                "record 67 is a row too many",
+            ),
+            (LogFault::Memory, 0, "out of memory"),
+        ];
+        for (fault, number, text) in cases {
+            assert_eq!(rt; fault.number(), number, "of {fault:?}");
+            assert_eq!(rt; format!(in rt.alloc(); "{fault}")?.as_str(), text);
+        }
+        Ok(())
+    }
+}

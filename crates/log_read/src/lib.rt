@@ -1,0 +1,15 @@
+//! Log files: the log that a file's bytes are, or the first fault with its record.
+#![tactic(auto)]
+
+mod entry;
+mod fault;
+mod fields;
+mod kind;
+mod number;
+mod reader;
+mod reading;
+mod records;
+
+pub use fault::LogFault;
+pub use fields::{Field, Fields, RecordList};
+pub use reader::{read_log, read_records};

@@ -1,0 +1,126 @@
+ghost use Rattle.std.specs.Prelude.{◌≡◌, ◌^◌, ◌<◌, ◌≤◌, [], length, Some, IfOk, position};
+ghost use Rattle.log_read.specs.LogOf.{first_fault, is_header, is_unmatched, log_of, log_of_records, log_under_header};
+ghost use Rattle.log_read.specs.Reading.{Answers, Enters};
+ghost use Rattle.log_read.specs.Records.{listed};
+
+use crate::LogFault;
+use crate::entry::sent;
+use crate::fields::{Fields, RecordList};
+use crate::kind::{EventKind, Kind};
+use crate::reading::Reading;
+use crate::records::all_records;
+use mt_model::{Log, Row};
+use std::alloc::Global;
+
+fn names_columns(fields: &Fields) -> bool
+    ensures { result ≡ is_header fields.now }
+{
+    match fields.as_slice() {
+        [kind, host, time, name] => {
+            kind.bytes() == b"kind".as_slice()
+                && host.bytes() == b"host".as_slice()
+                && time.bytes() == b"time".as_slice()
+                && name.bytes() == b"name".as_slice()
+        }
+        _ => false,
+    }
+}
+
+// What the records under the header list.
+fn reading_of(alloc: Global, records: &[Fields]) -> Result<Reading, LogFault>
+    requires { length records.now ≤ 2 ^ 31 }
+    ensures { Enters result (first_fault [] records.now) (Some (listed records.now)) }
+{
+    let mut reading = Reading::new(alloc);
+    for (i, fields) in records.iter().enumerate() {
+        reading.add(alloc, i as u32 + 2, fields)?;
+    }
+    Ok(reading)
+}
+
+// Whether the record receives a message that no row sends.
+fn receives_unsent(rows: &[Row], fields: &Fields) -> bool
+    ensures { result ≡ is_unmatched rows.now fields.now }
+{
+    match fields.as_slice() {
+        [word, _, _, name] => match Kind::named(word.bytes()) {
+            Some(Kind::Event(EventKind::Recv)) => !sent(rows, name.bytes()),
+            _ => false,
+        },
+        _ => false,
+    }
+}
+
+fn first_unsent(rows: &[Row], records: &[Fields]) -> Option<usize>
+    ensures { result ≡ position (is_unmatched rows.now) records.now }
+{
+    records
+        .iter()
+        .position(|fields| receives_unsent(rows, fields))
+}
+
+fn log_under(alloc: Global, records: &[Fields]) -> Result<Log, LogFault>
+    requires { length records.now ≤ 2 ^ 31 }
+    ensures answer { Answers result (log_under_header records.now) }
+    ensures plain { IfOk result (λ log. log.extras ≡ []) }
+{
+    let reading = reading_of(alloc, records)?;
+    if let Some(i) = first_unsent(reading.rows(), records) {
+        return Err(LogFault::UnmatchedReceive {
+            place: i as u32 + 2,
+        });
+    }
+    if reading.rows().is_empty() {
+        return Err(LogFault::NoEvent);
+    }
+    Ok(reading.finish())
+}
+
+fn log_in(alloc: Global, records: &[Fields]) -> Result<Log, LogFault>
+    requires { length records.now ≤ 2 ^ 31 }
+    ensures answer { Answers result (log_of_records records.now) }
+    ensures plain { IfOk result (λ log. log.extras ≡ []) }
+{
+    match records {
+        [] => Err(LogFault::Header { place: 1 }),
+        [header, rest @ ..] => {
+            if names_columns(header) {
+                log_under(alloc, rest)
+            } else {
+                Err(LogFault::Header { place: 1 })
+            }
+        }
+    }
+}
+
+/// The log that records list, the first of them the header `kind,host,time,name`.
+///
+/// A record of `host`, a name, a skew and a gap declares the next host. One of `set`, `clear`,
+/// `send`, `recv` or `note`, a declared host, a local time and a name gives the next row. Skews, gaps
+/// and local times are decimal numbers in the log's one unit of time.
+///
+/// The fault is that of the first faulty record, else of the first receive whose message is sent
+/// nowhere, else that there is no row; or it is want of memory.
+pub fn read_records(alloc: Global, records: &RecordList) -> Result<Log, LogFault>
+    requires { length records.now < 2 ^ 31 }
+    ensures answer { Answers result (log_of_records records.now) }
+    ensures plain { IfOk result (λ log. log.extras ≡ []) }
+{
+    log_in(alloc, records.as_slice())
+}
+
+/// The log that the bytes of a file are, read as records of comma-separated fields.
+///
+/// A field may stand in double quotes. Blank lines and a byte order mark at the start are passed
+/// over, and no record has their number. The faults are those of `read_records`.
+pub fn read_log(alloc: Global, bytes: &[u8]) -> Result<Log, LogFault>
+    requires { length bytes.now < 2 ^ 31 }
+    ensures answer { Answers result (log_of bytes.now) }
+    ensures plain { IfOk result (λ log. log.extras ≡ []) }
+{
+    let records = all_records(alloc, bytes)?;
+    log_in(alloc, records.as_slice())
+}
+
+#[cfg(test)]
+mod tests;

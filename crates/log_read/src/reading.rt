@@ -1,0 +1,125 @@
+ghost use Rattle.std.specs.Prelude.{◌≡◌, [], ◌∷◌, ◌++◌, ◌≤◌, length, None, Some, option_to_list, All, IfSome, IfOk};
+ghost use Rattle.mt_model.specs.Log.{IsSent, received_by};
+ghost use Rattle.log_read.specs.LogOf.{fault_of, host_fault, event_fault};
+ghost use Rattle.log_read.specs.Reading.{Adds, with_record};
+ghost use Rattle.log_read.specs.Records.{host_with, row_with};
+
+use crate::LogFault;
+use crate::entry::{host_entry, row_entry};
+use crate::fields::Fields;
+use crate::kind::{EventKind, Kind};
+use mt_model::{HostList, Log, Row, RowList};
+use std::alloc::Global;
+use std::marker::Model;
+
+/// The hosts and rows of a log that is read record by record, which contracts see as a log.
+#[derive(Debug, Drop)]
+pub struct Reading {
+    hosts: HostList,
+    rows: RowList,
+}
+
+impl Model for Reading {
+    ghost use Rattle.std.specs.Prelude.{[]};
+    ghost use Rattle.mt_model.specs.Log.{Logged};
+    ghost use Rattle.log_read.specs.Reading.{IsBegun};
+
+    ghost Value = { Logged };
+
+    ghost view = { λ r. record { hosts = r.hosts; rows = r.rows; extras = [] } };
+
+    ghost invariant = { λ r. IsBegun (record { hosts = r.hosts; rows = r.rows; extras = [] }) };
+}
+
+impl Reading {
+    /// Nothing read yet.
+    pub fn new(alloc: Global) -> Reading
+        ensures empty { result ≡ record { hosts = []; rows = []; extras = [] } }
+    {
+        Reading {
+            hosts: HostList::new(alloc),
+            rows: RowList::new(alloc),
+        }
+    }
+
+    /// The rows so far.
+    pub fn rows(&self) -> &[Row]
+        ensures rows { result.now ≡ self.now.rows }
+    {
+        self.rows.as_slice()
+    }
+
+    fn add_host(
+        &mut self,
+        alloc: Global,
+        place: u32,
+        name: &[u8],
+        skew: &[u8],
+        gap: &[u8],
+    ) -> Result<(), LogFault>
+        ensures { let new = option_to_list (host_with name.now skew.now gap.now) in
+            Adds result (host_fault place self.old.hosts name.now skew.now gap.now) self.new (record { hosts = self.old.hosts ++ new; rows = self.old.rows; extras = self.old.extras }) }
+    {
+        let host = host_entry(alloc, place, self.hosts.as_slice(), name, skew, gap)?;
+        self.hosts.push(host)?;
+        Ok(())
+    }
+
+    fn add_row(
+        &mut self,
+        alloc: Global,
+        place: u32,
+        kind: EventKind,
+        host: &[u8],
+        local: &[u8],
+        name: &[u8],
+    ) -> Result<(), LogFault>
+        ensures { let new = option_to_list (row_with self.old.hosts kind host.now local.now name.now) in
+            Adds result (event_fault place self.old.hosts self.old.rows kind host.now local.now name.now) self.new (record { hosts = self.old.hosts; rows = self.old.rows ++ new; extras = self.old.extras }) }
+    {
+        let hosts = self.hosts.as_slice();
+        let row = row_entry(
+            alloc,
+            place,
+            hosts,
+            self.rows.as_slice(),
+            kind,
+            host,
+            local,
+            name,
+        )?;
+        self.rows.push(row)?;
+        Ok(())
+    }
+
+    /// Takes the record at a place in; after a fault nothing is known of what was read.
+    pub fn add(&mut self, alloc: Global, place: u32, fields: &Fields) -> Result<(), LogFault>
+        ensures { Adds result (fault_of place self.old fields.now) self.new (with_record self.old fields.now) }
+    {
+        match fields.as_slice() {
+            [word, host, time, name] => match Kind::named(word.bytes()) {
+                Some(Kind::Host) => {
+                    self.add_host(alloc, place, host.bytes(), time.bytes(), name.bytes())
+                }
+                Some(Kind::Event(kind)) => {
+                    self.add_row(alloc, place, kind, host.bytes(), time.bytes(), name.bytes())
+                }
+                None => Err(LogFault::Kind { place }),
+            },
+            _ => Err(LogFault::Width { place }),
+        }
+    }
+
+    /// The log of what was read.
+    pub fn finish(self) -> Log
+        requires some { 1 ≤ length self.rows }
+        requires sent { All (λ r. IfSome (received_by r.act) (IsSent self.rows)) self.rows }
+        ensures log { result ≡ self }
+    {
+        let Reading { hosts, rows } = self;
+        match Log::build(hosts, rows) {
+            Some(log) => log,
+            None => unreachable!(),
+        }
+    }
+}

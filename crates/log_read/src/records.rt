@@ -1,0 +1,50 @@
+ghost use Rattle.std.specs.Prelude.{◌≡◌, ◌<◌, length, Some, IfOk};
+ghost use Rattle.csv.specs.Reading.{AreRecords, default_config, records, strip_bom};
+ghost use Rattle.csv.specs.Records.{field_at, fields_of};
+ghost use Rattle.csv.specs.declared.parser.State.TheVariants as st;
+
+use crate::fields::{Fields, RecordList};
+use csv::{ByteRecord, ReaderBuilder};
+use std::alloc::{AllocError, Global};
+
+fn field_of(row: &ByteRecord, i: usize) -> &[u8]
+    requires { i < length (fields_of row.now) }
+    ensures { field_at (fields_of row.now) i ≡ Some result.now }
+{
+    match row.get(i) {
+        Some(field) => field,
+        None => unreachable!(),
+    }
+}
+
+// The fields of a record of `csv`.
+fn copied(alloc: Global, row: &ByteRecord) -> Result<Fields, AllocError>
+    ensures { IfOk result (λ f. f ≡ fields_of row.now) }
+{
+    let mut fields = Fields::new(alloc);
+    for i in 0..row.len() {
+        fields.push(field_of(row, i))?;
+    }
+    Ok(fields)
+}
+
+/// The records of a text, of any number of fields, none of them set apart as a header.
+pub fn all_records(alloc: Global, text: &[u8]) -> Result<RecordList, AllocError>
+    ensures records { IfOk result (λ list. AreRecords default_config st.StartRecord (strip_bom text.now) list) }
+{
+    let rdr = ReaderBuilder::new()
+        .has_headers(false)
+        .flexible(true)
+        .from_reader(alloc, text);
+    let mut list = RecordList::new(alloc);
+    for row in rdr.into_byte_records() {
+        match row {
+            Ok(row) => {
+                let fields = copied(alloc, &row)?;
+                list.push(fields)?;
+            }
+            Err(_) => return Err(AllocError),
+        }
+    }
+    Ok(list)
+}
