@@ -1,0 +1,5 @@
+pub mod WalkLemmas
+pub mod LabelLemmas
+pub mod SearchLemmas
+pub mod LawLemmas
+pub mod OutcomeLemmas
