@@ -1,0 +1,3 @@
+pub mod BoundCounts
+pub mod Ranges
+pub mod Settled

@@ -1,0 +1,154 @@
+-- What a solution of the edges of a log's bounds means for the log, and what a negative cycle of them means.
+use Rattle.std.proofs.Common.{◌≡◌, sym, ap, refl, arith, ℕ, zero, suc, ◌+◌, ◌*◌, ◌^◌, ◌<◌, ◌≤◌, List, [], ◌∷◌, length, map, drop, Some, All, ℤ, pos, ◌+ℤ◌, ◌-ℤ◌, ◌≤ℤ◌}
+use Rattle.std.specs.Prelude.{IfSome, slice_index_or}
+use Rattle.std.proofs.lemmas.Int.{ints}
+use Rattle.std.proofs.lemmas.List.{length-map}
+use Rattle.std.proofs.lemmas.List.Elements.{All-nil, All-cons, All-head, All-tail}
+use Rattle.neg_cycle.specs.declared.system.Edge.{Edge as SystemEdge}
+use Rattle.neg_cycle.specs.Systems as system
+use Rattle.mt_model.specs.declared.bound.Bound.{Bound}
+use Rattle.mt_model.specs.declared.bound.Bound.TheVariants as bound
+use Rattle.mt_model.specs.declared.step.Step.{Step}
+use Rattle.mt_model.specs.Bounds.{BoundsAreAdmissible, bounds_of, step_of}
+use Rattle.mt_model.specs.Laws.{IsBound}
+use Rattle.mt_model.specs.Log.{IsLog, Logged}
+use Rattle.mt_model.specs.Timing.{Admissible}
+use Rattle.mt_model.specs.Walks.{Edge, HasEdges, IsClosedWalk, LeadsTo, Meets, edge_of, node_time, sum_of_bounds}
+use Rattle.skew_bounds.proofs.BoundCounts.{few-bounds}
+use Rattle.skew_bounds.specs.Edges.{bound_at, edge_in}
+use Rattle.skew_bounds.specs.Consistency.{IsConflict}
+
+-- these are the edges of the bounds, place by place
+abbrev pub AreEdges : Logged → List Bound → List SystemEdge → Type 0
+AreEdges log bounds edges = map (λ b. edge_of log (step_of b)) bounds ≡ map (λ e. Some (edge_in e)) edges
+
+tail-same : {A B C : Type 0} (f : A → C) (g : B → C) (x : A) (xs : List A) (y : B) (ys : List B) → map f (x ∷ xs) ≡ map g (y ∷ ys) → (f x ≡ g y) × (map f xs ≡ map g ys)
+tail-same f g x xs y ys h = (cc, cc)
+
+-- the edge of the bound at a place
+edge-at : (log : Logged) (bounds : List Bound) (edges : List SystemEdge) (p : ℕ) → AreEdges log bounds edges → p < length edges
+    → edge_of log (step_of (bound_at bounds p)) ≡ Some (edge_in (system.edge_at edges p))
+edge-at log [] [] p are within = absurd (omega arith)
+edge-at log [] (y ∷ ys) p are within = absurd (cc)
+edge-at log (x ∷ xs) [] p are within = absurd (omega arith)
+edge-at log (x ∷ xs) (y ∷ ys) zero are within = (tail-same (λ b. edge_of log (step_of b)) (λ e. Some (edge_in e)) x xs y ys are).0
+edge-at log (x ∷ xs) (y ∷ ys) (suc p) are within = edge-at log xs ys p (tail-same (λ b. edge_of log (step_of b)) (λ e. Some (edge_in e)) x xs y ys are).1 (omega arith)
+
+-- the times of the nodes are their numbers less that of the zero moment
+index-relative : (x : ℤ) (xs : List ℤ) (e : ℕ) → e < length xs → slice_index_or (map (λ y. y -ℤ x) xs) e (pos 0) ≡ slice_index_or xs e (pos 0) -ℤ x
+index-relative x [] e within = absurd (omega arith)
+index-relative x (y ∷ ys) zero within = refl
+index-relative x (y ∷ ys) (suc e) within = index-relative x ys e (omega arith)
+
+node-relative : (x : ℤ) (xs : List ℤ) (n : ℕ) → n < length (x ∷ xs) → node_time (map (λ y. y -ℤ x) xs) n ≡ system.number_of (x ∷ xs) n -ℤ x
+node-relative x xs zero within = omega (arith, ints)
+node-relative x xs (suc e) within = index-relative x xs e (omega arith)
+
+-- numbers that meet an edge of the system give times that meet it as an edge between moments
+meets-relative : (nodes : ℕ) (x : ℤ) (xs : List ℤ) (e : SystemEdge) → length (x ∷ xs) ≡ nodes → system.IsEdge nodes e → system.Meets (x ∷ xs) e → Meets (map (λ y. y -ℤ x) xs) (edge_in e)
+meets-relative nodes x xs e count within meets =
+    let from = node-relative x xs e.from (omega (arith, within.from)) in
+    let to = node-relative x xs e.to (omega (arith, within.to)) in
+    rw (from, to) (omega (arith, ints, meets))
+
+-- so a solution gives times that meet every bound
+bounds-met : (log : Logged) (nodes : ℕ) (bounds : List Bound) (edges : List SystemEdge) (x : ℤ) (xs : List ℤ) → AreEdges log bounds edges → length (x ∷ xs) ≡ nodes → All (system.IsEdge nodes) edges
+    → All (system.Meets (x ∷ xs)) edges → All (λ b. IfSome (edge_of log (step_of b)) (Meets (map (λ y. y -ℤ x) xs))) bounds
+bounds-met log nodes [] edges x xs are count within meets = All-nil (λ b. IfSome (edge_of log (step_of b)) (Meets (map (λ y. y -ℤ x) xs)))
+bounds-met log nodes (b ∷ bs) [] x xs are count within meets = absurd (cc)
+bounds-met log nodes (b ∷ bs) (e ∷ es) x xs are count within meets =
+    let same = tail-same (λ b. edge_of log (step_of b)) (λ e. Some (edge_in e)) b bs e es are in
+    let here = meets-relative nodes x xs e count (All-head (system.IsEdge nodes) e es within) (All-head (system.Meets (x ∷ xs)) e es meets) in
+    All-cons (λ b. IfSome (edge_of log (step_of b)) (Meets (map (λ y. y -ℤ x) xs))) b bs (rw same.0 here)
+    (bounds-met log nodes bs es x xs same.1 count (All-tail (system.IsEdge nodes) e es within) (All-tail (system.Meets (x ∷ xs)) e es meets))
+
+-- the walk of the places, as steps and as edges between moments
+abbrev pub steps_at : List Bound → List ℕ → List Step
+steps_at bounds places = map (λ p. step_of (bound_at bounds p)) places
+
+abbrev edges_at : List SystemEdge → List ℕ → List Edge
+edges_at edges places = map (λ p. edge_in (system.edge_at edges p)) places
+
+leads-same : (edges : List SystemEdge) (a : ℕ) (places : List ℕ) (b : ℕ) → system.LeadsTo edges a places b → LeadsTo a (edges_at edges places) b
+leads-same edges a [] b leads = leads
+leads-same edges a (p ∷ ps) b leads = (leads.1, leads-same edges (system.edge_at edges p).to ps b leads.2)
+
+has-edges : (log : Logged) (bounds : List Bound) (edges : List SystemEdge) (a : ℕ) (places : List ℕ) (b : ℕ) → AreEdges log bounds edges → system.LeadsTo edges a places b
+    → HasEdges log (steps_at bounds places) (edges_at edges places)
+has-edges log bounds edges a [] b are leads = refl
+has-edges log bounds edges a (p ∷ ps) b are leads =
+    let here = edge-at log bounds edges p are leads.0 in
+    let rest = has-edges log bounds edges (system.edge_at edges p).to ps b are leads.2 in
+    rw (here, rest) refl
+
+sum-same : (edges : List SystemEdge) (places : List ℕ) → sum_of_bounds (edges_at edges places) ≡ system.sum_of_bounds edges places
+sum-same edges [] = refl
+sum-same edges (p ∷ ps) = ap (λ s. (system.edge_at edges p).bound +ℤ s) (sum-same edges ps)
+
+closed-same : (edges : List SystemEdge) (places : List ℕ) → system.IsClosedWalk edges places → IsClosedWalk (edges_at edges places)
+closed-same edges [] closed = closed
+closed-same edges (p ∷ ps) closed = (leads-same edges (system.edge_at edges p).from (p ∷ ps) (system.edge_at edges p).from closed).1
+
+step_of-is_bound : (b : Bound) → IsBound (step_of b)
+step_of-is_bound (bound.Low e) = tt
+step_of-is_bound (bound.High e) = tt
+step_of-is_bound (bound.Rise e) = tt
+step_of-is_bound (bound.Message e) = tt
+step_of-is_bound (bound.Extra k) = tt
+
+steps-are-bounds : (bounds : List Bound) (places : List ℕ) → All IsBound (steps_at bounds places)
+steps-are-bounds bounds [] = All-nil IsBound
+steps-are-bounds bounds (p ∷ ps) = All-cons IsBound (step_of (bound_at bounds p)) (steps_at bounds ps) (step_of-is_bound (bound_at bounds p)) (steps-are-bounds bounds ps)
+
+found-edges : (log : Logged) (bounds : List Bound) (edges : List SystemEdge) (places : List ℕ) → AreEdges log bounds edges → system.IsClosedWalk edges places → HasEdges log (steps_at bounds places) (edges_at edges places)
+found-edges log bounds edges [] are closed = refl
+found-edges log bounds edges (p ∷ ps) are closed = has-edges log bounds edges (system.edge_at edges p).from (p ∷ ps) (system.edge_at edges p).from are closed
+
+-- a negative cycle of the edges is a conflict of the bounds
+pub conflict-of : (log : Logged) (bounds : List Bound) (edges : List SystemEdge) (places : List ℕ) → AreEdges log bounds edges → system.IsNegativeCycle edges places → IsConflict log (steps_at bounds places)
+conflict-of log bounds edges places are cycle = record {
+  bounds = steps-are-bounds bounds places;
+  conflict = record {
+    edges = edges_at edges places;
+    found = found-edges log bounds edges places are cycle.closed;
+    closed = closed-same edges places cycle.closed;
+    negative = rw (sum-same edges places) cycle.negative;
+  };
+}
+
+-- a potential gives an admissible timing
+pub timing-of : BoundsAreAdmissible → (log : Logged) (bounds : List Bound) (edges : List SystemEdge) (numbers : List ℤ) → bounds ≡ bounds_of log → AreEdges log bounds edges
+    → All (system.IsEdge (length log.rows + 1)) edges → system.IsPotential (length log.rows + 1) edges numbers → Admissible log (map (λ y. y -ℤ system.number_of numbers 0) (drop 1 numbers))
+timing-of law log bounds edges [] listed are within potential = absurd (let count = potential.count in omega arith)
+timing-of law log bounds edges (x ∷ xs) listed are within potential =
+    let met = bounds-met log (length log.rows + 1) bounds edges x xs are potential.count within potential.meets in
+    let size : length (map (λ y. y -ℤ x) xs) ≡ length log.rows = let count = potential.count in simp length-map (omega arith) in
+    (law log (map (λ y. y -ℤ x) xs)).1 (size, rw listed at met)
+
+count-edges : (log : Logged) (bounds : List Bound) (edges : List SystemEdge) → AreEdges log bounds edges → length edges ≡ length bounds
+count-edges log bounds edges are = sym (simp length-map at (ap length are))
+
+-- the edges of a log's bounds are a system within the limits
+pub system-of : (log : Logged) (bounds : List Bound) (edges : List SystemEdge) → IsLog log → bounds ≡ bounds_of log → AreEdges log bounds edges → All (system.IsEdge (length log.rows + 1)) edges
+    → system.IsSystem (length log.rows + 1) edges
+system-of log bounds edges valid listed are within = record {
+  few_nodes = omega (arith, valid.few_rows);
+  few_edges = let few = rw (← listed) at (few-bounds log) in omega (arith, few, count-edges log bounds edges are, valid.few_rows, valid.few_extras);
+  each = within;
+}
+
+-- and their bounds are far from the ends of a number
+pub bounds-within : (nodes : ℕ) (edges : List SystemEdge) → All (system.IsEdge nodes) edges → system.HasBoundsWithin (2 ^ 90) edges
+bounds-within nodes edges within k d below = (within k d below).bound
+
+pub numbers-high : (nodes : ℕ) (numbers : List ℤ) → nodes ≤ 65 → All (λ x. x ≤ℤ pos (nodes * 2 ^ 90)) numbers → All (λ x. x ≤ℤ pos (2 ^ 120)) numbers
+numbers-high nodes numbers few high k d below = let here = high k d below in omega (arith, ints, here)
+
+places-of-walk : (edges : List SystemEdge) (a : ℕ) (places : List ℕ) (b : ℕ) → system.LeadsTo edges a places b → All (λ p. p < length edges) places
+places-of-walk edges a [] b leads = All-nil (λ p. p < length edges)
+places-of-walk edges a (p ∷ ps) b leads = All-cons (λ p. p < length edges) p ps leads.0 (places-of-walk edges (system.edge_at edges p).to ps b leads.2)
+
+-- the places of a cycle are places of bounds
+pub places-within : (log : Logged) (bounds : List Bound) (edges : List SystemEdge) (places : List ℕ) → AreEdges log bounds edges → system.IsClosedWalk edges places → All (λ p. p < length bounds) places
+places-within log bounds edges [] are closed = absurd closed
+places-within log bounds edges (p ∷ ps) are closed = rw (← count-edges log bounds edges are) (places-of-walk edges (system.edge_at edges p).from (p ∷ ps) (system.edge_at edges p).from closed)

@@ -1,0 +1,49 @@
+use Rattle.std.proofs.Common.{◌≤◌, ◌^◌, ◌+◌, arith, length}
+use Rattle.skew_bounds.proofs.BoundCounts.{all-have}
+use Rattle.skew_bounds.proofs.Settled.{bounds-within, conflict-of, numbers-high, places-within, system-of, timing-of}
+use Rattle.skew_bounds.proofs.consistency.settle.Goals as goal
+
+pub edges_of-requires : goal.edges_of-requires
+edges_of-requires c = rw (c.as_slice.ensures.items, c.in_ok-bounds.ensures.list) (all-have c.args.log.now)
+
+pub solve-requires : goal.solve-requires
+solve-requires c =
+    let are = rw (c.as_slice.ensures.items) at c.in_ok-edges.ensures.edges in
+    let system = system-of c.args.log.now c.in_ok-bounds.bounds c.in_ok-edges.edges c.rows.ensures.valid c.in_ok-bounds.ensures.list are c.in_ok-edges.ensures.within in
+    rw (c.rows.ensures.same, c.as_slice-2.ensures.items) system
+
+pub times_of-requires : goal.times_of-requires
+times_of-requires c =
+    let nodes = length c.args.log.now.rows + 1 in
+    let found = rw (c.rows.ensures.same, c.as_slice-2.ensures.items, c.in-Potential.is) at c.in_ok-outcome.ensures.found in
+    let low = rw (c.in-Potential.is) at c.in_ok-outcome.ensures.low in
+    let within = bounds-within nodes c.in_ok-edges.edges c.in_ok-edges.ensures.within in
+    let high = rw (c.rows.ensures.same, c.in-Potential.is) at (c.in_ok-outcome.ensures.high (2 ^ 90) (rw c.as_slice-2.ensures.items within)) in
+    let few : nodes ≤ 65 = let valid = c.rows.ensures.valid in omega (arith, valid.few_rows) in
+    rw c.as_slice-in-Potential.ensures.items (record {
+      some = let count = found.count in omega arith;
+      low = low;
+      high = numbers-high nodes c.in-Potential.numbers few high;
+    })
+
+pub returns-in-Potential : goal.returns-in-Potential
+returns-in-Potential c =
+    let are = rw (c.as_slice.ensures.items) at c.in_ok-edges.ensures.edges in
+    let found = rw (c.rows.ensures.same, c.as_slice-2.ensures.items, c.in-Potential.is) at c.in_ok-outcome.ensures.found in
+    let admissible = timing-of c.bounds_are_admissible.ensures c.args.log.now c.in_ok-bounds.bounds c.in_ok-edges.edges c.in-Potential.numbers c.in_ok-bounds.ensures.list are c.in_ok-edges.ensures.within found in
+    let times = rw (c.as_slice-in-Potential.ensures.items) at c.in_ok-times-in-Potential.ensures in
+    record { answer = rw times admissible }
+
+pub steps_of-requires : goal.steps_of-requires
+steps_of-requires c =
+    let are = rw (c.as_slice.ensures.items) at c.in_ok-edges.ensures.edges in
+    let cycle = rw (c.as_slice-2.ensures.items, c.in-Cycle.is) at c.in_ok-outcome.ensures.cycle in
+    rw (c.as_slice-in-Cycle.ensures.items, c.as_slice-in-Cycle-2.ensures.items) (places-within c.args.log.now c.in_ok-bounds.bounds c.in_ok-edges.edges c.in-Cycle.places are cycle.closed)
+
+pub returns : goal.returns
+returns c =
+    let are = rw (c.as_slice.ensures.items) at c.in_ok-edges.ensures.edges in
+    let cycle = rw (c.as_slice-2.ensures.items, c.in-Cycle.is) at c.in_ok-outcome.ensures.cycle in
+    let conflict = conflict-of c.args.log.now c.in_ok-bounds.bounds c.in_ok-edges.edges c.in-Cycle.places are cycle in
+    let steps = rw (c.as_slice-in-Cycle.ensures.items, c.as_slice-in-Cycle-2.ensures.items) at c.in_ok-steps-in-Cycle.ensures in
+    record { answer = rw steps conflict }

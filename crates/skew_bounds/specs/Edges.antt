@@ -1,0 +1,14 @@
+-- Bounds of a log as edges of a system of differences.
+use Rattle.std.specs.Prelude.{ℕ, List, slice_index_or}
+use Rattle.neg_cycle.specs.declared.system.Edge.{Edge as SystemEdge}
+use Rattle.mt_model.specs.declared.bound.Bound.{Bound}
+use Rattle.mt_model.specs.declared.bound.Bound.TheVariants as bound
+use Rattle.mt_model.specs.Walks.{Edge}
+
+-- an edge of a system, as an edge between moments
+abbrev pub edge_in : SystemEdge → Edge
+edge_in e = record { from = e.from; to = e.to; bound = e.bound }
+
+-- the bound at a place of a list
+abbrev pub bound_at : List Bound → ℕ → Bound
+bound_at bounds p = slice_index_or bounds p (bound.Extra 0)

@@ -1,0 +1,117 @@
+ghost use Rattle.std.specs.Prelude.{◌≡◌, ◌+◌, ◌<◌, ◌^◌, length, map, drop, All, IsSome, IfOk, Some, ℤ, pos, ◌-ℤ◌, ◌≤ℤ◌};
+ghost use Rattle.mt_model.specs.Bounds.{bounds_of, step_of};
+ghost use Rattle.mt_model.specs.Walks.{edge_of};
+ghost use Rattle.neg_cycle.specs.Systems.{IsEdge, number_of};
+ghost use Rattle.skew_bounds.specs.Consistency.{Settles};
+ghost use Rattle.skew_bounds.specs.Edges.{bound_at, edge_in};
+
+use crate::edges::edge_of;
+use crate::list::bounds;
+use mt_model::{Bound, Log, Step, Steps, Times, bounds_are_admissible};
+use neg_cycle::{EdgeList, Outcome, solve};
+use std::alloc::{AllocError, Global};
+
+/// Whether the bounds of a log can be met, with the witness of it.
+#[derive(Debug, Drop)]
+pub enum Consistency {
+    /// An admissible timing: a true time for each row, in the order of the rows and the log's unit of time.
+    Timing(Times),
+    /// Bounds of the log whose edges form a closed walk of negative sum, in the order of the walk, so that
+    /// no timing is admissible.
+    Conflict(Steps),
+}
+
+// The edges of bounds of the log, place by place.
+fn edges_of(alloc: Global, log: &Log, bounds: &[Bound]) -> Result<EdgeList, AllocError>
+    requires { All (λ b. IsSome (edge_of log.now (step_of b))) bounds.now }
+    ensures edges { IfOk result (λ edges. map (λ b. edge_of log.now (step_of b)) bounds.now ≡ map (λ e. Some (edge_in e)) edges) }
+    ensures within { IfOk result (λ edges. All (IsEdge (length log.now.rows + 1)) edges) }
+{
+    let mut edges = EdgeList::new(alloc);
+    for bound in bounds {
+        match edge_of(log, *bound) {
+            Some(edge) => edges.push(edge)?,
+            None => unreachable!(),
+        }
+    }
+    Ok(edges)
+}
+
+fn difference(number: i128, zero: i128) -> i128
+    requires number_low { pos 0 ≤ℤ number }
+    requires number_high { number ≤ℤ pos (2 ^ 120) }
+    requires zero_low { pos 0 ≤ℤ zero }
+    requires zero_high { zero ≤ℤ pos (2 ^ 120) }
+    ensures { result ≡ number -ℤ zero }
+{
+    number - zero
+}
+
+// The numbers of the rows, relative to that of the zero moment.
+fn relative(alloc: Global, zero: i128, numbers: &[i128]) -> Result<Times, AllocError>
+    requires zero_low { pos 0 ≤ℤ zero }
+    requires zero_high { zero ≤ℤ pos (2 ^ 120) }
+    requires low { All (λ x. pos 0 ≤ℤ x) numbers.now }
+    requires high { All (λ x. x ≤ℤ pos (2 ^ 120)) numbers.now }
+    ensures { IfOk result (λ t. t ≡ map (λ x. x -ℤ zero) numbers.now) }
+{
+    let mut times = Times::new(alloc);
+    for number in numbers {
+        times.push(difference(*number, zero))?;
+    }
+    Ok(times)
+}
+
+// The times of the rows, where these are the numbers of the nodes.
+fn times_of(alloc: Global, numbers: &[i128]) -> Result<Times, AllocError>
+    requires some { 0 < length numbers.now }
+    requires low { All (λ x. pos 0 ≤ℤ x) numbers.now }
+    requires high { All (λ x. x ≤ℤ pos (2 ^ 120)) numbers.now }
+    ensures { IfOk result (λ t. t ≡ map (λ x. x -ℤ number_of numbers.now 0) (drop 1 numbers.now)) }
+{
+    relative(alloc, numbers[0], &numbers[1..])
+}
+
+fn as_step(bound: Bound) -> Step
+    ensures { result ≡ step_of bound }
+{
+    match bound {
+        Bound::Low(e) => Step::Low(e.get()),
+        Bound::High(e) => Step::High(e.get()),
+        Bound::Rise(f) => Step::Rise(f.get()),
+        Bound::Message(r) => Step::Message(r.get()),
+        Bound::Extra(k) => Step::Extra(k),
+    }
+}
+
+// The bounds at these places, as steps.
+fn steps_of(alloc: Global, bounds: &[Bound], places: &[u32]) -> Result<Steps, AllocError>
+    requires { All (λ p. p < length bounds.now) places.now }
+    ensures { IfOk result (λ steps. steps ≡ map (λ p. step_of (bound_at bounds.now p)) places.now) }
+{
+    let mut steps = Steps::new(alloc);
+    for place in places {
+        steps.push(as_step(bounds[*place as usize]))?;
+    }
+    Ok(steps)
+}
+
+/// An admissible timing of the log, or bounds of it in conflict. A log never has both.
+pub fn settle(alloc: Global, log: &Log) -> Result<Consistency, AllocError>
+    ensures answer { IfOk result (Settles log.now) }
+{
+    bounds_are_admissible();
+    let bounds = bounds(alloc, log)?;
+    let edges = edges_of(alloc, log, bounds.as_slice())?;
+    let outcome = solve(alloc, log.rows().len() as u32 + 1, edges.as_slice())?;
+    match outcome {
+        Outcome::Potential(numbers) => {
+            let times = times_of(alloc, numbers.as_slice())?;
+            Ok(Consistency::Timing(times))
+        }
+        Outcome::Cycle(places) => {
+            let steps = steps_of(alloc, bounds.as_slice(), places.as_slice())?;
+            Ok(Consistency::Conflict(steps))
+        }
+    }
+}

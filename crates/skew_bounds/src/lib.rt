@@ -1,0 +1,18 @@
+//! The bounds of a log as difference constraints between the zero moment, which is node 0, and its
+//! rows, of which row e is node e + 1; and whether some true times of the rows meet them all.
+//!
+//! Such constraints are the edges of a graph, and they can be met exactly where no closed walk has a
+//! negative sum (Bellman, On a routing problem, 1958). Times and bounds are in the log's unit of time.
+#![tactic(auto)]
+
+mod consistency;
+mod edges;
+mod list;
+mod rows;
+
+pub use consistency::{Consistency, settle};
+pub use edges::edge_of;
+pub use list::bounds;
+
+#[cfg(test)]
+mod tests;
