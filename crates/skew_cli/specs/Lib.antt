@@ -1,0 +1,12 @@
+pub mod Statuses
+pub mod Words
+pub mod Called
+pub mod Texts
+pub mod TimesOutcome
+pub mod Outcome
+pub use Rattle.mt_port.specs.Port
+pub use Rattle.mt_port.specs.Whole
+pub use Rattle.mt_model.specs.Log
+pub use Rattle.mt_model.specs.Timing
+pub use Rattle.log_read.specs.LogOf
+pub use Rattle.skew_bounds.specs.Consistency

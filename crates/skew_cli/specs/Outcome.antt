@@ -1,0 +1,45 @@
+-- What a run must give: for words and files, which bytes are written and which status is answered.
+use Rattle.std.specs.Prelude.{◌≡◌, ◌++◌, ℕ, List, length, nat_lt, codes, IsSome, IsSomeAnd, MatchOption}
+use Rattle.std.specs.Bool.{MatchBool}
+use Rattle.mt_port.specs.Port.{Files, file_of}
+use Rattle.mt_port.specs.Whole.{WrotePrefix}
+use Rattle.skew_cli.specs.declared.limits.TheConstants.{LOG_LIMIT}
+use Rattle.skew_cli.specs.declared.status.Status.{Status}
+use Rattle.skew_cli.specs.declared.status.Status.TheVariants as status
+use Rattle.skew_cli.specs.Statuses.{IsAnswer}
+use Rattle.skew_cli.specs.Texts.{line}
+use Rattle.skew_cli.specs.TimesOutcome.{TimesOutcome}
+use Rattle.skew_cli.specs.Words.{Command, Times, Word, command_of}
+
+-- one line, with its status
+abbrev pub Says : List ℕ → Status → List ℕ → Status → Type 0
+Says text due out s = (out ≡ line text) × (s ≡ due)
+
+-- a log file above its limit is refused, and each other one answered
+abbrev pub LogOutcome : List ℕ → List ℕ → Status → Type 0
+LogOutcome file out s = MatchBool (nat_lt LOG_LIMIT (length file)) (Says (codes "refused length log") status.TooLarge out s) (TimesOutcome file out s)
+
+-- what a command gives, where the files that it names are held
+abbrev pub CommandOutcome : Command → Files → List ℕ → Status → Type 0
+CommandOutcome (Times log) files out s = IsSomeAnd (file_of files log) (λ file. LogOutcome file out s)
+
+-- what words give: the command's outcome, and a refusal where they are no command
+abbrev pub Outcome : List Word → Files → List ℕ → Status → Type 0
+Outcome words files out s = MatchOption (command_of words) (Says (codes "refused words") status.Words out s) (λ command. CommandOutcome command files out s)
+
+-- the files that a command names are held
+abbrev pub Holds : Files → Command → Type 0
+Holds files (Times log) = IsSome (file_of files log)
+
+-- the files that words name are held
+abbrev pub HoldsNamed : List Word → Files → Type 0
+HoldsNamed words files = MatchOption (command_of words) (Unit {0}) (Holds files)
+
+-- other files that agree with those that are held
+abbrev pub Agree : Files → Files → Type 0
+Agree held files = (name : Word) → IsSome (file_of held name) → file_of files name ≡ file_of held name
+
+-- how a call ended that is to write what is due: an answer wrote it, and where writing failed, the beginning of it was written
+pub record Ends (Due : List ℕ → Status → Type 0) (old now : List ℕ) (s : Status) : Type 0 where
+  pub answer : IsAnswer s → (written : List ℕ) × (now ≡ old ++ written) × Due written s
+  pub cut : s ≡ status.WriteFailed → (due : List ℕ) × (t : Status) × Due due t × WrotePrefix old now due

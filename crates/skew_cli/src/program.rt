@@ -1,0 +1,85 @@
+ghost use Rattle.std.specs.Prelude.{◌≡◌, ◌⊎◌, ◌++◌, ◌≤◌, true, None, IfOk, IsErrOf, codes, map, string_bytes};
+ghost use Rattle.mt_port.specs.Port.{Files, Rose};
+ghost use Rattle.skew_cli.specs.Called.{command_in};
+ghost use Rattle.skew_cli.specs.Outcome.{Agree, CommandOutcome, Ends, Holds, HoldsNamed, Outcome};
+ghost use Rattle.skew_cli.specs.Statuses.{IsAnswer};
+ghost use Rattle.skew_cli.specs.Texts.{line};
+ghost use Rattle.skew_cli.specs.Words.{command_of};
+
+use crate::Status;
+use crate::reply::{Reply, Stop, times};
+use crate::words::{Call, call_of};
+use mt_port::{Failed, Shelf, Sink, write_all};
+use std::alloc::Global;
+
+// Writes a text, and answers its status where that goes well.
+fn finish<K: Sink>(out: &mut K, text: &str, status: Status) -> Status
+    requires { IsAnswer status }
+    ensures ends { K.tells out.old ≡ true → Ends (λ b s. (b ≡ text.now) × (s ≡ status)) (K.bytes out.old) (K.bytes out.new) result }
+    ensures status { (result ≡ status) ⊎ (result ≡ Status.WriteFailed) }
+    ensures failed { result ≡ Status.WriteFailed → Rose (K.faults out.old) (K.faults out.new) }
+    ensures later { K.faults out.old ≤ K.faults out.new }
+{
+    match write_all(out, text.as_bytes()) {
+        Ok(()) => status,
+        Err(Failed) => Status::WriteFailed,
+    }
+}
+
+// What a command answers, before anything is written.
+fn reply<S: Shelf>(alloc: Global, shelf: &mut S, call: Call<'_>) -> Result<Reply, Stop>
+    ensures outcome { IfOk result (λ r. S.tells shelf.old ≡ true → CommandOutcome (command_in call.entry) (S.files shelf.old) (string_bytes r.text) r.status) }
+    ensures answer { IfOk result (λ r. IsAnswer r.status) }
+    ensures command { IfOk result (λ r. r.status ≡ Status.Words → ⊥) }
+    ensures failed { IsErrOf result Stop.ReadFailed → Rose (S.faults shelf.old) (S.faults shelf.new) }
+    ensures never { S.steady shelf.old → S.tells shelf.old ≡ true → Holds (S.files shelf.old) (command_in call.entry) → IsErrOf result Stop.ReadFailed → ⊥ }
+    ensures later { S.faults shelf.old ≤ S.faults shelf.new }
+{
+    match call {
+        Call::Times { log } => times(alloc, shelf, log),
+    }
+}
+
+/// All that the program does for its words: reads the files that they name, and writes the answer.
+///
+/// With want of memory and with a failed read nothing is written; where writing fails, what was
+/// written is the beginning of an answer.
+pub fn run<S: Shelf, K: Sink>(
+    alloc: Global,
+    words: &Vec<String>,
+    shelf: &mut S,
+    out: &mut K,
+) -> Status
+    // Where files and bytes are told, an answer is what the words and files give, for any files
+    // that agree with those that the shelf holds.
+    ensures outcome { S.tells shelf.old ≡ true → K.tells out.old ≡ true → (files : Files) → Agree (S.files shelf.old) files
+        → Ends (Outcome (map string_bytes words.now.items) files) (K.bytes out.old) (K.bytes out.new) result }
+    ensures silent { K.tells out.old ≡ true → (result ≡ Status.NoMemory) ⊎ (result ≡ Status.ReadFailed) → K.bytes out.new ≡ K.bytes out.old }
+
+    // The words are refused exactly where they are no command, whatever the shelf tells.
+    ensures words { result ≡ Status.Words → command_of (map string_bytes words.now.items) ≡ None }
+    ensures no_command { command_of (map string_bytes words.now.items) ≡ None → (result ≡ Status.Words) ⊎ (result ≡ Status.WriteFailed) }
+    ensures refusal { result ≡ Status.Words → K.tells out.old ≡ true → K.bytes out.new ≡ K.bytes out.old ++ line (codes "refused words") }
+
+    // A failure of a device is answered only where its count rose.
+    ensures read { result ≡ Status.ReadFailed → Rose (S.faults shelf.old) (S.faults shelf.new) }
+    ensures never { S.steady shelf.old → S.tells shelf.old ≡ true → HoldsNamed (map string_bytes words.now.items) (S.files shelf.old) → result ≡ Status.ReadFailed → ⊥ }
+    ensures write { result ≡ Status.WriteFailed → Rose (K.faults out.old) (K.faults out.new) }
+
+    // Where no device failed, the answer is there, or memory ran out.
+    ensures complete { S.tells shelf.old ≡ true → HoldsNamed (map string_bytes words.now.items) (S.files shelf.old)
+        → ¬ Rose (K.faults out.old) (K.faults out.new) → S.steady shelf.old ⊎ ¬ Rose (S.faults shelf.old) (S.faults shelf.new)
+        → (result ≡ Status.NoMemory) ⊎ IsAnswer result }
+{
+    let Some(call) = call_of(words) else {
+        return finish(out, "refused words\n", Status::Words);
+    };
+    match reply(alloc, shelf, call) {
+        Ok(reply) => finish(out, reply.text.as_str(), reply.status),
+        Err(Stop::NoMemory) => Status::NoMemory,
+        Err(Stop::ReadFailed) => Status::ReadFailed,
+    }
+}
+
+#[cfg(test)]
+mod tests;

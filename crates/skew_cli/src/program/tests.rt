@@ -1,0 +1,475 @@
+use super::*;
+use crate::LOG_LIMIT;
+use mt_port::{MemShelf, MemSink};
+use std::alloc::AllocError;
+use std::process::Abort;
+use std::test::Fail;
+
+const HEADER: &str = "kind,host,time,name\n";
+
+const TWO_ROWS: &str = "kind,host,time,name\nhost,a,0,1\nhost,b,0,1\nset,a,10,req\nset,b,15,ack\n";
+
+const TWO_TIMES: &str = "10\n15\n";
+
+const CROWDED: &str = "kind,host,time,name\nhost,a,0,1\nset,a,10,p\nnote,a,10,n\n";
+
+// How many bytes go in one call, how many the sink takes in all, and which call of the shelf and
+// which of the sink fails, where 0 is none.
+#[derive(Clone, Copy, Debug)]
+struct Devices {
+    piece: usize,
+    room: usize,
+    bad_read: u64,
+    bad_write: u64,
+}
+
+const SOUND: Devices = Devices {
+    piece: 65_536,
+    room: 4_096,
+    bad_read: 0,
+    bad_write: 0,
+};
+
+// What a run writes and answers where one file is held.
+fn ran(
+    rt: &(impl Abort + AllocGlobal),
+    words: &[&str],
+    name: &str,
+    file: &[u8],
+    devices: Devices,
+) -> Result<(Vec<u8>, Status), AllocError> {
+    let alloc = rt.alloc();
+    let mut list = Vec::new(alloc);
+    for word in words {
+        list.push(String::from_str(alloc, word)?)?;
+    }
+    let mut files = Vec::new(alloc);
+    files.push((String::from_str(alloc, name)?, file.to_vec(alloc)?))?;
+    assert!(rt; MemShelf::are_distinct(&files));
+    assert!(rt; devices.piece > 0);
+    let bad_reads = vec![in alloc; devices.bad_read]?;
+    let bad_writes = vec![in alloc; devices.bad_write]?;
+    let mut shelf = MemShelf::new(files, devices.piece, bad_reads);
+    let mut sink = MemSink::new(alloc, devices.room, devices.piece, bad_writes)?;
+    let status = run(alloc, &list, &mut shelf, &mut sink);
+    Ok((sink.bytes().to_vec(alloc)?, status))
+}
+
+#[test]
+fn a_command_reads_the_file_that_it_names(rt: HostRuntime) -> Result<(), Fail> {
+    let commands = [
+        ([].as_slice(), "-"),
+        (["times", "l"].as_slice(), "l"),
+        (["times", "-"].as_slice(), "-"),
+        (["times", "--", "l"].as_slice(), "l"),
+        (["times", "l", "--"].as_slice(), "l"),
+        (["times", "--", "-"].as_slice(), "-"),
+        (["times", "--", "-x"].as_slice(), "-x"),
+        (["times", "--", "--"].as_slice(), "--"),
+        (["times", "times"].as_slice(), "times"),
+    ];
+    for (words, name) in commands {
+        let (text, status) = ran(&rt, words, name, TWO_ROWS.as_bytes(), SOUND)?;
+        assert_eq!(rt; status, Status::Zero, "at {words:?}");
+        assert_eq!(rt; text.as_slice(), TWO_TIMES.as_bytes(), "at {words:?}");
+
+        // The name of a file is all of the word.
+        let (text, status) = ran(&rt, words, "ll", TWO_ROWS.as_bytes(), SOUND)?;
+        assert_eq!(rt; status, Status::ReadFailed, "at {words:?}");
+        assert_eq!(rt; text.len(), 0, "at {words:?}");
+    }
+    Ok(())
+}
+
+#[test]
+fn other_words_are_refused(rt: HostRuntime) -> Result<(), Fail> {
+    let refused = [
+        ["times"].as_slice(),
+        ["times", "--"].as_slice(),
+        ["times", ""].as_slice(),
+        ["times", "--", ""].as_slice(),
+        ["times", "", "--"].as_slice(),
+        ["times", "-x"].as_slice(),
+        ["times", "--x"].as_slice(),
+        ["times", "a", "b"].as_slice(),
+        ["times", "--", "a", "b"].as_slice(),
+        ["times", "a", "--", "b"].as_slice(),
+        ["times", "a", "b", "--"].as_slice(),
+        ["times", "--", "a", "--"].as_slice(),
+        ["times", "--", "--", "a"].as_slice(),
+        ["times", "-", "-"].as_slice(),
+        ["times", "--conflicts=5", "l"].as_slice(),
+        ["times", "l", "-x"].as_slice(),
+        ["times", "-x", "--"].as_slice(),
+        ["times", "-x", "--", "l"].as_slice(),
+        ["order", "l"].as_slice(),
+        ["check", "f", "l"].as_slice(),
+        ["look", "l"].as_slice(),
+        ["Times", "l"].as_slice(),
+        ["time", "l"].as_slice(),
+        ["timest", "l"].as_slice(),
+        ["--", "times", "l"].as_slice(),
+        ["l"].as_slice(),
+        [""].as_slice(),
+        ["-"].as_slice(),
+        ["--"].as_slice(),
+    ];
+    for words in refused {
+        let (text, status) = ran(&rt, words, "l", TWO_ROWS.as_bytes(), SOUND)?;
+        assert_eq!(rt; status, Status::Words, "at {words:?}");
+        assert_eq!(rt;
+            text.as_slice(),
+            b"refused words\n".as_slice(),
+            "at {words:?}"
+        );
+    }
+    Ok(())
+}
+
+// What `times` is to answer for a log.
+#[derive(Clone, Copy, Debug)]
+enum Wanted<'a> {
+    /// These lines of times.
+    Times(&'a str),
+    /// These three bounds, beginning with any of them.
+    Cycle(&'a str, &'a str, &'a str),
+    /// The refusal.
+    Refused,
+}
+
+// The text of three bounds in this order.
+fn cycle_text(alloc: Global, first: &str, second: &str, third: &str) -> Result<String, AllocError> {
+    format!(in alloc; "inconsistent 3\n{first}\n{second}\n{third}\n")
+}
+
+// Fails where `times` answers a log otherwise.
+fn check_log(
+    rt: &(impl Abort + AllocGlobal),
+    log: &str,
+    wanted: Wanted<'_>,
+) -> Result<(), AllocError> {
+    let alloc = rt.alloc();
+    let (text, status) = ran(rt, &["times", "l"], "l", log.as_bytes(), SOUND)?;
+    match wanted {
+        Wanted::Times(times) => {
+            assert_eq!(rt; status, Status::Zero, "at {log}");
+            assert_eq!(rt; text.as_slice(), times.as_bytes(), "at {log}");
+        }
+        Wanted::Cycle(first, second, third) => {
+            assert_eq!(rt; status, Status::Inconsistent, "at {log}");
+            let turns = [
+                cycle_text(alloc, first, second, third)?,
+                cycle_text(alloc, second, third, first)?,
+                cycle_text(alloc, third, first, second)?,
+            ];
+            let found = turns.iter().any(|turn| turn.as_bytes() == text.as_slice());
+            assert!(rt; found, "at {log}");
+        }
+        Wanted::Refused => {
+            assert_eq!(rt; status, Status::LogRefused, "at {log}");
+            assert_eq!(rt; text.as_slice(), b"refused log 14\n".as_slice(), "at {log}");
+        }
+    }
+    Ok(())
+}
+
+#[test]
+fn a_log_may_be_written_in_many_ways(rt: HostRuntime) -> Result<(), Fail> {
+    let logs = [
+        TWO_ROWS,
+        "kind,host,time,name\nhost,a,0,1\nhost,b,0,1\nset,a,10,req\nset,b,15,ack",
+        "kind,host,time,name\r\nhost,a,0,1\r\nhost,b,0,1\r\nset,a,10,req\r\nset,b,15,ack\r\n",
+        "\"kind\",host,\"time\",name\nhost,\"a\",0,1\nhost,b,\"0\",1\n\"set\",a,\"10\",\"req\"\nset,b,15,ack\n",
+        "kind,host,time,name\nhost,a,0,1\n\nhost,b,0,1\nset,a,10,req\n\n\nset,b,15,ack\n\n",
+        "kind,host,time,name\nhost,a,0,1\nset,a,10,req\nhost,b,0,1\nset,b,15,ack\n",
+    ];
+    for log in logs {
+        check_log(&rt, log, Wanted::Times(TWO_TIMES))?;
+    }
+    let refused = [
+        "",
+        "kind,host,time,name",
+        "kind,host,time,name\n",
+        "kind,host,time,name\nhost,a,0,1\n",
+        "host,a,0,1\nset,a,10,p\n",
+        "kind,host,name,time\nhost,a,0,1\nset,a,10,p\n",
+        "kind,host,time,name\nset,a,10,p\n",
+        "kind,host,time,name\nset,a,10,p\nhost,a,0,1\n",
+    ];
+    for log in refused {
+        check_log(&rt, log, Wanted::Refused)?;
+    }
+    Ok(())
+}
+
+#[test]
+fn a_log_is_timed_or_its_bounds_conflict(rt: HostRuntime) -> Result<(), Fail> {
+    let own = Wanted::Cycle("high 1", "low 0", "rise 1");
+    let bodies = [
+        (
+            "host,a,0,0\nset,a,10,p\nnote,a,12,n\n",
+            Wanted::Times("10\n12\n"),
+        ),
+        ("host,a,0,0\nset,a,10,p\nclear,a,12,p\n", Wanted::Refused),
+        ("host,a,0,0\nsend,a,10,m\n", Wanted::Refused),
+        ("host,a,0,0\nsend,a,10,m\nrecv,a,12,m\n", Wanted::Refused),
+        ("host,a,0,0\nrecv,a,10,m\n", Wanted::Refused),
+        ("host,a,0,0\nlook,a,10,m\n", Wanted::Refused),
+        // The gap.
+        ("host,a,0,1\nset,a,10,p\nnote,a,10,n\n", own),
+        (
+            "host,a,0,0\nset,a,10,p\nnote,a,10,n\n",
+            Wanted::Times("10\n10\n"),
+        ),
+        ("host,a,0,0\nset,a,10,p\nnote,a,9,n\n", own),
+        (
+            "host,a,0,3\nnote,a,-4,n\nnote,a,-1,n\n",
+            Wanted::Times("-4\n-1\n"),
+        ),
+        ("host,a,0,3\nnote,a,-4,n\nnote,a,-2,n\n", own),
+        // The skew, where one timing is left, and where it is one too small.
+        (
+            "host,a,1,2\nset,a,10,p\nnote,a,10,n\n",
+            Wanted::Times("9\n11\n"),
+        ),
+        ("host,a,1,3\nset,a,10,p\nnote,a,10,n\n", own),
+        (
+            "host,a,1,0\nset,a,10,p\nnote,a,8,n\n",
+            Wanted::Times("9\n9\n"),
+        ),
+        ("host,a,1,0\nset,a,10,p\nnote,a,7,n\n", own),
+        // Each host has its own clock and gap.
+        (
+            "host,a,0,1\nhost,b,0,1\nset,a,30,p\nset,b,20,q\nset,a,31,r\nset,b,21,s\nset,b,22,t\n",
+            Wanted::Times("30\n20\n31\n21\n22\n"),
+        ),
+        (
+            "host,a,0,5\nhost,b,0,1\nset,a,10,p\nset,b,99,q\nset,a,15,r\n",
+            Wanted::Times("10\n99\n15\n"),
+        ),
+        (
+            "host,a,0,5\nhost,b,0,1\nset,a,10,p\nset,b,1,q\nset,a,14,r\n",
+            Wanted::Cycle("high 2", "low 0", "rise 2"),
+        ),
+        (
+            "host,a,0,5\nhost,b,0,1\nset,b,1,p\nset,b,2,q\nset,a,0,r\n",
+            Wanted::Times("1\n2\n0\n"),
+        ),
+        (
+            "host,a,0,1\nhost,b,0,5\nset,b,1,p\nset,b,2,q\nset,a,0,r\n",
+            own,
+        ),
+        (
+            "host,a,0,1\nset,a,1,p\nset,a,5,q\nset,a,3,r\n",
+            Wanted::Cycle("high 2", "low 1", "rise 2"),
+        ),
+        // The least and the greatest numbers.
+        (
+            "host,a,0,1\nnote,a,-4000000000000000000,n\nnote,a,4000000000000000000,n\n",
+            Wanted::Times("-4000000000000000000\n4000000000000000000\n"),
+        ),
+        (
+            "host,a,0,1\nnote,a,4000000000000000000,n\nnote,a,-4000000000000000000,n\n",
+            own,
+        ),
+        (
+            "host,a,0,1\nnote,a,-4000000000000000001,n\n",
+            Wanted::Refused,
+        ),
+        (
+            "host,a,0,1\nnote,a,4000000000000000001,n\n",
+            Wanted::Refused,
+        ),
+        (
+            "host,a,0,1000000000000000000\nset,a,-1,p\nset,a,999999999999999999,q\n",
+            Wanted::Times("-1\n999999999999999999\n"),
+        ),
+        (
+            "host,a,0,1000000000000000000\nset,a,-1,p\nset,a,999999999999999998,q\n",
+            own,
+        ),
+        ("host,a,0,1000000000000000001\nset,a,5,p\n", Wanted::Refused),
+        (
+            "host,a,1000000000000000000,0\nset,a,0,p\nset,a,-2000000000000000000,q\n",
+            Wanted::Times("-1000000000000000000\n-1000000000000000000\n"),
+        ),
+        (
+            "host,a,1000000000000000000,0\nset,a,0,p\nset,a,-2000000000000000001,q\n",
+            own,
+        ),
+        ("host,a,1000000000000000001,0\nset,a,5,p\n", Wanted::Refused),
+        // Names of 32 and of 33 bytes.
+        (
+            "host,abcdefghijklmnopqrstuvwxyz_01234,0,1\nset,abcdefghijklmnopqrstuvwxyz_01234,5,p\n",
+            Wanted::Times("5\n"),
+        ),
+        (
+            "host,abcdefghijklmnopqrstuvwxyz_012345,0,1\nset,abcdefghijklmnopqrstuvwxyz_012345,5,p\n",
+            Wanted::Refused,
+        ),
+        (
+            "host,a,0,1\nset,a,5,abcdefghijklmnopqrstuvwxyz_01234\n",
+            Wanted::Times("5\n"),
+        ),
+        (
+            "host,a,0,1\nset,a,5,abcdefghijklmnopqrstuvwxyz_012345\n",
+            Wanted::Refused,
+        ),
+        ("host,a,0,1\nset,a,5,\n", Wanted::Refused),
+    ];
+    for (body, wanted) in bodies {
+        let log = format!(in rt.alloc(); "{HEADER}{body}")?;
+        check_log(&rt, &log, wanted)?;
+    }
+    Ok(())
+}
+
+// A log of so many hosts, h0, h1 and so on, and so many rows of the first, with its local times.
+fn large_log(alloc: Global, hosts: u32, rows: u32) -> Result<(String, String), AllocError> {
+    let mut log = String::from_str(alloc, HEADER)?;
+    let mut times = String::new(alloc);
+    for i in 0..hosts {
+        log.push_str(&format!(in alloc; "host,h{i},0,1\n")?)?;
+    }
+    for i in 0..rows {
+        log.push_str(&format!(in alloc; "note,h0,{i},n\n")?)?;
+        times.push_str(&format!(in alloc; "{i}\n")?)?;
+    }
+    Ok((log, times))
+}
+
+#[test]
+fn a_log_has_at_most_64_hosts_and_64_rows(rt: HostRuntime) -> Result<(), Fail> {
+    for (hosts, rows, taken) in [(64, 64, true), (65, 1, false), (1, 65, false)] {
+        let (log, times) = large_log(rt.alloc(), hosts, rows)?;
+        let wanted = if taken {
+            Wanted::Times(times.as_str())
+        } else {
+            Wanted::Refused
+        };
+        check_log(&rt, &log, wanted)?;
+    }
+    Ok(())
+}
+
+#[test]
+fn a_log_file_has_at_most_1048576_bytes(rt: HostRuntime) -> Result<(), Fail> {
+    assert_eq!(rt; LOG_LIMIT, 1_048_576);
+    let fills = [
+        (b'\n', TWO_TIMES, Status::Zero),
+        (255, "refused log 14\n", Status::LogRefused),
+    ];
+    for (fill, text, due) in fills {
+        let mut file = vec![in rt.alloc(); fill; LOG_LIMIT]?;
+        for (place, byte) in TWO_ROWS.as_bytes().iter().enumerate() {
+            assert!(rt; place < file.len());
+            file[place] = *byte;
+        }
+        let (written, status) = ran(&rt, &["times", "l"], "l", &file, SOUND)?;
+        assert_eq!(rt; status, due, "with {fill}");
+        assert_eq!(rt; written.as_slice(), text.as_bytes(), "with {fill}");
+
+        file.push(fill)?;
+        let (written, status) = ran(&rt, &["times", "l"], "l", &file, SOUND)?;
+        assert_eq!(rt; status, Status::TooLarge, "with {fill}");
+        assert_eq!(rt;
+            written.as_slice(),
+            b"refused length log\n".as_slice(),
+            "with {fill}"
+        );
+    }
+    Ok(())
+}
+
+#[test]
+fn a_failed_read_writes_nothing(rt: HostRuntime) -> Result<(), Fail> {
+    // The calls are the opening, the reads with bytes, and one at the end.
+    for (piece, calls) in [(1, TWO_ROWS.len() as u64), (65_536, 1)] {
+        for bad_read in 1..=calls.saturating_add(3) {
+            let devices = Devices {
+                piece,
+                bad_read,
+                ..SOUND
+            };
+            let fails = bad_read <= calls.saturating_add(2);
+            let (text, due) = if fails {
+                ("", Status::ReadFailed)
+            } else {
+                (TWO_TIMES, Status::Zero)
+            };
+            let (written, status) = ran(&rt, &["times", "l"], "l", TWO_ROWS.as_bytes(), devices)?;
+            assert_eq!(rt; status, due, "with {devices:?}");
+            assert_eq!(rt; written.as_slice(), text.as_bytes(), "with {devices:?}");
+        }
+    }
+    Ok(())
+}
+
+#[test]
+fn a_failed_write_leaves_the_beginning(rt: HostRuntime) -> Result<(), Fail> {
+    // The bounds may begin with any of them, so what is written is asked for.
+    let (bounds, _) = ran(&rt, &["times", "l"], "l", CROWDED.as_bytes(), SOUND)?;
+    let bounds = str::from_utf8(&bounds).expect(&rt, "no text");
+
+    // Each kind of answer: the words, the file, what is written, and the status.
+    let answers = [
+        (["times", "l"], TWO_ROWS, TWO_TIMES, Status::Zero),
+        (["times", "l"], CROWDED, bounds, Status::Inconsistent),
+        (["times", "l"], "", "refused log 14\n", Status::LogRefused),
+        (["times", "-x"], "", "refused words\n", Status::Words),
+    ];
+    for (words, file, text, due) in answers {
+        for count in 0..=text.len() {
+            let due = if count < text.len() {
+                Status::WriteFailed
+            } else {
+                due
+            };
+
+            // The sink is full, or a later write fails, after so many bytes.
+            let full = Devices {
+                room: count,
+                ..SOUND
+            };
+            let broken = Devices {
+                piece: 1,
+                bad_write: (count as u64).saturating_add(1),
+                ..SOUND
+            };
+            for devices in [full, broken] {
+                let (written, status) = ran(&rt, &words, "l", file.as_bytes(), devices)?;
+                assert_eq!(rt; status, due, "with {devices:?}");
+                assert_eq!(rt;
+                    written.as_slice(),
+                    &text.as_bytes()[..count],
+                    "with {devices:?}"
+                );
+            }
+        }
+    }
+    Ok(())
+}
+
+#[test]
+fn each_status_has_its_code(rt: HostRuntime) {
+    let codes = [
+        (Status::Zero, 0),
+        (Status::One, 1),
+        (Status::Two, 2),
+        (Status::Inconsistent, 3),
+        (Status::Unknown, 4),
+        (Status::Rejected, 5),
+        (Status::NotAdmissible, 6),
+        (Status::Words, 64),
+        (Status::FormulaRefused, 65),
+        (Status::LogRefused, 66),
+        (Status::TooLarge, 67),
+        (Status::TimesRefused, 68),
+        (Status::NoMemory, 70),
+        (Status::ReadFailed, 74),
+        (Status::WriteFailed, 75),
+    ];
+    for (status, code) in codes {
+        assert_eq!(rt; status.code(), code, "at {status:?}");
+    }
+}
