@@ -1,0 +1,57 @@
+#!/usr/bin/env bash
+# Prints how long the built program takes on logs of 8 to 64 rows, and the solver on 1,024 nodes.
+# Each time is the least of several runs, in milliseconds, start of the process included.
+cd "$(dirname "$0")/.." || exit 2
+runs=${1:-20}
+folder=$(mktemp -d) || exit 2
+trap 'rm -rf "$folder"' EXIT
+
+# A log of $1 rows over 4 hosts, whose clocks run apart by less than their skew; $2 is the rows' gap.
+log() {
+  awk -v rows="$1" -v gap="$2" 'BEGIN {
+    srand(rows)
+    print "kind,host,time,name"
+    split("a b c d", hosts, " ")
+    for (i = 1; i <= 4; i++) print "host," hosts[i] ",500," gap
+    for (row = 0; row < rows; row++) {
+      clock = 100 * row + int(400 * rand())
+      print (row % 2 ? "note" : "set") "," hosts[1 + int(4 * rand())] "," clock ",p"
+    }
+  }'
+}
+
+# The least time of the runs of the command that the words after the first are; the first is its input.
+least() {
+  local input=$1 best= began taken
+  shift
+  for ((run = 0; run < runs; run++)); do
+    began=${EPOCHREALTIME/./}
+    "$@" <"$input" >"$folder/answer"
+    taken=$((${EPOCHREALTIME/./} - began))
+    if [ -z "$best" ] || [ "$taken" -lt "$best" ]; then best=$taken; fi
+  done
+  printf '%d.%d' $((best / 1000)) $((best % 1000 / 100))
+}
+
+./skewcheck -- </dev/null >/dev/null
+[ $? -eq 64 ] || exit 2
+printf '%-28s %12s  %s\n' "times" "milliseconds" "answer"
+for rows in 8 16 32 64; do
+  for gap in 1 3000; do
+    log "$rows" "$gap" >"$folder/log"
+    taken=$(least "$folder/log" ./crates/skewcheck/out/skewcheck times -)
+    answer=$(head -n 1 "$folder/answer")
+    case $answer in inconsistent*) ;; *) answer="a timing" ;; esac
+    printf '%-28s %12s  %s\n' "$rows rows, gap $gap" "$taken" "$answer"
+  done
+done
+
+(cd crates/solve_bench && rt run -- 8 possible) >/dev/null || exit 2
+runs=3
+printf '\n%-28s %12s  %s\n' "solve" "milliseconds" "answer"
+for rows in 256 1023; do
+  for kind in possible impossible crowded backward; do
+    taken=$(least /dev/null ./crates/solve_bench/out/solve_bench "$rows" "$kind")
+    printf '%-28s %12s  %s\n' "$((rows + 1)) nodes, $kind" "$taken" "$(cat "$folder/answer")"
+  done
+done

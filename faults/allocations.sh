@@ -1,0 +1,45 @@
+#!/usr/bin/env bash
+# Runs the built program on logs with each of its allocations failing in turn. Each run has to write
+# nothing and end with 70, or with 71 before there are words, or to answer as with ample memory.
+# Needs a C compiler, `cc`. The status is 0 where all runs did so.
+cd "$(dirname "$0")/.." || exit 2
+program=./crates/skewcheck/out/skewcheck
+folder=$(mktemp -d) || exit 2
+trap 'rm -rf "$folder"' EXIT
+cc -shared -fPIC -O1 -o "$folder/fail_alloc.so" faults/fail_alloc.c -ldl || exit 2
+./skewcheck -- </dev/null >/dev/null
+[ $? -eq 64 ] || exit 2
+
+runs=0
+wrong=0
+
+# Tries every allocation of the program on the words; the input is the file that comes first.
+try() {
+  local input=$1 due status total
+  shift
+  total=$(TELL_ALLOCS=1 LD_PRELOAD=$folder/fail_alloc.so "$program" "$@" <"$input" 2>&1 >"$folder/due")
+  "$program" "$@" <"$input" >"$folder/due"
+  due=$?
+  for ((place = 1; place <= total; place++)); do
+    FAIL_ALLOC=$place LD_PRELOAD=$folder/fail_alloc.so "$program" "$@" <"$input" >"$folder/answer"
+    status=$?
+    runs=$((runs + 1))
+    case $status in
+      70 | 71) [ ! -s "$folder/answer" ] && continue ;;
+      "$due") cmp -s "$folder/answer" "$folder/due" && continue ;;
+    esac
+    wrong=$((wrong + 1))
+    echo "words $*: with allocation $place failing, the status is $status"
+  done
+}
+
+for log in examples/*.csv; do
+  try "$log" times -
+  try /dev/null times "$log"
+done
+try /dev/null times -
+try README.md times -
+try /dev/null times -x
+try /dev/null
+echo "$runs runs, $wrong wrong"
+[ "$wrong" -eq 0 ]
