@@ -46,7 +46,11 @@ for rows in 8 16 32 64; do
   done
 done
 
-(cd crates/solve_bench && rt run -- 8 possible) >/dev/null || exit 2
+# The solver's benchmark, built where it isn't; what the build says is shown only where it fails.
+if ! (cd crates/solve_bench && rt run -- 8 possible) >"$folder/build" 2>&1; then
+  cat "$folder/build" >&2
+  exit 2
+fi
 runs=3
 printf '\n%-28s %12s  %s\n' "solve" "milliseconds" "answer"
 for rows in 256 1023; do
