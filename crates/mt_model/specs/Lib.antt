@@ -4,4 +4,9 @@ pub mod Timing
 pub mod Walks
 pub mod Bounds
 pub mod Texts
+pub mod Form
+pub mod Positions
+pub mod State
+pub mod Frame
+pub mod Truth
 pub mod Laws

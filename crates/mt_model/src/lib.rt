@@ -9,15 +9,17 @@ mod log;
 mod name;
 mod step;
 mod times;
+mod tree;
 
 pub use bound::{Bound, BoundList};
 pub use ids::{EventId, HostId, NodeId, PropId};
 pub use laws::{bounds_are_admissible, conflict_excludes_timings, previous_row_is_last};
 pub use limits::{
-    MAX_EXTRA, MAX_EXTRAS, MAX_GAP, MAX_HOSTS, MAX_LOCAL, MAX_NAME_LENGTH, MAX_ORDER, MAX_ROWS,
-    MAX_SKEW, MAX_WRITTEN_SKEW,
+    MAX_DISTANCE, MAX_EXTRA, MAX_EXTRAS, MAX_GAP, MAX_HEIGHT, MAX_HOSTS, MAX_LOCAL,
+    MAX_NAME_LENGTH, MAX_ORDER, MAX_PROPOSITIONS, MAX_ROWS, MAX_SKEW, MAX_TIME, MAX_WRITTEN_SKEW,
 };
 pub use log::{Act, Extra, ExtraList, Host, HostList, Log, Row, RowList};
 pub use name::Name;
 pub use step::{Step, Steps};
 pub use times::{Bits, Times, Walk};
+pub use tree::{Interval, Tree};

@@ -1,4 +1,4 @@
-//! The limits of a log, in one place. Times, skews, gaps and bounds are in the log's one unit of time.
+//! The limits of logs, timings and formulas, in one place. Times, skews, gaps and bounds are in the log's one unit of time.
 
 /// The most bytes of a name.
 pub const MAX_NAME_LENGTH: usize = 32;
@@ -29,3 +29,15 @@ pub const MAX_EXTRA: i128 = 100_000_000_000_000_000_000;
 
 /// The greatest magnitude of the bound of an order step.
 pub const MAX_ORDER: i128 = 1_000_000_000_000_000_000_000;
+
+/// The greatest height of a formula, whose leaves have height 1.
+pub const MAX_HEIGHT: u32 = 200;
+
+/// One more than the most propositions of a formula.
+pub const MAX_PROPOSITIONS: u32 = 2_147_483_648;
+
+/// The greatest bound of an interval.
+pub const MAX_DISTANCE: u64 = 1_000_000_000_000_000_000;
+
+/// The greatest magnitude of a true time that a timing may have.
+pub const MAX_TIME: i128 = 10_000_000_000_000_000_000;
