@@ -1,13 +1,14 @@
 -- The bounds of a log, in their order.
-use Rattle.std.specs.Prelude.{◌≡◌, ◌↔◌, ℕ, List, [], ◌∷◌, ◌++◌, length, map, All, IfSome, is_some, if◌then◌else◌, ℤ}
+use Rattle.std.specs.Prelude.{◌≡◌, ◌↔◌, ℕ, List, [], ◌∷◌, ◌++◌, length, map, find, All, Bool, false, not, Option, None, IfSome, is_some, if◌then◌else◌, ℤ, ◌-ℤ◌, int_le}
 use Rattle.std.specs.List.{flat_map, range_with_len}
+use Rattle.std.specs.Option.{option_map_or}
 use Rattle.mt_model.specs.declared.bound.Bound.{Bound}
 use Rattle.mt_model.specs.declared.bound.Bound.TheVariants as bound
 use Rattle.mt_model.specs.declared.step.Step.{Step}
 use Rattle.mt_model.specs.declared.step.Step.TheVariants as step
 use Rattle.mt_model.specs.Log.{Logged}
 use Rattle.mt_model.specs.Timing.{Admissible, previous_row, send_of}
-use Rattle.mt_model.specs.Walks.{Meets, edge_of}
+use Rattle.mt_model.specs.Walks.{Edge, Meets, edge_of, node_time}
 
 -- a bound as a step of a walk
 abbrev pub step_of : Bound → Step
@@ -33,3 +34,19 @@ MeetsBounds log t = All (λ b. IfSome (edge_of log (step_of b)) (Meets t)) (boun
 -- the log admits the lists of a time per row that meet its bounds, and no others
 abbrev pub BoundsAreAdmissible : Type 0
 BoundsAreAdmissible = (log : Logged) (t : List ℤ) → Admissible log t ↔ ((length t ≡ length log.rows) × MeetsBounds log t)
+
+-- a timing meets an edge, as a test
+abbrev pub meets : List ℤ → Edge → Bool
+meets t x = int_le (node_time t x.from -ℤ node_time t x.to) x.bound
+
+-- a timing breaks a bound that the log has
+abbrev pub breaks : Logged → List ℤ → Bound → Bool
+breaks log t b = option_map_or (λ x. not (meets t x)) (edge_of log (step_of b)) false
+
+-- the first of the log's bounds that a timing breaks
+abbrev pub first_broken : Logged → List ℤ → Option Bound
+first_broken log t = find (breaks log t) (bounds_of log)
+
+-- a time per row breaks no bound exactly where the log admits the timing
+abbrev pub UnbrokenIsAdmissible : Type 0
+UnbrokenIsAdmissible = (log : Logged) (t : List ℤ) → length t ≡ length log.rows → (first_broken log t ≡ None) ↔ Admissible log t

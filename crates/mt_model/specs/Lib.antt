@@ -9,4 +9,5 @@ pub mod Positions
 pub mod State
 pub mod Frame
 pub mod Truth
+pub mod TruthLaws
 pub mod Laws

@@ -1,5 +1,6 @@
-ghost use Rattle.mt_model.specs.Bounds.{BoundsAreAdmissible};
+ghost use Rattle.mt_model.specs.Bounds.{BoundsAreAdmissible, UnbrokenIsAdmissible};
 ghost use Rattle.mt_model.specs.Laws.{ConflictExcludesTimings, PreviousRowIsLast};
+ghost use Rattle.mt_model.specs.TruthLaws.{PositionsAreTimes, TruthByRows, TruthIsTheTable, ValuesHaveTimings};
 
 /// Where bounds of a log form a closed walk of negative sum, the log admits no timing.
 pub fn conflict_excludes_timings()
@@ -15,4 +16,32 @@ pub fn previous_row_is_last()
 /// The log admits the lists of a time per row that meet each of its bounds, and no others.
 pub fn bounds_are_admissible()
     ensures { BoundsAreAdmissible }
+{}
+
+/// A time per row breaks none of the log's bounds exactly where the log admits the timing.
+pub fn unbroken_is_admissible()
+    ensures { UnbrokenIsAdmissible }
+{}
+
+/// The positions of a timing are the true times of the rows, each once, rising.
+pub fn positions_are_times()
+    ensures { PositionsAreTimes }
+{}
+
+/// Truth at the position of a row, and at the first position, is what the same words say of the rows,
+/// where each row counts as a point of its own.
+pub fn truth_by_rows()
+    ensures { TruthByRows }
+{}
+
+/// What each form says at a position, in the words of metric temporal logic (Koymans 1990): until and
+/// since are non-strict, and both ends of an interval are in it.
+pub fn truth_is_the_table()
+    ensures { TruthIsTheTable }
+{}
+
+/// Each value of a formula has an admissible timing that gives it, and a formula has no value exactly
+/// where no timing is admissible.
+pub fn values_have_timings()
+    ensures { ValuesHaveTimings }
 {}

@@ -2,18 +2,27 @@
 #![tactic(auto)]
 
 mod bound;
+mod columns;
+mod evaluator;
+mod formula;
 mod ids;
 mod laws;
 mod limits;
 mod log;
 mod name;
+mod operators;
 mod step;
 mod times;
 mod tree;
 
 pub use bound::{Bound, BoundList};
+pub use evaluator::{first_truth, truths};
+pub use formula::Formula;
 pub use ids::{EventId, HostId, NodeId, PropId};
-pub use laws::{bounds_are_admissible, conflict_excludes_timings, previous_row_is_last};
+pub use laws::{
+    bounds_are_admissible, conflict_excludes_timings, positions_are_times, previous_row_is_last,
+    truth_by_rows, truth_is_the_table, unbroken_is_admissible, values_have_timings,
+};
 pub use limits::{
     MAX_DISTANCE, MAX_EXTRA, MAX_EXTRAS, MAX_GAP, MAX_HEIGHT, MAX_HOSTS, MAX_LOCAL,
     MAX_NAME_LENGTH, MAX_ORDER, MAX_PROPOSITIONS, MAX_ROWS, MAX_SKEW, MAX_TIME, MAX_WRITTEN_SKEW,
@@ -23,3 +32,6 @@ pub use name::Name;
 pub use step::{Step, Steps};
 pub use times::{Bits, Times, Walk};
 pub use tree::{Interval, Tree};
+
+#[cfg(test)]
+mod testing;

@@ -1,7 +1,7 @@
 ghost use Rattle.std.specs.Prelude.{◌≡◌, [], ◌↔◌, IsTrue, IsSome, IfSome, option_copied, Any, Some, All, AllPairs};
 ghost use Rattle.mt_model.specs.Log.{Logged, IsLog, IsHost, IsRow, AreRows, SendSame, IsSent, sent_by, received_by};
-ghost use Rattle.mt_model.specs.Name.{is_reserved};
 
+use crate::name::is_reserved_name;
 use crate::{EventId, HostId, MAX_GAP, MAX_HOSTS, MAX_LOCAL, MAX_ROWS, MAX_SKEW, Name};
 use mt_list::ListOf;
 use std::marker::Model;
@@ -77,17 +77,10 @@ impl Model for Log {
     ghost invariant = { λ l. IsLog (record { hosts = l.hosts; rows = l.rows; extras = l.extras }) };
 }
 
-fn names_no_host(name: &Name) -> bool
-    ensures { result ≡ is_reserved name.now }
-{
-    let bytes = name.bytes();
-    bytes == b"true".as_slice() || bytes == b"false".as_slice() || bytes == b"inf".as_slice()
-}
-
 fn is_host(host: &Host) -> bool
     ensures { IsTrue result ↔ IsHost host.now }
 {
-    !names_no_host(&host.name)
+    !is_reserved_name(&host.name)
         && 0 <= host.skew
         && host.skew <= MAX_SKEW
         && 0 <= host.gap

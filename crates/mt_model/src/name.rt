@@ -1,6 +1,6 @@
 ghost use Rattle.std.specs.Prelude.{◌≡◌, IfOk, IfSome, is_some};
 ghost use Rattle.std.specs.List.{list_all};
-ghost use Rattle.mt_model.specs.Name.{is_name, is_letter, is_name_byte};
+ghost use Rattle.mt_model.specs.Name.{is_name, is_letter, is_name_byte, is_reserved};
 
 use crate::MAX_NAME_LENGTH;
 use std::alloc::{AllocError, Global};
@@ -74,6 +74,14 @@ impl Name {
     {
         &self.bytes
     }
+}
+
+/// Whether a name is `true`, `false` or `inf`, which name no host.
+pub fn is_reserved_name(name: &Name) -> bool
+    ensures { result ≡ is_reserved name.now }
+{
+    let bytes = name.bytes();
+    bytes == b"true".as_slice() || bytes == b"false".as_slice() || bytes == b"inf".as_slice()
 }
 
 #[cfg(test)]
