@@ -1,0 +1,10 @@
+pub mod Completeness
+pub mod Soundness
+pub mod Floors
+pub mod Words
+pub mod Scanning
+pub mod Finishes
+pub mod Hosts
+pub mod Valid
+pub mod PlacesAfter
+pub mod Parsing
