@@ -7,7 +7,7 @@ ghost use Rattle.log_read.specs.Records.{host_with, row_with, place_of_host};
 
 use crate::LogFault;
 use crate::kind::EventKind;
-use crate::number::{number, signed};
+use crate::number::{number, signed_number};
 use mt_model::{
     Host, HostId, MAX_GAP, MAX_HOSTS, MAX_LOCAL, MAX_ROWS, MAX_WRITTEN_SKEW, Name, Row,
 };
@@ -110,7 +110,7 @@ pub fn row_entry(
     let Some(host) = place_of(hosts, host) else {
         return Err(LogFault::UnknownHost { place });
     };
-    let Some(local) = signed(local, MAX_LOCAL) else {
+    let Some(local) = signed_number(local, MAX_LOCAL) else {
         return Err(LogFault::Number { place });
     };
     let Some(new_name) = Name::new(alloc, name)? else {

@@ -12,4 +12,5 @@ mod records;
 
 pub use fault::LogFault;
 pub use fields::{Field, Fields, RecordList};
+pub use number::signed_number;
 pub use reader::{read_log, read_records};

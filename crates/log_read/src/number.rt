@@ -56,8 +56,9 @@ fn opposite(value: i128) -> Option<i128>
     if value == 0 { None } else { Some(-value) }
 }
 
-/// The number with or without a minus that the bytes write, where its magnitude is at most a limit.
-pub fn signed(bytes: &[u8], most: i128) -> Option<i128>
+/// The number that the bytes write in decimal, with or without a minus, where its magnitude is at most
+/// `most`; there is no `+`, no leading zero and no `-0`.
+pub fn signed_number(bytes: &[u8], most: i128) -> Option<i128>
     requires { most ≤ℤ pos (10 ^ 19) }
     ensures value { result ≡ signed_up_to most bytes.now }
 {

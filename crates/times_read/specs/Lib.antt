@@ -1,0 +1,3 @@
+pub mod TimesOf
+pub mod Faults
+pub use Rattle.mt_model.specs.Timing
