@@ -1,3 +1,4 @@
 pub mod BoundCounts
 pub mod Ranges
 pub mod Settled
+mod FirstBroken

@@ -1,5 +1,5 @@
 ghost use Rattle.std.specs.Prelude.{◌≡◌, ◌+◌, ◌<◌, ◌^◌, length, map, drop, All, IsSome, IfOk, Some, ℤ, pos, ◌-ℤ◌, ◌≤ℤ◌};
-ghost use Rattle.mt_model.specs.Bounds.{bounds_of, step_of};
+ghost use Rattle.mt_model.specs.Bounds.{bounds_of, step_of as step_of_bound};
 ghost use Rattle.mt_model.specs.Walks.{edge_of};
 ghost use Rattle.neg_cycle.specs.Systems.{IsEdge, number_of};
 ghost use Rattle.skew_bounds.specs.Consistency.{Settles};
@@ -23,8 +23,8 @@ pub enum Consistency {
 
 // The edges of bounds of the log, place by place.
 fn edges_of(alloc: Global, log: &Log, bounds: &[Bound]) -> Result<EdgeList, AllocError>
-    requires { All (λ b. IsSome (edge_of log.now (step_of b))) bounds.now }
-    ensures edges { IfOk result (λ edges. map (λ b. edge_of log.now (step_of b)) bounds.now ≡ map (λ e. Some (edge_in e)) edges) }
+    requires { All (λ b. IsSome (edge_of log.now (step_of_bound b))) bounds.now }
+    ensures edges { IfOk result (λ edges. map (λ b. edge_of log.now (step_of_bound b)) bounds.now ≡ map (λ e. Some (edge_in e)) edges) }
     ensures within { IfOk result (λ edges. All (IsEdge (length log.now.rows + 1)) edges) }
 {
     let mut edges = EdgeList::new(alloc);
@@ -72,8 +72,9 @@ fn times_of(alloc: Global, numbers: &[i128]) -> Result<Times, AllocError>
     relative(alloc, numbers[0], &numbers[1..])
 }
 
-fn as_step(bound: Bound) -> Step
-    ensures { result ≡ step_of bound }
+/// A bound as a step of a walk.
+pub fn step_of(bound: Bound) -> Step
+    ensures step { result ≡ step_of_bound bound }
 {
     match bound {
         Bound::Low(e) => Step::Low(e.get()),
@@ -87,11 +88,11 @@ fn as_step(bound: Bound) -> Step
 // The bounds at these places, as steps.
 fn steps_of(alloc: Global, bounds: &[Bound], places: &[u32]) -> Result<Steps, AllocError>
     requires { All (λ p. p < length bounds.now) places.now }
-    ensures { IfOk result (λ steps. steps ≡ map (λ p. step_of (bound_at bounds.now p)) places.now) }
+    ensures { IfOk result (λ steps. steps ≡ map (λ p. step_of_bound (bound_at bounds.now p)) places.now) }
 {
     let mut steps = Steps::new(alloc);
     for place in places {
-        steps.push(as_step(bounds[*place as usize]))?;
+        steps.push(step_of(bounds[*place as usize]))?;
     }
     Ok(steps)
 }

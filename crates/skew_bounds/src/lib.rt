@@ -5,12 +5,14 @@
 //! negative sum (Bellman, On a routing problem, 1958). Times and bounds are in the log's unit of time.
 #![tactic(auto)]
 
+mod broken;
 mod consistency;
 mod edges;
 mod list;
 mod rows;
 
-pub use consistency::{Consistency, settle};
+pub use broken::first_broken;
+pub use consistency::{Consistency, settle, step_of};
 pub use edges::edge_of;
 pub use list::bounds;
 
