@@ -37,6 +37,13 @@ for log in examples/*.csv; do
   try "$log" times -
   try /dev/null times "$log"
 done
+formula=examples/request.formula
+log=examples/request.csv
+try /dev/null replay $formula $log examples/request.times
+try examples/request.times replay $formula $log -
+try /dev/null replay $formula $log $log
+try /dev/null replay $formula examples/skewed.csv examples/request.times
+try /dev/null replay README.md $log examples/request.times
 try /dev/null times -
 try README.md times -
 try /dev/null times -x

@@ -1,2 +1,3 @@
-pub mod Operands
-pub mod Outcomes
+mod Steps
+mod OperandLemmas
+mod Outcomes

@@ -1,27 +1,23 @@
 -- What a run must give: for words and files, which bytes are written and which status is answered.
-use Rattle.std.specs.Prelude.{◌≡◌, ◌++◌, ℕ, List, length, nat_lt, codes, IsSome, IsSomeAnd, MatchOption}
-use Rattle.std.specs.Bool.{MatchBool}
+use Rattle.std.specs.Prelude.{◌≡◌, ◌++◌, ℕ, List, codes, IsSome, MatchOption}
 use Rattle.mt_port.specs.Port.{Files, file_of}
 use Rattle.mt_port.specs.Whole.{WrotePrefix}
-use Rattle.skew_cli.specs.declared.limits.TheConstants.{LOG_LIMIT}
 use Rattle.skew_cli.specs.declared.status.Status.{Status}
 use Rattle.skew_cli.specs.declared.status.Status.TheVariants as status
 use Rattle.skew_cli.specs.Statuses.{IsAnswer}
 use Rattle.skew_cli.specs.Texts.{line}
 use Rattle.skew_cli.specs.TimesOutcome.{TimesOutcome}
-use Rattle.skew_cli.specs.Words.{Command, Times, Word, command_of}
+use Rattle.skew_cli.specs.ReplayOutcome.{ReplayOutcome}
+use Rattle.skew_cli.specs.Words.{Command, Replay, Times, Word, command_of}
 
 -- one line, with its status
 abbrev pub Says : List ℕ → Status → List ℕ → Status → Type 0
 Says text due out s = (out ≡ line text) × (s ≡ due)
 
--- a log file above its limit is refused, and each other one answered
-abbrev pub LogOutcome : List ℕ → List ℕ → Status → Type 0
-LogOutcome file out s = MatchBool (nat_lt LOG_LIMIT (length file)) (Says (codes "refused length log") status.TooLarge out s) (TimesOutcome file out s)
-
--- what a command gives, where the files that it names are held
+-- what a command gives, where the files that it comes to read are held
 abbrev pub CommandOutcome : Command → Files → List ℕ → Status → Type 0
-CommandOutcome (Times log) files out s = IsSomeAnd (file_of files log) (λ file. LogOutcome file out s)
+CommandOutcome (Times log) files = TimesOutcome files log
+CommandOutcome (Replay formula log times) files = ReplayOutcome files formula log times
 
 -- what words give: the command's outcome, and a refusal where they are no command
 abbrev pub Outcome : List Word → Files → List ℕ → Status → Type 0
@@ -30,6 +26,7 @@ Outcome words files out s = MatchOption (command_of words) (Says (codes "refused
 -- the files that a command names are held
 abbrev pub Holds : Files → Command → Type 0
 Holds files (Times log) = IsSome (file_of files log)
+Holds files (Replay formula log times) = IsSome (file_of files formula) × IsSome (file_of files log) × IsSome (file_of files times)
 
 -- the files that words name are held
 abbrev pub HoldsNamed : List Word → Files → Type 0

@@ -8,6 +8,7 @@ Word = List ℕ
 -- a command with the names of its files
 pub data Command : Type 0 where
   Times : (log : Word) → Command
+  Replay : (formula : Word) → (log : Word) → (times : Word) → Command
 
 -- a word that begins with `-` and is not `-` alone
 abbrev pub is_option : Word → Bool
@@ -30,11 +31,22 @@ file_name (b ∷ bs) = Some (b ∷ bs)
 
 -- `times` has one operand, the name of a log
 abbrev pub times_of : List Word → Option Command
-times_of [] = None
-times_of (name ∷ []) = option_map Times (file_name name)
-times_of (name ∷ other ∷ words) = None
+times_of (log ∷ []) = option_map Times (file_name log)
+times_of _ = None
+
+-- `replay` has three, the names of a formula, a log and a file of times
+abbrev pub replay_of : List Word → Option Command
+replay_of (formula ∷ log ∷ times ∷ []) = option_and_then (λ f. option_and_then (λ l. option_map (λ t. Replay f l t) (file_name times)) (file_name log)) (file_name formula)
+replay_of _ = None
+
+-- the command of a first word and its operands
+abbrev pub command_with : Word → List Word → Option Command
+command_with first operands =
+    if bytes_eq first (codes "times") then times_of operands
+    else if bytes_eq first (codes "replay") then replay_of operands
+    else None
 
 -- the command that words are; no word at all is `times -`
 abbrev pub command_of : List Word → Option Command
 command_of [] = Some (Times (codes "-"))
-command_of (first ∷ words) = if bytes_eq first (codes "times") then option_and_then times_of (operands_of words) else None
+command_of (first ∷ words) = option_and_then (command_with first) (operands_of words)

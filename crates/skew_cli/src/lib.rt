@@ -1,13 +1,18 @@
 //! What the program does: its words, its files, and what it writes.
 #![tactic(auto)]
 
+mod files;
 mod limits;
+mod operands;
 mod program;
+mod refusal;
+mod replay;
 mod reply;
 mod status;
+mod texts;
 mod times;
 mod words;
 
-pub use limits::LOG_LIMIT;
+pub use limits::{FORMULA_LIMIT, LOG_LIMIT, TIMES_LIMIT};
 pub use program::run;
 pub use status::Status;

@@ -1,13 +1,16 @@
-ghost use Rattle.std.specs.Prelude.{◌≡◌, ◌⊎◌, ◌++◌, ◌≤◌, true, None, IfOk, IsErrOf, codes, map, string_bytes};
+ghost use Rattle.std.specs.Prelude.{◌≡◌, ◌⊎◌, ◌++◌, ◌≤◌, true, None, IfOk, IfErr, IsErrOf, codes, map, string_bytes};
 ghost use Rattle.mt_port.specs.Port.{Files, Rose};
 ghost use Rattle.skew_cli.specs.Called.{command_in};
 ghost use Rattle.skew_cli.specs.Outcome.{Agree, CommandOutcome, Ends, Holds, HoldsNamed, Outcome};
 ghost use Rattle.skew_cli.specs.Statuses.{IsAnswer};
+ghost use Rattle.skew_cli.specs.Stops.{Gives, HasReason};
 ghost use Rattle.skew_cli.specs.Texts.{line};
 ghost use Rattle.skew_cli.specs.Words.{command_of};
 
 use crate::Status;
-use crate::reply::{Reply, Stop, times};
+use crate::replay::replay;
+use crate::reply::{Reply, Stop};
+use crate::times::times;
 use crate::words::{Call, call_of};
 use mt_port::{Failed, Shelf, Sink, write_all};
 use std::alloc::Global;
@@ -26,9 +29,9 @@ fn finish<K: Sink>(out: &mut K, text: &str, status: Status) -> Status
     }
 }
 
-// What a command answers, before anything is written.
-fn reply<S: Shelf>(alloc: Global, shelf: &mut S, call: Call<'_>) -> Result<Reply, Stop>
-    ensures outcome { IfOk result (λ r. S.tells shelf.old ≡ true → CommandOutcome (command_in call.entry) (S.files shelf.old) (string_bytes r.text) r.status) }
+// What a command gives, before anything is written.
+fn work<S: Shelf>(alloc: Global, shelf: &mut S, call: Call<'_>) -> Result<Reply, Stop>
+    ensures outcome { S.tells shelf.old ≡ true → Gives (CommandOutcome (command_in call.entry) (S.files shelf.old)) result }
     ensures answer { IfOk result (λ r. IsAnswer r.status) }
     ensures command { IfOk result (λ r. r.status ≡ Status.Words → ⊥) }
     ensures failed { IsErrOf result Stop.ReadFailed → Rose (S.faults shelf.old) (S.faults shelf.new) }
@@ -37,6 +40,27 @@ fn reply<S: Shelf>(alloc: Global, shelf: &mut S, call: Call<'_>) -> Result<Reply
 {
     match call {
         Call::Times { log } => times(alloc, shelf, log),
+        Call::Replay {
+            formula,
+            log,
+            times,
+        } => replay(alloc, shelf, formula, log, times),
+    }
+}
+
+// The same, where a refusal is a reply too.
+fn reply<S: Shelf>(alloc: Global, shelf: &mut S, call: Call<'_>) -> Result<Reply, Stop>
+    ensures outcome { IfOk result (λ r. S.tells shelf.old ≡ true → CommandOutcome (command_in call.entry) (S.files shelf.old) (string_bytes r.text) r.status) }
+    ensures answer { IfOk result (λ r. IsAnswer r.status) }
+    ensures command { IfOk result (λ r. r.status ≡ Status.Words → ⊥) }
+    ensures stop { IfErr result (λ s. HasReason s (λ r. ⊥)) }
+    ensures failed { IsErrOf result Stop.ReadFailed → Rose (S.faults shelf.old) (S.faults shelf.new) }
+    ensures never { S.steady shelf.old → S.tells shelf.old ≡ true → Holds (S.files shelf.old) (command_in call.entry) → IsErrOf result Stop.ReadFailed → ⊥ }
+    ensures later { S.faults shelf.old ≤ S.faults shelf.new }
+{
+    match work(alloc, shelf, call) {
+        Err(Stop::Refused(refusal)) => Ok(refusal.reply(alloc)?),
+        result => result,
     }
 }
 
@@ -76,6 +100,7 @@ pub fn run<S: Shelf, K: Sink>(
     };
     match reply(alloc, shelf, call) {
         Ok(reply) => finish(out, reply.text.as_str(), reply.status),
+        Err(Stop::Refused(_)) => unreachable!(),
         Err(Stop::NoMemory) => Status::NoMemory,
         Err(Stop::ReadFailed) => Status::ReadFailed,
     }

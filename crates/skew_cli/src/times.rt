@@ -1,60 +1,55 @@
-ghost use Rattle.std.specs.Prelude.{◌≡◌, ◌++◌, IfOk, codes, string_bytes};
-ghost use Rattle.std.specs.Fmt.{decimal};
-ghost use Rattle.skew_cli.specs.Texts.{inconsistent_text, line, times_text};
-ghost use Rattle.skew_cli.specs.TimesOutcome.{is_set_and_note, is_set_or_note};
+ghost use Rattle.std.specs.Prelude.{◌≡◌, ◌^◌, ◌<◌, ◌≤◌, true, length, IfOk, IsErrOf, IsSome, string_bytes};
+ghost use Rattle.mt_port.specs.Port.{Rose, file_of};
+ghost use Rattle.skew_cli.specs.Statuses.{IsAnswer};
+ghost use Rattle.skew_cli.specs.Stops.{Gives};
+ghost use Rattle.skew_cli.specs.TimesOutcome.{TimesOfLog, TimesOutcome};
 
-use mt_model::{Act, Log, Step};
+use crate::files;
+use crate::limits::LOG_LIMIT;
+use crate::refusal::Named;
+use crate::reply::{Reply, Stop};
+use crate::status::Status;
+use crate::texts::{written_steps, written_times};
+use mt_model::{Log, conflict_excludes_timings};
+use mt_port::Shelf;
+use skew_bounds::{Consistency, settle};
 use std::alloc::{AllocError, Global};
 
-fn sets_or_notes(act: &Act) -> bool
-    ensures { result ≡ is_set_or_note act.now }
+// What `times` answers for a log.
+fn times_of_log(alloc: Global, log: &Log) -> Result<Reply, AllocError>
+    ensures outcome { IfOk result (λ r. TimesOfLog log.now (string_bytes r.text) r.status) }
+    ensures answer { IfOk result (λ r. IsAnswer r.status) }
+    ensures command { IfOk result (λ r. r.status ≡ Status.Words → ⊥) }
 {
-    match act {
-        Act::Set(_) | Act::Note(_) => true,
-        Act::Clear(_) | Act::Send(_) | Act::Recv(_) => false,
+    conflict_excludes_timings();
+    match settle(alloc, log)? {
+        Consistency::Timing(times) => {
+            let text = written_times(alloc, times.as_slice())?;
+            Ok(Reply {
+                text,
+                status: Status::Zero,
+            })
+        }
+        Consistency::Conflict(steps) => {
+            let text = written_steps(alloc, steps.as_slice())?;
+            Ok(Reply {
+                text,
+                status: Status::Inconsistent,
+            })
+        }
     }
 }
 
-/// Whether a log has sets and notes alone.
-pub fn has_sets_and_notes(log: &Log) -> bool
-    ensures { result ≡ is_set_and_note log.now }
+/// What `times` answers for the log of a name.
+pub fn times<S: Shelf>(alloc: Global, shelf: &mut S, log: &str) -> Result<Reply, Stop>
+    ensures outcome { S.tells shelf.old ≡ true → Gives (TimesOutcome (S.files shelf.old) log.now) result }
+    ensures answer { IfOk result (λ r. IsAnswer r.status) }
+    ensures command { IfOk result (λ r. r.status ≡ Status.Words → ⊥) }
+    ensures failed { IsErrOf result Stop.ReadFailed → Rose (S.faults shelf.old) (S.faults shelf.new) }
+    ensures never { S.steady shelf.old → S.tells shelf.old ≡ true → IsSome (file_of (S.files shelf.old) log.now) → IsErrOf result Stop.ReadFailed → ⊥ }
+    ensures later { S.faults shelf.old ≤ S.faults shelf.new }
 {
-    log.rows().iter().all(|row| sets_or_notes(&row.act))
-}
-
-/// A number on each line.
-pub fn written_times(alloc: Global, times: &[i128]) -> Result<String, AllocError>
-    ensures { IfOk result (λ text. string_bytes text ≡ times_text times.now) }
-{
-    let mut text = String::new(alloc);
-    for time in times {
-        let number = time.to_string(alloc)?;
-        text.push_str(number.as_str())?;
-        text.push('\n')?;
-    }
-    Ok(text)
-}
-
-// The line before steps.
-fn heading(alloc: Global, count: usize) -> Result<String, AllocError>
-    ensures { IfOk result (λ text. string_bytes text ≡ line (codes "inconsistent " ++ decimal count)) }
-{
-    let mut text = String::from_str(alloc, "inconsistent ")?;
-    let number = count.to_string(alloc)?;
-    text.push_str(number.as_str())?;
-    text.push('\n')?;
-    Ok(text)
-}
-
-/// How many steps there are, and then each on its line.
-pub fn written_steps(alloc: Global, steps: &[Step]) -> Result<String, AllocError>
-    ensures { IfOk result (λ text. string_bytes text ≡ inconsistent_text steps.now) }
-{
-    let mut text = heading(alloc, steps.len())?;
-    for step in steps {
-        let words = step.to_string(alloc)?;
-        text.push_str(words.as_str())?;
-        text.push('\n')?;
-    }
-    Ok(text)
+    let file = files::file(alloc, shelf, log, LOG_LIMIT, Named::Log)?;
+    let log = files::log(alloc, &file)?;
+    Ok(times_of_log(alloc, &log)?)
 }

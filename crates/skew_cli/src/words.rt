@@ -1,66 +1,57 @@
-ghost use Rattle.std.specs.Prelude.{◌≡◌, [], ◌∷◌, map, option_map, option_copied, option_and_then, string_bytes};
-ghost use Rattle.skew_cli.specs.Called.{command_in};
-ghost use Rattle.skew_cli.specs.Words.{Times, command_of, file_name, is_option, operands_of, times_of};
+ghost use Rattle.std.specs.Prelude.{◌≡◌, map, option_map, string_bytes};
+ghost use Rattle.skew_cli.specs.Called.{command_in, words_in};
+ghost use Rattle.skew_cli.specs.Words.{command_of, command_with, replay_of, times_of};
+
+use crate::operands::Operands;
 
 /// A command with the names of its files.
 #[derive(Clone, Copy, Debug, PartialEq, Eq)]
 pub enum Call<'a> {
     /// An admissible timing of a log.
-    Times { log: &'a str },
+    Times {
+        log: &'a str,
+    },
+    /// The truth of a formula on one timing of a log.
+    Replay {
+        formula: &'a str,
+        log: &'a str,
+        times: &'a str,
+    },
 }
 
-fn names_file(word: &String) -> Option<&str>
-    ensures { option_copied result ≡ file_name (string_bytes word.now) }
+fn times_call<'a>(operands: Operands<'a>) -> Option<Call<'a>>
+    ensures { option_map command_in result ≡ times_of (words_in operands.entry) }
 {
-    if word.as_str().is_empty() {
-        None
-    } else {
-        Some(word.as_str())
+    if operands.count() != 1 {
+        return None;
     }
+    let log = operands.name(0)?;
+    Some(Call::Times { log })
 }
 
-fn is_dashed(word: &String) -> bool
-    ensures { result ≡ is_option (string_bytes word.now) }
+fn replay_call<'a>(operands: Operands<'a>) -> Option<Call<'a>>
+    ensures { option_map command_in result ≡ replay_of (words_in operands.entry) }
 {
-    match word.as_str().as_bytes() {
-        [first, _, ..] => *first == b'-',
-        _ => false,
+    if operands.count() != 3 {
+        return None;
     }
+    let formula = operands.name(0)?;
+    let log = operands.name(1)?;
+    let times = operands.name(2)?;
+    Some(Call::Replay {
+        formula,
+        log,
+        times,
+    })
 }
 
-// The name of a file that is the one word.
-fn lone_name(word: &String) -> Option<&str>
-    ensures { option_and_then times_of (operands_of (string_bytes word.now ∷ [])) ≡ option_map Times (option_copied result) }
+fn call_with<'a>(first: &String, operands: Operands<'a>) -> Option<Call<'a>>
+    ensures { option_map command_in result ≡ command_with (string_bytes first.now) (words_in operands.entry) }
 {
-    if is_dashed(word) {
-        None
-    } else {
-        names_file(word)
-    }
-}
-
-// The name of a file with `--` before or behind it.
-fn marked_name<'a>(first: &'a String, second: &'a String) -> Option<&'a str>
-    ensures { option_and_then times_of (operands_of (string_bytes first.now ∷ string_bytes second.now ∷ [])) ≡ option_map Times (option_copied result) }
-{
-    if first.as_str() == "--" {
-        names_file(second)
-    } else if second.as_str() == "--" {
-        lone_name(first)
-    } else {
-        None
-    }
-}
-
-// The name of a file where the words are one operand.
-fn only_name(words: &[String]) -> Option<&str>
-    ensures { option_and_then times_of (operands_of (map string_bytes words.now)) ≡ option_map Times (option_copied result) }
-{
-    match words {
-        [] => None,
-        [word] => lone_name(word),
-        [first, second] => marked_name(first, second),
-        [_, _, _, ..] => None,
+    match first.as_str() {
+        "times" => times_call(operands),
+        "replay" => replay_call(operands),
+        _ => None,
     }
 }
 
@@ -70,14 +61,6 @@ pub fn call_of(words: &[String]) -> Option<Call<'_>>
 {
     match words {
         [] => Some(Call::Times { log: "-" }),
-        [first, rest @ ..] => {
-            if first.as_str() != "times" {
-                return None;
-            }
-            match only_name(rest) {
-                Some(log) => Some(Call::Times { log }),
-                None => None,
-            }
-        }
+        [first, rest @ ..] => call_with(first, Operands::among(rest)?),
     }
 }

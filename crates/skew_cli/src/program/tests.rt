@@ -30,12 +30,11 @@ const SOUND: Devices = Devices {
     bad_write: 0,
 };
 
-// What a run writes and answers where one file is held.
-fn ran(
+// What a run writes and answers where these files are held.
+fn ran_with(
     rt: &(impl Abort + AllocGlobal),
     words: &[&str],
-    name: &str,
-    file: &[u8],
+    held: &[(&str, &[u8])],
     devices: Devices,
 ) -> Result<(Vec<u8>, Status), AllocError> {
     let alloc = rt.alloc();
@@ -44,7 +43,9 @@ fn ran(
         list.push(String::from_str(alloc, word)?)?;
     }
     let mut files = Vec::new(alloc);
-    files.push((String::from_str(alloc, name)?, file.to_vec(alloc)?))?;
+    for (name, bytes) in held {
+        files.push((String::from_str(alloc, name)?, bytes.to_vec(alloc)?))?;
+    }
     assert!(rt; MemShelf::are_distinct(&files));
     assert!(rt; devices.piece > 0);
     let bad_reads = vec![in alloc; devices.bad_read]?;
@@ -53,6 +54,17 @@ fn ran(
     let mut sink = MemSink::new(alloc, devices.room, devices.piece, bad_writes)?;
     let status = run(alloc, &list, &mut shelf, &mut sink);
     Ok((sink.bytes().to_vec(alloc)?, status))
+}
+
+// The same where one file is held.
+fn ran(
+    rt: &(impl Abort + AllocGlobal),
+    words: &[&str],
+    name: &str,
+    file: &[u8],
+    devices: Devices,
+) -> Result<(Vec<u8>, Status), AllocError> {
+    ran_with(rt, words, &[(name, file)], devices)
 }
 
 #[test]
@@ -102,6 +114,18 @@ fn other_words_are_refused(rt: HostRuntime) -> Result<(), Fail> {
         ["times", "l", "-x"].as_slice(),
         ["times", "-x", "--"].as_slice(),
         ["times", "-x", "--", "l"].as_slice(),
+        ["replay"].as_slice(),
+        ["replay", "l"].as_slice(),
+        ["replay", "l", "l"].as_slice(),
+        ["replay", "l", "l", "l", "l"].as_slice(),
+        ["replay", "l", "", "l"].as_slice(),
+        ["replay", "l", "l", ""].as_slice(),
+        ["replay", "", "l", "l"].as_slice(),
+        ["replay", "l", "-x", "l"].as_slice(),
+        ["replay", "--conflicts=5", "l", "l", "l"].as_slice(),
+        ["replay", "l", "--", "l"].as_slice(),
+        ["replay", "--", "l", "--", "l", "l"].as_slice(),
+        ["Replay", "l", "l", "l"].as_slice(),
         ["order", "l"].as_slice(),
         ["check", "f", "l"].as_slice(),
         ["look", "l"].as_slice(),
@@ -449,6 +473,8 @@ fn a_failed_write_leaves_the_beginning(rt: HostRuntime) -> Result<(), Fail> {
     }
     Ok(())
 }
+
+mod replay;
 
 #[test]
 fn each_status_has_its_code(rt: HostRuntime) {

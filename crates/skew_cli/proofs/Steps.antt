@@ -1,0 +1,100 @@
+-- From what a command found to what its files ask for.
+use Rattle.std.proofs.Common.{◌≡◌, sym, refl, ℕ, ◌+◌, ◌<◌, ◌≤◌, Bool, true, false, cond, List, [], ◌∷◌, length, Option, Some, None, Ok, Err, arith, ℤ}
+use Rattle.std.specs.List.{position_from}
+use Rattle.std.specs.Prelude.{IsSomeAnd, Result, nat_lt, string_bytes}
+use Rattle.std.specs.Bool.{MatchBool}
+use Rattle.std.proofs.lemmas.Bool.Decides.{nat_tests}
+use Rattle.mt_model.specs.Form.{Form, propositions_of}
+use Rattle.mt_model.specs.Log.{Logged}
+use Rattle.mt_model.specs.State.{unknown_host}
+use Rattle.mt_port.specs.Port.{Files, file_of}
+use Rattle.mt_port.specs.Whole.{IsLonger}
+use Rattle.mtl_parse.specs.FormulaOf.{IsText}
+use Rattle.times_read.specs.declared.fault.TimesFault.{TimesFault}
+use Rattle.times_read.specs.declared.fault.TimesFault.TheVariants as times
+use Rattle.times_read.specs.TimesOf.{times_of}
+use Rattle.skew_cli.specs.declared.refusal.Named.{Named}
+use Rattle.skew_cli.specs.declared.refusal.Refusal.{Refusal}
+use Rattle.skew_cli.specs.declared.refusal.Refusal.TheVariants as refusal
+use Rattle.skew_cli.specs.declared.reply.Reply.{Reply}
+use Rattle.skew_cli.specs.declared.reply.Stop.{Stop}
+use Rattle.skew_cli.specs.declared.reply.Stop.TheVariants as stop
+use Rattle.skew_cli.specs.declared.status.Status.{Status}
+use Rattle.skew_cli.specs.Refusals.{Refuses, status_of, text_of}
+use Rattle.skew_cli.specs.Stops.{Gives, HasReason, NamesHost, TellsFault}
+use Rattle.skew_cli.specs.Tests.{OnFile, OnFormula, OnHosts, OnLog, OnTimes, plain_log_of}
+use Rattle.skew_cli.specs.Texts.{line}
+use Rattle.skew_cli.specs.Words.{Word}
+
+-- a reason may be said in a weaker way
+pub reason-weaker : (s : Stop) (P Q : Refusal → Type 0) → ((r : Refusal) → P r → Q r) → HasReason s P → HasReason s Q
+reason-weaker (stop.Refused r) P Q weaker h = weaker r h
+reason-weaker stop.NoMemory P Q weaker h = tt
+reason-weaker stop.ReadFailed P Q weaker h = tt
+
+-- what a refusal has to be, at its own line and status
+abbrev pub At : (List ℕ → Status → Type 0) → Refusal → Type 0
+At Due r = Due (line (text_of r)) (status_of r)
+
+module _ (files : Files) (name : Word) (limit : ℕ) (named : Named) (next : List ℕ → List ℕ → Status → Type 0) where
+  pub file-refused : (r : Refusal) → (r ≡ refusal.Length named) × IsLonger (file_of files name) limit → At (OnFile files name limit named next) r
+  file-refused r h = go (file_of files name) h.1
+    where
+      go : (file : Option (List ℕ)) → IsLonger file limit → IsSomeAnd file (λ bytes. MatchBool (nat_lt limit (length bytes)) (Refuses (refusal.Length named) (line (text_of r)) (status_of r)) (next bytes (line (text_of r)) (status_of r)))
+      go None longer = absurd longer
+      go (Some bytes) longer = let more : nat_lt limit (length bytes) ≡ true = grind (arith, nat_tests) in rw (more, h.0) (refl, refl)
+
+  pub file-read : (bytes out : List ℕ) (s : Status) → file_of files name ≡ Some bytes → length bytes ≤ limit → next bytes out s → OnFile files name limit named next out s
+  file-read bytes out s is within h = let less : nat_lt limit (length bytes) ≡ false = grind (arith, nat_tests) in rw (is, less) h
+
+module _ (text : List ℕ) (next : Form → List ℕ → Status → Type 0) where
+  pub formula-refused : (r : Refusal) → (r ≡ refusal.FormulaNotYet) × ((f : Form) → IsText text f → ⊥) → At (OnFormula text next) r
+  formula-refused r h = (None, h.1, rw h.0 (refl, refl))
+
+  pub formula-read : (f : Form) (out : List ℕ) (s : Status) → IsText text f → next f out s → OnFormula text next out s
+  formula-read f out s is h = (Some f, is, h)
+
+module _ (file : List ℕ) (next : Logged → List ℕ → Status → Type 0) where
+  pub log-refused : (r : Refusal) → (r ≡ refusal.LogNotYet) × (plain_log_of file ≡ None) → At (OnLog file next) r
+  log-refused r h = rw (h.1, h.0) (refl, refl)
+
+  pub log-read : (log : Logged) (out : List ℕ) (s : Status) → plain_log_of file ≡ Some log → next log out s → OnLog file next out s
+  log-read log out s is h = rw is h
+
+module _ (text : List ℕ) (f : Form) (log : Logged) (next : List ℕ → Status → Type 0) where
+  pub hosts-refused : (r : Refusal) → NamesHost text (unknown_host log f) r → At (OnHosts text f log next) r
+  hosts-refused r h = rw (h.unknown, h.place, h.told) (refl, refl)
+
+  pub hosts-known : (out : List ℕ) (s : Status) → unknown_host log f ≡ None → next out s → OnHosts text f log next out s
+  hosts-known out s none h = rw none h
+
+module _ (file : List ℕ) (log : Logged) (next : List ℤ → List ℕ → Status → Type 0) where
+  pub times-refused : (r : Refusal) → TellsFault (times_of (length log.rows) file) r → At (OnTimes file log next) r
+  times-refused r h = go (times_of (length log.rows) file) refl h
+    where
+      go : (due : Result (List ℤ) TimesFault) → times_of (length log.rows) file ≡ due → TellsFault due r → At (OnTimes file log next) r
+      go (Ok t) is told = absurd told
+      go (Err (times.Number number)) is told = rw (is, told) (refl, refl)
+      go (Err (times.Count number)) is told = rw (is, told) (refl, refl)
+      go (Err times.Memory) is told = absurd told
+
+  pub times-read : (t : List ℤ) (out : List ℕ) (s : Status) → times_of (length log.rows) file ≡ Ok t → next t out s → OnTimes file log next out s
+  times-read t out s is h = rw is h
+
+-- a place that is found is in the list
+position_from-below : {X : Type 0} (test : X → Bool) (xs : List X) (i k : ℕ) → position_from test i xs ≡ Some k → k < i + length xs
+position_from-below test [] i k found = absurd (cc)
+position_from-below test (x ∷ xs) i k found = go (test x) refl found (position_from-below test xs (i + 1) k)
+  where
+    go : (passes : Bool) → test x ≡ passes → cond passes (Some i) (position_from test (i + 1) xs) ≡ Some k → (position_from test (i + 1) xs ≡ Some k → k < i + 1 + length xs) → k < i + length (x ∷ xs)
+    go true is here rest = let same : i ≡ k = cc in omega arith
+    go false is later rest = let below = rest later in omega arith
+
+-- the number of an unknown host is that of a proposition
+pub unknown-below : (log : Logged) (f : Form) (number : ℕ) → Some number ≡ unknown_host log f → number < length (propositions_of f)
+unknown-below log f number is = let below = position_from-below _ (propositions_of f) 0 number (sym is) in omega arith
+
+-- what was given may be said in a weaker way
+pub gives-weaker : (result : Result Reply Stop) (P Q : List ℕ → Status → Type 0) → ((out : List ℕ) (s : Status) → P out s → Q out s) → Gives P result → Gives Q result
+gives-weaker (Ok reply) P Q weaker h = weaker (string_bytes reply.text) reply.status h
+gives-weaker (Err s) P Q weaker h = reason-weaker s (At P) (At Q) (λ r. weaker (line (text_of r)) (status_of r)) h

@@ -1,0 +1,35 @@
+-- The refusals of what a command's files hold: their lines and statuses.
+use Rattle.std.specs.Prelude.{◌≡◌, ℕ, List, ◌++◌, codes}
+use Rattle.std.specs.Fmt.{decimal}
+use Rattle.skew_cli.specs.declared.refusal.Named.{Named}
+use Rattle.skew_cli.specs.declared.refusal.Named.TheVariants as named
+use Rattle.skew_cli.specs.declared.refusal.Refusal.{Refusal}
+use Rattle.skew_cli.specs.declared.refusal.Refusal.TheVariants as refusal
+use Rattle.skew_cli.specs.declared.status.Status.{Status}
+use Rattle.skew_cli.specs.declared.status.Status.TheVariants as status
+use Rattle.skew_cli.specs.Texts.{line}
+
+abbrev pub word_of : Named → List ℕ
+word_of named.Formula = codes "formula"
+word_of named.Log = codes "log"
+word_of named.Times = codes "times"
+
+abbrev pub text_of : Refusal → List ℕ
+text_of (refusal.Length file) = codes "refused length " ++ word_of file
+text_of refusal.FormulaNotYet = codes "refused formula 9"
+text_of (refusal.UnknownHost byte) = codes "refused formula 8 at byte " ++ decimal byte
+text_of refusal.LogNotYet = codes "refused log 14"
+text_of (refusal.TimesNumber number) = codes "refused times 1 at line " ++ decimal number
+text_of (refusal.TimesCount number) = codes "refused times 2 at line " ++ decimal number
+
+abbrev pub status_of : Refusal → Status
+status_of (refusal.Length file) = status.TooLarge
+status_of refusal.FormulaNotYet = status.FormulaRefused
+status_of (refusal.UnknownHost byte) = status.FormulaRefused
+status_of refusal.LogNotYet = status.LogRefused
+status_of (refusal.TimesNumber number) = status.TimesRefused
+status_of (refusal.TimesCount number) = status.TimesRefused
+
+-- the bytes and the status of a refusal: its one line
+abbrev pub Refuses : Refusal → List ℕ → Status → Type 0
+Refuses r out s = (out ≡ line (text_of r)) × (s ≡ status_of r)

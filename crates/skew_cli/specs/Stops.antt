@@ -1,0 +1,44 @@
+-- What it means that the work of a command ended early, and that it ended.
+use Rattle.std.specs.Prelude.{◌≡◌, ℕ, List, Option, Some, Result, Ok, Err, string_bytes, ℤ}
+use Rattle.mtl_parse.specs.Places.{host_byte}
+use Rattle.times_read.specs.declared.fault.TimesFault.{TimesFault}
+use Rattle.times_read.specs.declared.fault.TimesFault.TheVariants as times
+use Rattle.skew_cli.specs.declared.refusal.Refusal.{Refusal}
+use Rattle.skew_cli.specs.declared.refusal.Refusal.TheVariants as refusal
+use Rattle.skew_cli.specs.declared.reply.Reply.{Reply}
+use Rattle.skew_cli.specs.declared.reply.Stop.{Stop}
+use Rattle.skew_cli.specs.declared.reply.Stop.TheVariants as stop
+use Rattle.skew_cli.specs.declared.status.Status.{Status}
+use Rattle.skew_cli.specs.Refusals.{status_of, text_of}
+use Rattle.skew_cli.specs.Texts.{line}
+
+-- a stop is a refusal only for a reason
+abbrev pub HasReason : Stop → (Refusal → Type 0) → Type 0
+HasReason (stop.Refused r) Reason = Reason r
+HasReason stop.NoMemory Reason = Unit {0}
+HasReason stop.ReadFailed Reason = Unit {0}
+
+-- a step refuses only for a reason
+abbrev pub RefusesFor : {X : Type 0} → Result X Stop → (Refusal → Type 0) → Type 0
+RefusesFor (Ok x) Reason = Unit {0}
+RefusesFor (Err s) Reason = HasReason s Reason
+
+-- the work of a command gave what is due, in a reply or in a refusal
+abbrev pub Gives : (List ℕ → Status → Type 0) → Result Reply Stop → Type 0
+Gives Due (Ok reply) = Due (string_bytes reply.text) reply.status
+Gives Due (Err s) = HasReason s (λ r. Due (line (text_of r)) (status_of r))
+
+-- the refusal tells the byte of the host of the proposition of a number
+pub record NamesHost (text : List ℕ) (number : Option ℕ) (r : Refusal) : Type 0 where
+  pub index : ℕ
+  pub unknown : number ≡ Some index
+  pub byte : ℕ
+  pub place : host_byte text index ≡ Some byte
+  pub told : r ≡ refusal.UnknownHost byte
+
+-- the refusal tells the fault that a times file has
+abbrev pub TellsFault : Result (List ℤ) TimesFault → Refusal → Type 0
+TellsFault (Ok t) r = ⊥
+TellsFault (Err (times.Number number)) r = r ≡ refusal.TimesNumber number
+TellsFault (Err (times.Count number)) r = r ≡ refusal.TimesCount number
+TellsFault (Err times.Memory) r = ⊥

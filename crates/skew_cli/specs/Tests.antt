@@ -1,0 +1,65 @@
+-- The tests that a command makes of its files, each of which either refuses or goes on with what it found.
+use Rattle.std.specs.Prelude.{ℕ, Bool, true, false, List, length, nat_lt, Option, Some, None, Ok, Err, if◌then◌else◌, IsSomeAnd, MatchOption, MatchResult, ℤ}
+use Rattle.std.specs.Bool.{MatchBool}
+use Rattle.std.specs.List.{list_all}
+use Rattle.mt_model.specs.declared.log.Act.{Act}
+use Rattle.mt_model.specs.declared.log.Act.TheVariants.{Set, Clear, Send, Recv, Note}
+use Rattle.mt_model.specs.Form.{Form}
+use Rattle.mt_model.specs.Log.{Logged}
+use Rattle.mt_model.specs.State.{unknown_host}
+use Rattle.mt_port.specs.Port.{Files, file_of}
+use Rattle.log_read.specs.LogOf.{log_of}
+use Rattle.mtl_parse.specs.FormulaOf.{FormulaOf}
+use Rattle.mtl_parse.specs.Places.{host_byte}
+use Rattle.times_read.specs.declared.fault.TimesFault.{TimesFault}
+use Rattle.times_read.specs.declared.fault.TimesFault.TheVariants as times
+use Rattle.times_read.specs.TimesOf.{times_of}
+use Rattle.skew_cli.specs.declared.refusal.Named.{Named}
+use Rattle.skew_cli.specs.declared.refusal.Refusal.TheVariants as refusal
+use Rattle.skew_cli.specs.declared.status.Status.{Status}
+use Rattle.skew_cli.specs.Refusals.{Refuses}
+use Rattle.skew_cli.specs.Words.{Word}
+
+-- a file of a name: refused above its limit
+abbrev pub OnFile : Files → Word → ℕ → Named → (List ℕ → List ℕ → Status → Type 0) → List ℕ → Status → Type 0
+OnFile files name limit named next out s =
+    IsSomeAnd (file_of files name) (λ file. MatchBool (nat_lt limit (length file)) (Refuses (refusal.Length named) out s) (next file out s))
+
+-- a formula's text: refused where it is no formula
+abbrev pub OnFormula : List ℕ → (Form → List ℕ → Status → Type 0) → List ℕ → Status → Type 0
+OnFormula text next out s = (reading : Option Form) × FormulaOf text reading × MatchOption reading (Refuses refusal.FormulaNotYet out s) (λ f. next f out s)
+
+-- an act that is a set or a note
+abbrev pub is_set_or_note : Act → Bool
+is_set_or_note (Set n) = true
+is_set_or_note (Note n) = true
+is_set_or_note (Clear n) = false
+is_set_or_note (Send m) = false
+is_set_or_note (Recv m) = false
+
+-- a log of sets and notes alone
+abbrev pub is_set_and_note : Logged → Bool
+is_set_and_note log = list_all (λ r. is_set_or_note r.act) log.rows
+
+-- the log of sets and notes that a file is
+abbrev pub plain_log_of : List ℕ → Option Logged
+plain_log_of file = elim (log_of file) [ Ok log ↦ if is_set_and_note log then Some log else None | Err f ↦ None ]
+
+-- a log's file: refused where it is no log of sets and notes
+abbrev pub OnLog : List ℕ → (Logged → List ℕ → Status → Type 0) → List ℕ → Status → Type 0
+OnLog file next out s = MatchOption (plain_log_of file) (Refuses refusal.LogNotYet out s) (λ log. next log out s)
+
+-- the hosts of a formula: refused at the first one that is not in the log, at the byte of its word
+abbrev pub OnHosts : List ℕ → Form → Logged → (List ℕ → Status → Type 0) → List ℕ → Status → Type 0
+OnHosts text f log next out s =
+    MatchOption (unknown_host log f) (next out s) (λ number. IsSomeAnd (host_byte text number) (λ byte. Refuses (refusal.UnknownHost byte) out s))
+
+-- the refusal of a fault of a times file
+abbrev pub RefusesTimes : TimesFault → List ℕ → Status → Type 0
+RefusesTimes (times.Number number) = Refuses (refusal.TimesNumber number)
+RefusesTimes (times.Count number) = Refuses (refusal.TimesCount number)
+RefusesTimes times.Memory = λ out s. ⊥
+
+-- a file of times for the rows of a log: refused at its fault
+abbrev pub OnTimes : List ℕ → Logged → (List ℤ → List ℕ → Status → Type 0) → List ℕ → Status → Type 0
+OnTimes file log next out s = MatchResult (times_of (length log.rows) file) (λ t. next t out s) (λ fault. RefusesTimes fault out s)

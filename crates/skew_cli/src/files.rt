@@ -1,0 +1,127 @@
+//! The tests that a command makes of its files, in their order.
+
+ghost use Rattle.std.specs.Prelude.{◌≡◌, ◌^◌, ◌<◌, ◌≤◌, ◌↔◌, true, None, Some, All, length, IfOk, OnOk, IsErrOf, IsSome, Ok};
+ghost use Rattle.mt_model.specs.Form.{Form, form_of};
+ghost use Rattle.mt_model.specs.Log.{IsWithin};
+ghost use Rattle.mt_model.specs.State.{unknown_host};
+ghost use Rattle.mt_model.specs.declared.limits.TheConstants.{MAX_TIME};
+ghost use Rattle.mt_port.specs.Port.{Rose, file_of};
+ghost use Rattle.mt_port.specs.Whole.{IsLonger};
+ghost use Rattle.mtl_parse.specs.FormulaOf.{IsText};
+ghost use Rattle.mtl_parse.specs.Places.{host_byte};
+ghost use Rattle.times_read.specs.TimesOf.{times_of};
+ghost use Rattle.skew_cli.specs.Stops.{NamesHost, RefusesFor, TellsFault};
+ghost use Rattle.skew_cli.specs.Tests.{is_set_and_note, is_set_or_note, plain_log_of};
+
+use crate::refusal::{Named, Refusal};
+use crate::reply::Stop;
+use log_read::{LogFault, read_log};
+use mt_model::{Act, Formula, Log, Times};
+use mt_port::{ReadFault, Shelf, read_all};
+use mtl_parse::{FormulaFault, parse_formula, place_of};
+use std::alloc::Global;
+use times_read::{TimesFault, read_times};
+
+/// Reads a file that a command names.
+pub fn file<S: Shelf>(
+    alloc: Global,
+    shelf: &mut S,
+    name: &str,
+    limit: usize,
+    named: Named,
+) -> Result<Vec<u8>, Stop>
+    requires { limit < 2 ^ 31 }
+    ensures whole { IfOk result (λ bytes. S.tells shelf.old ≡ true → file_of (S.files shelf.old) name.now ≡ Some bytes.items) }
+    ensures within { IfOk result (λ bytes. length bytes.items ≤ limit) }
+    ensures refused { RefusesFor result (λ r. (r ≡ Refusal.Length named) × (S.tells shelf.old ≡ true → IsLonger (file_of (S.files shelf.old) name.now) limit)) }
+    ensures failed { IsErrOf result Stop.ReadFailed → Rose (S.faults shelf.old) (S.faults shelf.new) }
+    ensures never { S.steady shelf.old → S.tells shelf.old ≡ true → IsSome (file_of (S.files shelf.old) name.now) → IsErrOf result Stop.ReadFailed → ⊥ }
+    ensures later { S.faults shelf.old ≤ S.faults shelf.new }
+    ensures steady { S.steady shelf.old → S.steady shelf.new }
+    ensures files { S.files shelf.new ≡ S.files shelf.old }
+    ensures telling { S.tells shelf.new ≡ S.tells shelf.old }
+{
+    match read_all(alloc, shelf, name, limit) {
+        Ok(bytes) => Ok(bytes),
+        Err(ReadFault::TooLong) => Err(Stop::Refused(Refusal::Length(named))),
+        Err(ReadFault::Failed) => Err(Stop::ReadFailed),
+        Err(ReadFault::Memory) => Err(Stop::NoMemory),
+    }
+}
+
+/// The formula that a text is.
+pub fn formula(alloc: Global, text: &[u8]) -> Result<Formula, Stop>
+    requires { length text.now < 2 ^ 31 }
+    ensures formula { IfOk result (λ f. IsText text.now (form_of f)) }
+    ensures read { IsErrOf result Stop.ReadFailed → ⊥ }
+    ensures refused { RefusesFor result (λ r. (r ≡ Refusal.FormulaNotYet) × ((f : Form) → IsText text.now f → ⊥)) }
+{
+    match parse_formula(alloc, text) {
+        Ok(formula) => Ok(formula),
+        Err(FormulaFault::NotYet) => Err(Stop::Refused(Refusal::FormulaNotYet)),
+        Err(FormulaFault::Memory) => Err(Stop::NoMemory),
+    }
+}
+
+fn sets_or_notes(act: &Act) -> bool
+    ensures { result ≡ is_set_or_note act.now }
+{
+    match act {
+        Act::Set(_) | Act::Note(_) => true,
+        Act::Clear(_) | Act::Send(_) | Act::Recv(_) => false,
+    }
+}
+
+fn has_sets_and_notes(log: &Log) -> bool
+    ensures { result ≡ is_set_and_note log.now }
+{
+    log.rows().iter().all(|row| sets_or_notes(&row.act))
+}
+
+/// The log of sets and notes that a file is.
+pub fn log(alloc: Global, file: &[u8]) -> Result<Log, Stop>
+    requires { length file.now < 2 ^ 31 }
+    ensures log { IfOk result (λ log. plain_log_of file.now ≡ Some log) }
+    ensures read { IsErrOf result Stop.ReadFailed → ⊥ }
+    ensures refused { RefusesFor result (λ r. (r ≡ Refusal.LogNotYet) × (plain_log_of file.now ≡ None)) }
+{
+    match read_log(alloc, file) {
+        Ok(log) if has_sets_and_notes(&log) => Ok(log),
+        Ok(_) => Err(Stop::Refused(Refusal::LogNotYet)),
+        Err(LogFault::Memory) => Err(Stop::NoMemory),
+        Err(_) => Err(Stop::Refused(Refusal::LogNotYet)),
+    }
+}
+
+/// That the hosts of a formula, whose text this is, are in a log.
+pub fn known_hosts(text: &[u8], formula: &Formula, log: &Log) -> Result<(), Stop>
+    requires short { length text.now < 2 ^ 31 }
+    requires reads { IsText text.now (form_of formula.now) }
+    ensures known { OnOk result (unknown_host log.now (form_of formula.now) ≡ None) }
+    ensures read { IsErrOf result Stop.ReadFailed → ⊥ }
+    ensures refused { RefusesFor result (NamesHost text.now (unknown_host log.now (form_of formula.now))) }
+{
+    let Some(number) = formula.unknown_host(log) else {
+        return Ok(());
+    };
+    match place_of(text, number) {
+        Some(byte) => Err(Stop::Refused(Refusal::UnknownHost { byte })),
+        None => unreachable!(),
+    }
+}
+
+/// The times that a file writes, one for each row of a log.
+pub fn timing(alloc: Global, file: &[u8], log: &Log) -> Result<Times, Stop>
+    ensures times { IfOk result (λ t. times_of (length log.now.rows) file.now ≡ Ok t) }
+    ensures range { IfOk result (λ t. All (IsWithin MAX_TIME) t) }
+    ensures full { IfOk result (λ t. length t ≡ length log.now.rows) }
+    ensures read { IsErrOf result Stop.ReadFailed → ⊥ }
+    ensures refused { RefusesFor result (TellsFault (times_of (length log.now.rows) file.now)) }
+{
+    match read_times(alloc, file, log.rows().len()) {
+        Ok(times) => Ok(times),
+        Err(TimesFault::Number { line }) => Err(Stop::Refused(Refusal::TimesNumber { line })),
+        Err(TimesFault::Count { line }) => Err(Stop::Refused(Refusal::TimesCount { line })),
+        Err(TimesFault::Memory) => Err(Stop::NoMemory),
+    }
+}

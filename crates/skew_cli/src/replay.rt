@@ -1,0 +1,133 @@
+ghost use Rattle.std.specs.Prelude.{◌≡◌, ◌^◌, ◌<◌, ◌≤◌, true, length, All, IfOk, IsErrOf, IsSome, string_bytes};
+ghost use Rattle.mt_model.specs.Form.{form_of};
+ghost use Rattle.mt_model.specs.Log.{IsWithin};
+ghost use Rattle.mt_model.specs.declared.limits.TheConstants.{MAX_TIME};
+ghost use Rattle.mt_port.specs.Port.{Rose, file_of};
+ghost use Rattle.mtl_parse.specs.FormulaOf.{IsText};
+ghost use Rattle.skew_cli.specs.ReplayOutcome.{ReplayOfFormula, ReplayOfLog, ReplayOfTimes, ReplayOutcome, value_status, value_text};
+ghost use Rattle.skew_cli.specs.Statuses.{IsAnswer};
+ghost use Rattle.skew_cli.specs.Stops.{Gives};
+ghost use Rattle.skew_cli.specs.Texts.{line};
+
+use crate::files;
+use crate::limits::{FORMULA_LIMIT, LOG_LIMIT, TIMES_LIMIT};
+use crate::refusal::Named;
+use crate::reply::{Reply, Stop};
+use crate::status::Status;
+use crate::texts::written_bound;
+use mt_model::{Formula, Log, first_truth};
+use mt_port::Shelf;
+use skew_bounds::first_broken;
+use std::alloc::{AllocError, Global};
+
+// A truth value as a reply.
+fn value_reply(alloc: Global, value: bool) -> Result<Reply, AllocError>
+    ensures text { IfOk result (λ r. string_bytes r.text ≡ line (value_text value)) }
+    ensures status { IfOk result (λ r. r.status ≡ value_status value) }
+    ensures answer { IfOk result (λ r. IsAnswer r.status) }
+    ensures command { IfOk result (λ r. r.status ≡ Status.Words → ⊥) }
+{
+    if value {
+        Ok(Reply {
+            text: String::from_str(alloc, "true\n")?,
+            status: Status::Zero,
+        })
+    } else {
+        Ok(Reply {
+            text: String::from_str(alloc, "false\n")?,
+            status: Status::One,
+        })
+    }
+}
+
+// What `replay` answers for a formula and a timing of a log.
+fn replay_of_times(
+    alloc: Global,
+    log: &Log,
+    formula: &Formula,
+    times: &[i128],
+) -> Result<Reply, AllocError>
+    requires range { All (IsWithin MAX_TIME) times.now }
+    requires count { length times.now ≡ length log.now.rows }
+    ensures outcome { IfOk result (λ r. ReplayOfTimes log.now (form_of formula.now) times.now (string_bytes r.text) r.status) }
+    ensures answer { IfOk result (λ r. IsAnswer r.status) }
+    ensures command { IfOk result (λ r. r.status ≡ Status.Words → ⊥) }
+{
+    match first_broken(alloc, log, times)? {
+        Some(bound) => Ok(Reply {
+            text: written_bound(alloc, bound)?,
+            status: Status::NotAdmissible,
+        }),
+        None => {
+            let value = first_truth(alloc, log, formula, times)?;
+            value_reply(alloc, value)
+        }
+    }
+}
+
+// What it answers for a formula and its text, a log, and the file of times of a name.
+fn replay_of_log<S: Shelf>(
+    alloc: Global,
+    shelf: &mut S,
+    text: &[u8],
+    formula: &Formula,
+    log: &Log,
+    times: &str,
+) -> Result<Reply, Stop>
+    requires short { length text.now < 2 ^ 31 }
+    requires reads { IsText text.now (form_of formula.now) }
+    ensures outcome { S.tells shelf.old ≡ true → Gives (ReplayOfLog (S.files shelf.old) times.now text.now (form_of formula.now) log.now) result }
+    ensures answer { IfOk result (λ r. IsAnswer r.status) }
+    ensures command { IfOk result (λ r. r.status ≡ Status.Words → ⊥) }
+    ensures failed { IsErrOf result Stop.ReadFailed → Rose (S.faults shelf.old) (S.faults shelf.new) }
+    ensures never { S.steady shelf.old → S.tells shelf.old ≡ true → IsSome (file_of (S.files shelf.old) times.now) → IsErrOf result Stop.ReadFailed → ⊥ }
+    ensures later { S.faults shelf.old ≤ S.faults shelf.new }
+{
+    files::known_hosts(text, formula, log)?;
+    let file = files::file(alloc, shelf, times, TIMES_LIMIT, Named::Times)?;
+    let timing = files::timing(alloc, &file, log)?;
+    Ok(replay_of_times(alloc, log, formula, timing.as_slice())?)
+}
+
+// What it answers for a formula and its text, and the log and the file of times of these names.
+fn replay_of_formula<S: Shelf>(
+    alloc: Global,
+    shelf: &mut S,
+    text: &[u8],
+    formula: &Formula,
+    log: &str,
+    times: &str,
+) -> Result<Reply, Stop>
+    requires short { length text.now < 2 ^ 31 }
+    requires reads { IsText text.now (form_of formula.now) }
+    ensures outcome { S.tells shelf.old ≡ true → Gives (ReplayOfFormula (S.files shelf.old) log.now times.now text.now (form_of formula.now)) result }
+    ensures answer { IfOk result (λ r. IsAnswer r.status) }
+    ensures command { IfOk result (λ r. r.status ≡ Status.Words → ⊥) }
+    ensures failed { IsErrOf result Stop.ReadFailed → Rose (S.faults shelf.old) (S.faults shelf.new) }
+    ensures never { S.steady shelf.old → S.tells shelf.old ≡ true → IsSome (file_of (S.files shelf.old) log.now) → IsSome (file_of (S.files shelf.old) times.now) → IsErrOf result Stop.ReadFailed → ⊥ }
+    ensures later { S.faults shelf.old ≤ S.faults shelf.new }
+{
+    let file = files::file(alloc, shelf, log, LOG_LIMIT, Named::Log)?;
+    let log = files::log(alloc, &file)?;
+    replay_of_log(alloc, shelf, text, formula, &log, times)
+}
+
+/// What `replay` answers for the formula, the log and the file of times of these names.
+pub fn replay<S: Shelf>(
+    alloc: Global,
+    shelf: &mut S,
+    formula: &str,
+    log: &str,
+    times: &str,
+) -> Result<Reply, Stop>
+    ensures outcome { S.tells shelf.old ≡ true → Gives (ReplayOutcome (S.files shelf.old) formula.now log.now times.now) result }
+    ensures answer { IfOk result (λ r. IsAnswer r.status) }
+    ensures command { IfOk result (λ r. r.status ≡ Status.Words → ⊥) }
+    ensures failed { IsErrOf result Stop.ReadFailed → Rose (S.faults shelf.old) (S.faults shelf.new) }
+    ensures never { S.steady shelf.old → S.tells shelf.old ≡ true → IsSome (file_of (S.files shelf.old) formula.now) → IsSome (file_of (S.files shelf.old) log.now) → IsSome (file_of (S.files shelf.old) times.now) → IsErrOf result Stop.ReadFailed → ⊥ }
+    ensures later { S.faults shelf.old ≤ S.faults shelf.new }
+{
+    let text = files::file(alloc, shelf, formula, FORMULA_LIMIT, Named::Formula)?;
+    let formula = files::formula(alloc, &text)?;
+    replay_of_formula(alloc, shelf, &text, &formula, log, times)
+}
