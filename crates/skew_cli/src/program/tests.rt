@@ -30,21 +30,19 @@ const SOUND: Devices = Devices {
     bad_write: 0,
 };
 
+type HeldFiles = Vec<(String, Vec<u8>)>;
+
 // What a run writes and answers where these files are held.
-fn ran_with(
+fn ran_over(
     rt: &(impl Abort + AllocGlobal),
     words: &[&str],
-    held: &[(&str, &[u8])],
+    files: HeldFiles,
     devices: Devices,
 ) -> Result<(Vec<u8>, Status), AllocError> {
     let alloc = rt.alloc();
     let mut list = Vec::new(alloc);
     for word in words {
         list.push(String::from_str(alloc, word)?)?;
-    }
-    let mut files = Vec::new(alloc);
-    for (name, bytes) in held {
-        files.push((String::from_str(alloc, name)?, bytes.to_vec(alloc)?))?;
     }
     assert!(rt; MemShelf::are_distinct(&files));
     assert!(rt; devices.piece > 0);
@@ -56,6 +54,26 @@ fn ran_with(
     Ok((sink.bytes().to_vec(alloc)?, status))
 }
 
+// Holds one file more.
+fn hold(files: &mut HeldFiles, alloc: Global, name: &str, bytes: &[u8]) -> Result<(), AllocError> {
+    files.push((String::from_str(alloc, name)?, bytes.to_vec(alloc)?))?;
+    Ok(())
+}
+
+// The same for names and bytes.
+fn ran_with(
+    rt: &(impl Abort + AllocGlobal),
+    words: &[&str],
+    held: &[(&str, &[u8])],
+    devices: Devices,
+) -> Result<(Vec<u8>, Status), AllocError> {
+    let mut files = Vec::new(rt.alloc());
+    for (name, bytes) in held {
+        hold(&mut files, rt.alloc(), name, bytes)?;
+    }
+    ran_over(rt, words, files, devices)
+}
+
 // The same where one file is held.
 fn ran(
     rt: &(impl Abort + AllocGlobal),
@@ -64,7 +82,9 @@ fn ran(
     file: &[u8],
     devices: Devices,
 ) -> Result<(Vec<u8>, Status), AllocError> {
-    ran_with(rt, words, &[(name, file)], devices)
+    let mut files = Vec::new(rt.alloc());
+    hold(&mut files, rt.alloc(), name, file)?;
+    ran_over(rt, words, files, devices)
 }
 
 #[test]

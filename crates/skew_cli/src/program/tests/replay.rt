@@ -1,4 +1,4 @@
-use super::{Devices, SOUND, ran_with};
+use super::{Devices, SOUND, hold, ran_over, ran_with};
 use crate::{FORMULA_LIMIT, Status, TIMES_LIMIT};
 use std::alloc::AllocError;
 use std::process::Abort;
@@ -22,12 +22,11 @@ fn check(
     due: Status,
 ) -> Result<(), AllocError> {
     let log = format!(in rt.alloc(); "{HEADER}{log}")?;
-    let held = [
-        ("f", formula.as_bytes()),
-        ("l", log.as_bytes()),
-        ("t", times.as_bytes()),
-    ];
-    let (written, status) = ran_with(rt, &["replay", "f", "l", "t"], &held, SOUND)?;
+    let mut files = Vec::new(rt.alloc());
+    hold(&mut files, rt.alloc(), "f", formula.as_bytes())?;
+    hold(&mut files, rt.alloc(), "l", log.as_bytes())?;
+    hold(&mut files, rt.alloc(), "t", times.as_bytes())?;
+    let (written, status) = ran_over(rt, &["replay", "f", "l", "t"], files, SOUND)?;
     assert_eq!(rt; status, due, "of {formula} at {times}");
     assert_eq!(rt;
         written.as_slice(),
