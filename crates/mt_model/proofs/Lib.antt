@@ -13,4 +13,6 @@ mod RangeLemmas
 mod BrokenBounds
 pub mod Conflicts
 pub mod PreviousRows
+mod HappenedBefore
+mod Widening
 mod WorkedCases

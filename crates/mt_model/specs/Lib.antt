@@ -3,6 +3,7 @@ pub mod Log
 pub mod Timing
 pub mod Walks
 pub mod Bounds
+pub mod Before
 pub mod Texts
 pub mod Form
 pub mod Positions

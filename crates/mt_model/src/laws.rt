@@ -1,3 +1,4 @@
+ghost use Rattle.mt_model.specs.Before.{BeforeIsNotLater, CyclesExcludeTimings};
 ghost use Rattle.mt_model.specs.Bounds.{BoundsAreAdmissible, UnbrokenIsAdmissible};
 ghost use Rattle.mt_model.specs.Laws.{ConflictExcludesTimings, PreviousRowIsLast};
 ghost use Rattle.mt_model.specs.TruthLaws.{PositionsAreTimes, TruthByRows, TruthIsTheTable, ValuesHaveTimings};
@@ -44,4 +45,14 @@ pub fn truth_is_the_table()
 /// where no timing is admissible.
 pub fn values_have_timings()
     ensures { ValuesHaveTimings }
+{}
+
+/// What happens before a row (Lamport 1978) is not later than it, in any timing that the log admits.
+pub fn before_is_not_later()
+    ensures { BeforeIsNotLater }
+{}
+
+/// A log of which some row happens before itself admits no timing.
+pub fn cycles_exclude_timings()
+    ensures { CyclesExcludeTimings }
 {}

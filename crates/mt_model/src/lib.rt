@@ -20,8 +20,9 @@ pub use evaluator::{first_truth, truths};
 pub use formula::Formula;
 pub use ids::{EventId, HostId, NodeId, PropId};
 pub use laws::{
-    bounds_are_admissible, conflict_excludes_timings, positions_are_times, previous_row_is_last,
-    truth_by_rows, truth_is_the_table, unbroken_is_admissible, values_have_timings,
+    before_is_not_later, bounds_are_admissible, conflict_excludes_timings, cycles_exclude_timings,
+    positions_are_times, previous_row_is_last, truth_by_rows, truth_is_the_table,
+    unbroken_is_admissible, values_have_timings,
 };
 pub use limits::{
     MAX_DISTANCE, MAX_EXTRA, MAX_EXTRAS, MAX_GAP, MAX_HEIGHT, MAX_HOSTS, MAX_LOCAL,

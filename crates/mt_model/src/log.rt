@@ -1,9 +1,13 @@
-ghost use Rattle.std.specs.Prelude.{◌≡◌, [], ◌↔◌, IsTrue, IsSome, IfSome, option_copied, Any, Some, All, AllPairs};
-ghost use Rattle.mt_model.specs.Log.{Logged, IsLog, IsHost, IsRow, AreRows, SendSame, IsSent, sent_by, received_by};
+ghost use Rattle.std.specs.Prelude.{◌≡◌, [], ◌↔◌, IsTrue, IsSome, IfSome, IfOk, IfErr, option_copied, Any, Some, All, AllPairs, map, pos, ◌+ℤ◌, ◌≤ℤ◌};
+ghost use Rattle.mt_model.specs.Log.{Logged, IsLog, IsHost, IsRow, IsExtra, IsPlain, AreRows, SendSame, IsSent, name_in, sent_by, received_by, with_extra, widened, widened_host};
 
 use crate::name::is_reserved_name;
-use crate::{EventId, HostId, MAX_GAP, MAX_HOSTS, MAX_LOCAL, MAX_ROWS, MAX_SKEW, Name};
+use crate::{
+    EventId, HostId, MAX_EXTRA, MAX_EXTRAS, MAX_GAP, MAX_HOSTS, MAX_LOCAL, MAX_ROWS, MAX_SKEW,
+    MAX_WRITTEN_SKEW, Name,
+};
 use mt_list::ListOf;
+use std::alloc::{AllocError, Global};
 use std::marker::Model;
 
 /// A host of a log: its clock may be off by the skew, and two of its rows on end are at least the
@@ -90,10 +94,38 @@ fn is_host(host: &Host) -> bool
 fn is_row(row: &Row, hosts: usize) -> bool
     ensures { IsTrue result ↔ IsRow hosts row.now }
 {
+    // What a name is, its bytes are known to be.
+    let _ = row.act.name().bytes();
     (row.host.get() as usize) < hosts && -MAX_LOCAL <= row.local && row.local <= MAX_LOCAL
 }
 
 impl Act {
+    // An equal act.
+    fn copy(&self, alloc: Global) -> Result<Act, AllocError>
+        ensures { IfOk result (λ act. act ≡ self.now) }
+    {
+        match self {
+            Act::Set(name) => Ok(Act::Set(name.copy(alloc)?)),
+            Act::Clear(name) => Ok(Act::Clear(name.copy(alloc)?)),
+            Act::Send(name) => Ok(Act::Send(name.copy(alloc)?)),
+            Act::Recv(name) => Ok(Act::Recv(name.copy(alloc)?)),
+            Act::Note(name) => Ok(Act::Note(name.copy(alloc)?)),
+        }
+    }
+
+    /// The name in it: that of a proposition, of a message or of a note.
+    pub fn name(&self) -> &Name
+        ensures name { result.now ≡ name_in self.now }
+    {
+        match self {
+            Act::Set(name)
+            | Act::Clear(name)
+            | Act::Send(name)
+            | Act::Recv(name)
+            | Act::Note(name) => name,
+        }
+    }
+
     /// The message that it sends.
     pub fn sent(&self) -> Option<&Name>
         ensures message { option_copied result ≡ sent_by self.now }
@@ -198,6 +230,102 @@ fn is_valid(hosts: &[Host], rows: &[Row]) -> bool
         && are_rows(hosts.len(), rows)
 }
 
+fn copy_hosts(alloc: Global, hosts: &[Host]) -> Result<HostList, AllocError>
+    ensures { IfOk result (λ list. list ≡ hosts.now) }
+{
+    let mut list = HostList::new(alloc);
+    for host in hosts {
+        list.push(Host {
+            name: host.name.copy(alloc)?,
+            skew: host.skew,
+            gap: host.gap,
+        })?;
+    }
+    Ok(list)
+}
+
+fn copy_rows(alloc: Global, rows: &[Row]) -> Result<RowList, AllocError>
+    ensures { IfOk result (λ list. list ≡ rows.now) }
+{
+    let mut list = RowList::new(alloc);
+    for row in rows {
+        list.push(Row {
+            host: row.host,
+            local: row.local,
+            act: row.act.copy(alloc)?,
+        })?;
+    }
+    Ok(list)
+}
+
+fn copy_extras(alloc: Global, extras: &[Extra]) -> Result<ExtraList, AllocError>
+    ensures { IfOk result (λ list. list ≡ extras.now) }
+{
+    let mut list = ExtraList::new(alloc);
+    for extra in extras {
+        list.push(*extra)?;
+    }
+    Ok(list)
+}
+
+fn is_extra(extra: &Extra, rows: usize) -> bool
+    ensures { IsTrue result ↔ IsExtra rows extra.now }
+{
+    (extra.e.get() as usize) < rows
+        && (extra.f.get() as usize) < rows
+        && extra.e != extra.f
+        && -MAX_EXTRA <= extra.c
+        && extra.c <= MAX_EXTRA
+}
+
+// Whether a skew stays in its range when it grows by s.
+fn may_widen(host: &Host, s: i128) -> bool
+    requires { pos 0 ≤ℤ s }
+    ensures { IsTrue result ↔ ((host.now.skew +ℤ s) ≤ℤ MAX_SKEW) }
+{
+    host.skew <= MAX_SKEW - s
+}
+
+fn may_widen_all(hosts: &[Host], s: i128) -> bool
+    requires { pos 0 ≤ℤ s }
+    ensures { IsTrue result ↔ All (λ h. (h.skew +ℤ s) ≤ℤ MAX_SKEW) hosts.now }
+{
+    hosts.iter().all(|host| may_widen(host, s))
+}
+
+// Adds s to a skew.
+fn widen_host(host: &mut Host, s: i128)
+    requires low { pos 0 ≤ℤ s }
+    requires small { s ≤ℤ MAX_SKEW }
+    requires skew { IsHost host.old }
+    ensures { host.new ≡ widened_host s host.old }
+{
+    host.skew += s;
+}
+
+// Adds s to each skew.
+fn widen(hosts: &mut [Host], s: i128)
+    requires low { pos 0 ≤ℤ s }
+    requires small { s ≤ℤ MAX_SKEW }
+    requires hosts { All IsHost hosts.old }
+    ensures { hosts.new ≡ map (widened_host s) hosts.old }
+{
+    for host in hosts.iter_mut() {
+        widen_host(host, s);
+    }
+}
+
+fn widened_hosts(hosts: HostList, s: i128) -> HostList
+    requires low { pos 0 ≤ℤ s }
+    requires small { s ≤ℤ MAX_SKEW }
+    requires hosts { All IsHost hosts }
+    ensures { result ≡ map (widened_host s) hosts }
+{
+    let mut items = hosts.into_vec();
+    widen(&mut items, s);
+    ListOf::from_vec(items)
+}
+
 impl Log {
     /// The log of these hosts and rows, without extra bounds, and None exactly where they make no
     /// valid log. Takes no memory.
@@ -239,6 +367,92 @@ impl Log {
         ensures same { result.now ≡ self.now.extras }
     {
         self.extras.as_slice()
+    }
+
+    /// An equal log, in memory of its own.
+    pub fn copy(&self, alloc: Global) -> Result<Log, AllocError>
+        ensures same { IfOk result (λ log. log ≡ self.now) }
+    {
+        let hosts = copy_hosts(alloc, self.hosts.as_slice())?;
+        let rows = copy_rows(alloc, self.rows.as_slice())?;
+        let extras = copy_extras(alloc, self.extras.as_slice())?;
+        Ok(Log {
+            hosts,
+            rows,
+            extras,
+        })
+    }
+
+    /// Whether the log with this extra bound is valid: its ends are two rows of the log, its bound is
+    /// in its range, and there is room for one more.
+    pub fn takes_extra(&self, extra: Extra) -> bool
+        ensures valid { IsTrue result ↔ IsLog (with_extra self.now extra) }
+    {
+        self.extras.len() < MAX_EXTRAS && is_extra(&extra, self.rows.len())
+    }
+
+    /// The log with one extra bound more, at the end. An error is want of memory and hands the log back
+    /// as it was.
+    pub fn with_extra(self, extra: Extra) -> Result<Log, Log>
+        requires { IsLog (with_extra self extra) }
+        ensures ok { IfOk result (λ log. log ≡ with_extra self extra) }
+        ensures err { IfErr result (λ log. log ≡ self) }
+    {
+        let Log {
+            hosts,
+            rows,
+            mut extras,
+        } = self;
+        match extras.push(extra) {
+            Ok(()) => Ok(Log {
+                hosts,
+                rows,
+                extras,
+            }),
+            Err(_) => Err(Log {
+                hosts,
+                rows,
+                extras,
+            }),
+        }
+    }
+
+    /// Whether each skew stays in its range when it grows by s, which is at least 0.
+    pub fn takes_widening(&self, s: i128) -> bool
+        ensures valid { IsTrue result ↔ ((pos 0 ≤ℤ s) × All (λ h. (h.skew +ℤ s) ≤ℤ MAX_SKEW) self.now.hosts) }
+    {
+        0 <= s && may_widen_all(self.hosts.as_slice(), s)
+    }
+
+    /// The log with s added to each skew, in the log's unit of time. Takes no memory.
+    pub fn widened(self, s: i128) -> Log
+        requires low { pos 0 ≤ℤ s }
+        requires high { All (λ h. (h.skew +ℤ s) ≤ℤ MAX_SKEW) self.hosts }
+        ensures log { result ≡ widened s self }
+    {
+        let Log {
+            hosts,
+            rows,
+            extras,
+        } = self;
+        Log {
+            hosts: widened_hosts(hosts, s),
+            rows,
+            extras,
+        }
+    }
+
+    /// Whether a log file can state it: it has no extra bounds, and no skew above the greatest that a
+    /// file may state.
+    pub fn plain(&self) -> bool
+        ensures plain { IsTrue result ↔ IsPlain self.now }
+    {
+        self.extras.len() == 0
+            && self
+                .hosts
+                .as_slice()
+                .iter()
+                .all(|host| host.skew <= MAX_WRITTEN_SKEW)
     }
 }
 

@@ -1,4 +1,4 @@
-ghost use Rattle.std.specs.Prelude.{◌≡◌, IfOk, IfSome, is_some};
+ghost use Rattle.std.specs.Prelude.{◌≡◌, true, IfOk, IfSome, is_some};
 ghost use Rattle.std.specs.List.{list_all};
 ghost use Rattle.mt_model.specs.Name.{is_name, is_letter, is_name_byte, is_reserved};
 
@@ -68,9 +68,19 @@ impl Name {
         }
     }
 
+    /// An equal name, in memory of its own.
+    pub fn copy(&self, alloc: Global) -> Result<Name, AllocError>
+        ensures same { IfOk result (λ name. name ≡ self.now) }
+    {
+        Ok(Name {
+            bytes: self.bytes.as_slice().to_vec(alloc)?,
+        })
+    }
+
     /// Its bytes.
     pub fn bytes(&self) -> &[u8]
         ensures same { result.now ≡ self.now }
+        ensures name { is_name self.now ≡ true }
     {
         &self.bytes
     }
@@ -78,7 +88,8 @@ impl Name {
 
 /// Whether a name is `true`, `false` or `inf`, which name no host.
 pub fn is_reserved_name(name: &Name) -> bool
-    ensures { result ≡ is_reserved name.now }
+    ensures reserved { result ≡ is_reserved name.now }
+    ensures name { is_name name.now ≡ true }
 {
     let bytes = name.bytes();
     bytes == b"true".as_slice() || bytes == b"false".as_slice() || bytes == b"inf".as_slice()

@@ -226,3 +226,65 @@ fn only_a_send_sends_and_only_a_receive_receives(rt: HostRuntime) -> Result<(), 
     }
     Ok(())
 }
+
+fn request(alloc: Global) -> Result<Log, Fail> {
+    let hosts = [("a", 2, 1), ("b", 999_999_999_999_999_999, 0)];
+    let rows = [(0, 10, Kind::Send, "m"), (1, 15, Kind::Recv, "m")];
+    let log = Log::build(host_list(alloc, &hosts)?, row_list(alloc, &rows)?);
+    Ok(log.ok_or("no log")?)
+}
+
+#[test]
+fn a_copy_reads_as_its_log(rt: HostRuntime) -> Result<(), Fail> {
+    let log = request(rt.alloc())?;
+    let text = format!(in rt.alloc(); "{log:?}")?;
+    let copy = format!(in rt.alloc(); "{:?}", log.copy(rt.alloc())?)?;
+    assert_eq!(rt; copy.as_str(), text.as_str());
+    Ok(())
+}
+
+#[test]
+fn extra_bounds_are_added_at_the_end(rt: HostRuntime) -> Result<(), Fail> {
+    let extra = |e, f, c| Extra {
+        e: EventId::new(e),
+        f: EventId::new(f),
+        c,
+    };
+    let log = request(rt.alloc())?;
+    let cases = [
+        (extra(1, 0, 4), true),
+        (extra(0, 1, 100_000_000_000_000_000_000), true),
+        (extra(0, 1, 100_000_000_000_000_000_001), false),
+        (extra(0, 1, -100_000_000_000_000_000_001), false),
+        (extra(1, 1, 4), false),
+        (extra(2, 0, 4), false),
+        (extra(0, 2, 4), false),
+    ];
+    for (extra, taken) in cases {
+        assert_eq!(rt; log.takes_extra(extra), taken, "{extra:?}");
+    }
+    assert!(rt; log.takes_extra(extra(1, 0, 4)));
+    let log = log.with_extra(extra(1, 0, 4)).ok().ok_or("no memory")?;
+    assert!(rt; log.takes_extra(extra(0, 1, -1)));
+    let log = log.with_extra(extra(0, 1, -1)).ok().ok_or("no memory")?;
+    assert_eq!(rt; log.extras(), [extra(1, 0, 4), extra(0, 1, -1)].as_slice());
+    assert!(rt; !log.plain());
+    Ok(())
+}
+
+#[test]
+fn each_skew_is_widened(rt: HostRuntime) -> Result<(), Fail> {
+    let log = request(rt.alloc())?;
+    assert!(rt; log.plain());
+    assert!(rt; !log.takes_widening(-1));
+    assert!(rt; !log.takes_widening(1_000_000_000_000_000_002));
+    assert!(rt; log.takes_widening(1_000_000_000_000_000_001));
+    assert!(rt; log.takes_widening(2));
+    let log = log.widened(2);
+    let skews = [4, 1_000_000_000_000_000_001];
+    for (host, skew) in log.hosts().iter().zip(skews) {
+        assert_eq!(rt; host.skew, skew);
+    }
+    assert!(rt; !log.plain());
+    Ok(())
+}
