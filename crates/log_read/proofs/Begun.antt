@@ -14,7 +14,7 @@ use Rattle.mt_model.specs.declared.log.Act.{Act}
 use Rattle.mt_model.specs.declared.log.Host.{Host}
 use Rattle.mt_model.specs.declared.log.Row.{Row}
 use Rattle.mt_model.specs.declared.limits.TheConstants.{MAX_HOSTS, MAX_ROWS, MAX_WRITTEN_SKEW, MAX_GAP, MAX_LOCAL}
-use Rattle.mt_model.specs.Log.{Logged, IsLog, IsHost, IsRow, IsExtra, IsWithin, IsSent, SendSame, sent_by, received_by}
+use Rattle.mt_model.specs.Log.{Logged, IsLog, IsHost, IsRow, IsExtra, IsWithin, IsSent, SendSame, name_in, sent_by, received_by}
 use Rattle.mt_model.specs.Name.{is_name, is_reserved}
 use Rattle.mt_model.specs.Timing.{is_send_of}
 use Rattle.log_read.specs.declared.fault.LogFault.{LogFault}
@@ -78,6 +78,21 @@ not_declared hosts name k d none within same =
     let some = list_any_at (λ h. bytes_eq h.name name) hosts k d within test in
     absurd (cc)
 
+-- bytes that are not refused as no name are a name
+named-true : (name : List ℕ) → not (is_name name) ≡ false → is_name name ≡ true
+named-true name h = by (is_name name) h
+  where
+    by : (b : Bool) → not b ≡ false → b ≡ true
+    by true h = refl
+    by false h = cc
+
+name_in-act_of : (e : EventKind) (name : List ℕ) → name_in (act_of e name) ≡ name
+name_in-act_of event.Set name = refl
+name_in-act_of event.Clear name = refl
+name_in-act_of event.Send name = refl
+name_in-act_of event.Recv name = refl
+name_in-act_of event.Note name = refl
+
 -- a host that has no fault may be added
 pub begun_host : (place : ℕ) (log : Logged) (h : Host) (name skew gap : List ℕ) → IsBegun log → host_fault place log.hosts name skew gap ≡ None → host_with name skew gap ≡ Some h
     → IsBegun (record { hosts = log.hosts ++ h ∷ []; rows = log.rows; extras = [] })
@@ -87,6 +102,7 @@ begun_host place log h name skew gap begun clear e =
     let skews = number_in_range MAX_WRITTEN_SKEW skew h.skew read.skew in
     let gaps = number_in_range MAX_GAP gap h.gap read.gap in
     let host : IsHost h = record {
+      called = rw read.named (named-true name (either_none (not (is_name name)) (is_reserved name) tests.0).0);
       name = rw read.named ((either_none (not (is_name name)) (is_reserved name) tests.0).1);
       skew_low = skews.0;
       skew_high = omega (arith, ints, skews.1);
@@ -98,7 +114,7 @@ begun_host place log h name skew gap begun clear e =
       few_rows = begun.few_rows;
       names = all_pairs_push (λ (g k : Host). k.name ≡ g.name → ⊥) log.hosts h begun.names (λ k d within same. not_declared log.hosts name k d tests.1 within (sym same ∙ read.named));
       hosts = All-push IsHost log.hosts h begun.hosts host;
-      rows = λ k d within. let row = begun.rows k d within in record { host = omega (arith, row.host, length-append log.hosts (h ∷ [])); local = row.local };
+      rows = λ k d within. let row = begun.rows k d within in record { host = omega (arith, row.host, length-append log.hosts (h ∷ [])); local = row.local; named = row.named };
       sent_once = begun.sent_once;
     }
 
@@ -174,6 +190,7 @@ begun_row place log r e host local name begun clear h =
     let row : IsRow (length log.hosts) r = record {
       host = (position-Some (λ h. bytes_eq h.name host) log.hosts r.host (record { name = name; skew = pos 0; gap = pos 0 }) read.host).0;
       local = signed_in_range MAX_LOCAL local r.local read.local;
+      named = rw (read.act, name_in-act_of e name) (named-true name tests.2);
     } in
     record {
       few_hosts = begun.few_hosts;

@@ -63,7 +63,7 @@ pub All-position_none : {X : Type 0} (p : X → Bool) (xs : List X) → position
 All-position_none p xs none = prefix_all p xs (let at = position_or_len p xs in grind (arith, nat_tests))
 
 -- where the test finds a row that sends the message, there is one
-sent_by-is : (message : List ℕ) (o : Option (List ℕ)) → option_map_or (λ m. bytes_eq m message) o false ≡ true → o ≡ Some message
+pub sent_by-is : (message : List ℕ) (o : Option (List ℕ)) → option_map_or (λ m. bytes_eq m message) o false ≡ true → o ≡ Some message
 sent_by-is message None h = cc
 sent_by-is message (Some m) h = ap Some ((bytes_eq-Decides m message).0 h)
 

@@ -1,6 +1,15 @@
 pub mod AllRecords
 pub mod Begun
+pub mod ClearHosts
+pub mod ClearRows
 pub mod Copies
 pub mod Digits
 pub mod FirstFaults
+pub mod Lines
 pub mod Listing
+pub mod Middles
+pub mod PlainFields
+pub mod PrintedNumbers
+pub mod ReadBack
+pub mod WrittenLines
+pub mod WrittenRecords

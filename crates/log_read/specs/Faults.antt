@@ -1,5 +1,5 @@
 -- The faults of log files by number.
-use Rattle.std.specs.Prelude.{ℕ}
+use Rattle.std.specs.Prelude.{ℕ, Option, Some, None}
 use Rattle.log_read.specs.declared.fault.LogFault.{LogFault}
 use Rattle.log_read.specs.declared.fault.LogFault.TheVariants as fault
 
@@ -19,3 +19,20 @@ number_of (fault.UnmatchedReceive place) = 10
 number_of fault.NoEvent = 11
 number_of (fault.TooManyHosts place) = 12
 number_of (fault.TooManyEvents place) = 13
+
+-- the number of the record that a fault is of, from 1; a log without a row has its fault in none
+abbrev pub record_of : LogFault → Option ℕ
+record_of fault.Memory = None
+record_of (fault.Header place) = Some place
+record_of (fault.Width place) = Some place
+record_of (fault.Kind place) = Some place
+record_of (fault.HostName place) = Some place
+record_of (fault.DuplicateHost place) = Some place
+record_of (fault.UnknownHost place) = Some place
+record_of (fault.Number place) = Some place
+record_of (fault.Name place) = Some place
+record_of (fault.DoubleSend place) = Some place
+record_of (fault.UnmatchedReceive place) = Some place
+record_of fault.NoEvent = None
+record_of (fault.TooManyHosts place) = Some place
+record_of (fault.TooManyEvents place) = Some place

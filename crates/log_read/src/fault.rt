@@ -1,5 +1,5 @@
 ghost use Rattle.std.specs.Prelude.{◌≡◌};
-ghost use Rattle.log_read.specs.Faults.{number_of};
+ghost use Rattle.log_read.specs.Faults.{number_of, record_of};
 
 use std::alloc::AllocError;
 use thiserror::Error;
@@ -58,6 +58,28 @@ impl LogFault {
             LogFault::NoEvent => 11,
             LogFault::TooManyHosts { .. } => 12,
             LogFault::TooManyEvents { .. } => 13,
+        }
+    }
+
+    /// The number of the record that it is of, from 1; there is none where the log has no row, and for
+    /// want of memory.
+    pub fn record(&self) -> Option<u32>
+        ensures record { result ≡ record_of self.now }
+    {
+        match self {
+            LogFault::Header { place }
+            | LogFault::Width { place }
+            | LogFault::Kind { place }
+            | LogFault::HostName { place }
+            | LogFault::DuplicateHost { place }
+            | LogFault::UnknownHost { place }
+            | LogFault::Number { place }
+            | LogFault::Name { place }
+            | LogFault::DoubleSend { place }
+            | LogFault::UnmatchedReceive { place }
+            | LogFault::TooManyHosts { place }
+            | LogFault::TooManyEvents { place } => Some(*place),
+            LogFault::NoEvent | LogFault::Memory => None,
         }
     }
 }

@@ -1,4 +1,4 @@
-//! Log files: the log that a file's bytes are, or the first fault with its record.
+//! Log files: the log that a file's bytes are, or the first fault with its record, and a log's text.
 #![tactic(auto)]
 
 mod entry;
@@ -9,8 +9,10 @@ mod number;
 mod reader;
 mod reading;
 mod records;
+mod writer;
 
 pub use fault::LogFault;
 pub use fields::{Field, Fields, RecordList};
 pub use number::signed_number;
 pub use reader::{read_log, read_records};
+pub use writer::{texts_read_back, write_log};

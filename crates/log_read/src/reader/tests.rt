@@ -13,30 +13,12 @@ type RowCase<'a> = (u32, i128, EventKind, &'a str);
 // Records 1 and 2 of most texts.
 const HEAD: &str = "kind,host,time,name\nhost,a,2,1\n";
 
-fn record_of(fault: LogFault) -> u32 {
-    match fault {
-        LogFault::Header { place }
-        | LogFault::Width { place }
-        | LogFault::Kind { place }
-        | LogFault::HostName { place }
-        | LogFault::DuplicateHost { place }
-        | LogFault::UnknownHost { place }
-        | LogFault::Number { place }
-        | LogFault::Name { place }
-        | LogFault::DoubleSend { place }
-        | LogFault::UnmatchedReceive { place }
-        | LogFault::TooManyHosts { place }
-        | LogFault::TooManyEvents { place } => place,
-        LogFault::NoEvent | LogFault::Memory => 0,
-    }
-}
-
 // The fault of what was read, None for a log.
 fn found(outcome: Result<Log, LogFault>) -> Result<Option<Found>, Fail> {
     match outcome {
         Ok(_) => Ok(None),
         Err(LogFault::Memory) => Err(LogFault::Memory)?,
-        Err(fault) => Ok(Some((fault.number(), record_of(fault)))),
+        Err(fault) => Ok(Some((fault.number(), fault.record().unwrap_or(0)))),
     }
 }
 
@@ -105,6 +87,12 @@ fn texts_are_read_as_logs(rt: HostRuntime) -> Result<(), Fail> {
                 (0, 3, EventKind::Note, "inf"),
             ]
             .as_slice(),
+        ),
+        // A lone carriage return ends a record, and text behind a closing quote belongs to the field.
+        (
+            "kind,host,time,name\rhost,a,2,1\r\r\"s\"et,a,10,p\rnote,a,11,\"n\"",
+            [("a", 2, 1)].as_slice(),
+            [(0, 10, EventKind::Set, "p"), (0, 11, EventKind::Note, "n")].as_slice(),
         ),
         // Names of 32 bytes. A message and a proposition may have one name, and a host need not
         // have rows.
@@ -189,6 +177,11 @@ fn the_first_fault_is_found(rt: HostRuntime) -> Result<(), Fail> {
         ("receive,a,10,p\n", 3, 3),
         ("\"s\"\"et\",a,10,p\n", 3, 3),
         ("put,c,x,P\n", 3, 3),
+        // A quote in the middle of a field is a byte of it, and one that isn't closed reaches to the end.
+        ("s\"et,a,10,p\n", 3, 3),
+        ("\"set,a,10,p\nnote,a,1,n\n", 2, 3),
+        ("set,a,10,\"p\nnote,a,1,n\n", 8, 3),
+        ("set,a,10,p\"\n", 8, 3),
         ("host,true,0,0\n", 4, 3),
         ("host,false,0,0\n", 4, 3),
         ("host,inf,0,0\n", 4, 3),
