@@ -1,8 +1,8 @@
 -- What a solution of the edges of a log's bounds means for the log, and what a negative cycle of them means.
 use Rattle.std.proofs.Common.{◌≡◌, sym, ap, refl, arith, ℕ, zero, suc, ◌+◌, ◌*◌, ◌^◌, ◌<◌, ◌≤◌, List, [], ◌∷◌, length, map, drop, Some, All, ℤ, pos, ◌+ℤ◌, ◌-ℤ◌, ◌≤ℤ◌}
-use Rattle.std.specs.Prelude.{IfSome, slice_index_or}
+use Rattle.std.specs.Prelude.{IfSome, option_map, slice_index_or}
 use Rattle.std.proofs.lemmas.Int.{ints}
-use Rattle.std.proofs.lemmas.List.{length-map}
+use Rattle.std.proofs.lemmas.List.{get_or-map, length-map}
 use Rattle.std.proofs.lemmas.List.Elements.{All-nil, All-cons, All-head, All-tail}
 use Rattle.neg_cycle.specs.declared.system.Edge.{Edge as SystemEdge}
 use Rattle.neg_cycle.specs.Systems as system
@@ -16,7 +16,7 @@ use Rattle.mt_model.specs.Timing.{Admissible}
 use Rattle.mt_model.specs.Walks.{Edge, HasEdges, IsClosedWalk, LeadsTo, Meets, edge_of, node_time, sum_of_bounds}
 use Rattle.skew_bounds.proofs.BoundCounts.{few-bounds}
 use Rattle.skew_bounds.specs.Edges.{bound_at, edge_in}
-use Rattle.skew_bounds.specs.Consistency.{IsConflict}
+use Rattle.skew_bounds.specs.Consistency.{IsConflict, VisitsOnce, start_of}
 
 -- these are the edges of the bounds, place by place
 abbrev pub AreEdges : Logged → List Bound → List SystemEdge → Type 0
@@ -104,9 +104,34 @@ found-edges : (log : Logged) (bounds : List Bound) (edges : List SystemEdge) (pl
 found-edges log bounds edges [] are closed = refl
 found-edges log bounds edges (p ∷ ps) are closed = has-edges log bounds edges (system.edge_at edges p).from (p ∷ ps) (system.edge_at edges p).from are closed
 
--- a negative cycle of the edges is a conflict of the bounds
-pub conflict-of : (log : Logged) (bounds : List Bound) (edges : List SystemEdge) (places : List ℕ) → AreEdges log bounds edges → system.IsNegativeCycle edges places → IsConflict log (steps_at bounds places)
-conflict-of log bounds edges places are cycle = record {
+places-of-walk : (edges : List SystemEdge) (a : ℕ) (places : List ℕ) (b : ℕ) → system.LeadsTo edges a places b → All (λ p. p < length edges) places
+places-of-walk edges a [] b leads = All-nil (λ p. p < length edges)
+places-of-walk edges a (p ∷ ps) b leads = All-cons (λ p. p < length edges) p ps leads.0 (places-of-walk edges (system.edge_at edges p).to ps b leads.2)
+
+places-of-cycle : (edges : List SystemEdge) (places : List ℕ) → system.IsClosedWalk edges places → All (λ p. p < length edges) places
+places-of-cycle edges [] closed = absurd closed
+places-of-cycle edges (p ∷ ps) closed = places-of-walk edges (system.edge_at edges p).from (p ∷ ps) (system.edge_at edges p).from closed
+
+-- the step of a place begins where its edge does
+start-at : (log : Logged) (bounds : List Bound) (edges : List SystemEdge) (p : ℕ) → AreEdges log bounds edges → p < length edges
+    → start_of log (step_of (bound_at bounds p)) ≡ Some (system.edge_at edges p).from
+start-at log bounds edges p are within = ap (option_map (λ x. x.from)) (edge-at log bounds edges p are within)
+
+-- places whose edges begin at different nodes are steps that do
+once-same : (log : Logged) (bounds : List Bound) (edges : List SystemEdge) (places : List ℕ) → AreEdges log bounds edges → All (λ p. p < length edges) places
+    → system.VisitsOnce edges places → VisitsOnce log (steps_at bounds places)
+once-same log bounds edges places are within once i j d before below same =
+    let size : length (steps_at bounds places) ≡ length places = length-map places (λ p. step_of (bound_at bounds p)) in
+    let at-i = get_or-map (λ p. step_of (bound_at bounds p)) places i 0 d (omega arith) in
+    let at-j = get_or-map (λ p. step_of (bound_at bounds p)) places j 0 d (omega arith) in
+    let from-i = start-at log bounds edges (slice_index_or places i 0) are (within i 0 (omega arith)) in
+    let from-j = start-at log bounds edges (slice_index_or places j 0) are (within j 0 (omega arith)) in
+    once i j 0 before (omega arith) (cc)
+
+-- a negative cycle of the edges that visits no node twice is a conflict of the bounds
+pub conflict-of : (log : Logged) (bounds : List Bound) (edges : List SystemEdge) (places : List ℕ) → AreEdges log bounds edges → system.IsNegativeCycle edges places
+    → system.VisitsOnce edges places → IsConflict log (steps_at bounds places)
+conflict-of log bounds edges places are cycle once = record {
   bounds = steps-are-bounds bounds places;
   conflict = record {
     edges = edges_at edges places;
@@ -114,6 +139,7 @@ conflict-of log bounds edges places are cycle = record {
     closed = closed-same edges places cycle.closed;
     negative = rw (sum-same edges places) cycle.negative;
   };
+  once = once-same log bounds edges places are (places-of-cycle edges places cycle.closed) once;
 }
 
 -- a potential gives an admissible timing
@@ -144,11 +170,6 @@ bounds-within nodes edges within k d below = (within k d below).bound
 pub numbers-high : (nodes : ℕ) (numbers : List ℤ) → nodes ≤ 65 → All (λ x. x ≤ℤ pos (nodes * 2 ^ 90)) numbers → All (λ x. x ≤ℤ pos (2 ^ 120)) numbers
 numbers-high nodes numbers few high k d below = let here = high k d below in omega (arith, ints, here)
 
-places-of-walk : (edges : List SystemEdge) (a : ℕ) (places : List ℕ) (b : ℕ) → system.LeadsTo edges a places b → All (λ p. p < length edges) places
-places-of-walk edges a [] b leads = All-nil (λ p. p < length edges)
-places-of-walk edges a (p ∷ ps) b leads = All-cons (λ p. p < length edges) p ps leads.0 (places-of-walk edges (system.edge_at edges p).to ps b leads.2)
-
 -- the places of a cycle are places of bounds
 pub places-within : (log : Logged) (bounds : List Bound) (edges : List SystemEdge) (places : List ℕ) → AreEdges log bounds edges → system.IsClosedWalk edges places → All (λ p. p < length bounds) places
-places-within log bounds edges [] are closed = absurd closed
-places-within log bounds edges (p ∷ ps) are closed = rw (← count-edges log bounds edges are) (places-of-walk edges (system.edge_at edges p).from (p ∷ ps) (system.edge_at edges p).from closed)
+places-within log bounds edges places are closed = rw (← count-edges log bounds edges are) (places-of-cycle edges places closed)

@@ -1,5 +1,8 @@
 pub mod Edges
 pub mod Consistency
+pub mod Differences
+pub mod BoundTable
+pub mod Tight
 pub use Rattle.mt_model.specs.Log
 pub use Rattle.mt_model.specs.Timing
 pub use Rattle.mt_model.specs.Walks

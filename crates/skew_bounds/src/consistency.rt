@@ -17,7 +17,7 @@ pub enum Consistency {
     /// An admissible timing: a true time for each row, in the order of the rows and the log's unit of time.
     Timing(Times),
     /// Bounds of the log whose edges form a closed walk of negative sum, in the order of the walk, so that
-    /// no timing is admissible.
+    /// no timing is admissible. The walk visits no node twice.
     Conflict(Steps),
 }
 

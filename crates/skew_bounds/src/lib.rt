@@ -1,20 +1,28 @@
 //! The bounds of a log as difference constraints between the zero moment, which is node 0, and its
-//! rows, of which row e is node e + 1; and whether some true times of the rows meet them all.
+//! rows, of which row e is node e + 1; whether some true times of the rows meet them all; and how far
+//! apart two rows then are at least and at most.
 //!
 //! Such constraints are the edges of a graph, and they can be met exactly where no closed walk has a
 //! negative sum (Bellman, On a routing problem, 1958). Times and bounds are in the log's unit of time.
 #![tactic(auto)]
 
 mod broken;
+mod closure;
 mod consistency;
+mod differences;
 mod edges;
 mod list;
+mod matrix;
 mod rows;
+mod table;
+mod tightening;
 
 pub use broken::first_broken;
 pub use consistency::{Consistency, settle, step_of};
+pub use differences::Tight;
 pub use edges::edge_of;
 pub use list::bounds;
+pub use tightening::{TightFault, tight};
 
 #[cfg(test)]
 mod tests;

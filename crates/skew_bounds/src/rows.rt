@@ -1,15 +1,25 @@
-ghost use Rattle.std.specs.Prelude.{◌≡◌, ◌<◌, length, position, IfSome};
-ghost use Rattle.mt_model.specs.Log.{IsWithin};
+ghost use Rattle.std.specs.Prelude.{◌≡◌, ◌<◌, length, position, slice_get, IfSome, Some};
+ghost use Rattle.mt_model.specs.Log.{IsHost, IsWithin};
 ghost use Rattle.mt_model.specs.Timing.{gap_of, host_of, is_send_of, local_of, previous_row, send_of, skew_of};
 ghost use Rattle.mt_model.specs.declared.limits.TheConstants.{MAX_GAP, MAX_LOCAL, MAX_SKEW};
 
-use mt_model::{Log, Row};
+use mt_model::{Host, Log, Row};
 
 fn host_at(log: &Log, e: usize) -> u32
     requires { e < length log.now.rows }
-    ensures { result ≡ host_of log.now e }
+    ensures host { result ≡ host_of log.now e }
+    ensures within { result < length log.now.hosts }
 {
     log.rows()[e].host.get()
+}
+
+// A row's host.
+fn host(log: &Log, e: usize) -> &Host
+    requires { e < length log.now.rows }
+    ensures found { slice_get log.now.hosts (host_of log.now e) ≡ Some result.now }
+    ensures valid { IsHost result.now }
+{
+    &log.hosts()[host_at(log, e) as usize]
 }
 
 /// The local time of a row.
@@ -27,10 +37,7 @@ pub fn skew_at(log: &Log, e: usize) -> i128
     ensures skew { result ≡ skew_of log.now e }
     ensures range { IsWithin MAX_SKEW result }
 {
-    match log.hosts().get(host_at(log, e) as usize) {
-        Some(host) => host.skew,
-        None => 0,
-    }
+    host(log, e).skew
 }
 
 /// The gap of a row's host.
@@ -39,10 +46,7 @@ pub fn gap_at(log: &Log, e: usize) -> i128
     ensures gap { result ≡ gap_of log.now e }
     ensures range { IsWithin MAX_GAP result }
 {
-    match log.hosts().get(host_at(log, e) as usize) {
-        Some(host) => host.gap,
-        None => 0,
-    }
+    host(log, e).gap
 }
 
 /// The last row before a row that is of its host.

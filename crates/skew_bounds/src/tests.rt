@@ -7,6 +7,8 @@ use std::alloc::Global;
 use std::process::Abort;
 use std::test::Fail;
 
+mod tightening;
+
 #[derive(Clone, Copy, Debug)]
 enum Event {
     Set,

@@ -44,6 +44,7 @@ pub returns : goal.returns
 returns c =
     let are = rw (c.as_slice.ensures.items) at c.in_ok-edges.ensures.edges in
     let cycle = rw (c.as_slice-2.ensures.items, c.in-Cycle.is) at c.in_ok-outcome.ensures.cycle in
-    let conflict = conflict-of c.args.log.now c.in_ok-bounds.bounds c.in_ok-edges.edges c.in-Cycle.places are cycle in
+    let once = rw (c.as_slice-2.ensures.items, c.in-Cycle.is) at c.in_ok-outcome.ensures.once in
+    let conflict = conflict-of c.args.log.now c.in_ok-bounds.bounds c.in_ok-edges.edges c.in-Cycle.places are cycle once in
     let steps = rw (c.as_slice-in-Cycle.ensures.items, c.as_slice-in-Cycle-2.ensures.items) at c.in_ok-steps-in-Cycle.ensures in
     record { answer = rw steps conflict }
