@@ -1,0 +1,9 @@
+//! Happened-before over the events of a log (Lamport 1978), by vector clocks.
+#![tactic(auto)]
+
+mod causes;
+mod cycle;
+mod order;
+mod progress;
+
+pub use order::{Order, OrderFault};
