@@ -1,11 +1,12 @@
 -- From what was due to what words and files give.
-use Rattle.std.proofs.Common.{◌≡◌, refl, List, ℕ, Bool, true, false, Option, Some, None}
-use Rattle.std.specs.Prelude.{IsSome, IsSomeAnd, MatchOption, length, nat_lt}
+use Rattle.std.proofs.Common.{◌≡◌, refl, List, ℕ, Bool, true, false, Option, Some, None, Ok, Err}
+use Rattle.std.specs.Prelude.{IsSome, IsSomeAnd, MatchOption, MatchResult, Result, length, nat_lt}
 use Rattle.std.specs.Bool.{MatchBool}
 use Rattle.mt_model.specs.Form.{Form}
 use Rattle.mt_model.specs.Log.{Logged}
 use Rattle.mt_model.specs.State.{unknown_host}
 use Rattle.mt_port.specs.Port.{Files, file_of}
+use Rattle.log_read.specs.LogOf.{log_of}
 use Rattle.mtl_parse.specs.Places.{host_byte}
 use Rattle.skew_cli.specs.declared.limits.TheConstants.{FORMULA_LIMIT, LOG_LIMIT, TIMES_LIMIT}
 use Rattle.skew_cli.specs.declared.refusal.Named.{Named}
@@ -15,9 +16,10 @@ use Rattle.skew_cli.specs.declared.status.Status.{Status}
 use Rattle.skew_cli.specs.Outcome.{Agree, CommandOutcome, Ends, Outcome}
 use Rattle.skew_cli.specs.Refusals.{Refuses}
 use Rattle.skew_cli.specs.ReplayOutcome.{ReplayOfFormula, ReplayOfLog, ReplayOfTimes, ReplayOutcome}
-use Rattle.skew_cli.specs.Tests.{OnFile, OnFormula, OnLog, OnTimes, plain_log_of}
+use Rattle.skew_cli.specs.Tests.{OnFile, OnFormula, OnLog, OnTimes}
 use Rattle.skew_cli.specs.TimesOutcome.{TimesOfLog, TimesOutcome}
-use Rattle.skew_cli.specs.Words.{Command, Replay, Times, Word, command_of}
+use Rattle.skew_cli.specs.OrderOutcome.{OrderOfLog, OrderOutcome}
+use Rattle.skew_cli.specs.Words.{Command, Order, Replay, Times, Word, command_of}
 
 -- what is due may be said in a weaker way
 pub Ends-weaker : (D E : List ℕ → Status → Type 0) (old now : List ℕ) (s : Status) → ((b : List ℕ) (t : Status) → D b t → E b t) → Ends D old now s → Ends E old now s
@@ -33,6 +35,10 @@ more-option (Some x) P Q R more h = more x h
 more-none : {X : Type 0} (o : Option X) (P Q : Type 0) (R : X → Type 0) → (P → Q) → MatchOption o P R → MatchOption o Q R
 more-none None P Q R more h = more h
 more-none (Some x) P Q R more h = h
+
+more-result : {X F : Type 0} (r : Result X F) (P Q : X → Type 0) (R : F → Type 0) → ((x : X) → P x → Q x) → MatchResult r P R → MatchResult r Q R
+more-result (Ok x) P Q R more h = more x h
+more-result (Err f) P Q R more h = h
 
 more-bool : (b : Bool) (P Q R : Type 0) → (Q → R) → MatchBool b P Q → MatchBool b P R
 more-bool true P Q R more h = h
@@ -52,6 +58,9 @@ module _ (held files : Files) (agree : Agree held files) (out : List ℕ) (s : S
   same-times : (log : Word) → TimesOutcome held log out s → TimesOutcome files log out s
   same-times log = same-file log LOG_LIMIT named.Log (λ file. OnLog file TimesOfLog) (λ file. OnLog file TimesOfLog) (λ file h. h)
 
+  same-order : (log : Word) → OrderOutcome held log out s → OrderOutcome files log out s
+  same-order log = same-file log LOG_LIMIT named.Log (λ file. OnLog file OrderOfLog) (λ file. OnLog file OrderOfLog) (λ file h. h)
+
   same-of_log : (times : Word) (text : List ℕ) (f : Form) (l : Logged) → ReplayOfLog held times text f l out s → ReplayOfLog files times text f l out s
   same-of_log times text f l =
       more-none (unknown_host l f) (OnFile held times TIMES_LIMIT named.Times (λ file. OnTimes file l (ReplayOfTimes l f)) out s) (OnFile files times TIMES_LIMIT named.Times (λ file. OnTimes file l (ReplayOfTimes l f)) out s)
@@ -61,7 +70,7 @@ module _ (held files : Files) (agree : Agree held files) (out : List ℕ) (s : S
   same-of_formula : (log times : Word) (text : List ℕ) (f : Form) → ReplayOfFormula held log times text f out s → ReplayOfFormula files log times text f out s
   same-of_formula log times text f =
       same-file log LOG_LIMIT named.Log (λ file. OnLog file (ReplayOfLog held times text f)) (λ file. OnLog file (ReplayOfLog files times text f))
-      (λ file. more-option (plain_log_of file) (Refuses refusal.LogNotYet out s) (λ l. ReplayOfLog held times text f l out s) (λ l. ReplayOfLog files times text f l out s) (same-of_log times text f))
+      (λ file. more-result (log_of file) (λ l. ReplayOfLog held times text f l out s) (λ l. ReplayOfLog files times text f l out s) (λ fault. Refuses (refusal.Log fault) out s) (same-of_log times text f))
 
   same-replay : (formula log times : Word) → ReplayOutcome held formula log times out s → ReplayOutcome files formula log times out s
   same-replay formula log times =
@@ -71,6 +80,7 @@ module _ (held files : Files) (agree : Agree held files) (out : List ℕ) (s : S
   same-command : (c : Command) → CommandOutcome c held out s → CommandOutcome c files out s
   same-command (Times log) = same-times log
   same-command (Replay formula log times) = same-replay formula log times
+  same-command (Order log) = same-order log
 
 -- the outcome of a command, for files that agree with those that are held
 pub Outcome-command : (words : List Word) (c : Command) (held files : Files) (out : List ℕ) (s : Status) → command_of words ≡ Some c → Agree held files → CommandOutcome c held out s → Outcome words files out s

@@ -9,11 +9,15 @@ use Rattle.mt_model.specs.Log.{Logged}
 use Rattle.mt_model.specs.State.{unknown_host}
 use Rattle.mt_port.specs.Port.{Files, file_of}
 use Rattle.mt_port.specs.Whole.{IsLonger}
+use Rattle.log_read.specs.declared.fault.LogFault.{LogFault}
+use Rattle.log_read.specs.LogOf.{log_of}
 use Rattle.mtl_parse.specs.FormulaOf.{IsText}
 use Rattle.times_read.specs.declared.fault.TimesFault.{TimesFault}
 use Rattle.times_read.specs.declared.fault.TimesFault.TheVariants as times
 use Rattle.times_read.specs.TimesOf.{times_of}
+use Rattle.skew_cli.specs.declared.limits.TheConstants.{LOG_LIMIT}
 use Rattle.skew_cli.specs.declared.refusal.Named.{Named}
+use Rattle.skew_cli.specs.declared.refusal.Named.TheVariants as named
 use Rattle.skew_cli.specs.declared.refusal.Refusal.{Refusal}
 use Rattle.skew_cli.specs.declared.refusal.Refusal.TheVariants as refusal
 use Rattle.skew_cli.specs.declared.reply.Reply.{Reply}
@@ -21,8 +25,8 @@ use Rattle.skew_cli.specs.declared.reply.Stop.{Stop}
 use Rattle.skew_cli.specs.declared.reply.Stop.TheVariants as stop
 use Rattle.skew_cli.specs.declared.status.Status.{Status}
 use Rattle.skew_cli.specs.Refusals.{Refuses, status_of, text_of}
-use Rattle.skew_cli.specs.Stops.{Gives, HasReason, NamesHost, TellsFault}
-use Rattle.skew_cli.specs.Tests.{OnFile, OnFormula, OnHosts, OnLog, OnTimes, plain_log_of}
+use Rattle.skew_cli.specs.Stops.{Gives, HasReason, NamesHost, TellsFault, TellsLogFault}
+use Rattle.skew_cli.specs.Tests.{OnFile, OnFormula, OnHosts, OnLog, OnTimes}
 use Rattle.skew_cli.specs.Texts.{line}
 use Rattle.skew_cli.specs.Words.{Word}
 
@@ -55,11 +59,22 @@ module _ (text : List ℕ) (next : Form → List ℕ → Status → Type 0) wher
   formula-read f out s is h = (Some f, is, h)
 
 module _ (file : List ℕ) (next : Logged → List ℕ → Status → Type 0) where
-  pub log-refused : (r : Refusal) → (r ≡ refusal.LogNotYet) × (plain_log_of file ≡ None) → At (OnLog file next) r
-  log-refused r h = rw (h.1, h.0) (refl, refl)
+  pub log-refused : (r : Refusal) → TellsLogFault (log_of file) r → At (OnLog file next) r
+  log-refused r h = go (log_of file) refl h
+    where
+      go : (due : Result Logged LogFault) → log_of file ≡ due → TellsLogFault due r → At (OnLog file next) r
+      go (Ok log) is told = absurd told
+      go (Err fault) is told = rw (is, told) (refl, refl)
 
-  pub log-read : (log : Logged) (out : List ℕ) (s : Status) → plain_log_of file ≡ Some log → next log out s → OnLog file next out s
+  pub log-read : (log : Logged) (out : List ℕ) (s : Status) → log_of file ≡ Ok log → next log out s → OnLog file next out s
   log-read log out s is h = rw is h
+
+-- a stop for a log's fault, told of the file of a name
+pub log-stopped : (files : Files) (name : Word) (next : Logged → List ℕ → Status → Type 0) (file : List ℕ) (s : Stop) → file_of files name ≡ Some file → length file ≤ LOG_LIMIT
+    → HasReason s (TellsLogFault (log_of file)) → HasReason s (At (OnFile files name LOG_LIMIT named.Log (λ bytes. OnLog bytes next)))
+log-stopped files name next file s is within =
+    reason-weaker s (TellsLogFault (log_of file)) (At (OnFile files name LOG_LIMIT named.Log (λ bytes. OnLog bytes next)))
+    (λ r told. file-read files name LOG_LIMIT named.Log (λ bytes. OnLog bytes next) file (line (text_of r)) (status_of r) is within (log-refused file next r told))
 
 module _ (text : List ℕ) (f : Form) (log : Logged) (next : List ℕ → Status → Type 0) where
   pub hosts-refused : (r : Refusal) → NamesHost text (unknown_host log f) r → At (OnHosts text f log next) r

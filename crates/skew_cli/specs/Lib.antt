@@ -7,6 +7,7 @@ pub mod Stops
 pub mod Tests
 pub mod TimesOutcome
 pub mod ReplayOutcome
+pub mod OrderOutcome
 pub mod Outcome
 pub use Rattle.mt_port.specs.Port
 pub use Rattle.mt_port.specs.Whole
@@ -21,3 +22,5 @@ pub use Rattle.mtl_parse.specs.FormulaOf
 pub use Rattle.mtl_parse.specs.Places
 pub use Rattle.times_read.specs.TimesOf
 pub use Rattle.skew_bounds.specs.Consistency
+pub use Rattle.happened_before.specs.Order
+pub use Rattle.mt_model.specs.Before

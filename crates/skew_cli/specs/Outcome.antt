@@ -8,7 +8,8 @@ use Rattle.skew_cli.specs.Statuses.{IsAnswer}
 use Rattle.skew_cli.specs.Texts.{line}
 use Rattle.skew_cli.specs.TimesOutcome.{TimesOutcome}
 use Rattle.skew_cli.specs.ReplayOutcome.{ReplayOutcome}
-use Rattle.skew_cli.specs.Words.{Command, Replay, Times, Word, command_of}
+use Rattle.skew_cli.specs.OrderOutcome.{OrderOutcome}
+use Rattle.skew_cli.specs.Words.{Command, Order, Replay, Times, Word, command_of}
 
 -- one line, with its status
 abbrev pub Says : List ℕ → Status → List ℕ → Status → Type 0
@@ -18,6 +19,7 @@ Says text due out s = (out ≡ line text) × (s ≡ due)
 abbrev pub CommandOutcome : Command → Files → List ℕ → Status → Type 0
 CommandOutcome (Times log) files = TimesOutcome files log
 CommandOutcome (Replay formula log times) files = ReplayOutcome files formula log times
+CommandOutcome (Order log) files = OrderOutcome files log
 
 -- what words give: the command's outcome, and a refusal where they are no command
 abbrev pub Outcome : List Word → Files → List ℕ → Status → Type 0
@@ -27,6 +29,7 @@ Outcome words files out s = MatchOption (command_of words) (Says (codes "refused
 abbrev pub Holds : Files → Command → Type 0
 Holds files (Times log) = IsSome (file_of files log)
 Holds files (Replay formula log times) = IsSome (file_of files formula) × IsSome (file_of files log) × IsSome (file_of files times)
+Holds files (Order log) = IsSome (file_of files log)
 
 -- the files that words name are held
 abbrev pub HoldsNamed : List Word → Files → Type 0

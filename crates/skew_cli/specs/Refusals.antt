@@ -1,6 +1,7 @@
 -- The refusals of what a command's files hold: their lines and statuses.
-use Rattle.std.specs.Prelude.{◌≡◌, ℕ, List, ◌++◌, codes}
+use Rattle.std.specs.Prelude.{◌≡◌, ℕ, List, [], ◌++◌, codes, Option, Some, None}
 use Rattle.std.specs.Fmt.{decimal}
+use Rattle.log_read.specs.Faults.{number_of, record_of}
 use Rattle.skew_cli.specs.declared.refusal.Named.{Named}
 use Rattle.skew_cli.specs.declared.refusal.Named.TheVariants as named
 use Rattle.skew_cli.specs.declared.refusal.Refusal.{Refusal}
@@ -14,11 +15,16 @@ word_of named.Formula = codes "formula"
 word_of named.Log = codes "log"
 word_of named.Times = codes "times"
 
+-- where a log has a fault: at a record, unless it is of none
+abbrev pub record_text : Option ℕ → List ℕ
+record_text None = []
+record_text (Some place) = codes " at record " ++ decimal place
+
 abbrev pub text_of : Refusal → List ℕ
 text_of (refusal.Length file) = codes "refused length " ++ word_of file
 text_of refusal.FormulaNotYet = codes "refused formula 9"
 text_of (refusal.UnknownHost byte) = codes "refused formula 8 at byte " ++ decimal byte
-text_of refusal.LogNotYet = codes "refused log 14"
+text_of (refusal.Log fault) = codes "refused log " ++ decimal (number_of fault) ++ record_text (record_of fault)
 text_of (refusal.TimesNumber number) = codes "refused times 1 at line " ++ decimal number
 text_of (refusal.TimesCount number) = codes "refused times 2 at line " ++ decimal number
 
@@ -26,7 +32,7 @@ abbrev pub status_of : Refusal → Status
 status_of (refusal.Length file) = status.TooLarge
 status_of refusal.FormulaNotYet = status.FormulaRefused
 status_of (refusal.UnknownHost byte) = status.FormulaRefused
-status_of refusal.LogNotYet = status.LogRefused
+status_of (refusal.Log fault) = status.LogRefused
 status_of (refusal.TimesNumber number) = status.TimesRefused
 status_of (refusal.TimesCount number) = status.TimesRefused
 

@@ -1,5 +1,7 @@
 -- What it means that the work of a command ended early, and that it ended.
 use Rattle.std.specs.Prelude.{◌≡◌, ℕ, List, Option, Some, Result, Ok, Err, string_bytes, ℤ}
+use Rattle.mt_model.specs.Log.{Logged}
+use Rattle.log_read.specs.declared.fault.LogFault.{LogFault}
 use Rattle.mtl_parse.specs.Places.{host_byte}
 use Rattle.times_read.specs.declared.fault.TimesFault.{TimesFault}
 use Rattle.times_read.specs.declared.fault.TimesFault.TheVariants as times
@@ -27,6 +29,11 @@ RefusesFor (Err s) Reason = HasReason s Reason
 abbrev pub Gives : (List ℕ → Status → Type 0) → Result Reply Stop → Type 0
 Gives Due (Ok reply) = Due (string_bytes reply.text) reply.status
 Gives Due (Err s) = HasReason s (λ r. Due (line (text_of r)) (status_of r))
+
+-- the refusal tells the fault that a log file has
+abbrev pub TellsLogFault : Result Logged LogFault → Refusal → Type 0
+TellsLogFault (Ok log) r = ⊥
+TellsLogFault (Err fault) r = r ≡ refusal.Log fault
 
 -- the refusal tells the byte of the host of the proposition of a number
 pub record NamesHost (text : List ℕ) (number : Option ℕ) (r : Refusal) : Type 0 where

@@ -1,9 +1,6 @@
 -- The tests that a command makes of its files, each of which either refuses or goes on with what it found.
-use Rattle.std.specs.Prelude.{ℕ, Bool, true, false, List, length, nat_lt, Option, Some, None, Ok, Err, if◌then◌else◌, IsSomeAnd, MatchOption, MatchResult, ℤ}
+use Rattle.std.specs.Prelude.{ℕ, List, length, nat_lt, Option, IsSomeAnd, MatchOption, MatchResult, ℤ}
 use Rattle.std.specs.Bool.{MatchBool}
-use Rattle.std.specs.List.{list_all}
-use Rattle.mt_model.specs.declared.log.Act.{Act}
-use Rattle.mt_model.specs.declared.log.Act.TheVariants.{Set, Clear, Send, Recv, Note}
 use Rattle.mt_model.specs.Form.{Form}
 use Rattle.mt_model.specs.Log.{Logged}
 use Rattle.mt_model.specs.State.{unknown_host}
@@ -29,25 +26,9 @@ OnFile files name limit named next out s =
 abbrev pub OnFormula : List ℕ → (Form → List ℕ → Status → Type 0) → List ℕ → Status → Type 0
 OnFormula text next out s = (reading : Option Form) × FormulaOf text reading × MatchOption reading (Refuses refusal.FormulaNotYet out s) (λ f. next f out s)
 
--- an act that is a set or a note
-abbrev pub is_set_or_note : Act → Bool
-is_set_or_note (Set n) = true
-is_set_or_note (Note n) = true
-is_set_or_note (Clear n) = false
-is_set_or_note (Send m) = false
-is_set_or_note (Recv m) = false
-
--- a log of sets and notes alone
-abbrev pub is_set_and_note : Logged → Bool
-is_set_and_note log = list_all (λ r. is_set_or_note r.act) log.rows
-
--- the log of sets and notes that a file is
-abbrev pub plain_log_of : List ℕ → Option Logged
-plain_log_of file = elim (log_of file) [ Ok log ↦ if is_set_and_note log then Some log else None | Err f ↦ None ]
-
--- a log's file: refused where it is no log of sets and notes
+-- a log's file: refused at its fault
 abbrev pub OnLog : List ℕ → (Logged → List ℕ → Status → Type 0) → List ℕ → Status → Type 0
-OnLog file next out s = MatchOption (plain_log_of file) (Refuses refusal.LogNotYet out s) (λ log. next log out s)
+OnLog file next out s = MatchResult (log_of file) (λ log. next log out s) (λ fault. Refuses (refusal.Log fault) out s)
 
 -- the hosts of a formula: refused at the first one that is not in the log, at the byte of its word
 abbrev pub OnHosts : List ℕ → Form → Logged → (List ℕ → Status → Type 0) → List ℕ → Status → Type 0

@@ -9,6 +9,7 @@ Word = List ℕ
 pub data Command : Type 0 where
   Times : (log : Word) → Command
   Replay : (formula : Word) → (log : Word) → (times : Word) → Command
+  Order : (log : Word) → Command
 
 -- a word that begins with `-` and is not `-` alone
 abbrev pub is_option : Word → Bool
@@ -39,11 +40,17 @@ abbrev pub replay_of : List Word → Option Command
 replay_of (formula ∷ log ∷ times ∷ []) = option_and_then (λ f. option_and_then (λ l. option_map (λ t. Replay f l t) (file_name times)) (file_name log)) (file_name formula)
 replay_of _ = None
 
+-- `order` has one operand, the name of a log
+abbrev pub order_of : List Word → Option Command
+order_of (log ∷ []) = option_map Order (file_name log)
+order_of _ = None
+
 -- the command of a first word and its operands
 abbrev pub command_with : Word → List Word → Option Command
 command_with first operands =
     if bytes_eq first (codes "times") then times_of operands
     else if bytes_eq first (codes "replay") then replay_of operands
+    else if bytes_eq first (codes "order") then order_of operands
     else None
 
 -- the command that words are; no word at all is `times -`

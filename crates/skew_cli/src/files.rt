@@ -10,13 +10,13 @@ ghost use Rattle.mt_port.specs.Whole.{IsLonger};
 ghost use Rattle.mtl_parse.specs.FormulaOf.{IsText};
 ghost use Rattle.mtl_parse.specs.Places.{host_byte};
 ghost use Rattle.times_read.specs.TimesOf.{times_of};
-ghost use Rattle.skew_cli.specs.Stops.{NamesHost, RefusesFor, TellsFault};
-ghost use Rattle.skew_cli.specs.Tests.{is_set_and_note, is_set_or_note, plain_log_of};
+ghost use Rattle.log_read.specs.LogOf.{log_of};
+ghost use Rattle.skew_cli.specs.Stops.{NamesHost, RefusesFor, TellsFault, TellsLogFault};
 
 use crate::refusal::{Named, Refusal};
 use crate::reply::Stop;
 use log_read::{LogFault, read_log};
-use mt_model::{Act, Formula, Log, Times};
+use mt_model::{Formula, Log, Times};
 use mt_port::{ReadFault, Shelf, read_all};
 use mtl_parse::{FormulaFault, parse_formula, place_of};
 use std::alloc::Global;
@@ -63,33 +63,17 @@ pub fn formula(alloc: Global, text: &[u8]) -> Result<Formula, Stop>
     }
 }
 
-fn sets_or_notes(act: &Act) -> bool
-    ensures { result ≡ is_set_or_note act.now }
-{
-    match act {
-        Act::Set(_) | Act::Note(_) => true,
-        Act::Clear(_) | Act::Send(_) | Act::Recv(_) => false,
-    }
-}
-
-fn has_sets_and_notes(log: &Log) -> bool
-    ensures { result ≡ is_set_and_note log.now }
-{
-    log.rows().iter().all(|row| sets_or_notes(&row.act))
-}
-
-/// The log of sets and notes that a file is.
+/// The log that a file is.
 pub fn log(alloc: Global, file: &[u8]) -> Result<Log, Stop>
     requires { length file.now < 2 ^ 31 }
-    ensures log { IfOk result (λ log. plain_log_of file.now ≡ Some log) }
+    ensures log { IfOk result (λ log. log_of file.now ≡ Ok log) }
     ensures read { IsErrOf result Stop.ReadFailed → ⊥ }
-    ensures refused { RefusesFor result (λ r. (r ≡ Refusal.LogNotYet) × (plain_log_of file.now ≡ None)) }
+    ensures refused { RefusesFor result (TellsLogFault (log_of file.now)) }
 {
     match read_log(alloc, file) {
-        Ok(log) if has_sets_and_notes(&log) => Ok(log),
-        Ok(_) => Err(Stop::Refused(Refusal::LogNotYet)),
+        Ok(log) => Ok(log),
         Err(LogFault::Memory) => Err(Stop::NoMemory),
-        Err(_) => Err(Stop::Refused(Refusal::LogNotYet)),
+        Err(fault) => Err(Stop::Refused(Refusal::Log(fault))),
     }
 }
 

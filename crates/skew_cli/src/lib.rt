@@ -4,6 +4,7 @@
 mod files;
 mod limits;
 mod operands;
+mod order;
 mod program;
 mod refusal;
 mod replay;

@@ -8,6 +8,7 @@ ghost use Rattle.skew_cli.specs.Texts.{line};
 ghost use Rattle.skew_cli.specs.Words.{command_of};
 
 use crate::Status;
+use crate::order::order;
 use crate::replay::replay;
 use crate::reply::{Reply, Stop};
 use crate::times::times;
@@ -45,6 +46,7 @@ fn work<S: Shelf>(alloc: Global, shelf: &mut S, call: Call<'_>) -> Result<Reply,
             log,
             times,
         } => replay(alloc, shelf, formula, log, times),
+        Call::Order { log } => order(alloc, shelf, log),
     }
 }
 

@@ -5,6 +5,7 @@ ghost use Rattle.skew_cli.specs.Texts.{line};
 
 use crate::reply::Reply;
 use crate::status::Status;
+use log_read::LogFault;
 use std::alloc::{AllocError, Global};
 use std::fmt;
 
@@ -25,8 +26,8 @@ pub enum Refusal {
     FormulaNotYet,
     /// The host of a proposition, whose word begins at the byte, is not in the log.
     UnknownHost { byte: u32 },
-    /// The log has other rows than sets and notes, or is none.
-    LogNotYet,
+    /// The log has the fault.
+    Log(LogFault),
     /// A line of the times file is no time.
     TimesNumber { line: u32 },
     /// The times file lacks the line, or has one too many.
@@ -59,7 +60,13 @@ impl fmt::Display for Refusal {
             Refusal::Length(named) => write!(f, "refused length {named}"),
             Refusal::FormulaNotYet => f.write_str("refused formula 9"),
             Refusal::UnknownHost { byte } => write!(f, "refused formula 8 at byte {byte}"),
-            Refusal::LogNotYet => f.write_str("refused log 14"),
+            Refusal::Log(fault) => {
+                let number = fault.number();
+                match fault.record() {
+                    Some(record) => write!(f, "refused log {number} at record {record}"),
+                    None => write!(f, "refused log {number}"),
+                }
+            }
             Refusal::TimesNumber { line } => write!(f, "refused times 1 at line {line}"),
             Refusal::TimesCount { line } => write!(f, "refused times 2 at line {line}"),
         }
@@ -76,7 +83,7 @@ impl Refusal {
         match self {
             Refusal::Length(_) => Status::TooLarge,
             Refusal::FormulaNotYet | Refusal::UnknownHost { .. } => Status::FormulaRefused,
-            Refusal::LogNotYet => Status::LogRefused,
+            Refusal::Log(_) => Status::LogRefused,
             Refusal::TimesNumber { .. } | Refusal::TimesCount { .. } => Status::TimesRefused,
         }
     }

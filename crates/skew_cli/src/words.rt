@@ -1,6 +1,6 @@
 ghost use Rattle.std.specs.Prelude.{◌≡◌, map, option_map, string_bytes};
 ghost use Rattle.skew_cli.specs.Called.{command_in, words_in};
-ghost use Rattle.skew_cli.specs.Words.{command_of, command_with, replay_of, times_of};
+ghost use Rattle.skew_cli.specs.Words.{command_of, command_with, order_of, replay_of, times_of};
 
 use crate::operands::Operands;
 
@@ -16,6 +16,10 @@ pub enum Call<'a> {
         formula: &'a str,
         log: &'a str,
         times: &'a str,
+    },
+    /// Happened-before of the events of a log.
+    Order {
+        log: &'a str,
     },
 }
 
@@ -45,12 +49,23 @@ fn replay_call<'a>(operands: Operands<'a>) -> Option<Call<'a>>
     })
 }
 
+fn order_call<'a>(operands: Operands<'a>) -> Option<Call<'a>>
+    ensures { option_map command_in result ≡ order_of (words_in operands.entry) }
+{
+    if operands.count() != 1 {
+        return None;
+    }
+    let log = operands.name(0)?;
+    Some(Call::Order { log })
+}
+
 fn call_with<'a>(first: &String, operands: Operands<'a>) -> Option<Call<'a>>
     ensures { option_map command_in result ≡ command_with (string_bytes first.now) (words_in operands.entry) }
 {
     match first.as_str() {
         "times" => times_call(operands),
         "replay" => replay_call(operands),
+        "order" => order_call(operands),
         _ => None,
     }
 }

@@ -146,7 +146,12 @@ fn other_words_are_refused(rt: HostRuntime) -> Result<(), Fail> {
         ["replay", "l", "--", "l"].as_slice(),
         ["replay", "--", "l", "--", "l", "l"].as_slice(),
         ["Replay", "l", "l", "l"].as_slice(),
-        ["order", "l"].as_slice(),
+        ["order"].as_slice(),
+        ["order", ""].as_slice(),
+        ["order", "l", "l"].as_slice(),
+        ["order", "-x"].as_slice(),
+        ["order", "--conflicts=5", "l"].as_slice(),
+        ["Order", "l"].as_slice(),
         ["check", "f", "l"].as_slice(),
         ["look", "l"].as_slice(),
         ["Times", "l"].as_slice(),
@@ -177,8 +182,8 @@ enum Wanted<'a> {
     Times(&'a str),
     /// These three bounds, beginning with any of them.
     Cycle(&'a str, &'a str, &'a str),
-    /// The refusal.
-    Refused,
+    /// The refusal for this fault.
+    Refused(&'a str),
 }
 
 // The text of three bounds in this order.
@@ -209,9 +214,10 @@ fn check_log(
             let found = turns.iter().any(|turn| turn.as_bytes() == text.as_slice());
             assert!(rt; found, "at {log}");
         }
-        Wanted::Refused => {
+        Wanted::Refused(fault) => {
+            let refusal = format!(in alloc; "refused log {fault}\n")?;
             assert_eq!(rt; status, Status::LogRefused, "at {log}");
-            assert_eq!(rt; text.as_slice(), b"refused log 14\n".as_slice(), "at {log}");
+            assert_eq!(rt; text.as_slice(), refusal.as_bytes(), "at {log}");
         }
     }
     Ok(())
@@ -231,17 +237,61 @@ fn a_log_may_be_written_in_many_ways(rt: HostRuntime) -> Result<(), Fail> {
         check_log(&rt, log, Wanted::Times(TWO_TIMES))?;
     }
     let refused = [
-        "",
-        "kind,host,time,name",
-        "kind,host,time,name\n",
-        "kind,host,time,name\nhost,a,0,1\n",
-        "host,a,0,1\nset,a,10,p\n",
-        "kind,host,name,time\nhost,a,0,1\nset,a,10,p\n",
-        "kind,host,time,name\nset,a,10,p\n",
-        "kind,host,time,name\nset,a,10,p\nhost,a,0,1\n",
+        ("", "1 at record 1"),
+        ("kind,host,time\n", "1 at record 1"),
+        ("kind,host,time,name", "11"),
+        ("kind,host,time,name\n", "11"),
+        ("kind,host,time,name\nhost,a,0,1\n", "11"),
+        ("host,a,0,1\nset,a,10,p\n", "1 at record 1"),
+        (
+            "kind,host,name,time\nhost,a,0,1\nset,a,10,p\n",
+            "1 at record 1",
+        ),
+        ("kind,host,time,name\nset,a,10,p\n", "6 at record 2"),
+        (
+            "kind,host,time,name\nset,a,10,p\nhost,a,0,1\n",
+            "6 at record 2",
+        ),
     ];
-    for log in refused {
-        check_log(&rt, log, Wanted::Refused)?;
+    for (log, fault) in refused {
+        check_log(&rt, log, Wanted::Refused(fault))?;
+    }
+    Ok(())
+}
+
+#[test]
+fn the_first_fault_of_a_log_is_told_with_its_record(rt: HostRuntime) -> Result<(), Fail> {
+    let cases = [
+        ("set,a,10", "2 at record 3"),
+        ("put,a,10,p", "3 at record 3"),
+        ("host,true,0,0", "4 at record 3"),
+        ("host,a,0,0", "5 at record 3"),
+        ("set,c,10,p", "6 at record 3"),
+        ("set,a,010,p", "7 at record 3"),
+        ("set,a,-0,p", "7 at record 3"),
+        ("set,a,10,P", "8 at record 3"),
+        ("send,a,1,m\nsend,a,2,m", "9 at record 4"),
+        ("recv,a,1,m", "10 at record 3"),
+        // Two faults in one record: the tests have an order.
+        ("put,c,010", "2 at record 3"),
+        ("put,c,010,P", "3 at record 3"),
+        ("host,inf,x,y", "4 at record 3"),
+        ("host,a,x,y", "5 at record 3"),
+        ("set,c,010,P", "6 at record 3"),
+        ("set,a,010,P", "7 at record 3"),
+        ("send,a,1,m\nsend,a,010,m", "7 at record 4"),
+        ("send,a,1,m\nsend,a,1,M", "8 at record 4"),
+        // Two records with faults: the first one decides.
+        ("set,a,10,P\nput,a,10,p", "8 at record 3"),
+        ("put,a,10,p\nset,a,10", "3 at record 3"),
+        // A receive that is sent nowhere comes after all other faults.
+        ("recv,a,1,m\nput,a,1,p", "3 at record 4"),
+        ("recv,a,1,m\nrecv,a,1,n", "10 at record 3"),
+        ("send,a,1,m\nrecv,a,1,m\nrecv,a,1,n", "10 at record 5"),
+    ];
+    for (records, fault) in cases {
+        let log = format!(in rt.alloc(); "{HEADER}host,a,2,1\n{records}\n")?;
+        check_log(&rt, &log, Wanted::Refused(fault))?;
     }
     Ok(())
 }
@@ -254,11 +304,36 @@ fn a_log_is_timed_or_its_bounds_conflict(rt: HostRuntime) -> Result<(), Fail> {
             "host,a,0,0\nset,a,10,p\nnote,a,12,n\n",
             Wanted::Times("10\n12\n"),
         ),
-        ("host,a,0,0\nset,a,10,p\nclear,a,12,p\n", Wanted::Refused),
-        ("host,a,0,0\nsend,a,10,m\n", Wanted::Refused),
-        ("host,a,0,0\nsend,a,10,m\nrecv,a,12,m\n", Wanted::Refused),
-        ("host,a,0,0\nrecv,a,10,m\n", Wanted::Refused),
-        ("host,a,0,0\nlook,a,10,m\n", Wanted::Refused),
+        (
+            "host,a,0,0\nset,a,10,p\nclear,a,12,p\n",
+            Wanted::Times("10\n12\n"),
+        ),
+        ("host,a,0,0\nsend,a,10,m\n", Wanted::Times("10\n")),
+        // A receive comes at least 1 after its send, wherever its row stands.
+        (
+            "host,a,0,0\nhost,b,0,0\nsend,a,10,m\nrecv,b,11,m\n",
+            Wanted::Times("10\n11\n"),
+        ),
+        (
+            "host,a,0,0\nhost,b,0,0\nrecv,b,11,m\nsend,a,10,m\n",
+            Wanted::Times("11\n10\n"),
+        ),
+        (
+            "host,a,0,0\nhost,b,0,0\nsend,a,10,m\nrecv,b,10,m\n",
+            Wanted::Cycle("high 1", "low 0", "message 1"),
+        ),
+        (
+            "host,a,0,0\nhost,b,0,0\nrecv,b,10,m\nsend,a,10,m\n",
+            Wanted::Cycle("high 0", "low 1", "message 0"),
+        ),
+        (
+            "host,a,1,0\nhost,b,1,0\nsend,a,20,m\nrecv,b,10,m\n",
+            Wanted::Cycle("high 1", "low 0", "message 1"),
+        ),
+        (
+            "host,a,1,0\nhost,b,1,0\nsend,a,20,m\nrecv,b,19,m\n",
+            Wanted::Times("19\n20\n"),
+        ),
         // The gap.
         ("host,a,0,1\nset,a,10,p\nnote,a,10,n\n", own),
         (
@@ -318,11 +393,11 @@ fn a_log_is_timed_or_its_bounds_conflict(rt: HostRuntime) -> Result<(), Fail> {
         ),
         (
             "host,a,0,1\nnote,a,-4000000000000000001,n\n",
-            Wanted::Refused,
+            Wanted::Refused("7 at record 3"),
         ),
         (
             "host,a,0,1\nnote,a,4000000000000000001,n\n",
-            Wanted::Refused,
+            Wanted::Refused("7 at record 3"),
         ),
         (
             "host,a,0,1000000000000000000\nset,a,-1,p\nset,a,999999999999999999,q\n",
@@ -332,7 +407,10 @@ fn a_log_is_timed_or_its_bounds_conflict(rt: HostRuntime) -> Result<(), Fail> {
             "host,a,0,1000000000000000000\nset,a,-1,p\nset,a,999999999999999998,q\n",
             own,
         ),
-        ("host,a,0,1000000000000000001\nset,a,5,p\n", Wanted::Refused),
+        (
+            "host,a,0,1000000000000000001\nset,a,5,p\n",
+            Wanted::Refused("7 at record 2"),
+        ),
         (
             "host,a,1000000000000000000,0\nset,a,0,p\nset,a,-2000000000000000000,q\n",
             Wanted::Times("-1000000000000000000\n-1000000000000000000\n"),
@@ -341,7 +419,10 @@ fn a_log_is_timed_or_its_bounds_conflict(rt: HostRuntime) -> Result<(), Fail> {
             "host,a,1000000000000000000,0\nset,a,0,p\nset,a,-2000000000000000001,q\n",
             own,
         ),
-        ("host,a,1000000000000000001,0\nset,a,5,p\n", Wanted::Refused),
+        (
+            "host,a,1000000000000000001,0\nset,a,5,p\n",
+            Wanted::Refused("7 at record 2"),
+        ),
         // Names of 32 and of 33 bytes.
         (
             "host,abcdefghijklmnopqrstuvwxyz_01234,0,1\nset,abcdefghijklmnopqrstuvwxyz_01234,5,p\n",
@@ -349,7 +430,7 @@ fn a_log_is_timed_or_its_bounds_conflict(rt: HostRuntime) -> Result<(), Fail> {
         ),
         (
             "host,abcdefghijklmnopqrstuvwxyz_012345,0,1\nset,abcdefghijklmnopqrstuvwxyz_012345,5,p\n",
-            Wanted::Refused,
+            Wanted::Refused("4 at record 2"),
         ),
         (
             "host,a,0,1\nset,a,5,abcdefghijklmnopqrstuvwxyz_01234\n",
@@ -357,9 +438,9 @@ fn a_log_is_timed_or_its_bounds_conflict(rt: HostRuntime) -> Result<(), Fail> {
         ),
         (
             "host,a,0,1\nset,a,5,abcdefghijklmnopqrstuvwxyz_012345\n",
-            Wanted::Refused,
+            Wanted::Refused("8 at record 3"),
         ),
-        ("host,a,0,1\nset,a,5,\n", Wanted::Refused),
+        ("host,a,0,1\nset,a,5,\n", Wanted::Refused("8 at record 3")),
     ];
     for (body, wanted) in bodies {
         let log = format!(in rt.alloc(); "{HEADER}{body}")?;
@@ -384,15 +465,12 @@ fn large_log(alloc: Global, hosts: u32, rows: u32) -> Result<(String, String), A
 
 #[test]
 fn a_log_has_at_most_64_hosts_and_64_rows(rt: HostRuntime) -> Result<(), Fail> {
-    for (hosts, rows, taken) in [(64, 64, true), (65, 1, false), (1, 65, false)] {
-        let (log, times) = large_log(rt.alloc(), hosts, rows)?;
-        let wanted = if taken {
-            Wanted::Times(times.as_str())
-        } else {
-            Wanted::Refused
-        };
-        check_log(&rt, &log, wanted)?;
-    }
+    let (log, times) = large_log(rt.alloc(), 64, 64)?;
+    check_log(&rt, &log, Wanted::Times(times.as_str()))?;
+    let (log, _) = large_log(rt.alloc(), 65, 1)?;
+    check_log(&rt, &log, Wanted::Refused("12 at record 66"))?;
+    let (log, _) = large_log(rt.alloc(), 1, 65)?;
+    check_log(&rt, &log, Wanted::Refused("13 at record 67"))?;
     Ok(())
 }
 
@@ -401,7 +479,7 @@ fn a_log_file_has_at_most_1048576_bytes(rt: HostRuntime) -> Result<(), Fail> {
     assert_eq!(rt; LOG_LIMIT, 1_048_576);
     let fills = [
         (b'\n', TWO_TIMES, Status::Zero),
-        (255, "refused log 14\n", Status::LogRefused),
+        (255, "refused log 2 at record 6\n", Status::LogRefused),
     ];
     for (fill, text, due) in fills {
         let mut file = vec![in rt.alloc(); fill; LOG_LIMIT]?;
@@ -459,7 +537,12 @@ fn a_failed_write_leaves_the_beginning(rt: HostRuntime) -> Result<(), Fail> {
     let answers = [
         (["times", "l"], TWO_ROWS, TWO_TIMES, Status::Zero),
         (["times", "l"], CROWDED, bounds, Status::Inconsistent),
-        (["times", "l"], "", "refused log 14\n", Status::LogRefused),
+        (
+            ["times", "l"],
+            "",
+            "refused log 1 at record 1\n",
+            Status::LogRefused,
+        ),
         (["times", "-x"], "", "refused words\n", Status::Words),
     ];
     for (words, file, text, due) in answers {
@@ -494,6 +577,7 @@ fn a_failed_write_leaves_the_beginning(rt: HostRuntime) -> Result<(), Fail> {
     Ok(())
 }
 
+mod order;
 mod replay;
 
 #[test]

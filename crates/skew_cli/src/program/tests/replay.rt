@@ -124,7 +124,7 @@ fn files_are_tested_in_their_order(rt: HostRuntime) -> Result<(), Fail> {
         ),
         ("", REQUEST, "10\n15", "refused formula 9\n", formula),
         ("c.req &", "", "x", "refused formula 9\n", formula),
-        ("c.req", "", "x", "refused log 14\n", Status::LogRefused),
+        ("c.req", "", "x", "refused log 11\n", Status::LogRefused),
         (
             "c.req",
             REQUEST,
