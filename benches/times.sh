@@ -1,5 +1,6 @@
 #!/usr/bin/env bash
-# Prints how long the built program takes on logs of 8 to 64 rows, and the solver on 1,024 nodes.
+# Prints how long the built program takes on logs of 8 to 64 rows and on files of 1 MiB, how long the
+# differences of a log take, and the solver on 1,024 nodes.
 # Each time is the least of several runs, in milliseconds, start of the process included.
 cd "$(dirname "$0")/.." || exit 2
 runs=${1:-20}
@@ -46,11 +47,35 @@ for rows in 8 16 32 64; do
   done
 done
 
-# The solver's benchmark, built where it isn't; what the build says is shown only where it fails.
-if ! (cd crates/solve_bench && rt run -- 8 possible) >"$folder/build" 2>&1; then
-  cat "$folder/build" >&2
-  exit 2
-fi
+# Files of 1 MiB: one with a row too many at record 67, which is told after the whole file was taken
+# apart, and one of 64 rows and blank lines.
+head=$'kind,host,time,name\nhost,a,0,0\n'
+{ printf '%s' "$head"; yes 'note,a,1234567,n' | head -c $((1048576 - ${#head})); } >"$folder/rows"
+{ printf '%s' "$head"; yes 'note,a,7,n' | head -n 64; yes '' | head -c 1048576; } | head -c 1048576 >"$folder/blank"
+printf '\n%-28s %12s  %s\n' "times of 1 MiB" "milliseconds" "answer"
+for kind in rows blank; do
+  taken=$(least "$folder/$kind" ./crates/skewcheck/out/skewcheck times -)
+  printf '%-28s %12s  %s\n' "$kind" "$taken" "$(head -n 1 "$folder/answer")"
+done
+
+# A benchmark program, built where it isn't; what the build says is shown only where it fails.
+built() {
+  local program=$1
+  shift
+  if ! (cd "crates/$program" && rt run -- "$@") >"$folder/build" 2>&1; then
+    cat "$folder/build" >&2
+    exit 2
+  fi
+}
+
+built tight_bench 8
+printf '\n%-28s %12s  %s\n' "tight" "milliseconds" "least and greatest"
+for rows in 8 16 32 64; do
+  taken=$(least /dev/null ./crates/tight_bench/out/tight_bench "$rows")
+  printf '%-28s %12s  %s\n' "$rows rows" "$taken" "$(cat "$folder/answer")"
+done
+
+built solve_bench 8 possible
 runs=3
 printf '\n%-28s %12s  %s\n' "solve" "milliseconds" "answer"
 for rows in 256 1023; do

@@ -36,6 +36,8 @@ try() {
 for log in examples/*.csv; do
   try "$log" times -
   try /dev/null times "$log"
+  try "$log" order -
+  try /dev/null order "$log"
 done
 formula=examples/request.formula
 log=examples/request.csv
