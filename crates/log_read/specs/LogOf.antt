@@ -57,6 +57,7 @@ event_fault place hosts rows e host local name =
     else if nat_le MAX_ROWS (length rows) then Some (fault.TooManyEvents place)
     else None
 
+-- the fault of a record of four fields, by its first field
 abbrev pub fault_by : ℕ → Logged → Option Kind → List ℕ → List ℕ → List ℕ → Option LogFault
 fault_by place before None host time name = Some (fault.Kind place)
 fault_by place before (Some kind.Host) host time name = host_fault place before.hosts host time name
@@ -77,6 +78,7 @@ abbrev pub first_fault : List Record → List Record → Option LogFault
 first_fault before [] = None
 first_fault before (r ∷ rs) = or_else (fault_of (length before + 2) (listed before) r) (first_fault (before ++ r ∷ []) rs)
 
+-- a record of a kind receives a message that no row sends
 abbrev pub is_unmatched_by : List Row → Option Kind → List ℕ → Bool
 is_unmatched_by rows (Some (kind.Event event.Recv)) message = not (is_sent rows message)
 is_unmatched_by rows _ message = false
@@ -94,6 +96,7 @@ first_unmatched records = option_map (λ n. fault.UnmatchedReceive (n + 2)) (pos
 abbrev pub no_event : Logged → Option LogFault
 no_event log = if nat_le 1 (length log.rows) then None else Some fault.NoEvent
 
+-- the fault where there is one, and else the log
 abbrev pub unless : Option LogFault → Logged → Result Logged LogFault
 unless None log = Ok log
 unless (Some f) log = Err f

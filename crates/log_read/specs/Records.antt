@@ -50,11 +50,13 @@ abbrev pub row_with : List Host → EventKind → List ℕ → List ℕ → List
 row_with hosts e host local name =
     option_and_then (λ h. option_map (λ t. record { host = h; local = t; act = act_of e name }) (signed_up_to MAX_LOCAL local)) (place_of_host hosts host)
 
+-- the host that a record of a kind declares
 abbrev pub host_by : Option Kind → List ℕ → List ℕ → List ℕ → Option Host
 host_by None name skew gap = None
 host_by (Some kind.Host) name skew gap = host_with name skew gap
 host_by (Some (kind.Event e)) name skew gap = None
 
+-- the row that a record of a kind gives
 abbrev pub row_by : List Host → Option Kind → List ℕ → List ℕ → List ℕ → Option Row
 row_by hosts None host local name = None
 row_by hosts (Some kind.Host) host local name = None

@@ -1,15 +1,11 @@
 pub mod BoundLists
 pub mod Pairs
-mod FormLemmas
-mod SearchLemmas
-mod Members
-mod FrameLemmas
-mod PutLemmas
-mod StateLemmas
-mod PositionLemmas
-mod TruthLemmas
-mod ColumnLemmas
-mod RangeLemmas
+pub mod FormLemmas
+pub mod SearchLemmas
+pub mod Members
+pub mod FrameLemmas
+pub mod PositionLemmas
+pub mod TruthLemmas
 mod BrokenBounds
 pub mod Conflicts
 pub mod PreviousRows

@@ -12,7 +12,7 @@ use Rattle.mt_model.specs.Timing.{Admissible}
 use Rattle.mt_model.specs.Positions.{positions_of}
 use Rattle.mt_model.specs.Frame.{Frame, turned, implies, span, witness, reaches, sometimes, always, is_ahead, is_behind, is_in}
 use Rattle.mt_model.specs.Truth.{IsValue, positions_in, truth}
-use Rattle.mt_model.specs.TruthLaws.{Holds, IsIndex, LiesAhead, LiesBehind, LiesIn, TruthIsTheTable}
+use Rattle.mt_model.specs.TruthLaws.{IsTrueAt, IsIndex, LiesAhead, LiesBehind, LiesIn, TruthIsTheTable}
 use Rattle.mt_model.proofs.Members.{Among, all_each, any_some, each_all, some_any}
 use Rattle.mt_model.proofs.PositionLemmas.{below, within_has}
 
@@ -153,7 +153,7 @@ module _ (log : Logged) (t : List ℤ) (i : ℕ) (I : Interval) (f g : Form) whe
   abbrev on : Form → ℕ → Bool
   on h j = truth log t j h
 
-  at_until : IsIndex t i → Holds log t i (Until I f g) ↔ ((j : ℕ) × LiesAhead t I i j × Holds log t j g × ((k : ℕ) → i ≤ k → k < j → Holds log t k f))
+  at_until : IsIndex t i → IsTrueAt log t i (Until I f g) ↔ ((j : ℕ) × LiesAhead t I i j × IsTrueAt log t j g × ((k : ℕ) → i ≤ k → k < j → IsTrueAt log t k f))
   at_until index = (
     λ h. let (j, lies, there, spans) = reaches-some P (is_ahead P I) (on f) i (on g) h in
         let ahead = ahead-then t I (on f) i j lies in
@@ -161,38 +161,38 @@ module _ (log : Logged) (t : List ℤ) (i : ℕ) (I : Interval) (f g : Form) whe
     λ h. some-reaches P (is_ahead P I) (on f) i (on g) h.0 (ahead-from t I (on f) i h.0 h.1) h.2 (λ k among from_here before. h.3 k (le-then i k from_here) (more-then h.0 k before)),
   )
 
-  at_since : IsIndex t i → Holds log t i (Since I f g) ↔ ((j : ℕ) × LiesBehind t I i j × Holds log t j g × ((k : ℕ) → j < k → k ≤ i → Holds log t k f))
+  at_since : IsIndex t i → IsTrueAt log t i (Since I f g) ↔ ((j : ℕ) × LiesBehind t I i j × IsTrueAt log t j g × ((k : ℕ) → j < k → k ≤ i → IsTrueAt log t k f))
   at_since index = (
     λ h. let (j, lies, there, spans) = reaches-some (turned P) (is_behind P I) (on f) i (on g) h in
         (j, behind-then t I (on f) i j lies, there, λ k after up_to_here. spans k (within_has _ k (omega arith)) (le-from k i up_to_here) (more-from k j after)),
     λ h. some-reaches (turned P) (is_behind P I) (on f) i (on g) h.0 (behind-from t I (on f) i h.0 h.1) h.2 (λ k among up_to_here after. h.3 k (more-then k h.0 after) (le-then k i up_to_here)),
   )
 
-  at_eventually : Holds log t i (Eventually I f) ↔ ((j : ℕ) × LiesAhead t I i j × Holds log t j f)
+  at_eventually : IsTrueAt log t i (Eventually I f) ↔ ((j : ℕ) × LiesAhead t I i j × IsTrueAt log t j f)
   at_eventually = (
     λ h. let (j, lies, there) = sometimes-some P (is_ahead P I) (on f) i h in (j, ahead-then t I (on f) i j lies, there),
     λ h. some-sometimes P (is_ahead P I) (on f) i h.0 (ahead-from t I (on f) i h.0 h.1) h.2,
   )
 
-  at_always : Holds log t i (Always I f) ↔ ((j : ℕ) → LiesAhead t I i j → Holds log t j f)
+  at_always : IsTrueAt log t i (Always I f) ↔ ((j : ℕ) → LiesAhead t I i j → IsTrueAt log t j f)
   at_always = (
     λ h j lies. always-each P (is_ahead P I) (on f) i h j (ahead-from t I (on f) i j lies),
     λ h. each-always P (is_ahead P I) (on f) i (λ j lies. h j (ahead-then t I (on f) i j lies)),
   )
 
-  at_once : Holds log t i (Once I f) ↔ ((j : ℕ) × LiesBehind t I i j × Holds log t j f)
+  at_once : IsTrueAt log t i (Once I f) ↔ ((j : ℕ) × LiesBehind t I i j × IsTrueAt log t j f)
   at_once = (
     λ h. let (j, lies, there) = sometimes-some (turned P) (is_behind P I) (on f) i h in (j, behind-then t I (on f) i j lies, there),
     λ h. some-sometimes (turned P) (is_behind P I) (on f) i h.0 (behind-from t I (on f) i h.0 h.1) h.2,
   )
 
-  at_historically : Holds log t i (Historically I f) ↔ ((j : ℕ) → LiesBehind t I i j → Holds log t j f)
+  at_historically : IsTrueAt log t i (Historically I f) ↔ ((j : ℕ) → LiesBehind t I i j → IsTrueAt log t j f)
   at_historically = (
     λ h j lies. always-each (turned P) (is_behind P I) (on f) i h j (behind-from t I (on f) i j lies),
     λ h. each-always (turned P) (is_behind P I) (on f) i (λ j lies. h j (behind-then t I (on f) i j lies)),
   )
 
-at_or : (log : Logged) (t : List ℤ) (i : ℕ) (f g : Form) → Holds log t i (Or f g) ↔ (Holds log t i f ⊎ Holds log t i g)
+at_or : (log : Logged) (t : List ℤ) (i : ℕ) (f g : Form) → IsTrueAt log t i (Or f g) ↔ (IsTrueAt log t i f ⊎ IsTrueAt log t i g)
 at_or log t i f g = (
   λ h. or_cases (truth log t i f) (truth log t i g) h,
   λ h. elim h [ inl left ↦ or_left (truth log t i f) (truth log t i g) left | inr right ↦ or_right (truth log t i f) (truth log t i g) right ],

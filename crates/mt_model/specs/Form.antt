@@ -6,7 +6,7 @@ use Rattle.mt_model.specs.declared.tree.Interval.{Interval}
 use Rattle.mt_model.specs.declared.tree.Tree.{Tree, Not', And', Or', Implies', Until', Since', Eventually', Always', Once', Historically'}
 use Rattle.mt_model.specs.declared.tree.Tree.TheVariants as tree
 use Rattle.mt_model.specs.declared.limits.TheConstants.{MAX_HEIGHT, MAX_DISTANCE, MAX_PROPOSITIONS}
-use Rattle.mt_model.specs.Name.{is_reserved}
+use Rattle.mt_model.specs.Name.{is_name, is_reserved}
 
 -- a formula of metric temporal logic
 pub data Form : Type 0 where
@@ -97,9 +97,14 @@ intervals_of (Historically I f) = I ∷ intervals_of f
 abbrev pub is_interval : Interval → Bool
 is_interval I = nat_le I.low MAX_DISTANCE && option_map_or (λ b. nat_le b MAX_DISTANCE && nat_le I.low b) I.high true
 
+-- the host and the name of a proposition are names
+abbrev pub is_named : Proposition → Bool
+is_named p = is_name p.host && is_name p.name
+
 -- a valid formula
 pub record IsFormula (f : Form) : Type 0 where
   pub height : height_of f ≤ MAX_HEIGHT
   pub propositions : length (propositions_of f) < MAX_PROPOSITIONS
+  pub names : list_all is_named (propositions_of f) ≡ true
   pub hosts : list_all (λ p. not (is_reserved p.host)) (propositions_of f) ≡ true
   pub intervals : list_all is_interval (intervals_of f) ≡ true

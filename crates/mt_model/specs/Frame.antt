@@ -14,6 +14,7 @@ pub record Frame (X : Type 0) : Type 0 where
 abbrev pub turned : {X : Type 0} → Frame X → Frame X
 turned F = record { points = F.points; not_after = λ x y. F.not_after y x; instant = F.instant }
 
+-- where the first holds, the second does
 abbrev pub implies : Bool → Bool → Bool
 implies a b = not a || b
 

@@ -6,7 +6,7 @@ use Rattle.mt_model.specs.Log.{Logged}
 use Rattle.mt_model.specs.Timing.{Admissible, host_of, previous_row}
 use Rattle.mt_model.specs.Walks.{Conflict}
 
--- the step is a bound of the log, and no order step
+-- the step is no order step: it is a bound by its kind
 abbrev pub IsBound : Step → Type 0
 IsBound (Low e) = Unit {0}
 IsBound (High e) = Unit {0}

@@ -40,7 +40,7 @@ last_change log t instant host name = find (λ c. int_le (time_of t c.row) insta
 abbrev pub state : Logged → List ℤ → ℤ → ℕ → List ℕ → Bool
 state log t instant host name = option_map_or (λ c. c.sets) (last_change log t instant host name) false
 
--- the host of a name
+-- the place of the host of a name among the hosts
 abbrev pub host_named : Logged → List ℕ → Option ℕ
 host_named log name = position (λ h. bytes_eq h.name name) log.hosts
 

@@ -27,9 +27,9 @@ pub record TruthByRows : Type 0 where
   pub at_row : (log : Logged) (t : List ℤ) (e : ℕ) (f : Form) → e < length t → truth_of log t e f ≡ truth log t (place_of t e) f
   pub at_first : (log : Logged) (t : List ℤ) (e : ℕ) (f : Form) → e < length t → ((k : ℕ) → k < length t → time_of t e ≤ℤ time_of t k) → truth_of log t e f ≡ truth log t 0 f
 
--- the formula is true at a position
-abbrev pub Holds : Logged → List ℤ → ℕ → Form → Type 0
-Holds log t i f = truth log t i f ≡ true
+-- the formula is true at the position of an index
+abbrev pub IsTrueAt : Logged → List ℤ → ℕ → Form → Type 0
+IsTrueAt log t i f = truth log t i f ≡ true
 
 -- from the lower bound of an interval to the upper one, where there is one
 abbrev pub LiesIn : Interval → ℤ → Type 0
@@ -49,23 +49,23 @@ pub record LiesBehind (t : List ℤ) (I : Interval) (i j : ℕ) : Type 0 where
 
 -- what each form says at a position
 pub record TruthIsTheTable : Type 0 where
-  pub constant_true : (log : Logged) (t : List ℤ) (i : ℕ) → Holds log t i True
-  pub constant_false : (log : Logged) (t : List ℤ) (i : ℕ) → Holds log t i False → ⊥
+  pub constant_true : (log : Logged) (t : List ℤ) (i : ℕ) → IsTrueAt log t i True
+  pub constant_false : (log : Logged) (t : List ℤ) (i : ℕ) → IsTrueAt log t i False → ⊥
   pub proposition : (log : Logged) (t : List ℤ) (i : ℕ) (host name : List ℕ) → truth log t i (Prop host name) ≡ state_named log t (position_time t i) host name
-  pub negation : (log : Logged) (t : List ℤ) (i : ℕ) (f : Form) → Holds log t i (Not f) ↔ (Holds log t i f → ⊥)
-  pub conjunction : (log : Logged) (t : List ℤ) (i : ℕ) (f g : Form) → Holds log t i (And f g) ↔ (Holds log t i f × Holds log t i g)
-  pub disjunction : (log : Logged) (t : List ℤ) (i : ℕ) (f g : Form) → Holds log t i (Or f g) ↔ (Holds log t i f ⊎ Holds log t i g)
-  pub implication : (log : Logged) (t : List ℤ) (i : ℕ) (f g : Form) → Holds log t i (Implies f g) ↔ (Holds log t i f → Holds log t i g)
+  pub negation : (log : Logged) (t : List ℤ) (i : ℕ) (f : Form) → IsTrueAt log t i (Not f) ↔ (IsTrueAt log t i f → ⊥)
+  pub conjunction : (log : Logged) (t : List ℤ) (i : ℕ) (f g : Form) → IsTrueAt log t i (And f g) ↔ (IsTrueAt log t i f × IsTrueAt log t i g)
+  pub disjunction : (log : Logged) (t : List ℤ) (i : ℕ) (f g : Form) → IsTrueAt log t i (Or f g) ↔ (IsTrueAt log t i f ⊎ IsTrueAt log t i g)
+  pub implication : (log : Logged) (t : List ℤ) (i : ℕ) (f g : Form) → IsTrueAt log t i (Implies f g) ↔ (IsTrueAt log t i f → IsTrueAt log t i g)
   -- the left side of an until is asked from here on up to the witness, and not at the witness
   pub until : (log : Logged) (t : List ℤ) (i : ℕ) (I : Interval) (f g : Form) → IsIndex t i
-      → Holds log t i (Until I f g) ↔ ((j : ℕ) × LiesAhead t I i j × Holds log t j g × ((k : ℕ) → i ≤ k → k < j → Holds log t k f))
+      → IsTrueAt log t i (Until I f g) ↔ ((j : ℕ) × LiesAhead t I i j × IsTrueAt log t j g × ((k : ℕ) → i ≤ k → k < j → IsTrueAt log t k f))
   -- that of a since from after the witness on up to here
   pub since : (log : Logged) (t : List ℤ) (i : ℕ) (I : Interval) (f g : Form) → IsIndex t i
-      → Holds log t i (Since I f g) ↔ ((j : ℕ) × LiesBehind t I i j × Holds log t j g × ((k : ℕ) → j < k → k ≤ i → Holds log t k f))
-  pub eventually : (log : Logged) (t : List ℤ) (i : ℕ) (I : Interval) (f : Form) → Holds log t i (Eventually I f) ↔ ((j : ℕ) × LiesAhead t I i j × Holds log t j f)
-  pub always : (log : Logged) (t : List ℤ) (i : ℕ) (I : Interval) (f : Form) → Holds log t i (Always I f) ↔ ((j : ℕ) → LiesAhead t I i j → Holds log t j f)
-  pub once : (log : Logged) (t : List ℤ) (i : ℕ) (I : Interval) (f : Form) → Holds log t i (Once I f) ↔ ((j : ℕ) × LiesBehind t I i j × Holds log t j f)
-  pub historically : (log : Logged) (t : List ℤ) (i : ℕ) (I : Interval) (f : Form) → Holds log t i (Historically I f) ↔ ((j : ℕ) → LiesBehind t I i j → Holds log t j f)
+      → IsTrueAt log t i (Since I f g) ↔ ((j : ℕ) × LiesBehind t I i j × IsTrueAt log t j g × ((k : ℕ) → j < k → k ≤ i → IsTrueAt log t k f))
+  pub eventually : (log : Logged) (t : List ℤ) (i : ℕ) (I : Interval) (f : Form) → IsTrueAt log t i (Eventually I f) ↔ ((j : ℕ) × LiesAhead t I i j × IsTrueAt log t j f)
+  pub always : (log : Logged) (t : List ℤ) (i : ℕ) (I : Interval) (f : Form) → IsTrueAt log t i (Always I f) ↔ ((j : ℕ) → LiesAhead t I i j → IsTrueAt log t j f)
+  pub once : (log : Logged) (t : List ℤ) (i : ℕ) (I : Interval) (f : Form) → IsTrueAt log t i (Once I f) ↔ ((j : ℕ) × LiesBehind t I i j × IsTrueAt log t j f)
+  pub historically : (log : Logged) (t : List ℤ) (i : ℕ) (I : Interval) (f : Form) → IsTrueAt log t i (Historically I f) ↔ ((j : ℕ) → LiesBehind t I i j → IsTrueAt log t j f)
 
 -- each value has a timing that gives it, and there is no value exactly where no timing is admissible
 pub record ValuesHaveTimings : Type 0 where

@@ -10,7 +10,7 @@ pub enum Bound {
     High(EventId),
     /// A row comes at least its host's gap after the row before it there.
     Rise(EventId),
-    /// A receive comes after its send.
+    /// A receive comes at least 1 after its send.
     Message(EventId),
     /// An extra bound, by its place from 0.
     Extra(u32),

@@ -1,8 +1,8 @@
-ghost use Rattle.std.specs.Prelude.{◌≡◌, ◌↔◌, ◌≤◌, ◌<◌, ◌+◌, ◌^◌, not, length, IsTrue, IsSome, IfSome, IfOk, IfErr, OnOk, Some, None};
+ghost use Rattle.std.specs.Prelude.{◌≡◌, ◌↔◌, ◌≤◌, ◌<◌, ◌+◌, ◌^◌, ◌&&◌, not, true, length, IsTrue, IsSome, IfSome, IfOk, IfErr, OnOk, Some, None};
 ghost use Rattle.std.specs.List.{list_all};
-ghost use Rattle.mt_model.specs.Form.{Form, IsFormula, form_of, height_of, intervals_of, is_interval, propositions_of};
-ghost use Rattle.mt_model.specs.Name.{is_reserved};
-ghost use Rattle.mt_model.specs.State.{host_named, unknown_from, unknown_host};
+ghost use Rattle.mt_model.specs.Form.{Form, IsFormula, form_of, height_of, intervals_of, is_interval, is_named, propositions_of};
+ghost use Rattle.mt_model.specs.Name.{is_name, is_reserved};
+ghost use Rattle.mt_model.specs.State.{unknown_from, unknown_host};
 
 use crate::name::is_reserved_name;
 use crate::{Interval, Log, MAX_DISTANCE, MAX_HEIGHT, MAX_PROPOSITIONS, Name, Tree};
@@ -81,18 +81,35 @@ fn room_beside(tree: &Tree, room: u32) -> Option<u32>
     }
 }
 
-// Whether no proposition is of a host whose name is reserved.
+// Whether a proposition's host is not called by a reserved name. Its names are names.
+fn is_host_name(host: &Name, name: &Name) -> bool
+    ensures host { result ≡ not (is_reserved host.now) }
+    ensures names { (is_name host.now && is_name name.now) ≡ true }
+{
+    // What a name is, its bytes are known to be.
+    let _ = name.bytes();
+    !is_reserved_name(host)
+}
+
+// Whether no proposition is of a host whose name is reserved. The names in it are names.
 fn has_host_names(tree: &Tree) -> bool
-    ensures { result ≡ list_all (λ p. not (is_reserved p.host)) (propositions_of (form_of tree.now)) }
+    ensures hosts { result ≡ list_all (λ p. not (is_reserved p.host)) (propositions_of (form_of tree.now)) }
+    ensures names { list_all is_named (propositions_of (form_of tree.now)) ≡ true }
 {
     match tree {
         Tree::True | Tree::False => true,
-        Tree::Prop { host, name: _ } => !is_reserved_name(host),
+        Tree::Prop { host, name } => is_host_name(host, name),
         Tree::Not(f) => has_host_names(f),
         Tree::And(f, g) | Tree::Or(f, g) | Tree::Implies(f, g) => {
-            has_host_names(f) && has_host_names(g)
+            let left = has_host_names(f);
+            let right = has_host_names(g);
+            left && right
         }
-        Tree::Until(_, f, g) | Tree::Since(_, f, g) => has_host_names(f) && has_host_names(g),
+        Tree::Until(_, f, g) | Tree::Since(_, f, g) => {
+            let left = has_host_names(f);
+            let right = has_host_names(g);
+            left && right
+        }
         Tree::Eventually(_, f) | Tree::Always(_, f) => has_host_names(f),
         Tree::Once(_, f) | Tree::Historically(_, f) => has_host_names(f),
     }
@@ -130,15 +147,6 @@ fn is_valid(tree: &Tree) -> bool
         && has_intervals(tree)
 }
 
-/// The place among the log's hosts of the one of a name.
-pub fn host_of_name(log: &Log, name: &Name) -> Option<usize>
-    ensures host { result ≡ host_named log.now name.now }
-{
-    log.hosts()
-        .iter()
-        .position(|host| host.name.bytes() == name.bytes())
-}
-
 // The number that follows those of a tree's propositions, which are counted from `number` on; or, as
 // the error, the number of the first one whose host is not in the log.
 #[tactic(auto, using(crate::proofs::SearchLemmas::position_from_none, crate::proofs::SearchLemmas::position_from_some))]
@@ -150,7 +158,7 @@ fn pass_hosts(tree: &Tree, log: &Log, number: u32) -> Result<u32, u32>
 {
     match tree {
         Tree::True | Tree::False => Ok(number),
-        Tree::Prop { host, name: _ } => match host_of_name(log, host) {
+        Tree::Prop { host, name: _ } => match log.host_named(host) {
             Some(_) => Ok(number + 1),
             None => Err(number),
         },

@@ -2,21 +2,17 @@
 #![tactic(auto)]
 
 mod bound;
-mod columns;
-mod evaluator;
 mod formula;
 mod ids;
 mod laws;
 mod limits;
 mod log;
 mod name;
-mod operators;
 mod step;
 mod times;
 mod tree;
 
 pub use bound::{Bound, BoundList};
-pub use evaluator::{first_truth, truths};
 pub use formula::Formula;
 pub use ids::{EventId, HostId, NodeId, PropId};
 pub use laws::{

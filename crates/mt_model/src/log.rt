@@ -1,5 +1,6 @@
 ghost use Rattle.std.specs.Prelude.{◌≡◌, [], ◌↔◌, IsTrue, IsSome, IfSome, IfOk, IfErr, option_copied, Any, Some, All, AllPairs, map, pos, ◌+ℤ◌, ◌≤ℤ◌};
 ghost use Rattle.mt_model.specs.Log.{Logged, IsLog, IsHost, IsRow, IsExtra, IsPlain, AreRows, SendSame, IsSent, name_in, sent_by, received_by, with_extra, widened, widened_host};
+ghost use Rattle.mt_model.specs.State.{host_named};
 
 use crate::name::is_reserved_name;
 use crate::{
@@ -369,6 +370,16 @@ impl Log {
         self.extras.as_slice()
     }
 
+    /// The place of the host of a name among the hosts, from 0, and None where the log has none. Takes
+    /// no memory.
+    pub fn host_named(&self, name: &Name) -> Option<usize>
+        ensures host { result ≡ host_named self.now name.now }
+    {
+        self.hosts()
+            .iter()
+            .position(|host| host.name.bytes() == name.bytes())
+    }
+
     /// An equal log, in memory of its own.
     pub fn copy(&self, alloc: Global) -> Result<Log, AllocError>
         ensures same { IfOk result (λ log. log ≡ self.now) }
@@ -424,7 +435,8 @@ impl Log {
         0 <= s && may_widen_all(self.hosts.as_slice(), s)
     }
 
-    /// The log with s added to each skew, in the log's unit of time. Takes no memory.
+    /// The log with s added to each skew, in the log's unit of time. s is at least 0, and no skew may
+    /// leave its range. Takes no memory.
     pub fn widened(self, s: i128) -> Log
         requires low { pos 0 ≤ℤ s }
         requires high { All (λ h. (h.skew +ℤ s) ≤ℤ MAX_SKEW) self.hosts }

@@ -8,9 +8,9 @@ pub enum Step {
     Low(u32),
     /// The true time of a row is at most its local time and its host's skew.
     High(u32),
-    /// A row comes its host's gap after the row before it there.
+    /// A row comes at least its host's gap after the row before it there.
     Rise(u32),
-    /// A receive comes after its send.
+    /// A receive comes at least 1 after its send.
     Message(u32),
     /// An extra bound of the log.
     Extra(u32),

@@ -4,7 +4,7 @@ use crate::Name;
 
 /// Distances in time, in the log's unit: from `low` on up to `high`, both of them in it. Where `high`
 /// is None, there is no upper bound.
-#[derive(Clone, Copy, Debug, PartialEq, Eq)]
+#[derive(Clone, Copy, Debug, PartialEq, Eq, Hash)]
 pub struct Interval {
     pub low: u64,
     pub high: Option<u64>,

@@ -1,5 +1,5 @@
-ghost use Rattle.std.specs.Prelude.{◌≡◌, ◌+◌, ◌<◌, ◌≤◌, length, find, All, IfOk, IsNone, IsSome, ℤ, ◌-ℤ◌};
-ghost use Rattle.mt_model.specs.Bounds.{breaks, first_broken as first_broken_of, meets};
+ghost use Rattle.std.specs.Prelude.{◌≡◌, ◌+◌, ◌<◌, ◌≤◌, length, find, All, IsNone, IsSome, ℤ, ◌-ℤ◌};
+ghost use Rattle.mt_model.specs.Bounds.{bounds_of, breaks, first_broken as first_broken_of, meets};
 ghost use Rattle.mt_model.specs.Log.{IsWithin};
 ghost use Rattle.mt_model.specs.Timing.{Admissible};
 ghost use Rattle.mt_model.specs.Walks.{node_time};
@@ -8,10 +8,8 @@ ghost use Rattle.neg_cycle.specs.Systems.{IsEdge};
 ghost use Rattle.skew_bounds.specs.Edges.{edge_in};
 
 use crate::edges::edge_of;
-use crate::list::bounds;
 use mt_model::{Bound, Log, unbroken_is_admissible};
 use neg_cycle::Edge;
-use std::alloc::{AllocError, Global};
 
 // The time of a node: 0 of the zero moment, and node e + 1 has the time of row e.
 fn time_at(times: &[i128], node: u32) -> i128
@@ -67,15 +65,16 @@ fn first_broken_among(log: &Log, bounds: &[Bound], times: &[i128]) -> Option<Bou
 }
 
 /// The first of a log's bounds, in their order, that times break, and None exactly where the log admits
-/// them. There is a time for each row, in the log's unit of time.
-pub fn first_broken(alloc: Global, log: &Log, times: &[i128]) -> Result<Option<Bound>, AllocError>
+/// them. The bounds are those of `bounds`, and there is a time for each row, in the log's unit of time.
+/// Takes no memory.
+pub fn first_broken(log: &Log, bounds: &[Bound], times: &[i128]) -> Option<Bound>
+    requires bounds { bounds.now ≡ bounds_of log.now }
     requires range { All (IsWithin MAX_TIME) times.now }
     requires count { length times.now ≡ length log.now.rows }
-    ensures bound { IfOk result (λ b. b ≡ first_broken_of log.now times.now) }
-    ensures admissible { IfOk result (λ b. IsNone b → Admissible log.now times.now) }
-    ensures excluded { IfOk result (λ b. IsSome b → Admissible log.now times.now → ⊥) }
+    ensures bound { result ≡ first_broken_of log.now times.now }
+    ensures admissible { IsNone result → Admissible log.now times.now }
+    ensures excluded { IsSome result → Admissible log.now times.now → ⊥ }
 {
     unbroken_is_admissible();
-    let bounds = bounds(alloc, log)?;
-    Ok(first_broken_among(log, bounds.as_slice(), times))
+    first_broken_among(log, bounds, times)
 }

@@ -1,5 +1,5 @@
 use super::*;
-use crate::testing::{Kind, Shape, between, from, log_of, prop, tree};
+use crate::testing::{between, from, once_p, prop, q_since_p, small_log};
 use std::alloc::Global;
 use std::test::Fail;
 
@@ -70,9 +70,9 @@ fn intervals_have_bounds_in_order_and_range(rt: HostRuntime) -> Result<(), Fail>
         (from(most + 1), false),
     ];
     for (interval, valid) in cases {
-        let one = tree(rt.alloc(), Shape::OnceP(interval))?;
+        let one = once_p(rt.alloc(), interval)?;
         assert_eq!(rt; Formula::new(one).is_some(), valid, "{interval:?}");
-        let two = tree(rt.alloc(), Shape::QSinceP(interval))?;
+        let two = q_since_p(rt.alloc(), interval)?;
         assert_eq!(rt; Formula::new(two).is_some(), valid, "{interval:?}");
     }
     Ok(())
@@ -81,7 +81,7 @@ fn intervals_have_bounds_in_order_and_range(rt: HostRuntime) -> Result<(), Fail>
 #[test]
 fn the_first_unknown_host_is_told_by_its_number(rt: HostRuntime) -> Result<(), Fail> {
     let alloc = rt.alloc();
-    let log = log_of(alloc, &[(0, Kind::Note, "n")])?;
+    let log = small_log(alloc)?;
     let cases = [
         ("a", "b", "a", None),
         ("c", "b", "a", Some(0)),
