@@ -1,10 +1,21 @@
+pub mod Comparing
+mod WorkedCases
 pub mod Completeness
 pub mod Soundness
-pub mod Floors
-pub mod Words
+pub mod Viability
+pub mod Judging
+mod Answered
+pub mod Capping
+pub mod Runs
+pub mod Stacks
+pub mod Digits
 pub mod Scanning
-pub mod Finishes
+pub mod SoundTokens
 pub mod Hosts
 pub mod Valid
-pub mod PlacesAfter
 pub mod Parsing
+pub mod Intervals
+pub mod PlacesAfter
+mod PrintedTokens
+mod PrintedPieces
+mod PrintedFormulas

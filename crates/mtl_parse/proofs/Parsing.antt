@@ -1,58 +1,101 @@
--- What the loop over a text keeps: the tokens that are left give, after those that were read, what all of them give.
-use Rattle.std.proofs.Common.{◌≡◌, ◌∙◌, sym, ap, refl, arith, ℕ, ◌+◌, ◌≤◌, ◌<◌, Bool, true, false, List, length, drop, get_or, Option, Some, None}
-use Rattle.std.specs.Prelude.{◌&&◌, map, option_and_then}
-use Rattle.std.proofs.lemmas.List.{drop_all}
+-- From what the code reads to the answer for a text.
+use Rattle.std.proofs.Common.{◌≡◌, ◌∙◌, sym, ap, refl, subst, arith, ℕ, ◌≤◌, ◌<◌, ◌^◌, true, List, [], ◌∷◌, length, Option, Some, None, Result, Ok, Err}
+use Rattle.std.specs.Prelude.{◌&&◌, map, option_map}
+use Rattle.std.specs.List.{list_all}
 use Rattle.mt_model.specs.declared.limits.TheConstants.{MAX_HEIGHT}
-use Rattle.mt_model.specs.Form.{Form, height_of}
-use Rattle.mt_model.specs.Name.{is_letter, is_name_byte}
-use Rattle.mtl_parse.specs.Tokens.{Placed, is_blank, token_at, tokens_from, tokens_of}
-use Rattle.mtl_parse.specs.FormulaOf.{IsText}
-use Rattle.mtl_parse.specs.Machine.{Refuses, State, begin, finish, step}
-use Rattle.mtl_parse.proofs.Completeness.{feed, feed-text}
-use Rattle.mtl_parse.proofs.Scanning.{fed-none, fed-some, passed-blank, passed-part, passed-token}
-use Rattle.mtl_parse.proofs.Soundness.{reads-run}
+use Rattle.mt_model.specs.Form.{Form, IsFormula, height_of}
+use Rattle.mtl_parse.specs.declared.fault.FormulaFault.{FormulaFault}
+use Rattle.mtl_parse.specs.declared.fault.FormulaFault.TheVariants as fault
+use Rattle.mtl_parse.specs.Tokens.{Placed, tokens_of}
+use Rattle.mtl_parse.specs.Grammar.{Implication, Reads}
+use Rattle.mtl_parse.specs.FormulaOf.{FormulaOf, empty, empty_interval, first_empty_interval, formula, tokens_in, too_deep}
+use Rattle.mtl_parse.specs.Machine.{State, begin, capped, ended, ended_after, finish, is_sound, read_all, read_whole, tall}
+use Rattle.mtl_parse.specs.States.{placed_in, token_in}
+use Rattle.mtl_parse.specs.declared.token.Placed.{Placed as ScannedPlaced}
+use Rattle.mtl_parse.proofs.Completeness.{plain}
+use Rattle.mtl_parse.proofs.Judging.{given_end, given_refused, read_formula, refused}
+use Rattle.mtl_parse.proofs.Capping.{Fits, cap_result, capped-high, capped-low, finish_capped, fits, fits_in, read_all_capped, tall_high, too_high}
+use Rattle.mtl_parse.proofs.SoundTokens.{tokens-sound}
+use Rattle.mtl_parse.proofs.Valid.{text-valid}
 
-pub record Leads (text : List ℕ) (s : State) (inside : Bool) (i : ℕ) : Type 0 where
-  pub same : feed s (tokens_from inside i (drop i text)) ≡ feed begin (tokens_of text)
+-- the same with no formula replaced
+whole_capped : (n : ℕ) (ps : List Placed) → read_whole capped n ps ≡ ended_after capped n (cap_result (read_all plain begin ps))
+whole_capped n ps = ap (ended_after capped n) (read_all_capped ps begin)
 
-module _ (text : List ℕ) (s : State) (inside : Bool) (i b : ℕ) (within : i < length text) (is : b ≡ get_or text i 0) (leads : Leads text s inside i) where
-  pub leads-part : (inside && is_name_byte b) ≡ true → Leads text s inside (i + 1)
-  leads-part part = record { same = ap (feed s) (sym (passed-part text i b within is inside part)) ∙ leads.same }
+-- the formula that the tokens are, of which the code keeps the capped one
+record WasRead (ps : List Placed) (g : Form) : Type 0 where
+  form : Form
+  reads : Reads Implication (tokens_in ps) form
+  capped_is : capped form ≡ g
 
-  module _ (letter : Bool) (begins : letter ≡ is_letter b) (part : (inside && is_name_byte b) ≡ false) where
-    pub leads-blank : is_blank b ≡ true → Leads text s letter (i + 1)
-    leads-blank blank = record { same = ap (λ v. feed s (tokens_from v (i + 1) (drop (i + 1) text))) begins ∙ ap (feed s) (sym (passed-blank text i b within is inside part blank)) ∙ leads.same }
-
-    pub leads-token : (next : State) → is_blank b ≡ false → option_and_then (step s) (token_at (drop i text)) ≡ Some next → Leads text next letter (i + 1)
-    leads-token next blank h = record {
-      same =
-          ap (λ v. feed next (tokens_from v (i + 1) (drop (i + 1) text))) begins
-          ∙ sym (fed-some s next (token_at (drop i text)) i (tokens_from (is_letter b) (i + 1) (drop (i + 1) text)) h)
-          ∙ ap (feed s) (sym (passed-token text i b within is inside part blank))
-          ∙ leads.same;
-    }
-
-  pub leads-nowhere : (inside && is_name_byte b) ≡ false → is_blank b ≡ false → Refuses (option_and_then (step s) (token_at (drop i text))) → (f : Form) → IsText text f → ⊥
-  leads-nowhere part blank refuses f is_text =
-      let whole = ap (feed s) (sym (passed-token text i b within is inside part blank)) ∙ leads.same ∙ feed-text text f is_text in
-      let high = fed-none s (token_at (drop i text)) i (tokens_from (is_letter b) (i + 1) (drop (i + 1) text)) f refuses whole in
-      let low = is_text.height in
-      omega (arith, high, low)
-
-pub leads-all : (text : List ℕ) (s : State) → s ≡ begin → Leads text s false 0
-leads-all text s first = record { same = ap (λ v. feed v (tokens_of text)) first }
-
-at_end : (text : List ℕ) (s : State) (inside : Bool) (i : ℕ) → length text ≤ i → Leads text s inside i → finish s ≡ feed begin (tokens_of text)
-at_end text s inside i over leads = ap (λ bs. feed s (tokens_from inside i bs)) (sym (drop_all i text over)) ∙ leads.same
-
-pub ends-so : (text : List ℕ) (s : State) (inside : Bool) (i : ℕ) (f : Form) → length text ≤ i → Leads text s inside i → Some f ≡ finish s → height_of f ≤ MAX_HEIGHT → IsText text f
-ends-so text s inside i f over leads ended low = scanned (tokens_of text) refl (sym (ended ∙ at_end text s inside i over leads))
+was_read : (n : ℕ) (ps : List Placed) (g : Form) → read_whole capped n ps ≡ Ok g → WasRead ps g
+was_read n ps g h = at (read_all plain begin ps) refl (sym (whole_capped n ps) ∙ h)
   where
-    scanned : (o : Option (List Placed)) → tokens_of text ≡ o → feed begin o ≡ Some f → IsText text f
-    scanned None same h = absurd (cc)
-    scanned (Some ps) same h = record { tokens = ps; scanned = same; reads = reads-run (map (λ p. p.token) ps) f h; height = low }
+    at_end : (s : State) → read_all plain begin ps ≡ Ok s → (m : Option Form) → finish plain s ≡ m → ended n (option_map capped m) ≡ Ok g → WasRead ps g
+    at_end s is None none e = absurd (cc)
+    at_end s is (Some f) found e = record { form = f; reads = read_formula ps s f is found; capped_is = cc }
 
-pub ends-nowhere : (text : List ℕ) (s : State) (inside : Bool) (i : ℕ) → length text ≤ i → Leads text s inside i → None ≡ finish s → (f : Form) → IsText text f → ⊥
-ends-nowhere text s inside i over leads ended f is =
-    let none : None ≡ Some f = ended ∙ at_end text s inside i over leads ∙ feed-text text f is in
-    absurd (cc)
+    at : (r : Result State FormulaFault) → read_all plain begin ps ≡ r → ended_after capped n (cap_result r) ≡ Ok g → WasRead ps g
+    at (Err x) is e = absurd (cc)
+    at (Ok s) is e = at_end s is (finish plain s) refl (ap (ended n) (sym (finish_capped s.stack s.stage)) ∙ e)
+
+-- a fault of the tokens
+pub fault-read : (text : List ℕ) (ps : List Placed) (x : FormulaFault) → tokens_of text ≡ Ok ps → (ps ≡ [] → ⊥) → read_whole capped (length text) ps ≡ Err x → FormulaOf text (Err x)
+fault-read text ps x scanned some h = at (read_all plain begin ps) refl (sym (whole_capped (length text) ps) ∙ h)
+  where
+    at_end : (s : State) → read_all plain begin ps ≡ Ok s → (m : Option Form) → finish plain s ≡ m → ended (length text) (option_map capped m) ≡ Err x → FormulaOf text (Err x)
+    at_end s is (Some f) found e = absurd (cc)
+    at_end s is None none e = subst (λ y. FormulaOf text y) e (given_end text ps s scanned some is (first_empty_interval ps) refl None none)
+
+    at : (r : Result State FormulaFault) → read_all plain begin ps ≡ r → ended_after capped (length text) (cap_result r) ≡ Err x → FormulaOf text (Err x)
+    at (Err y) is e = subst (λ z. FormulaOf text z) e (given_refused text ps y scanned (refused ps begin y is))
+    at (Ok s) is e = at_end s is (finish plain s) refl (ap (ended (length text)) (sym (finish_capped s.stack s.stage)) ∙ e)
+
+-- a formula with an empty interval
+pub empty-read : (text : List ℕ) (ps : List Placed) (n byte : ℕ) (g : Form) → tokens_of text ≡ Ok ps → read_whole capped n ps ≡ Ok g → first_empty_interval ps ≡ Some byte → FormulaOf text (Err (fault.EmptyInterval byte))
+empty-read text ps n byte g scanned h found = let w = was_read n ps g h in empty_interval ps byte scanned (w.form, w.reads) found
+
+-- a formula of which nothing is kept
+pub high-read : (text : List ℕ) (ps : List Placed) (n : ℕ) → tokens_of text ≡ Ok ps → read_whole capped n ps ≡ Ok tall → first_empty_interval ps ≡ None → FormulaOf text (Err (fault.TooDeep 0))
+high-read text ps n scanned h none = let w = was_read n ps tall h in too_deep ps w.form scanned w.reads none (by w (fits w.form))
+  where
+    by : (w : WasRead ps tall) → Fits w.form → MAX_HEIGHT < height_of w.form
+    by w (too_high high) = high
+    by w (fits_in low) = let same : w.form ≡ tall = sym (capped-low w.form low) ∙ w.capped_is in subst (λ f. MAX_HEIGHT < height_of f) (sym same) tall_high
+
+low_same : (ps : List Placed) (g : Form) (w : WasRead ps g) → height_of g ≤ MAX_HEIGHT → w.form ≡ g
+low_same ps g w low = by (fits w.form)
+  where
+    by : Fits w.form → w.form ≡ g
+    by (fits_in is_low) = sym (capped-low w.form is_low) ∙ w.capped_is
+    by (too_high high) =
+        let same : tall ≡ g = sym (capped-high w.form high) ∙ w.capped_is in
+        let over = subst (λ f. MAX_HEIGHT < height_of f) same tall_high in
+        absurd (omega (arith, over))
+
+low_reads : (ps : List Placed) (n : ℕ) (g : Form) → read_whole capped n ps ≡ Ok g → height_of g ≤ MAX_HEIGHT → Reads Implication (tokens_in ps) g
+low_reads ps n g h low = let w = was_read n ps g h in subst (λ f. Reads Implication (tokens_in ps) f) (low_same ps g w low) w.reads
+
+-- a formula that is kept
+pub low-read : (text : List ℕ) (ps : List Placed) (n : ℕ) (g : Form) → tokens_of text ≡ Ok ps → read_whole capped n ps ≡ Ok g → first_empty_interval ps ≡ None → height_of g ≤ MAX_HEIGHT → FormulaOf text (Ok g)
+low-read text ps n g scanned h none low = formula ps g scanned (low_reads ps n g h low) none low
+
+pub low-valid : (text : List ℕ) (ps : List Placed) (n : ℕ) (g : Form) → length text < 2 ^ 31 → tokens_of text ≡ Ok ps → read_whole capped n ps ≡ Ok g → first_empty_interval ps ≡ None → height_of g ≤ MAX_HEIGHT → IsFormula g
+low-valid text ps n g short scanned h none low = text-valid text ps g short scanned (low_reads ps n g h low) none low
+
+-- a text without tokens
+pub none-read : (text : List ℕ) (items : List ScannedPlaced) → tokens_of text ≡ Ok (map placed_in items) → length items ≡ 0 → FormulaOf text (Err (fault.Empty 0))
+none-read text [] scanned none = empty scanned
+none-read text (p ∷ ps) scanned none = absurd (omega arith)
+
+pub some-read : (items : List ScannedPlaced) → 0 < length items → map placed_in items ≡ [] → ⊥
+some-read [] some none = absurd (omega arith)
+some-read (p ∷ ps) some none = absurd (cc)
+
+sound_items : (items : List ScannedPlaced) → list_all (λ p. is_sound p.token) (map placed_in items) ≡ list_all (λ p. is_sound (token_in p.token)) items
+sound_items [] = refl
+sound_items (p ∷ ps) = ap (λ v. is_sound (token_in p.token) && v) (sound_items ps)
+
+-- the tokens that were scanned are sound
+pub sound-read : (text : List ℕ) (items : List ScannedPlaced) → tokens_of text ≡ Ok (map placed_in items) → list_all (λ p. is_sound (token_in p.token)) items ≡ true
+sound-read text items scanned = sym (sound_items items) ∙ tokens-sound text (map placed_in items) scanned

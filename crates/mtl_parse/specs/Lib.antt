@@ -1,7 +1,9 @@
 pub mod Tokens
 pub mod Grammar
-pub mod FormulaOf
-pub mod Places
 pub mod Faults
+pub mod FormulaOf
+pub mod FormulaText
+pub mod Places
 pub mod Laws
 pub mod Machine
+pub mod States

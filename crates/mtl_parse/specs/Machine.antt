@@ -1,197 +1,288 @@
 -- How a formula is read token by token, without recursion over what it nests.
-use Rattle.std.specs.Prelude.{◌≡◌, ◌<◌, ℕ, max, List, [], ◌∷◌, map, reverse, true, Option, Some, None, if◌then◌else◌, option_map, option_and_then, bytes_eq, codes}
+use Rattle.std.specs.Prelude.{◌||◌, ℕ, nat_le, not, Bool, true, false, List, [], ◌∷◌, Option, Some, None, Result, Ok, Err, if◌then◌else◌, option_map, bytes_eq, codes}
 use Rattle.std.proofs.Common.{zero, suc}
-use Rattle.mt_model.specs.declared.limits.TheConstants.{MAX_HEIGHT}
-use Rattle.mt_model.specs.Form.{Form, True, False, Prop, Not, And, form_of, height_of}
+use Rattle.mt_model.specs.declared.limits.TheConstants.{MAX_DISTANCE, MAX_HEIGHT}
+use Rattle.mt_model.specs.declared.tree.Interval.{Interval}
+use Rattle.mt_model.specs.Form.{Form, True, False, Prop, Not, And, Or, Implies, height_of}
 use Rattle.mt_model.specs.Name.{is_name}
-use Rattle.mtl_parse.specs.Tokens.{Token, Open, Close, Dot, Bang, Ampersand, Word}
-use Rattle.mtl_parse.specs.declared.frame.Frame.{Frame}
-use Rattle.mtl_parse.specs.declared.parser.Parser.{Parser}
-use Rattle.mtl_parse.specs.declared.parser.Place.{Place}
-use Rattle.mtl_parse.specs.declared.parser.Place.TheVariants as place
-use Rattle.mtl_parse.specs.declared.token.Token.{Token as Scanned}
-use Rattle.mtl_parse.specs.declared.token.Token.TheVariants as token
+use Rattle.mtl_parse.specs.declared.fault.FormulaFault.{FormulaFault}
+use Rattle.mtl_parse.specs.declared.fault.FormulaFault.TheVariants as fault
+use Rattle.mtl_parse.specs.Tokens.{Infix, Prefix, Token, Open, Close, OpenBracket, CloseBracket, Comma, Dot, Bang, Ampersand, Bar, Arrow, Between, Before, Number, Word, Placed}
+use Rattle.mtl_parse.specs.Grammar.{before, between, from_to}
 
--- what stands before an operand in one pair of parentheses: the left side of an `&`, and then signs `!`
-pub record Before : Type 0 where
-  pub left : Option Form
-  pub negations : ℕ
+-- a letter that was read: `F`, `G`, `O` or `H`, or the left side of a `U` or `S`
+pub data Letter : Type 0 where
+  OfOne : Prefix → Letter
+  OfTwo : Infix → Form → Letter
 
--- nothing stands there
-abbrev pub nothing : Before
-nothing = record { left = None; negations = 0 }
+-- what stands before an operand and waits for it
+pub data Pending : Type 0 where
+  Opened : Pending
+  Negation : Pending
+  Timed : Letter → Interval → Pending
+  LeftOfAnd : Form → Pending
+  LeftOfOr : Form → Pending
+  LeftOfImplies : Form → Pending
 
--- a left side and its `&`
-abbrev pub after : Form → Before
-after f = record { left = Some f; negations = 0 }
+-- the formula that a letter with its interval makes of its operand
+abbrev pub timed : Letter → Interval → Form → Form
+timed (OfOne op) I f = before op I f
+timed (OfTwo op g) I f = between op I g f
 
--- one more `!`
-abbrev pub one_more : Before → Before
-one_more b = record { left = b.left; negations = suc b.negations }
+-- what was pending, with its operand
+abbrev pub applied : Pending → Form → Form
+applied Opened f = f
+applied Negation f = Not f
+applied (Timed l I) f = timed l I f
+applied (LeftOfAnd g) f = And g f
+applied (LeftOfOr g) f = Or g f
+applied (LeftOfImplies g) f = Implies g f
 
--- a formula under signs `!`
-abbrev pub negated : ℕ → Form → Form
-negated zero f = f
-negated (suc n) f = negated n (Not f)
+-- how tightly a letter binds
+abbrev pub letter_strength : Letter → ℕ
+letter_strength (OfOne op) = 5
+letter_strength (OfTwo op f) = 4
 
--- a formula on the right of a left side
-abbrev pub joined : Option Form → Form → Form
-joined None f = f
-joined (Some g) f = And g f
+-- how tightly what is pending binds: the more, the tighter
+abbrev pub strength : Pending → ℕ
+strength Opened = 0
+strength Negation = 5
+strength (Timed l I) = letter_strength l
+strength (LeftOfAnd f) = 3
+strength (LeftOfOr f) = 2
+strength (LeftOfImplies f) = 1
 
--- an operand with what stands before it
-abbrev pub completed : Before → Form → Form
-completed b f = joined b.left (negated b.negations f)
+-- it is an open parenthesis
+abbrev pub is_opened : Pending → Bool
+is_opened Opened = true
+is_opened _ = false
 
--- what was read since the last open parenthesis: what stands before the operand that is wanted, and perhaps its host, or its host and dot; or an operand
+-- a parenthesis is open
+abbrev pub has_opened : List Pending → Bool
+has_opened [] = false
+has_opened (p ∷ ps) = is_opened p || has_opened ps
+
+-- what the last tokens were
 pub data Stage : Type 0 where
-  Wanted : Before → Stage
-  Host : Before → (host : List ℕ) → Stage
-  Dotted : Before → (host : List ℕ) → Stage
+  Wanted : Stage
+  HostRead : (host : List ℕ) → Stage
+  DotRead : (host : List ℕ) → Stage
+  LetterRead : Letter → Stage
+  BracketRead : Letter → Stage
+  LowRead : Letter → (low : ℕ) → Stage
+  CommaRead : Letter → (low : ℕ) → Stage
+  HighRead : Letter → Interval → Stage
   Read : Form → Stage
 
--- what was read: for each open parenthesis what stands before it, the innermost first
+-- what was read: what is pending, the innermost first, and the last tokens
 pub record State : Type 0 where
-  pub outer : List Before
+  pub stack : List Pending
   pub stage : Stage
 
+-- an operand with what is still pending before it
+pub record Completed : Type 0 where
+  pub stack : List Pending
+  pub form : Form
+
+-- nothing is read
 abbrev pub begin : State
-begin = record { outer = []; stage = Wanted nothing }
+begin = record { stack = []; stage = Wanted }
 
-abbrev pub at_stage : List Before → Stage → Option State
-at_stage outer stage = Some (record { outer = outer; stage = stage })
+-- the state of these parts
+abbrev pub at_stage : List Pending → Stage → Option State
+at_stage stack stage = Some (record { stack = stack; stage = stage })
 
--- the state after a word where an operand is wanted
-abbrev pub after_word : List Before → Before → List ℕ → Option State
-after_word outer b word =
-    if bytes_eq word (codes "true") then at_stage outer (Read (completed b True))
-    else if bytes_eq word (codes "false") then at_stage outer (Read (completed b False))
+-- an operand, with all that is pending before it and binds at least so tightly; each formula that is made is capped
+abbrev pub complete : (Form → Form) → ℕ → List Pending → Form → Completed
+complete cap n [] f = record { stack = []; form = f }
+complete cap n (p ∷ ps) f = if nat_le n (strength p) then complete cap n ps (cap (applied p f)) else record { stack = p ∷ ps; form = f }
+
+-- the innermost of what is pending binds at least so tightly
+abbrev pub top_binds : ℕ → List Pending → Bool
+top_binds n [] = false
+top_binds n (p ∷ ps) = nat_le n (strength p)
+
+-- after a word where an operand is wanted
+abbrev pub after_word : List Pending → List ℕ → Option State
+after_word stack word =
+    if bytes_eq word (codes "true") then at_stage stack (Read True)
+    else if bytes_eq word (codes "false") then at_stage stack (Read False)
     else if bytes_eq word (codes "inf") then None
-    else at_stage outer (Host b word)
+    else at_stage stack (HostRead word)
 
--- the state after a token where an operand is wanted
-abbrev pub step_wanted : List Before → Before → Token → Option State
-step_wanted outer b Open = at_stage (b ∷ outer) (Wanted nothing)
-step_wanted outer b Close = None
-step_wanted outer b Dot = None
-step_wanted outer b Bang = at_stage outer (Wanted (one_more b))
-step_wanted outer b Ampersand = None
-step_wanted outer b (Word word) = after_word outer b word
+-- after a token where an operand is wanted
+abbrev pub step_wanted : List Pending → Token → Option State
+step_wanted stack Open = at_stage (Opened ∷ stack) Wanted
+step_wanted stack Bang = at_stage (Negation ∷ stack) Wanted
+step_wanted stack (Before op) = at_stage stack (LetterRead (OfOne op))
+step_wanted stack (Word word) = after_word stack word
+step_wanted stack _ = None
 
 -- after a token behind a host
-abbrev pub step_host : List Before → Before → List ℕ → Token → Option State
-step_host outer b host Open = None
-step_host outer b host Close = None
-step_host outer b host Dot = at_stage outer (Dotted b host)
-step_host outer b host Bang = None
-step_host outer b host Ampersand = None
-step_host outer b host (Word word) = None
+abbrev pub step_host : List Pending → List ℕ → Token → Option State
+step_host stack host Dot = at_stage stack (DotRead host)
+step_host stack host _ = None
 
 -- after a token behind a host and its dot
-abbrev pub step_dotted : List Before → Before → List ℕ → Token → Option State
-step_dotted outer b host Open = None
-step_dotted outer b host Close = None
-step_dotted outer b host Dot = None
-step_dotted outer b host Bang = None
-step_dotted outer b host Ampersand = None
-step_dotted outer b host (Word name) = at_stage outer (Read (completed b (Prop host name)))
+abbrev pub step_dot : List Pending → List ℕ → Token → Option State
+step_dot stack host (Word name) = at_stage stack (Read (Prop host name))
+step_dot stack host _ = None
 
--- after a `)` behind an operand
-abbrev pub closed : List Before → Form → Option State
-closed [] f = None
-closed (b ∷ outer) f = at_stage outer (Read (completed b f))
+-- a letter without an interval is one of `[0,inf]`
+abbrev pub step_letter : List Pending → Letter → Token → Option State
+step_letter stack l OpenBracket = at_stage stack (BracketRead l)
+step_letter stack l t = step_wanted (Timed l (from_to 0 None) ∷ stack) t
 
--- after a token behind an operand
-abbrev pub step_read : List Before → Form → Token → Option State
-step_read outer f Open = None
-step_read outer f Close = closed outer f
-step_read outer f Dot = None
-step_read outer f Bang = None
-step_read outer f Ampersand = at_stage outer (Wanted (after f))
-step_read outer f (Word word) = None
+-- after a token behind a letter and `[`
+abbrev pub step_bracket : List Pending → Letter → Token → Option State
+step_bracket stack l (Number low) = at_stage stack (LowRead l low)
+step_bracket stack l _ = None
 
-abbrev pub step_at : List Before → Stage → Token → Option State
-step_at outer (Wanted b) = step_wanted outer b
-step_at outer (Host b host) = step_host outer b host
-step_at outer (Dotted b host) = step_dotted outer b host
-step_at outer (Read f) = step_read outer f
+-- after a token behind these and the lower bound
+abbrev pub step_low : List Pending → Letter → ℕ → Token → Option State
+step_low stack l low Comma = at_stage stack (CommaRead l low)
+step_low stack l low _ = None
+
+-- the upper bound that a token is, and none for `inf`
+abbrev pub high_bound : Token → Option (Option ℕ)
+high_bound (Number high) = Some (Some high)
+high_bound (Word word) = if bytes_eq word (codes "inf") then Some None else None
+high_bound _ = None
+
+-- after a token behind these and the comma
+abbrev pub step_comma : List Pending → Letter → ℕ → Token → Option State
+step_comma stack l low t = option_map (λ high. record { stack = stack; stage = HighRead l (from_to low high) }) (high_bound t)
+
+-- after a token behind these and the upper bound
+abbrev pub step_high : List Pending → Letter → Interval → Token → Option State
+step_high stack l I CloseBracket = at_stage (Timed l I ∷ stack) Wanted
+step_high stack l I _ = None
+
+-- an operand becomes the left side of what follows it
+abbrev pub left_of : (Form → Pending) → Completed → Option State
+left_of side c = at_stage (side c.form ∷ c.stack) Wanted
+
+-- a letter with its left side
+abbrev pub letter_after : Infix → Completed → Option State
+letter_after op c = at_stage c.stack (LetterRead (OfTwo op c.form))
+
+-- the last parenthesis is closed, if one is open
+abbrev pub closed_at : List Pending → Form → Option State
+closed_at [] f = None
+closed_at (p ∷ ps) f = at_stage ps (Read f)
+
+-- the same for an operand that is complete
+abbrev pub closed : Completed → Option State
+closed c = closed_at c.stack c.form
+
+-- after a token behind an operand: `&` and `|` complete what binds as tightly, `U`, `S` and `->` do not
+abbrev pub step_read : (Form → Form) → List Pending → Form → Token → Option State
+step_read cap stack f Close = closed (complete cap 1 stack f)
+step_read cap stack f Ampersand = left_of LeftOfAnd (complete cap 3 stack f)
+step_read cap stack f Bar = left_of LeftOfOr (complete cap 2 stack f)
+step_read cap stack f Arrow = left_of LeftOfImplies (complete cap 2 stack f)
+step_read cap stack f (Between op) = letter_after op (complete cap 5 stack f)
+step_read cap stack f _ = None
+
+-- after a token at any stage
+abbrev pub step_at : (Form → Form) → List Pending → Stage → Token → Option State
+step_at cap stack Wanted = step_wanted stack
+step_at cap stack (HostRead host) = step_host stack host
+step_at cap stack (DotRead host) = step_dot stack host
+step_at cap stack (LetterRead l) = step_letter stack l
+step_at cap stack (BracketRead l) = step_bracket stack l
+step_at cap stack (LowRead l low) = step_low stack l low
+step_at cap stack (CommaRead l low) = step_comma stack l low
+step_at cap stack (HighRead l I) = step_high stack l I
+step_at cap stack (Read f) = step_read cap stack f
 
 -- the state after one more token
-abbrev pub step : State → Token → Option State
-step s = step_at s.outer s.stage
+abbrev pub step : (Form → Form) → State → Token → Option State
+step cap s = step_at cap s.stack s.stage
 
-abbrev pub finish_at : List Before → Stage → Option Form
-finish_at [] (Wanted b) = None
-finish_at [] (Host b host) = None
-finish_at [] (Dotted b host) = None
-finish_at [] (Read f) = Some f
-finish_at (b ∷ outer) stage = None
+-- the formula, if nothing is pending before it
+abbrev pub finished_at : List Pending → Form → Option Form
+finished_at [] f = Some f
+finished_at (p ∷ ps) f = None
+
+-- the same for an operand that is complete
+abbrev pub finished : Completed → Option Form
+finished c = finished_at c.stack c.form
+
+-- the formula at a stage
+abbrev pub finish_at : (Form → Form) → List Pending → Stage → Option Form
+finish_at cap stack (Read f) = finished (complete cap 1 stack f)
+finish_at cap stack _ = None
 
 -- the formula that was read, where nothing is left open
-abbrev pub finish : State → Option Form
-finish s = finish_at s.outer s.stage
+abbrev pub finish : (Form → Form) → State → Option Form
+finish cap s = finish_at cap s.stack s.stage
 
--- the formula that the state and the tokens after it give
-abbrev pub run : State → List Token → Option Form
-run s [] = finish s
-run s (t ∷ ts) = option_and_then (λ next. run next ts) (step s t)
+-- an operand was read and no parenthesis is open
+abbrev pub is_whole_at : List Pending → Stage → Bool
+is_whole_at stack (Read f) = not (has_opened stack)
+is_whole_at stack _ = false
 
-abbrev pub left_floor : Option Form → ℕ
-left_floor None = 0
-left_floor (Some f) = height_of f
+-- the tokens that were read are a formula
+abbrev pub is_whole : State → Bool
+is_whole s = is_whole_at s.stack s.stage
 
-abbrev pub before_floor : Before → ℕ
-before_floor b = max (left_floor b.left) b.negations
+-- the same behind an operand
+abbrev pub refusal_behind : List Pending → ℕ → FormulaFault
+refusal_behind stack byte = if not (has_opened stack) then fault.Trailing byte else fault.Expected byte
 
-abbrev pub outer_floor : List Before → ℕ
-outer_floor [] = 0
-outer_floor (b ∷ outer) = max (before_floor b) (outer_floor outer)
+-- the fault of a token at a byte, which no formula goes on with
+abbrev pub refusal : State → ℕ → FormulaFault
+refusal s byte = if is_whole s then fault.Trailing byte else fault.Expected byte
 
-abbrev pub stage_floor : Stage → ℕ
-stage_floor (Wanted b) = before_floor b
-stage_floor (Host b host) = before_floor b
-stage_floor (Dotted b host) = before_floor b
-stage_floor (Read f) = height_of f
+-- a state, or the fault where there is none
+abbrev pub step_result : Option State → FormulaFault → Result State FormulaFault
+step_result (Some s) f = Ok s
+step_result None f = Err f
 
--- no formula that begins so is less high
-abbrev pub floor : State → ℕ
-floor s = max (outer_floor s.outer) (stage_floor s.stage)
+-- the state after one more token, or its fault
+abbrev pub read_one : (Form → Form) → State → Placed → Result State FormulaFault
+read_one cap s p = step_result (step cap s p.token) (refusal s p.byte)
 
--- no valid formula begins so
-abbrev pub Refuses : Option State → Type 0
-Refuses None = Unit {0}
-Refuses (Some s) = MAX_HEIGHT < floor s
+-- what is read after a state, if there is one
+abbrev pub read_after : Result State FormulaFault → (State → Result State FormulaFault) → Result State FormulaFault
+read_after (Ok s) go_on = go_on s
+read_after (Err f) go_on = Err f
 
--- a word that is a token is a name
-abbrev pub IsNamed : Token → Type 0
-IsNamed Open = Unit {0}
-IsNamed Close = Unit {0}
-IsNamed Dot = Unit {0}
-IsNamed Bang = Unit {0}
-IsNamed Ampersand = Unit {0}
-IsNamed (Word word) = is_name word ≡ true
+-- the state after more tokens, or the fault of the first that is refused
+abbrev pub read_all : (Form → Form) → State → List Placed → Result State FormulaFault
+read_all cap s [] = Ok s
+read_all cap s (p ∷ ps) = read_after (read_one cap s p) (λ next. read_all cap next ps)
 
--- the token that one of the code is
-abbrev pub token_in : Scanned → Token
-token_in token.Open = Open
-token_in token.Close = Close
-token_in token.Dot = Dot
-token_in token.Bang = Bang
-token_in token.Ampersand = Ampersand
-token_in (token.Word bytes) = Word bytes.now
+-- the formula that was read, or the end of the text as the place where more was expected
+abbrev pub ended : ℕ → Option Form → Result Form FormulaFault
+ended end (Some f) = Ok f
+ended end None = Err (fault.Expected end)
 
-abbrev pub before_of : Frame → Before
-before_of frame = record { left = option_map form_of frame.left; negations = frame.negations }
+-- the same after the tokens, if none is refused
+abbrev pub ended_after : (Form → Form) → ℕ → Result State FormulaFault → Result Form FormulaFault
+ended_after cap end (Ok s) = ended end (finish cap s)
+ended_after cap end (Err f) = Err f
 
-abbrev pub stage_of : Place → Stage
-stage_of (place.Wanted frame) = Wanted (before_of frame)
-stage_of (place.Host frame host) = Host (before_of frame) host
-stage_of (place.Dotted frame host) = Dotted (before_of frame) host
-stage_of (place.Read operand) = Read (form_of operand)
+-- the formula that the tokens of a text with this end are, or the fault of the first that is refused
+abbrev pub read_whole : (Form → Form) → ℕ → List Placed → Result Form FormulaFault
+read_whole cap end ps = ended_after cap end (read_all cap begin ps)
 
-abbrev pub outer_of : List Frame → List Before
-outer_of frames = reverse (map before_of frames)
+-- signs `!` before `true`
+abbrev pub negations : ℕ → Form
+negations zero = True
+negations (suc n) = Not (negations n)
 
--- the state that one of the code is
-abbrev pub state_of : Parser → State
-state_of parser = record { outer = outer_of parser.outer.items; stage = stage_of parser.place }
+-- a formula higher than 200
+unfoldable pub tall : Form
+tall = negations 200
+
+-- one formula stands for all that are higher than 200
+abbrev pub capped : Form → Form
+capped f = if nat_le (height_of f) MAX_HEIGHT then f else tall
+
+-- a word is a name, and a number at most 10^18
+abbrev pub is_sound : Token → Bool
+is_sound (Word word) = is_name word
+is_sound (Number value) = nat_le value MAX_DISTANCE
+is_sound _ = true

@@ -1,27 +1,67 @@
 ghost use Rattle.std.specs.Prelude.{◌≡◌};
-ghost use Rattle.mtl_parse.specs.Faults.{number_of};
+ghost use Rattle.mtl_parse.specs.Faults.{byte_of, number_of};
 
 use std::alloc::AllocError;
 use thiserror::Error;
 
-/// What is wrong with a formula's text, or want of memory.
+/// What is wrong with a formula's text, with the byte of it, from 0; or want of memory.
 #[derive(Clone, Copy, Debug, PartialEq, Eq, Error)]
 pub enum FormulaFault {
-    /// The text is no formula of words, dots, `!`, `&` and parentheses, or its height is above 200.
-    #[error("not a formula of propositions, `!`, `&` and parentheses")]
-    NotYet,
+    /// A byte begins no token, or a word is longer than 32 bytes.
+    #[error("no token at byte {byte}")]
+    Token { byte: u32 },
+    /// No formula goes on with the token here, or the text ends too early.
+    #[error("another token is expected at byte {byte}")]
+    Expected { byte: u32 },
+    /// A number has a leading zero or is above 10^18.
+    #[error("a number with a leading zero or above 10^18 at byte {byte}")]
+    Number { byte: u32 },
+    /// An interval has its first bound above its second.
+    #[error("an empty interval at byte {byte}")]
+    EmptyInterval { byte: u32 },
+    /// The formula is higher than 200.
+    #[error("a formula higher than 200")]
+    TooDeep { byte: u32 },
+    /// The formula ends before the token here.
+    #[error("the formula ends before byte {byte}")]
+    Trailing { byte: u32 },
+    /// The text has no token.
+    #[error("no formula")]
+    Empty { byte: u32 },
     #[error("out of memory")]
     Memory,
 }
 
 impl FormulaFault {
-    /// Its number: 9, and 0 for want of memory.
+    /// Its number, from 1 to 7, and 0 for want of memory.
     pub fn number(&self) -> u8
         ensures number { result ≡ number_of self.now }
     {
         match self {
-            FormulaFault::NotYet => 9,
+            FormulaFault::Token { .. } => 1,
+            FormulaFault::Expected { .. } => 2,
+            FormulaFault::Number { .. } => 3,
+            FormulaFault::EmptyInterval { .. } => 4,
+            FormulaFault::TooDeep { .. } => 5,
+            FormulaFault::Trailing { .. } => 6,
+            FormulaFault::Empty { .. } => 7,
             FormulaFault::Memory => 0,
+        }
+    }
+
+    /// Its byte, from 0, and None for want of memory.
+    pub fn byte(&self) -> Option<u32>
+        ensures byte { result ≡ byte_of self.now }
+    {
+        match self {
+            FormulaFault::Token { byte }
+            | FormulaFault::Expected { byte }
+            | FormulaFault::Number { byte }
+            | FormulaFault::EmptyInterval { byte }
+            | FormulaFault::TooDeep { byte }
+            | FormulaFault::Trailing { byte }
+            | FormulaFault::Empty { byte } => Some(*byte),
+            FormulaFault::Memory => None,
         }
     }
 }
@@ -45,11 +85,33 @@ mod tests {
     #[test]
     fn faults_have_numbers_and_texts(rt: HostRuntime) -> Result<(), Fail> {
         let cases = [
+            (FormulaFault::Token { byte: 4 }, 1, "no token at byte 4"),
             (
-                FormulaFault::NotYet,
-                9,
-                "not a formula of propositions, `!`, `&` and parentheses",
+                FormulaFault::Expected { byte: 5 },
+                2,
+                "another token is expected at byte 5",
             ),
+            (
+                FormulaFault::Number { byte: 2 },
+                3,
+                "a number with a leading zero or above 10^18 at byte 2",
+            ),
+            (
+                FormulaFault::EmptyInterval { byte: 1 },
+                4,
+                "an empty interval at byte 1",
+            ),
+            (
+                FormulaFault::TooDeep { byte: 0 },
+                5,
+                "a formula higher than 200",
+            ),
+            (
+                FormulaFault::Trailing { byte: 4 },
+                6,
+                "the formula ends before byte 4",
+            ),
+            (FormulaFault::Empty { byte: 0 }, 7, "no formula"),
             (FormulaFault::Memory, 0, "out of memory"),
         ];
         for (fault, number, text) in cases {

@@ -1,11 +1,21 @@
-ghost use Rattle.mtl_parse.specs.Laws.{HostsStandBeforeDots, TextsAreUnambiguous};
+ghost use Rattle.mtl_parse.specs.Laws.{HostsStandBeforeDots, TextsAreUnambiguous, TextsHaveReadings, TokensAreUnambiguous};
 
-/// A text is at most one formula.
+/// A law: each text is a formula, or has a fault.
+pub fn texts_have_readings()
+    ensures { TextsHaveReadings }
+{}
+
+/// A law: a text is at most one formula or has at most one fault, and not both.
 pub fn texts_are_unambiguous()
     ensures { TextsAreUnambiguous }
 {}
 
-/// In the tokens of a formula those that a dot follows are the hosts of its propositions, in order.
+/// A law: tokens are at most one formula.
+pub fn tokens_are_unambiguous()
+    ensures { TokensAreUnambiguous }
+{}
+
+/// A law: in a formula's tokens the ones that a dot follows are the hosts of its propositions, in order.
 pub fn hosts_stand_before_dots()
     ensures { HostsStandBeforeDots }
 {}

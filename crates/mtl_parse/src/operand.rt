@@ -1,19 +1,22 @@
-ghost use Rattle.std.specs.Prelude.{◌≡◌, ◌<◌, ◌≤◌, IfOk, IsErrOf};
-ghost use Rattle.mt_model.specs.Form.{form_of, height_of, Not, And};
+ghost use Rattle.std.specs.Prelude.{◌≡◌, ◌<◌, ◌≤◌, ◌+◌, ◌↔◌, max, IfOk, IfSome, IsSome};
+ghost use Rattle.mt_model.specs.Form.{And, Implies, Not, Or, form_of, height_of};
+ghost use Rattle.mtl_parse.specs.Grammar.{before, between};
+ghost use Rattle.mtl_parse.specs.Machine.{capped};
+ghost use Rattle.mtl_parse.specs.States.{form_in, infix_in, prefix_in};
 
-use crate::FormulaFault;
-use mt_model::{MAX_HEIGHT, Tree};
+use crate::token::{Infix, Prefix};
+use mt_model::{Interval, MAX_HEIGHT, Tree};
 use std::alloc::{AllocError, Global};
 use std::marker::Model;
 
-/// A formula that was read, with its height, which is at most 200. Contracts see it as its tree.
+/// A formula of a height up to 200, with its height. Contracts see it as its tree.
 #[derive(Debug, Drop)]
-pub struct Operand {
+pub struct LowTree {
     tree: Tree,
     height: u32,
 }
 
-impl Model for Operand {
+impl Model for LowTree {
     ghost use Rattle.std.specs.Prelude.{◌≡◌, ◌≤◌};
     ghost use Rattle.std.specs.Coded.{codes};
     ghost use Rattle.mt_model.specs.Form.{form_of, height_of};
@@ -30,58 +33,202 @@ impl Model for Operand {
     ghost invariant = { λ o. (o.height ≡ height_of (form_of o.tree)) × (o.height ≤ MAX_HEIGHT) };
 }
 
+impl LowTree {
+    /// Its tree.
+    pub fn into_tree(self) -> Tree
+        ensures same { result ≡ self }
+        ensures height { height_of (form_of result) ≤ MAX_HEIGHT }
+    {
+        let LowTree { tree, height: _ } = self;
+        tree
+    }
+}
+
+/// A formula that was read. Of one that is higher than 200 nothing is kept.
+#[derive(Debug, Drop)]
+pub enum Operand {
+    Low(LowTree),
+    TooHigh,
+}
+
+// The only part of a new formula, with its height, which leaves room for one more.
+#[derive(Drop)]
+struct Part {
+    tree: Box<Tree>,
+    height: u32,
+}
+
+// The two parts of a new formula, with the height of the higher one, which leaves room for one more.
+#[derive(Drop)]
+struct Sides {
+    left: Box<Tree>,
+    right: Box<Tree>,
+    height: u32,
+}
+
 fn boxed(alloc: Global, tree: Tree) -> Result<Box<Tree>, AllocError>
     ensures { IfOk result (λ b. form_of b.value ≡ form_of tree) }
 {
     Ok(Box::new(alloc, tree)?)
 }
 
+#[tactic(auto, using(crate::proofs::Capping::tall_high))]
+fn part_of(alloc: Global, operand: Operand) -> Result<Option<Part>, AllocError>
+    ensures room { IfOk result (λ o. IsSome o ↔ (height_of (form_in operand) < MAX_HEIGHT)) }
+    ensures part { IfOk result (λ o. IfSome o (λ p. form_of p.tree.value ≡ form_in operand)) }
+    ensures height { IfOk result (λ o. IfSome o (λ p. p.height ≡ height_of (form_in operand))) }
+{
+    match operand {
+        Operand::TooHigh => Ok(None),
+        Operand::Low(low) => {
+            let LowTree { tree, height } = low;
+            if height >= MAX_HEIGHT {
+                return Ok(None);
+            }
+            Ok(Some(Part {
+                tree: boxed(alloc, tree)?,
+                height,
+            }))
+        }
+    }
+}
+
+fn low_sides(alloc: Global, left: LowTree, right: LowTree) -> Result<Option<Sides>, AllocError>
+    ensures room { IfOk result (λ o. IsSome o ↔ (max (height_of (form_of left)) (height_of (form_of right)) < MAX_HEIGHT)) }
+    ensures left { IfOk result (λ o. IfSome o (λ s. form_of s.left.value ≡ form_of left)) }
+    ensures right { IfOk result (λ o. IfSome o (λ s. form_of s.right.value ≡ form_of right)) }
+    ensures height { IfOk result (λ o. IfSome o (λ s. s.height ≡ max (height_of (form_of left)) (height_of (form_of right)))) }
+{
+    let height = left.height.max(right.height);
+    if height >= MAX_HEIGHT {
+        return Ok(None);
+    }
+    Ok(Some(Sides {
+        left: boxed(alloc, left.into_tree())?,
+        right: boxed(alloc, right.into_tree())?,
+        height,
+    }))
+}
+
+#[tactic(auto, using(crate::proofs::Capping::tall_high))]
+fn sides_of(alloc: Global, left: Operand, right: Operand) -> Result<Option<Sides>, AllocError>
+    ensures room { IfOk result (λ o. IsSome o ↔ (max (height_of (form_in left)) (height_of (form_in right)) < MAX_HEIGHT)) }
+    ensures left { IfOk result (λ o. IfSome o (λ s. form_of s.left.value ≡ form_in left)) }
+    ensures right { IfOk result (λ o. IfSome o (λ s. form_of s.right.value ≡ form_in right)) }
+    ensures height { IfOk result (λ o. IfSome o (λ s. s.height ≡ max (height_of (form_in left)) (height_of (form_in right)))) }
+{
+    match left {
+        Operand::TooHigh => Ok(None),
+        Operand::Low(left) => match right {
+            Operand::TooHigh => Ok(None),
+            Operand::Low(right) => low_sides(alloc, left, right),
+        },
+    }
+}
+
+fn before_tree(op: Prefix, interval: Interval, operand: Box<Tree>) -> Tree
+    ensures { form_of result ≡ before (prefix_in op) interval (form_of operand.value) }
+{
+    match op {
+        Prefix::Eventually => Tree::Eventually(interval, operand),
+        Prefix::Always => Tree::Always(interval, operand),
+        Prefix::Once => Tree::Once(interval, operand),
+        Prefix::Historically => Tree::Historically(interval, operand),
+    }
+}
+
+fn between_tree(op: Infix, interval: Interval, left: Box<Tree>, right: Box<Tree>) -> Tree
+    ensures { form_of result ≡ between (infix_in op) interval (form_of left.value) (form_of right.value) }
+{
+    match op {
+        Infix::Until => Tree::Until(interval, left, right),
+        Infix::Since => Tree::Since(interval, left, right),
+    }
+}
+
+fn low(tree: Tree, height: u32) -> Operand
+    requires same { height ≡ height_of (form_of tree) }
+    requires within { height ≤ MAX_HEIGHT }
+    ensures { form_in result ≡ form_of tree }
+{
+    Operand::Low(LowTree { tree, height })
+}
+
 impl Operand {
     /// A formula without parts.
     pub fn leaf(tree: Tree) -> Operand
         requires { height_of (form_of tree) ≡ 1 }
-        ensures { result ≡ tree }
+        ensures { form_in result ≡ form_of tree }
     {
-        Operand { tree, height: 1 }
+        low(tree, 1)
     }
 
-    /// The negation, unless it is too high.
-    pub fn negated(self, alloc: Global) -> Result<Operand, FormulaFault>
-        ensures ok { IfOk result (λ o. form_of o ≡ Not (form_of self)) }
-        ensures not_yet { IsErrOf result FormulaFault.NotYet → MAX_HEIGHT < height_of (Not (form_of self)) }
+    /// The negation.
+    pub fn negated(self, alloc: Global) -> Result<Operand, AllocError>
+        ensures ok { IfOk result (λ o. form_in o ≡ capped (Not (form_in self))) }
     {
-        let Operand { tree, height } = self;
-        if height >= MAX_HEIGHT {
-            return Err(FormulaFault::NotYet);
+        match part_of(alloc, self)? {
+            Some(part) => Ok(low(Tree::Not(part.tree), part.height + 1)),
+            None => Ok(Operand::TooHigh),
         }
-        Ok(Operand {
-            tree: Tree::Not(boxed(alloc, tree)?),
-            height: height + 1,
-        })
     }
 
-    /// The conjunction with what stands on its right, unless it is too high.
-    pub fn and(self, alloc: Global, right: Operand) -> Result<Operand, FormulaFault>
-        ensures ok { IfOk result (λ o. form_of o ≡ And (form_of self) (form_of right)) }
-        ensures not_yet { IsErrOf result FormulaFault.NotYet → MAX_HEIGHT < height_of (And (form_of self) (form_of right)) }
+    /// The formula that a letter makes of it.
+    pub fn timed(self, alloc: Global, op: Prefix, interval: Interval) -> Result<Operand, AllocError>
+        ensures ok { IfOk result (λ o. form_in o ≡ capped (before (prefix_in op) interval (form_in self))) }
     {
-        let Operand { tree, height } = self;
-        let height = height.max(right.height);
-        if height >= MAX_HEIGHT {
-            return Err(FormulaFault::NotYet);
+        match part_of(alloc, self)? {
+            Some(part) => Ok(low(before_tree(op, interval, part.tree), part.height + 1)),
+            None => Ok(Operand::TooHigh),
         }
-        Ok(Operand {
-            tree: Tree::And(boxed(alloc, tree)?, boxed(alloc, right.into_tree())?),
-            height: height + 1,
-        })
     }
 
-    /// Its tree.
-    pub fn into_tree(self) -> Tree
-        ensures same { result ≡ self }
-        ensures height { height_of (form_of result) ≤ MAX_HEIGHT }
+    /// The formula that a letter makes of it and what stands on its right.
+    pub fn timed_with(
+        self,
+        alloc: Global,
+        op: Infix,
+        interval: Interval,
+        right: Operand,
+    ) -> Result<Operand, AllocError>
+        ensures ok { IfOk result (λ o. form_in o ≡ capped (between (infix_in op) interval (form_in self) (form_in right))) }
     {
-        let Operand { tree, height: _ } = self;
-        tree
+        match sides_of(alloc, self, right)? {
+            Some(sides) => Ok(low(
+                between_tree(op, interval, sides.left, sides.right),
+                sides.height + 1,
+            )),
+            None => Ok(Operand::TooHigh),
+        }
+    }
+
+    /// The conjunction with what stands on its right.
+    pub fn and(self, alloc: Global, right: Operand) -> Result<Operand, AllocError>
+        ensures ok { IfOk result (λ o. form_in o ≡ capped (And (form_in self) (form_in right))) }
+    {
+        match sides_of(alloc, self, right)? {
+            Some(sides) => Ok(low(Tree::And(sides.left, sides.right), sides.height + 1)),
+            None => Ok(Operand::TooHigh),
+        }
+    }
+
+    /// The disjunction with what stands on its right.
+    pub fn or(self, alloc: Global, right: Operand) -> Result<Operand, AllocError>
+        ensures ok { IfOk result (λ o. form_in o ≡ capped (Or (form_in self) (form_in right))) }
+    {
+        match sides_of(alloc, self, right)? {
+            Some(sides) => Ok(low(Tree::Or(sides.left, sides.right), sides.height + 1)),
+            None => Ok(Operand::TooHigh),
+        }
+    }
+
+    /// The implication of what stands on its right.
+    pub fn implies(self, alloc: Global, right: Operand) -> Result<Operand, AllocError>
+        ensures ok { IfOk result (λ o. form_in o ≡ capped (Implies (form_in self) (form_in right))) }
+    {
+        match sides_of(alloc, self, right)? {
+            Some(sides) => Ok(low(Tree::Implies(sides.left, sides.right), sides.height + 1)),
+            None => Ok(Operand::TooHigh),
+        }
     }
 }

