@@ -1,0 +1,10 @@
+mod Equality
+mod Lookups
+mod GrowthLemmas
+mod FormLemmas
+mod CoreTruth
+mod TreeLists
+mod NodeLemmas
+mod TableLemmas
+mod Tables
+mod Steps

@@ -1,0 +1,41 @@
+use std::alloc::AllocError;
+use thiserror::Error;
+
+/// Why a formula has no node.
+#[derive(Clone, Copy, Debug, PartialEq, Eq, Error)]
+pub enum ArenaFault {
+    /// The arena would hold more than 512 nodes.
+    #[error("more than 512 nodes")]
+    TooManyNodes,
+    #[error("out of memory")]
+    Memory,
+}
+
+impl From<AllocError> for ArenaFault {
+    ghost use Rattle.std.specs.Prelude.{◌≡◌};
+    ghost use Rattle.formula_arena.specs.declared.fault.ArenaFault.TheVariants.{Memory};
+
+    ghost from_gives = { λ _ f. f ≡ Memory };
+
+    fn from(_: AllocError) -> Self {
+        ArenaFault::Memory
+    }
+}
+
+#[cfg(test)]
+mod tests {
+    use super::*;
+    use std::test::Fail;
+
+    #[test]
+    fn faults_have_texts(rt: HostRuntime) -> Result<(), Fail> {
+        let cases = [
+            (ArenaFault::TooManyNodes, "more than 512 nodes"),
+            (ArenaFault::Memory, "out of memory"),
+        ];
+        for (fault, text) in cases {
+            assert_eq!(rt; format!(in rt.alloc(); "{fault}")?.as_str(), text);
+        }
+        Ok(())
+    }
+}

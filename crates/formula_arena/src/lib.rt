@@ -1,0 +1,12 @@
+//! The nodes of formulas of metric temporal logic: the distinct subtrees of their cores, each held once.
+#![tactic(auto)]
+
+mod arena;
+mod fault;
+mod laws;
+mod node;
+
+pub use arena::{Arena, MAX_NODES};
+pub use fault::ArenaFault;
+pub use laws::{cores_are_cores, nodes_are_subtrees, truth_of_core};
+pub use node::Core;

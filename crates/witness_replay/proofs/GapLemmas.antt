@@ -1,0 +1,124 @@
+-- The first gap of a side, and what it says of the rows up to a witness.
+use borrow.Author.Count.{below_more}
+use Rattle.std.proofs.Common.{◌≡◌, refl, ℕ, ◌+◌, ◌<◌, Bool, true, false, not, ◌&&◌, List, length, Option, Some, None, arith, ℤ, inl, inr}
+use Rattle.std.specs.Option.{option_map_or}
+use Rattle.std.specs.List.{list_any, range_with_len}
+use Rattle.std.proofs.lemmas.Int.{ints}
+use Rattle.std.proofs.lemmas.Bool.{and_from, and_parts, cases_Bool}
+use Rattle.mt_model.specs.Frame.{Frame, implies, reaches, span}
+use Rattle.mt_model.proofs.Members.{Among, any_same, same_bool, all_each, each_all}
+use Rattle.mt_model.proofs.PositionLemmas.{below, within_has}
+use Rattle.witness_replay.specs.declared.operators.Direction.{Direction}
+use Rattle.witness_replay.specs.declared.operators.Direction.TheVariants.{Ahead, Behind}
+use Rattle.witness_replay.specs.Columns.{IsFirstGap, is_gap}
+use Rattle.witness_replay.specs.Directions.{rows_from}
+
+-- the order of the rows, either way: of two one is not after the other, and it goes along
+either : (d : Direction) (t : List ℤ) (x y : ℕ) → (rows_from d t).not_after x y ≡ false → (rows_from d t).not_after y x ≡ true
+either Ahead t x y h = grind (arith, ints)
+either Behind t x y h = grind (arith, ints)
+
+along : (d : Direction) (t : List ℤ) (x y z : ℕ) → (rows_from d t).not_after x y ≡ true → (rows_from d t).not_after y z ≡ true → (rows_from d t).not_after x z ≡ true
+along Ahead t x y z h k = grind (arith, ints)
+along Behind t x y z h k = grind (arith, ints)
+
+pub points : (d : Direction) (t : List ℤ) → (rows_from d t).points ≡ range_with_len 0 (length t)
+points Ahead t = refl
+points Behind t = refl
+
+module _ (d : Direction) (t : List ℤ) (test : ℕ → Bool) (e : ℕ) where
+  abbrev F : Frame ℕ
+  F = rows_from d t
+
+  itself : (x : ℕ) → F.not_after x x ≡ true
+  itself x = elim (cases_Bool (F.not_after x x)) [
+    | inl is ↦ is
+    | inr fails ↦ either d t x x fails
+  ]
+
+  -- row n is a gap and not after the first gap among the rows below it: it is the first one
+  pub gap-new : (n : ℕ) (gap : Option ℕ) → IsFirstGap F test e n gap → is_gap F test e n ≡ true → option_map_or (λ g. F.not_after n g) gap true ≡ true → IsFirstGap F test e (n + 1) (Some n)
+  gap-new n None none here before = record {
+    within = omega arith;
+    gap = here;
+    first = below_more (λ m. is_gap F test e m ≡ true → F.not_after n m ≡ true) n (λ m less is. let no = none m less in absurd (cc)) (λ is. itself n);
+  }
+  gap-new n (Some g) some here before = record {
+    within = omega arith;
+    gap = here;
+    first = below_more (λ m. is_gap F test e m ≡ true → F.not_after n m ≡ true) n (λ m less is. along d t n g m before (some.first m less is)) (λ is. itself n);
+  }
+
+  -- any other row leaves it
+  pub gap-old : (n : ℕ) (gap : Option ℕ) → IsFirstGap F test e n gap → (is_gap F test e n ≡ true → option_map_or (λ g. F.not_after n g) gap true ≡ false) → IsFirstGap F test e (n + 1) gap
+  gap-old n None none fails = below_more (λ m. is_gap F test e m ≡ false) n none (elim (cases_Bool (is_gap F test e n)) [
+    | inl is ↦ let no = fails is in absurd (cc)
+    | inr is ↦ is
+  ])
+  gap-old n (Some g) some fails = record {
+    within = let low = some.within in omega arith;
+    gap = some.gap;
+    first = below_more (λ m. is_gap F test e m ≡ true → F.not_after g m ≡ true) n some.first (λ is. either d t n g (fails is));
+  }
+
+implies-then : (a b : Bool) → implies a b ≡ true → a ≡ true → b ≡ true
+implies-then true b h is = h
+implies-then false b h is = absurd (cc)
+
+implies-from : (a b : Bool) → (a ≡ true → b ≡ true) → implies a b ≡ true
+implies-from true b h = h refl
+implies-from false b h = refl
+
+not-true : (a : Bool) → not a ≡ true → a ≡ false
+not-true true h = absurd (cc)
+not-true false h = refl
+
+not-false : (a : Bool) → a ≡ false → not a ≡ true
+not-false true h = absurd (cc)
+not-false false h = refl
+
+-- the side holds from row e on up to row y exactly where y is not after the first gap
+module _ (d : Direction) (t : List ℤ) (test : ℕ → Bool) (e : ℕ) (gap : Option ℕ) (first : IsFirstGap (rows_from d t) test e (length t) gap) where
+  abbrev G : Frame ℕ
+  G = rows_from d t
+
+  among : (m : ℕ) → Among G.points m → m < length t
+  among m in_ = below (length t) m (rw (points d t) at in_)
+
+  at_row : (m : ℕ) → m < length t → Among G.points m
+  at_row m within = rw (points d t) (within_has (length t) m within)
+
+  spans-before : (y : ℕ) (g : Option ℕ) → IsFirstGap G test e (length t) g → span G test e y ≡ true → option_map_or (λ m. G.not_after y m) g true ≡ true
+  spans-before y None none spans = refl
+  spans-before y (Some g) some spans = elim (cases_Bool (G.not_after y g)) [
+    | inl is ↦ is
+    | inr fails ↦
+        let (from_here, broken) = and_parts (G.not_after e g) (not (test g)) some.gap in
+        let holds = implies-then (G.not_after e g && not (G.not_after y g)) (test g) (all_each _ G.points g spans (at_row g some.within)) (and_from (G.not_after e g) (not (G.not_after y g)) from_here (not-false (G.not_after y g) fails)) in
+        let no = not-true (test g) broken in absurd (cc)
+  ]
+
+  before-spans : (y : ℕ) (g : Option ℕ) → IsFirstGap G test e (length t) g → option_map_or (λ m. G.not_after y m) g true ≡ true → span G test e y ≡ true
+  before-spans y g is before = each_all _ G.points (λ z in_. implies-from (G.not_after e z && not (G.not_after y z)) (test z) (λ both.
+      let (from_here, less) = and_parts (G.not_after e z) (not (G.not_after y z)) both in
+      elim (cases_Bool (test z)) [
+        | inl holds ↦ holds
+        | inr fails ↦ absurd (no g is before z (among z in_) from_here (not-true (G.not_after y z) less) fails)
+      ]))
+    where
+      no : (g : Option ℕ) → IsFirstGap G test e (length t) g → option_map_or (λ m. G.not_after y m) g true ≡ true
+          → (z : ℕ) → z < length t → G.not_after e z ≡ true → G.not_after y z ≡ false → test z ≡ false → ⊥
+      no None none before z within from_here less fails =
+          let gap = and_from (G.not_after e z) (not (test z)) from_here (not-false (test z) fails) in
+          let none' = none z within in cc
+      no (Some g) some before z within from_here less fails =
+          let gap = and_from (G.not_after e z) (not (test z)) from_here (not-false (test z) fails) in
+          let more = along d t y g z before (some.first z within gap) in cc
+
+  span-gap : (y : ℕ) → option_map_or (λ m. G.not_after y m) gap true ≡ span G test e y
+  span-gap y = same_bool _ _ (before-spans y gap first) (spans-before y gap first)
+
+  -- some row from e on that is near and not after the first gap has the right side
+  pub reaches-gap : (near : ℕ → ℕ → Bool) (right : ℕ → Bool)
+      → list_any (λ y. G.not_after e y && (near e y && right y && option_map_or (λ m. G.not_after y m) gap true)) (range_with_len 0 (length t)) ≡ reaches G near test right e
+  reaches-gap near right = rw (← points d t) (any_same G.points G.points (λ y. y) (λ y in_. in_) (λ y in_. (y, in_, refl)) _ _ (λ y in_. rw (span-gap y) refl))

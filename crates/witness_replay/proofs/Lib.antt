@@ -1,0 +1,4 @@
+mod StateLemmas
+mod GapLemmas
+mod TableLemmas
+mod NodeCounts

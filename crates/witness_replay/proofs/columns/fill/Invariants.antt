@@ -1,0 +1,6 @@
+use Rattle.std.proofs.Common.{◌≡◌, ℕ, ◌<◌}
+use Rattle.witness_replay.specs.Columns.{value_at}
+use Rattle.witness_replay.proofs.columns.fill.Given as goal
+
+abbrev pub invariant-loop-e : goal.invariant-loop-e
+invariant-loop-e l = (k : ℕ) → k < l.e → value_at l.column k ≡ l.value

@@ -1,0 +1,12 @@
+pub mod Judged
+pub mod Directions
+pub mod Columns
+pub mod Tables
+pub use Rattle.mt_model.specs.Log
+pub use Rattle.mt_model.specs.Timing
+pub use Rattle.mt_model.specs.Bounds
+pub use Rattle.mt_model.specs.Form
+pub use Rattle.mt_model.specs.State
+pub use Rattle.mt_model.specs.Truth
+pub use Rattle.formula_arena.specs.Cores
+pub use Rattle.formula_arena.specs.Nodes

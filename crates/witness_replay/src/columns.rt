@@ -1,0 +1,84 @@
+//! Truth values for each row, in the order of the rows, from those of an operator's sides.
+
+ghost use Rattle.std.specs.Prelude.{◌≡◌, ◌&&◌, ℕ, not, length, All};
+ghost use Rattle.mt_model.specs.Log.{IsWithin};
+ghost use Rattle.mt_model.specs.State.{state_named, state as state_of};
+ghost use Rattle.mt_model.specs.Timing.{time_of};
+ghost use Rattle.mt_model.specs.declared.limits.TheConstants.{MAX_TIME};
+ghost use Rattle.witness_replay.specs.Columns.{IsColumn, reaches_from, value_at};
+
+use crate::operators::{Direction, reaches_at};
+use crate::states::state;
+use mt_model::{Interval, Log, Name};
+
+/// The same value at each row.
+pub fn fill(column: &mut [bool], value: bool)
+    ensures { IsColumn (length column.old) (λ e. value) column.new }
+{
+    for e in 0..column.len() {
+        column[e] = value;
+    }
+}
+
+fn fill_states_of(log: &Log, times: &[i128], host: usize, name: &Name, column: &mut [bool])
+    requires count { length times.now ≡ length log.now.rows }
+    requires room { length column.old ≡ length times.now }
+    ensures { IsColumn (length times.now) (λ e. state_of log.now times.now (time_of times.now e) host name.now) column.new }
+{
+    for e in 0..times.len() {
+        column[e] = state(log, times, times[e], host, name);
+    }
+}
+
+/// The state of a proposition at each row.
+pub fn fill_states(log: &Log, times: &[i128], host: &Name, name: &Name, column: &mut [bool])
+    requires count { length times.now ≡ length log.now.rows }
+    requires room { length column.old ≡ length times.now }
+    ensures { IsColumn (length times.now) (λ e. state_named log.now times.now (time_of times.now e) host.now name.now) column.new }
+{
+    match log.host_named(host) {
+        Some(host) => fill_states_of(log, times, host, name, column),
+        None => fill(column, false),
+    }
+}
+
+/// Where the side doesn't hold.
+pub fn fill_negation(side: &[bool], column: &mut [bool])
+    requires room { length column.old ≡ length side.now }
+    ensures { IsColumn (length side.now) (λ e. not (value_at side.now e)) column.new }
+{
+    for e in 0..side.len() {
+        column[e] = !side[e];
+    }
+}
+
+/// Where both sides hold.
+pub fn fill_conjunction(left: &[bool], right: &[bool], column: &mut [bool])
+    requires right_count { length right.now ≡ length left.now }
+    requires room { length column.old ≡ length left.now }
+    ensures { IsColumn (length left.now) (λ e. value_at left.now e && value_at right.now e) column.new }
+{
+    for e in 0..left.len() {
+        column[e] = left[e] && right[e];
+    }
+}
+
+/// Where an until holds, or a since where it looks behind.
+pub fn fill_reaches(
+    direction: Direction,
+    times: &[i128],
+    interval: &Interval,
+    left: &[bool],
+    right: &[bool],
+    column: &mut [bool],
+)
+    requires range { All (IsWithin MAX_TIME) times.now }
+    requires left_count { length left.now ≡ length times.now }
+    requires right_count { length right.now ≡ length times.now }
+    requires room { length column.old ≡ length times.now }
+    ensures { IsColumn (length times.now) (reaches_from direction times.now interval.now left.now right.now) column.new }
+{
+    for e in 0..times.len() {
+        column[e] = reaches_at(direction, times, interval, left, right, e);
+    }
+}

@@ -1,0 +1,128 @@
+//! The truth of each node of an arena at each row of a timing.
+//!
+//! The values stand in a table: node k has its column from place `k * rows` on, with one value for each
+//! row. Columns are filled in the order of the nodes, so those of a node's children are there before it.
+
+ghost use Rattle.std.specs.Prelude.{◌≡◌, ◌<◌, ◌≤◌, ◌+◌, ◌*◌, ℕ, ℤ, ◌≤ℤ◌, length, All};
+ghost use Rattle.mt_model.specs.Log.{IsWithin};
+ghost use Rattle.mt_model.specs.Timing.{time_of};
+ghost use Rattle.mt_model.specs.Truth.{truth, truth_of};
+ghost use Rattle.mt_model.specs.declared.limits.TheConstants.{MAX_TIME};
+ghost use Rattle.formula_arena.specs.Nodes.{tree_at};
+ghost use Rattle.witness_replay.specs.Columns.{IsColumn};
+ghost use Rattle.witness_replay.specs.Tables.{ColumnsAreTruths, column_at};
+
+use crate::columns::{fill, fill_conjunction, fill_negation, fill_reaches, fill_states};
+use crate::operators::Direction;
+use formula_arena::{Arena, Core};
+use mt_model::{Log, NodeId, truth_by_rows};
+
+// The column of a node.
+fn column(table: &[bool], rows: usize, node: NodeId) -> &[bool]
+    requires { node * rows + rows ≤ length table.now }
+    ensures { result.now ≡ column_at rows table.now node }
+{
+    let start = node.get() as usize * rows;
+    &table[start..start + rows]
+}
+
+// Fills the column of a node from those of the nodes before it.
+fn fill_node(
+    log: &Log,
+    arena: &Arena,
+    times: &[i128],
+    node: NodeId,
+    before: &[bool],
+    target: &mut [bool],
+)
+    requires count { length times.now ≡ length log.now.rows }
+    requires range { All (IsWithin MAX_TIME) times.now }
+    requires node_in { node < length arena.now }
+    requires before_room { length before.now ≡ node * length times.now }
+    requires room { length target.old ≡ length times.now }
+    requires before { ColumnsAreTruths log.now times.now arena.now node before.now }
+    ensures { IsColumn (length times.now) (λ e. truth_of log.now times.now e (tree_at arena.now node)) target.new }
+{
+    let rows = times.len();
+    match arena.node(node) {
+        Core::True => fill(target, true),
+        Core::Prop(prop) => {
+            let (host, name) = arena.prop(prop);
+            fill_states(log, times, host, name, target);
+        }
+        Core::Not(f) => fill_negation(column(before, rows, f), target),
+        Core::And(f, g) => {
+            fill_conjunction(column(before, rows, f), column(before, rows, g), target);
+        }
+        Core::Until(interval, f, g) => {
+            let (left, right) = (column(before, rows, f), column(before, rows, g));
+            fill_reaches(Direction::Ahead, times, &interval, left, right, target);
+        }
+        Core::Since(interval, f, g) => {
+            let (left, right) = (column(before, rows, f), column(before, rows, g));
+            fill_reaches(Direction::Behind, times, &interval, left, right, target);
+        }
+    }
+}
+
+// Fills the column of a node where those of the nodes before it are filled.
+fn fill_next(log: &Log, arena: &Arena, times: &[i128], node: NodeId, table: &mut [bool])
+    requires count { length times.now ≡ length log.now.rows }
+    requires range { All (IsWithin MAX_TIME) times.now }
+    requires node_in { node < length arena.now }
+    requires room { length table.old ≡ length arena.now * length times.now }
+    requires before { ColumnsAreTruths log.now times.now arena.now node table.old }
+    ensures { ColumnsAreTruths log.now times.now arena.now (node + 1) table.new }
+{
+    let rows = times.len();
+    let (before, rest) = table.split_at_mut(node.get() as usize * rows);
+    fill_node(log, arena, times, node, before, &mut rest[..rows]);
+}
+
+// Fills the table with the truth of each node at each row. What stands there before plays no part.
+fn evaluate(log: &Log, arena: &Arena, times: &[i128], table: &mut [bool])
+    requires count { length times.now ≡ length log.now.rows }
+    requires range { All (IsWithin MAX_TIME) times.now }
+    requires room { length table.old ≡ length arena.now * length times.now }
+    ensures { ColumnsAreTruths log.now times.now arena.now (length arena.now) table.new }
+{
+    for k in 0..arena.len() {
+        fill_next(log, arena, times, NodeId::new(k), table);
+    }
+}
+
+// A row of least time.
+fn first_row(times: &[i128]) -> usize
+    requires { 0 < length times.now }
+    ensures within { result < length times.now }
+    ensures least { (e : ℕ) → e < length times.now → time_of times.now result ≤ℤ time_of times.now e }
+{
+    let mut first = 0;
+    for e in 1..times.len() {
+        if times[e] < times[first] {
+            first = e;
+        }
+    }
+    first
+}
+
+/// The truth of a node at the first position of a timing. The table has room for a value of each node at each
+/// row, and what stands there before plays no part.
+pub fn truth_at_first(
+    log: &Log,
+    arena: &Arena,
+    node: NodeId,
+    times: &[i128],
+    table: &mut [bool],
+) -> bool
+    requires count { length times.now ≡ length log.now.rows }
+    requires range { All (IsWithin MAX_TIME) times.now }
+    requires node_in { node < length arena.now }
+    requires room { length table.old ≡ length arena.now * length times.now }
+    ensures { result ≡ truth log.now times.now 0 (tree_at arena.now node) }
+{
+    truth_by_rows();
+    prove!(!log.rows().is_empty());
+    evaluate(log, arena, times, table);
+    table[node.get() as usize * times.len() + first_row(times)]
+}

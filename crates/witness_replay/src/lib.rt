@@ -1,0 +1,14 @@
+//! Whether a log admits a timing and whether a formula of metric temporal logic (Koymans 1990) is true
+//! in it, told from the definitions, in memory that is taken beforehand.
+#![tactic(auto)]
+
+mod columns;
+mod evaluator;
+mod operators;
+mod replayer;
+mod states;
+
+pub use replayer::Replayer;
+
+#[cfg(test)]
+mod tests;
