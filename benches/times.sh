@@ -1,6 +1,6 @@
 #!/usr/bin/env bash
-# Prints how long the built program takes on logs of 8 to 64 rows and on files of 1 MiB, how long the
-# differences of a log take, and the solver on 1,024 nodes.
+# Prints how long the built program takes on logs of 8 to 64 rows, on files of 1 MiB and on long and
+# nested formulas, how long the differences of a log take, and the solver on 1,024 nodes.
 # Each time is the least of several runs, in milliseconds, start of the process included.
 cd "$(dirname "$0")/.." || exit 2
 runs=${1:-20}
@@ -56,6 +56,33 @@ printf '\n%-28s %12s  %s\n' "times of 1 MiB" "milliseconds" "answer"
 for kind in rows blank; do
   taken=$(least "$folder/$kind" ./crates/skewcheck/out/skewcheck times -)
   printf '%-28s %12s  %s\n' "$kind" "$taken" "$(head -n 1 "$folder/answer")"
+done
+
+# Formulas of the most bytes, of the most nodes, and of one part that occurs often, on 64 rows.
+repeated() { head -c "$2" /dev/zero | tr '\0' "$1"; }
+conjunctions() { # of $1 untils, as a tree
+  awk -v count="$1" 'function tree(low, high, middle) {
+    if (low == high) return "(a.p U[" low % 7 "," low + 5 "] !a.p)"
+    middle = int((low + high) / 2)
+    return "(" tree(low, middle) " & " tree(middle + 1, high) ")"
+  } BEGIN { print tree(1, count) }'
+}
+shared() { # a conjunction of itself, $1 times over
+  awk -v count="$1" 'BEGIN { f = "F[0,5] a.p"; for (i = 0; i < count; i++) f = "(" f " & " f ")"; print f }'
+}
+{ repeated '(' 32000; printf true; repeated ')' 32000; } >"$folder/parentheses"
+{ repeated '!' 60000; printf true; } >"$folder/signs"
+conjunctions 252 >"$folder/untils"
+shared 12 >"$folder/shared"
+{
+  printf 'kind,host,time,name\nhost,a,0,1\n'
+  for ((row = 0; row < 64; row++)); do printf '%s,a,%d,p\n' "$((row % 2))" "$row"; done
+} | sed 's/^0,/clear,/; s/^1,/set,/' >"$folder/rows64"
+seq 0 63 >"$folder/times64"
+printf '\n%-28s %12s  %s\n' "replay on 64 rows" "milliseconds" "answer"
+for formula in parentheses signs untils shared; do
+  taken=$(least /dev/null ./crates/skewcheck/out/skewcheck replay "$folder/$formula" "$folder/rows64" "$folder/times64")
+  printf '%-28s %12s  %s\n' "$formula, $(wc -c <"$folder/$formula") bytes" "$taken" "$(head -n 1 "$folder/answer")"
 done
 
 # A benchmark program, built where it isn't; what the build says is shown only where it fails.

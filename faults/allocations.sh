@@ -46,6 +46,8 @@ try examples/request.times replay $formula $log -
 try /dev/null replay $formula $log $log
 try /dev/null replay $formula examples/skewed.csv examples/request.times
 try /dev/null replay README.md $log examples/request.times
+try /dev/null replay examples/deadline.formula examples/skewed.csv examples/late.times
+try /dev/null replay examples/deadline.formula $log examples/request.times
 try /dev/null times -
 try README.md times -
 try /dev/null times -x

@@ -7,6 +7,8 @@ use Rattle.mt_model.specs.Log.{Logged}
 use Rattle.mt_model.specs.State.{unknown_host}
 use Rattle.mt_port.specs.Port.{Files, file_of}
 use Rattle.log_read.specs.LogOf.{log_of}
+use Rattle.formula_arena.specs.Nodes.{nodes_of}
+use Rattle.formula_arena.specs.declared.arena.TheConstants.{MAX_NODES}
 use Rattle.mtl_parse.specs.Places.{host_byte}
 use Rattle.skew_cli.specs.declared.limits.TheConstants.{FORMULA_LIMIT, LOG_LIMIT, TIMES_LIMIT}
 use Rattle.skew_cli.specs.declared.refusal.Named.{Named}
@@ -16,7 +18,7 @@ use Rattle.skew_cli.specs.declared.status.Status.{Status}
 use Rattle.skew_cli.specs.Outcome.{Agree, CommandOutcome, Ends, Outcome}
 use Rattle.skew_cli.specs.Refusals.{Refuses}
 use Rattle.skew_cli.specs.ReplayOutcome.{ReplayOfFormula, ReplayOfLog, ReplayOfTimes, ReplayOutcome}
-use Rattle.skew_cli.specs.Tests.{OnFile, OnFormula, OnLog, OnTimes}
+use Rattle.skew_cli.specs.Tests.{OnFile, OnFormula, OnLog, OnNodes, OnTimes}
 use Rattle.skew_cli.specs.TimesOutcome.{TimesOfLog, TimesOutcome}
 use Rattle.skew_cli.specs.OrderOutcome.{OrderOfLog, OrderOutcome}
 use Rattle.skew_cli.specs.Words.{Command, Order, Replay, Times, Word, command_of}
@@ -27,10 +29,6 @@ Ends-weaker D E old now s weaker ends = record {
   answer = λ is. let a = ends.answer is in (a.0, a.1, weaker a.0 s a.2);
   cut = λ is. let k = ends.cut is in (k.0, k.1, weaker k.0 k.1 k.2, k.3);
 }
-
-more-option : {X : Type 0} (o : Option X) (P : Type 0) (Q R : X → Type 0) → ((x : X) → Q x → R x) → MatchOption o P Q → MatchOption o P R
-more-option None P Q R more h = h
-more-option (Some x) P Q R more h = more x h
 
 more-none : {X : Type 0} (o : Option X) (P Q : Type 0) (R : X → Type 0) → (P → Q) → MatchOption o P R → MatchOption o Q R
 more-none None P Q R more h = more h
@@ -63,9 +61,11 @@ module _ (held files : Files) (agree : Agree held files) (out : List ℕ) (s : S
 
   same-of_log : (times : Word) (text : List ℕ) (f : Form) (l : Logged) → ReplayOfLog held times text f l out s → ReplayOfLog files times text f l out s
   same-of_log times text f l =
-      more-none (unknown_host l f) (OnFile held times TIMES_LIMIT named.Times (λ file. OnTimes file l (ReplayOfTimes l f)) out s) (OnFile files times TIMES_LIMIT named.Times (λ file. OnTimes file l (ReplayOfTimes l f)) out s)
+      let due = λ (among : Files). OnFile among times TIMES_LIMIT named.Times (λ file. OnTimes file l (ReplayOfTimes l f)) in
+      more-none (unknown_host l f) (OnNodes f (due held) out s) (OnNodes f (due files) out s)
       (λ number. IsSomeAnd (host_byte text number) (λ byte. Refuses (refusal.UnknownHost byte) out s))
-      (same-file times TIMES_LIMIT named.Times (λ file. OnTimes file l (ReplayOfTimes l f)) (λ file. OnTimes file l (ReplayOfTimes l f)) (λ file h. h))
+      (more-bool (nat_lt MAX_NODES (length (nodes_of f))) (Refuses refusal.Nodes out s) (due held out s) (due files out s)
+      (same-file times TIMES_LIMIT named.Times (λ file. OnTimes file l (ReplayOfTimes l f)) (λ file. OnTimes file l (ReplayOfTimes l f)) (λ file h. h)))
 
   same-of_formula : (log times : Word) (text : List ℕ) (f : Form) → ReplayOfFormula held log times text f out s → ReplayOfFormula files log times text f out s
   same-of_formula log times text f =
@@ -75,7 +75,7 @@ module _ (held files : Files) (agree : Agree held files) (out : List ℕ) (s : S
   same-replay : (formula log times : Word) → ReplayOutcome held formula log times out s → ReplayOutcome files formula log times out s
   same-replay formula log times =
       same-file formula FORMULA_LIMIT named.Formula (λ text. OnFormula text (ReplayOfFormula held log times text)) (λ text. OnFormula text (ReplayOfFormula files log times text))
-      (λ text h. (h.0, h.1, more-option h.0 (Refuses refusal.FormulaNotYet out s) (λ f. ReplayOfFormula held log times text f out s) (λ f. ReplayOfFormula files log times text f out s) (same-of_formula log times text) h.2))
+      (λ text h. (h.0, h.1, more-result h.0 (λ f. ReplayOfFormula held log times text f out s) (λ f. ReplayOfFormula files log times text f out s) (λ fault. Refuses (refusal.Formula fault) out s) (same-of_formula log times text) h.2))
 
   same-command : (c : Command) → CommandOutcome c held out s → CommandOutcome c files out s
   same-command (Times log) = same-times log

@@ -1,5 +1,5 @@
 -- From what a command found to what its files ask for.
-use Rattle.std.proofs.Common.{◌≡◌, sym, refl, ℕ, ◌+◌, ◌<◌, ◌≤◌, Bool, true, false, cond, List, [], ◌∷◌, length, Option, Some, None, Ok, Err, arith, ℤ}
+use Rattle.std.proofs.Common.{◌≡◌, sym, subst, refl, ℕ, ◌+◌, ◌<◌, ◌≤◌, Bool, true, false, cond, List, [], ◌∷◌, length, Option, Some, None, Ok, Err, arith, ℤ}
 use Rattle.std.specs.List.{position_from}
 use Rattle.std.specs.Prelude.{IsSomeAnd, Result, nat_lt, string_bytes}
 use Rattle.std.specs.Bool.{MatchBool}
@@ -11,11 +11,13 @@ use Rattle.mt_port.specs.Port.{Files, file_of}
 use Rattle.mt_port.specs.Whole.{IsLonger}
 use Rattle.log_read.specs.declared.fault.LogFault.{LogFault}
 use Rattle.log_read.specs.LogOf.{log_of}
-use Rattle.mtl_parse.specs.FormulaOf.{IsText}
+use Rattle.formula_arena.specs.Nodes.{nodes_of}
+use Rattle.formula_arena.specs.declared.arena.TheConstants.{MAX_NODES}
+use Rattle.mtl_parse.specs.FormulaOf.{FormulaOf}
 use Rattle.times_read.specs.declared.fault.TimesFault.{TimesFault}
 use Rattle.times_read.specs.declared.fault.TimesFault.TheVariants as times
 use Rattle.times_read.specs.TimesOf.{times_of}
-use Rattle.skew_cli.specs.declared.limits.TheConstants.{LOG_LIMIT}
+use Rattle.skew_cli.specs.declared.limits.TheConstants.{LOG_LIMIT, TIMES_LIMIT}
 use Rattle.skew_cli.specs.declared.refusal.Named.{Named}
 use Rattle.skew_cli.specs.declared.refusal.Named.TheVariants as named
 use Rattle.skew_cli.specs.declared.refusal.Refusal.{Refusal}
@@ -25,8 +27,9 @@ use Rattle.skew_cli.specs.declared.reply.Stop.{Stop}
 use Rattle.skew_cli.specs.declared.reply.Stop.TheVariants as stop
 use Rattle.skew_cli.specs.declared.status.Status.{Status}
 use Rattle.skew_cli.specs.Refusals.{Refuses, status_of, text_of}
-use Rattle.skew_cli.specs.Stops.{Gives, HasReason, NamesHost, TellsFault, TellsLogFault}
-use Rattle.skew_cli.specs.Tests.{OnFile, OnFormula, OnHosts, OnLog, OnTimes}
+use Rattle.skew_cli.specs.ReplayOutcome.{ReplayOfLog, ReplayOfTimes}
+use Rattle.skew_cli.specs.Stops.{Gives, HasReason, NamesHost, TellsFault, TellsFormulaFault, TellsLogFault}
+use Rattle.skew_cli.specs.Tests.{OnFile, OnFormula, OnHosts, OnLog, OnNodes, OnTimes}
 use Rattle.skew_cli.specs.Texts.{line}
 use Rattle.skew_cli.specs.Words.{Word}
 
@@ -52,11 +55,11 @@ module _ (files : Files) (name : Word) (limit : ℕ) (named : Named) (next : Lis
   file-read bytes out s is within h = let less : nat_lt limit (length bytes) ≡ false = grind (arith, nat_tests) in rw (is, less) h
 
 module _ (text : List ℕ) (next : Form → List ℕ → Status → Type 0) where
-  pub formula-refused : (r : Refusal) → (r ≡ refusal.FormulaNotYet) × ((f : Form) → IsText text f → ⊥) → At (OnFormula text next) r
-  formula-refused r h = (None, h.1, rw h.0 (refl, refl))
+  pub formula-refused : (r : Refusal) → TellsFormulaFault text r → At (OnFormula text next) r
+  formula-refused r h = (Err h.fault, h.found, rw h.told (refl, refl))
 
-  pub formula-read : (f : Form) (out : List ℕ) (s : Status) → IsText text f → next f out s → OnFormula text next out s
-  formula-read f out s is h = (Some f, is, h)
+  pub formula-read : (f : Form) (out : List ℕ) (s : Status) → FormulaOf text (Ok f) → next f out s → OnFormula text next out s
+  formula-read f out s is h = (Ok f, is, h)
 
 module _ (file : List ℕ) (next : Logged → List ℕ → Status → Type 0) where
   pub log-refused : (r : Refusal) → TellsLogFault (log_of file) r → At (OnLog file next) r
@@ -83,6 +86,13 @@ module _ (text : List ℕ) (f : Form) (log : Logged) (next : List ℕ → Status
   pub hosts-known : (out : List ℕ) (s : Status) → unknown_host log f ≡ None → next out s → OnHosts text f log next out s
   hosts-known out s none h = rw none h
 
+module _ (f : Form) (next : List ℕ → Status → Type 0) where
+  pub nodes-refused : (r : Refusal) → (r ≡ refusal.Nodes) × (MAX_NODES < length (nodes_of f)) → At (OnNodes f next) r
+  nodes-refused r h = let more : nat_lt MAX_NODES (length (nodes_of f)) ≡ true = grind (arith, nat_tests) in rw (more, h.0) (refl, refl)
+
+  pub nodes-few : (out : List ℕ) (s : Status) → length (nodes_of f) ≤ MAX_NODES → next out s → OnNodes f next out s
+  nodes-few out s few h = let less : nat_lt MAX_NODES (length (nodes_of f)) ≡ false = grind (arith, nat_tests) in rw less h
+
 module _ (file : List ℕ) (log : Logged) (next : List ℤ → List ℕ → Status → Type 0) where
   pub times-refused : (r : Refusal) → TellsFault (times_of (length log.rows) file) r → At (OnTimes file log next) r
   times-refused r h = go (times_of (length log.rows) file) refl h
@@ -95,6 +105,26 @@ module _ (file : List ℕ) (log : Logged) (next : List ℤ → List ℕ → Stat
 
   pub times-read : (t : List ℤ) (out : List ℕ) (s : Status) → times_of (length log.rows) file ≡ Ok t → next t out s → OnTimes file log next out s
   times-read t out s is h = rw is h
+
+-- the file of times, which is read where the formula's hosts are known and its nodes are few
+module _ (held : Files) (times : Word) (text : List ℕ) (f : Form) (log : Logged) (known : unknown_host log f ≡ None) (few : length (nodes_of f) ≤ MAX_NODES) where
+  times-reached : (out : List ℕ) (s : Status) → OnFile held times TIMES_LIMIT named.Times (λ file. OnTimes file log (ReplayOfTimes log f)) out s → ReplayOfLog held times text f log out s
+  times-reached out s h =
+      let next = OnFile held times TIMES_LIMIT named.Times (λ file. OnTimes file log (ReplayOfTimes log f)) in
+      hosts-known text f log (OnNodes f next) out s known (nodes-few f next out s few h)
+
+  pub times-too_long : (r : Refusal) → (r ≡ refusal.Length named.Times) × IsLonger (file_of held times) TIMES_LIMIT → At (ReplayOfLog held times text f log) r
+  times-too_long r why = times-reached (line (text_of r)) (status_of r) (file-refused held times TIMES_LIMIT named.Times (λ file. OnTimes file log (ReplayOfTimes log f)) r why)
+
+  pub times-faulty : (file bytes : List ℕ) → bytes ≡ file → file_of held times ≡ Some file → length file ≤ TIMES_LIMIT → (r : Refusal) → TellsFault (times_of (length log.rows) bytes) r → At (ReplayOfLog held times text f log) r
+  times-faulty file bytes same is within r told =
+      let told-of_file : TellsFault (times_of (length log.rows) file) r = subst (λ b. TellsFault (times_of (length log.rows) b) r) same told in
+      times-reached (line (text_of r)) (status_of r) (file-read held times TIMES_LIMIT named.Times (λ file. OnTimes file log (ReplayOfTimes log f)) file (line (text_of r)) (status_of r) is within (times-refused file log (ReplayOfTimes log f) r told-of_file))
+
+  pub times-given : (file bytes : List ℕ) (t : List ℤ) (out : List ℕ) (s : Status) → bytes ≡ file → file_of held times ≡ Some file → length file ≤ TIMES_LIMIT → times_of (length log.rows) bytes ≡ Ok t → ReplayOfTimes log f t out s → ReplayOfLog held times text f log out s
+  times-given file bytes t out s same is within reads h =
+      let reads-file : times_of (length log.rows) file ≡ Ok t = subst (λ b. times_of (length log.rows) b ≡ Ok t) same reads in
+      times-reached out s (file-read held times TIMES_LIMIT named.Times (λ file. OnTimes file log (ReplayOfTimes log f)) file out s is within (times-read file log (ReplayOfTimes log f) t out s reads-file h))
 
 -- a place that is found is in the list
 position_from-below : {X : Type 0} (test : X → Bool) (xs : List X) (i k : ℕ) → position_from test i xs ≡ Some k → k < i + length xs

@@ -5,6 +5,7 @@ use Rattle.skew_cli.specs.declared.words.Call.TheVariants as call
 use Rattle.skew_cli.specs.declared.operands.Operands.{Operands}
 use Rattle.skew_cli.specs.Words.{Command, Order, Replay, Times, Word}
 
+-- the command that a call is
 abbrev pub command_in : Call → Command
 command_in (call.Times log) = Times log.now
 command_in (call.Replay formula log times) = Replay formula.now log.now times.now

@@ -31,5 +31,6 @@ pub record Cyclic (log : Logged) (out : List ℕ) (s : Status) : Type 0 where
 abbrev pub OrderOfLog : Logged → List ℕ → Status → Type 0
 OrderOfLog log out s = Clocked log out s ⊎ Cyclic log out s
 
+-- what `order` gives
 abbrev pub OrderOutcome : Files → Word → List ℕ → Status → Type 0
 OrderOutcome files log = OnFile files log LOG_LIMIT named.Log (λ file. OnLog file OrderOfLog)

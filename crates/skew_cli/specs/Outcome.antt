@@ -26,14 +26,14 @@ abbrev pub Outcome : List Word → Files → List ℕ → Status → Type 0
 Outcome words files out s = MatchOption (command_of words) (Says (codes "refused words") status.Words out s) (λ command. CommandOutcome command files out s)
 
 -- the files that a command names are held
-abbrev pub Holds : Files → Command → Type 0
-Holds files (Times log) = IsSome (file_of files log)
-Holds files (Replay formula log times) = IsSome (file_of files formula) × IsSome (file_of files log) × IsSome (file_of files times)
-Holds files (Order log) = IsSome (file_of files log)
+abbrev pub HoldsFiles : Files → Command → Type 0
+HoldsFiles files (Times log) = IsSome (file_of files log)
+HoldsFiles files (Replay formula log times) = IsSome (file_of files formula) × IsSome (file_of files log) × IsSome (file_of files times)
+HoldsFiles files (Order log) = IsSome (file_of files log)
 
 -- the files that words name are held
 abbrev pub HoldsNamed : List Word → Files → Type 0
-HoldsNamed words files = MatchOption (command_of words) (Unit {0}) (Holds files)
+HoldsNamed words files = MatchOption (command_of words) (Unit {0}) (HoldsFiles files)
 
 -- other files that agree with those that are held
 abbrev pub Agree : Files → Files → Type 0

@@ -2,6 +2,7 @@
 use Rattle.std.specs.Prelude.{◌≡◌, ℕ, List, [], ◌++◌, codes, Option, Some, None}
 use Rattle.std.specs.Fmt.{decimal}
 use Rattle.log_read.specs.Faults.{number_of, record_of}
+use Rattle.mtl_parse.specs.Faults.{byte_of, number_of as formula_number_of}
 use Rattle.skew_cli.specs.declared.refusal.Named.{Named}
 use Rattle.skew_cli.specs.declared.refusal.Named.TheVariants as named
 use Rattle.skew_cli.specs.declared.refusal.Refusal.{Refusal}
@@ -10,6 +11,7 @@ use Rattle.skew_cli.specs.declared.status.Status.{Status}
 use Rattle.skew_cli.specs.declared.status.Status.TheVariants as status
 use Rattle.skew_cli.specs.Texts.{line}
 
+-- a file, as a refusal names it
 abbrev pub word_of : Named → List ℕ
 word_of named.Formula = codes "formula"
 word_of named.Log = codes "log"
@@ -20,21 +22,34 @@ abbrev pub record_text : Option ℕ → List ℕ
 record_text None = []
 record_text (Some place) = codes " at record " ++ decimal place
 
+-- where a formula has a fault: at a byte
+abbrev pub byte_text : Option ℕ → List ℕ
+byte_text None = []
+byte_text (Some byte) = codes " at byte " ++ decimal byte
+
+-- the line of a refusal
 abbrev pub text_of : Refusal → List ℕ
 text_of (refusal.Length file) = codes "refused length " ++ word_of file
-text_of refusal.FormulaNotYet = codes "refused formula 9"
+text_of (refusal.Formula fault) = codes "refused formula " ++ decimal (formula_number_of fault) ++ byte_text (byte_of fault)
 text_of (refusal.UnknownHost byte) = codes "refused formula 8 at byte " ++ decimal byte
 text_of (refusal.Log fault) = codes "refused log " ++ decimal (number_of fault) ++ record_text (record_of fault)
+text_of refusal.Nodes = codes "refused nodes above 512"
 text_of (refusal.TimesNumber number) = codes "refused times 1 at line " ++ decimal number
 text_of (refusal.TimesCount number) = codes "refused times 2 at line " ++ decimal number
 
+-- the status of a refusal
 abbrev pub status_of : Refusal → Status
 status_of (refusal.Length file) = status.TooLarge
-status_of refusal.FormulaNotYet = status.FormulaRefused
+status_of (refusal.Formula fault) = status.FormulaRefused
 status_of (refusal.UnknownHost byte) = status.FormulaRefused
 status_of (refusal.Log fault) = status.LogRefused
+status_of refusal.Nodes = status.TooLarge
 status_of (refusal.TimesNumber number) = status.TimesRefused
 status_of (refusal.TimesCount number) = status.TimesRefused
+
+-- the bytes are the one line of some refusal of this status
+abbrev pub IsRefusalOf : Status → List ℕ → Type 0
+IsRefusalOf s out = (r : Refusal) × (status_of r ≡ s) × (out ≡ line (text_of r))
 
 -- the bytes and the status of a refusal: its one line
 abbrev pub Refuses : Refusal → List ℕ → Status → Type 0

@@ -13,7 +13,7 @@ use Rattle.skew_cli.specs.declared.refusal.Named.TheVariants as named
 use Rattle.skew_cli.specs.declared.status.Status.{Status}
 use Rattle.skew_cli.specs.declared.status.Status.TheVariants as status
 use Rattle.skew_cli.specs.Texts.{line}
-use Rattle.skew_cli.specs.Tests.{OnFile, OnFormula, OnHosts, OnLog, OnTimes}
+use Rattle.skew_cli.specs.Tests.{OnFile, OnFormula, OnHosts, OnLog, OnNodes, OnTimes}
 use Rattle.skew_cli.specs.Words.{Word}
 
 -- the word of a truth value, and its status
@@ -39,16 +39,18 @@ pub record Broken (log : Logged) (t : List ℤ) (out : List ℕ) (s : Status) : 
   pub written : out ≡ line (codes "not admissible " ++ step_text (step_of bound))
   pub refused : s ≡ status.NotAdmissible
 
+-- with the times read: the truth where they are admissible, and else the first bound that they break
 abbrev pub ReplayOfTimes : Logged → Form → List ℤ → List ℕ → Status → Type 0
 ReplayOfTimes log f t out s = Valued log f t out s ⊎ Broken log t out s
 
--- with the formula and the log read: the formula's hosts, and then the file of times
+-- with the formula and the log read: the formula's hosts and its nodes, and then the file of times
 abbrev pub ReplayOfLog : Files → Word → List ℕ → Form → Logged → List ℕ → Status → Type 0
-ReplayOfLog files times text f log = OnHosts text f log (OnFile files times TIMES_LIMIT named.Times (λ file. OnTimes file log (ReplayOfTimes log f)))
+ReplayOfLog files times text f log = OnHosts text f log (OnNodes f (OnFile files times TIMES_LIMIT named.Times (λ file. OnTimes file log (ReplayOfTimes log f))))
 
 -- with the formula read: the log
 abbrev pub ReplayOfFormula : Files → Word → Word → List ℕ → Form → List ℕ → Status → Type 0
 ReplayOfFormula files log times text f = OnFile files log LOG_LIMIT named.Log (λ file. OnLog file (ReplayOfLog files times text f))
 
+-- what `replay` gives
 abbrev pub ReplayOutcome : Files → Word → Word → Word → List ℕ → Status → Type 0
 ReplayOutcome files formula log times = OnFile files formula FORMULA_LIMIT named.Formula (λ text. OnFormula text (ReplayOfFormula files log times text))

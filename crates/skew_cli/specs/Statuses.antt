@@ -21,6 +21,42 @@ code_of status.NoMemory = 70
 code_of status.ReadFailed = 74
 code_of status.WriteFailed = 75
 
+-- what a command found, which is no refusal
+abbrev pub IsVerdict : Status → Type 0
+IsVerdict status.Zero = Unit {0}
+IsVerdict status.One = Unit {0}
+IsVerdict status.Two = Unit {0}
+IsVerdict status.Inconsistent = Unit {0}
+IsVerdict status.Unknown = Unit {0}
+IsVerdict status.Rejected = Unit {0}
+IsVerdict status.NotAdmissible = Unit {0}
+IsVerdict status.Words = ⊥
+IsVerdict status.FormulaRefused = ⊥
+IsVerdict status.LogRefused = ⊥
+IsVerdict status.TooLarge = ⊥
+IsVerdict status.TimesRefused = ⊥
+IsVerdict status.NoMemory = ⊥
+IsVerdict status.ReadFailed = ⊥
+IsVerdict status.WriteFailed = ⊥
+
+-- a refusal of what the files hold
+abbrev pub IsRefusal : Status → Type 0
+IsRefusal status.Zero = ⊥
+IsRefusal status.One = ⊥
+IsRefusal status.Two = ⊥
+IsRefusal status.Inconsistent = ⊥
+IsRefusal status.Unknown = ⊥
+IsRefusal status.Rejected = ⊥
+IsRefusal status.NotAdmissible = ⊥
+IsRefusal status.Words = ⊥
+IsRefusal status.FormulaRefused = Unit {0}
+IsRefusal status.LogRefused = Unit {0}
+IsRefusal status.TooLarge = Unit {0}
+IsRefusal status.TimesRefused = Unit {0}
+IsRefusal status.NoMemory = ⊥
+IsRefusal status.ReadFailed = ⊥
+IsRefusal status.WriteFailed = ⊥
+
 -- an answer: neither want of memory nor a failure of a device
 abbrev pub IsAnswer : Status → Type 0
 IsAnswer status.Zero = Unit {0}

@@ -2,6 +2,9 @@
 use Rattle.std.specs.Prelude.{◌≡◌, ℕ, List, Option, Some, Result, Ok, Err, string_bytes, ℤ}
 use Rattle.mt_model.specs.Log.{Logged}
 use Rattle.log_read.specs.declared.fault.LogFault.{LogFault}
+use Rattle.mt_model.specs.Form.{Form}
+use Rattle.mtl_parse.specs.declared.fault.FormulaFault.{FormulaFault}
+use Rattle.mtl_parse.specs.FormulaOf.{FormulaOf}
 use Rattle.mtl_parse.specs.Places.{host_byte}
 use Rattle.times_read.specs.declared.fault.TimesFault.{TimesFault}
 use Rattle.times_read.specs.declared.fault.TimesFault.TheVariants as times
@@ -34,6 +37,12 @@ Gives Due (Err s) = HasReason s (λ r. Due (line (text_of r)) (status_of r))
 abbrev pub TellsLogFault : Result Logged LogFault → Refusal → Type 0
 TellsLogFault (Ok log) r = ⊥
 TellsLogFault (Err fault) r = r ≡ refusal.Log fault
+
+-- the refusal tells the fault that a formula's text has
+pub record TellsFormulaFault (text : List ℕ) (r : Refusal) : Type 0 where
+  pub fault : FormulaFault
+  pub found : FormulaOf text (Err fault)
+  pub told : r ≡ refusal.Formula fault
 
 -- the refusal tells the byte of the host of the proposition of a number
 pub record NamesHost (text : List ℕ) (number : Option ℕ) (r : Refusal) : Type 0 where

@@ -1,11 +1,14 @@
 -- The tests that a command makes of its files, each of which either refuses or goes on with what it found.
-use Rattle.std.specs.Prelude.{ℕ, List, length, nat_lt, Option, IsSomeAnd, MatchOption, MatchResult, ℤ}
+use Rattle.std.specs.Prelude.{ℕ, List, length, nat_lt, IsSomeAnd, MatchOption, MatchResult, Result, ℤ}
 use Rattle.std.specs.Bool.{MatchBool}
 use Rattle.mt_model.specs.Form.{Form}
 use Rattle.mt_model.specs.Log.{Logged}
 use Rattle.mt_model.specs.State.{unknown_host}
 use Rattle.mt_port.specs.Port.{Files, file_of}
+use Rattle.formula_arena.specs.Nodes.{nodes_of}
+use Rattle.formula_arena.specs.declared.arena.TheConstants.{MAX_NODES}
 use Rattle.log_read.specs.LogOf.{log_of}
+use Rattle.mtl_parse.specs.declared.fault.FormulaFault.{FormulaFault}
 use Rattle.mtl_parse.specs.FormulaOf.{FormulaOf}
 use Rattle.mtl_parse.specs.Places.{host_byte}
 use Rattle.times_read.specs.declared.fault.TimesFault.{TimesFault}
@@ -22,9 +25,9 @@ abbrev pub OnFile : Files → Word → ℕ → Named → (List ℕ → List ℕ 
 OnFile files name limit named next out s =
     IsSomeAnd (file_of files name) (λ file. MatchBool (nat_lt limit (length file)) (Refuses (refusal.Length named) out s) (next file out s))
 
--- a formula's text: refused where it is no formula
+-- a formula's text: refused at its fault
 abbrev pub OnFormula : List ℕ → (Form → List ℕ → Status → Type 0) → List ℕ → Status → Type 0
-OnFormula text next out s = (reading : Option Form) × FormulaOf text reading × MatchOption reading (Refuses refusal.FormulaNotYet out s) (λ f. next f out s)
+OnFormula text next out s = (reading : Result Form FormulaFault) × FormulaOf text reading × MatchResult reading (λ f. next f out s) (λ fault. Refuses (refusal.Formula fault) out s)
 
 -- a log's file: refused at its fault
 abbrev pub OnLog : List ℕ → (Logged → List ℕ → Status → Type 0) → List ℕ → Status → Type 0
@@ -34,6 +37,10 @@ OnLog file next out s = MatchResult (log_of file) (λ log. next log out s) (λ f
 abbrev pub OnHosts : List ℕ → Form → Logged → (List ℕ → Status → Type 0) → List ℕ → Status → Type 0
 OnHosts text f log next out s =
     MatchOption (unknown_host log f) (next out s) (λ number. IsSomeAnd (host_byte text number) (λ byte. Refuses (refusal.UnknownHost byte) out s))
+
+-- the distinct nodes of a formula: refused where there are more than the limit
+abbrev pub OnNodes : Form → (List ℕ → Status → Type 0) → List ℕ → Status → Type 0
+OnNodes f next out s = MatchBool (nat_lt MAX_NODES (length (nodes_of f))) (Refuses refusal.Nodes out s) (next out s)
 
 -- the refusal of a fault of a times file
 abbrev pub RefusesTimes : TimesFault → List ℕ → Status → Type 0

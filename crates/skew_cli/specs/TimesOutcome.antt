@@ -32,5 +32,6 @@ pub record Impossible (log : Logged) (out : List ℕ) (s : Status) : Type 0 wher
 abbrev pub TimesOfLog : Logged → List ℕ → Status → Type 0
 TimesOfLog log out s = Timed log out s ⊎ Impossible log out s
 
+-- what `times` gives
 abbrev pub TimesOutcome : Files → Word → List ℕ → Status → Type 0
 TimesOutcome files log = OnFile files log LOG_LIMIT named.Log (λ file. OnLog file TimesOfLog)

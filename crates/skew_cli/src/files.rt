@@ -1,26 +1,31 @@
 //! The tests that a command makes of its files, in their order.
 
 ghost use Rattle.std.specs.Prelude.{◌≡◌, ◌^◌, ◌<◌, ◌≤◌, ◌↔◌, true, None, Some, All, length, IfOk, OnOk, IsErrOf, IsSome, Ok};
-ghost use Rattle.mt_model.specs.Form.{Form, form_of};
+ghost use Rattle.mt_model.specs.Form.{form_of};
+ghost use Rattle.formula_arena.specs.Cores.{core_of};
+ghost use Rattle.formula_arena.specs.Nodes.{nodes_of};
+ghost use Rattle.formula_arena.specs.declared.arena.TheConstants.{MAX_NODES};
 ghost use Rattle.mt_model.specs.Log.{IsWithin};
 ghost use Rattle.mt_model.specs.State.{unknown_host};
 ghost use Rattle.mt_model.specs.declared.limits.TheConstants.{MAX_TIME};
 ghost use Rattle.mt_port.specs.Port.{Rose, file_of};
 ghost use Rattle.mt_port.specs.Whole.{IsLonger};
-ghost use Rattle.mtl_parse.specs.FormulaOf.{IsText};
+ghost use Rattle.mtl_parse.specs.FormulaOf.{FormulaOf};
 ghost use Rattle.mtl_parse.specs.Places.{host_byte};
 ghost use Rattle.times_read.specs.TimesOf.{times_of};
 ghost use Rattle.log_read.specs.LogOf.{log_of};
-ghost use Rattle.skew_cli.specs.Stops.{NamesHost, RefusesFor, TellsFault, TellsLogFault};
+ghost use Rattle.skew_cli.specs.Stops.{NamesHost, RefusesFor, TellsFault, TellsFormulaFault, TellsLogFault};
 
 use crate::refusal::{Named, Refusal};
 use crate::reply::Stop;
+use formula_arena::ArenaFault;
 use log_read::{LogFault, read_log};
 use mt_model::{Formula, Log, Times};
 use mt_port::{ReadFault, Shelf, read_all};
 use mtl_parse::{FormulaFault, parse_formula, place_of};
 use std::alloc::Global;
 use times_read::{TimesFault, read_times};
+use witness_replay::Replayer;
 
 /// Reads a file that a command names.
 pub fn file<S: Shelf>(
@@ -52,14 +57,14 @@ pub fn file<S: Shelf>(
 /// The formula that a text is.
 pub fn formula(alloc: Global, text: &[u8]) -> Result<Formula, Stop>
     requires { length text.now < 2 ^ 31 }
-    ensures formula { IfOk result (λ f. IsText text.now (form_of f)) }
+    ensures formula { IfOk result (λ f. FormulaOf text.now (Ok (form_of f))) }
     ensures read { IsErrOf result Stop.ReadFailed → ⊥ }
-    ensures refused { RefusesFor result (λ r. (r ≡ Refusal.FormulaNotYet) × ((f : Form) → IsText text.now f → ⊥)) }
+    ensures refused { RefusesFor result (TellsFormulaFault text.now) }
 {
     match parse_formula(alloc, text) {
         Ok(formula) => Ok(formula),
-        Err(FormulaFault::NotYet) => Err(Stop::Refused(Refusal::FormulaNotYet)),
         Err(FormulaFault::Memory) => Err(Stop::NoMemory),
+        Err(fault) => Err(Stop::Refused(Refusal::Formula(fault))),
     }
 }
 
@@ -80,7 +85,7 @@ pub fn log(alloc: Global, file: &[u8]) -> Result<Log, Stop>
 /// That the hosts of a formula, whose text this is, are in a log.
 pub fn known_hosts(text: &[u8], formula: &Formula, log: &Log) -> Result<(), Stop>
     requires short { length text.now < 2 ^ 31 }
-    requires reads { IsText text.now (form_of formula.now) }
+    requires reads { FormulaOf text.now (Ok (form_of formula.now)) }
     ensures known { OnOk result (unknown_host log.now (form_of formula.now) ≡ None) }
     ensures read { IsErrOf result Stop.ReadFailed → ⊥ }
     ensures refused { RefusesFor result (NamesHost text.now (unknown_host log.now (form_of formula.now))) }
@@ -91,6 +96,22 @@ pub fn known_hosts(text: &[u8], formula: &Formula, log: &Log) -> Result<(), Stop
     match place_of(text, number) {
         Some(byte) => Err(Stop::Refused(Refusal::UnknownHost { byte })),
         None => unreachable!(),
+    }
+}
+
+/// What judges timings of a log by a formula, whose hosts are in the log.
+pub fn replayer(alloc: Global, log: &Log, formula: &Formula) -> Result<Replayer, Stop>
+    requires { unknown_host log.now (form_of formula.now) ≡ None }
+    ensures log { IfOk result (λ r. r.log ≡ log.now) }
+    ensures core { IfOk result (λ r. r.core ≡ core_of (form_of formula.now)) }
+    ensures few { OnOk result (length (nodes_of (form_of formula.now)) ≤ MAX_NODES) }
+    ensures read { IsErrOf result Stop.ReadFailed → ⊥ }
+    ensures refused { RefusesFor result (λ r. (r ≡ Refusal.Nodes) × (MAX_NODES < length (nodes_of (form_of formula.now)))) }
+{
+    match Replayer::new(alloc, log, formula) {
+        Ok(replayer) => Ok(replayer),
+        Err(ArenaFault::TooManyNodes) => Err(Stop::Refused(Refusal::Nodes)),
+        Err(ArenaFault::Memory) => Err(Stop::NoMemory),
     }
 }
 

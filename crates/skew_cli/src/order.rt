@@ -1,7 +1,7 @@
 ghost use Rattle.std.specs.Prelude.{◌≡◌, ◌≤◌, true, IfOk, IsErrOf, IsSome, string_bytes};
 ghost use Rattle.mt_port.specs.Port.{Rose, file_of};
 ghost use Rattle.skew_cli.specs.OrderOutcome.{OrderOfLog, OrderOutcome};
-ghost use Rattle.skew_cli.specs.Statuses.{IsAnswer};
+ghost use Rattle.skew_cli.specs.Statuses.{IsVerdict};
 ghost use Rattle.skew_cli.specs.Stops.{Gives};
 
 use crate::files;
@@ -18,8 +18,7 @@ use std::alloc::{AllocError, Global};
 // What `order` answers for a log.
 fn order_of_log(alloc: Global, log: &Log) -> Result<Reply, AllocError>
     ensures outcome { IfOk result (λ r. OrderOfLog log.now (string_bytes r.text) r.status) }
-    ensures answer { IfOk result (λ r. IsAnswer r.status) }
-    ensures command { IfOk result (λ r. r.status ≡ Status.Words → ⊥) }
+    ensures verdict { IfOk result (λ r. IsVerdict r.status) }
 {
     match Order::build(alloc, log) {
         Ok(order) => Ok(Reply {
@@ -37,8 +36,7 @@ fn order_of_log(alloc: Global, log: &Log) -> Result<Reply, AllocError>
 /// What `order` answers for the log of a name.
 pub fn order<S: Shelf>(alloc: Global, shelf: &mut S, log: &str) -> Result<Reply, Stop>
     ensures outcome { S.tells shelf.old ≡ true → Gives (OrderOutcome (S.files shelf.old) log.now) result }
-    ensures answer { IfOk result (λ r. IsAnswer r.status) }
-    ensures command { IfOk result (λ r. r.status ≡ Status.Words → ⊥) }
+    ensures verdict { IfOk result (λ r. IsVerdict r.status) }
     ensures failed { IsErrOf result Stop.ReadFailed → Rose (S.faults shelf.old) (S.faults shelf.new) }
     ensures never { S.steady shelf.old → S.tells shelf.old ≡ true → IsSome (file_of (S.files shelf.old) log.now) → IsErrOf result Stop.ReadFailed → ⊥ }
     ensures later { S.faults shelf.old ≤ S.faults shelf.new }

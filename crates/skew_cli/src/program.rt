@@ -1,8 +1,9 @@
-ghost use Rattle.std.specs.Prelude.{◌≡◌, ◌⊎◌, ◌++◌, ◌≤◌, true, None, IfOk, IfErr, IsErrOf, codes, map, string_bytes};
+ghost use Rattle.std.specs.Prelude.{◌≡◌, ◌⊎◌, ◌++◌, ◌≤◌, ℕ, List, true, None, IfOk, IfErr, IsErrOf, codes, map, string_bytes};
 ghost use Rattle.mt_port.specs.Port.{Files, Rose};
 ghost use Rattle.skew_cli.specs.Called.{command_in};
-ghost use Rattle.skew_cli.specs.Outcome.{Agree, CommandOutcome, Ends, Holds, HoldsNamed, Outcome};
-ghost use Rattle.skew_cli.specs.Statuses.{IsAnswer};
+ghost use Rattle.skew_cli.specs.Outcome.{Agree, CommandOutcome, Ends, HoldsFiles, HoldsNamed, Outcome};
+ghost use Rattle.skew_cli.specs.Statuses.{IsAnswer, IsRefusal, IsVerdict};
+ghost use Rattle.skew_cli.specs.Refusals.{IsRefusalOf};
 ghost use Rattle.skew_cli.specs.Stops.{Gives, HasReason};
 ghost use Rattle.skew_cli.specs.Texts.{line};
 ghost use Rattle.skew_cli.specs.Words.{command_of};
@@ -33,10 +34,9 @@ fn finish<K: Sink>(out: &mut K, text: &str, status: Status) -> Status
 // What a command gives, before anything is written.
 fn work<S: Shelf>(alloc: Global, shelf: &mut S, call: Call<'_>) -> Result<Reply, Stop>
     ensures outcome { S.tells shelf.old ≡ true → Gives (CommandOutcome (command_in call.entry) (S.files shelf.old)) result }
-    ensures answer { IfOk result (λ r. IsAnswer r.status) }
-    ensures command { IfOk result (λ r. r.status ≡ Status.Words → ⊥) }
+    ensures verdict { IfOk result (λ r. IsVerdict r.status) }
     ensures failed { IsErrOf result Stop.ReadFailed → Rose (S.faults shelf.old) (S.faults shelf.new) }
-    ensures never { S.steady shelf.old → S.tells shelf.old ≡ true → Holds (S.files shelf.old) (command_in call.entry) → IsErrOf result Stop.ReadFailed → ⊥ }
+    ensures never { S.steady shelf.old → S.tells shelf.old ≡ true → HoldsFiles (S.files shelf.old) (command_in call.entry) → IsErrOf result Stop.ReadFailed → ⊥ }
     ensures later { S.faults shelf.old ≤ S.faults shelf.new }
 {
     match call {
@@ -55,9 +55,10 @@ fn reply<S: Shelf>(alloc: Global, shelf: &mut S, call: Call<'_>) -> Result<Reply
     ensures outcome { IfOk result (λ r. S.tells shelf.old ≡ true → CommandOutcome (command_in call.entry) (S.files shelf.old) (string_bytes r.text) r.status) }
     ensures answer { IfOk result (λ r. IsAnswer r.status) }
     ensures command { IfOk result (λ r. r.status ≡ Status.Words → ⊥) }
+    ensures refused { IfOk result (λ r. IsRefusal r.status → IsRefusalOf r.status (string_bytes r.text)) }
     ensures stop { IfErr result (λ s. HasReason s (λ r. ⊥)) }
     ensures failed { IsErrOf result Stop.ReadFailed → Rose (S.faults shelf.old) (S.faults shelf.new) }
-    ensures never { S.steady shelf.old → S.tells shelf.old ≡ true → Holds (S.files shelf.old) (command_in call.entry) → IsErrOf result Stop.ReadFailed → ⊥ }
+    ensures never { S.steady shelf.old → S.tells shelf.old ≡ true → HoldsFiles (S.files shelf.old) (command_in call.entry) → IsErrOf result Stop.ReadFailed → ⊥ }
     ensures later { S.faults shelf.old ≤ S.faults shelf.new }
 {
     match work(alloc, shelf, call) {
@@ -86,6 +87,9 @@ pub fn run<S: Shelf, K: Sink>(
     ensures words { result ≡ Status.Words → command_of (map string_bytes words.now.items) ≡ None }
     ensures no_command { command_of (map string_bytes words.now.items) ≡ None → (result ≡ Status.Words) ⊎ (result ≡ Status.WriteFailed) }
     ensures refusal { result ≡ Status.Words → K.tells out.old ≡ true → K.bytes out.new ≡ K.bytes out.old ++ line (codes "refused words") }
+
+    // What is refused for what a file holds has its one line written, whatever the shelf tells.
+    ensures refused { K.tells out.old ≡ true → IsRefusal result → (line : List ℕ) × IsRefusalOf result line × (K.bytes out.new ≡ K.bytes out.old ++ line) }
 
     // A failure of a device is answered only where its count rose.
     ensures read { result ≡ Status.ReadFailed → Rose (S.faults shelf.old) (S.faults shelf.new) }

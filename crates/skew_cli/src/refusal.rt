@@ -6,6 +6,7 @@ ghost use Rattle.skew_cli.specs.Texts.{line};
 use crate::reply::Reply;
 use crate::status::Status;
 use log_read::LogFault;
+use mtl_parse::FormulaFault;
 use std::alloc::{AllocError, Global};
 use std::fmt;
 
@@ -22,12 +23,14 @@ pub enum Named {
 pub enum Refusal {
     /// The file is longer than its limit.
     Length(Named),
-    /// The formula has other tokens than the program reads so far, or is none.
-    FormulaNotYet,
+    /// The text of the formula has the fault.
+    Formula(FormulaFault),
     /// The host of a proposition, whose word begins at the byte, is not in the log.
     UnknownHost { byte: u32 },
     /// The log has the fault.
     Log(LogFault),
+    /// The formula has more than 512 distinct nodes.
+    Nodes,
     /// A line of the times file is no time.
     TimesNumber { line: u32 },
     /// The times file lacks the line, or has one too many.
@@ -58,7 +61,13 @@ impl fmt::Display for Refusal {
     fn fmt<W: fmt::Write>(&self, f: &mut fmt::Formatter<W>) -> fmt::Result {
         match self {
             Refusal::Length(named) => write!(f, "refused length {named}"),
-            Refusal::FormulaNotYet => f.write_str("refused formula 9"),
+            Refusal::Formula(fault) => {
+                let number = fault.number();
+                match fault.byte() {
+                    Some(byte) => write!(f, "refused formula {number} at byte {byte}"),
+                    None => write!(f, "refused formula {number}"),
+                }
+            }
             Refusal::UnknownHost { byte } => write!(f, "refused formula 8 at byte {byte}"),
             Refusal::Log(fault) => {
                 let number = fault.number();
@@ -67,6 +76,7 @@ impl fmt::Display for Refusal {
                     None => write!(f, "refused log {number}"),
                 }
             }
+            Refusal::Nodes => f.write_str("refused nodes above 512"),
             Refusal::TimesNumber { line } => write!(f, "refused times 1 at line {line}"),
             Refusal::TimesCount { line } => write!(f, "refused times 2 at line {line}"),
         }
@@ -81,8 +91,8 @@ impl Refusal {
         ensures command { result ≡ Status.Words → ⊥ }
     {
         match self {
-            Refusal::Length(_) => Status::TooLarge,
-            Refusal::FormulaNotYet | Refusal::UnknownHost { .. } => Status::FormulaRefused,
+            Refusal::Length(_) | Refusal::Nodes => Status::TooLarge,
+            Refusal::Formula(_) | Refusal::UnknownHost { .. } => Status::FormulaRefused,
             Refusal::Log(_) => Status::LogRefused,
             Refusal::TimesNumber { .. } | Refusal::TimesCount { .. } => Status::TimesRefused,
         }

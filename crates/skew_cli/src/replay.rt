@@ -1,11 +1,12 @@
 ghost use Rattle.std.specs.Prelude.{◌≡◌, ◌^◌, ◌<◌, ◌≤◌, true, length, All, IfOk, IsErrOf, IsSome, string_bytes};
-ghost use Rattle.mt_model.specs.Form.{form_of};
+ghost use Rattle.formula_arena.specs.Cores.{core_of};
+ghost use Rattle.mt_model.specs.Form.{Form, form_of};
 ghost use Rattle.mt_model.specs.Log.{IsWithin};
 ghost use Rattle.mt_model.specs.declared.limits.TheConstants.{MAX_TIME};
 ghost use Rattle.mt_port.specs.Port.{Rose, file_of};
-ghost use Rattle.mtl_parse.specs.FormulaOf.{IsText};
+ghost use Rattle.mtl_parse.specs.FormulaOf.{FormulaOf};
 ghost use Rattle.skew_cli.specs.ReplayOutcome.{ReplayOfFormula, ReplayOfLog, ReplayOfTimes, ReplayOutcome, value_status, value_text};
-ghost use Rattle.skew_cli.specs.Statuses.{IsAnswer};
+ghost use Rattle.skew_cli.specs.Statuses.{IsVerdict};
 ghost use Rattle.skew_cli.specs.Stops.{Gives};
 ghost use Rattle.skew_cli.specs.Texts.{line};
 
@@ -15,17 +16,16 @@ use crate::refusal::Named;
 use crate::reply::{Reply, Stop};
 use crate::status::Status;
 use crate::texts::written_bound;
-use mt_model::{Formula, Log, first_truth};
+use mt_model::{Formula, Log};
 use mt_port::Shelf;
-use skew_bounds::first_broken;
 use std::alloc::{AllocError, Global};
+use witness_replay::Replayer;
 
 // A truth value as a reply.
 fn value_reply(alloc: Global, value: bool) -> Result<Reply, AllocError>
     ensures text { IfOk result (λ r. string_bytes r.text ≡ line (value_text value)) }
     ensures status { IfOk result (λ r. r.status ≡ value_status value) }
-    ensures answer { IfOk result (λ r. IsAnswer r.status) }
-    ensures command { IfOk result (λ r. r.status ≡ Status.Words → ⊥) }
+    ensures verdict { IfOk result (λ r. IsVerdict r.status) }
 {
     if value {
         Ok(Reply {
@@ -40,28 +40,23 @@ fn value_reply(alloc: Global, value: bool) -> Result<Reply, AllocError>
     }
 }
 
-// What `replay` answers for a formula and a timing of a log.
+// What `replay` answers for a timing, once the formula and the log are known.
 fn replay_of_times(
     alloc: Global,
-    log: &Log,
-    formula: &Formula,
+    replayer: &mut Replayer,
     times: &[i128],
 ) -> Result<Reply, AllocError>
     requires range { All (IsWithin MAX_TIME) times.now }
-    requires count { length times.now ≡ length log.now.rows }
-    ensures outcome { IfOk result (λ r. ReplayOfTimes log.now (form_of formula.now) times.now (string_bytes r.text) r.status) }
-    ensures answer { IfOk result (λ r. IsAnswer r.status) }
-    ensures command { IfOk result (λ r. r.status ≡ Status.Words → ⊥) }
+    requires count { length times.now ≡ length replayer.old.log.rows }
+    ensures outcome { IfOk result (λ r. (f : Form) → core_of f ≡ replayer.old.core → ReplayOfTimes replayer.old.log f times.now (string_bytes r.text) r.status) }
+    ensures verdict { IfOk result (λ r. IsVerdict r.status) }
 {
-    match first_broken(alloc, log, times)? {
+    match replayer.broken(times) {
         Some(bound) => Ok(Reply {
             text: written_bound(alloc, bound)?,
             status: Status::NotAdmissible,
         }),
-        None => {
-            let value = first_truth(alloc, log, formula, times)?;
-            value_reply(alloc, value)
-        }
+        None => value_reply(alloc, replayer.truth(times)),
     }
 }
 
@@ -75,18 +70,18 @@ fn replay_of_log<S: Shelf>(
     times: &str,
 ) -> Result<Reply, Stop>
     requires short { length text.now < 2 ^ 31 }
-    requires reads { IsText text.now (form_of formula.now) }
+    requires reads { FormulaOf text.now (Ok (form_of formula.now)) }
     ensures outcome { S.tells shelf.old ≡ true → Gives (ReplayOfLog (S.files shelf.old) times.now text.now (form_of formula.now) log.now) result }
-    ensures answer { IfOk result (λ r. IsAnswer r.status) }
-    ensures command { IfOk result (λ r. r.status ≡ Status.Words → ⊥) }
+    ensures verdict { IfOk result (λ r. IsVerdict r.status) }
     ensures failed { IsErrOf result Stop.ReadFailed → Rose (S.faults shelf.old) (S.faults shelf.new) }
     ensures never { S.steady shelf.old → S.tells shelf.old ≡ true → IsSome (file_of (S.files shelf.old) times.now) → IsErrOf result Stop.ReadFailed → ⊥ }
     ensures later { S.faults shelf.old ≤ S.faults shelf.new }
 {
     files::known_hosts(text, formula, log)?;
+    let mut replayer = files::replayer(alloc, log, formula)?;
     let file = files::file(alloc, shelf, times, TIMES_LIMIT, Named::Times)?;
     let timing = files::timing(alloc, &file, log)?;
-    Ok(replay_of_times(alloc, log, formula, timing.as_slice())?)
+    Ok(replay_of_times(alloc, &mut replayer, timing.as_slice())?)
 }
 
 // What it answers for a formula and its text, and the log and the file of times of these names.
@@ -99,10 +94,9 @@ fn replay_of_formula<S: Shelf>(
     times: &str,
 ) -> Result<Reply, Stop>
     requires short { length text.now < 2 ^ 31 }
-    requires reads { IsText text.now (form_of formula.now) }
+    requires reads { FormulaOf text.now (Ok (form_of formula.now)) }
     ensures outcome { S.tells shelf.old ≡ true → Gives (ReplayOfFormula (S.files shelf.old) log.now times.now text.now (form_of formula.now)) result }
-    ensures answer { IfOk result (λ r. IsAnswer r.status) }
-    ensures command { IfOk result (λ r. r.status ≡ Status.Words → ⊥) }
+    ensures verdict { IfOk result (λ r. IsVerdict r.status) }
     ensures failed { IsErrOf result Stop.ReadFailed → Rose (S.faults shelf.old) (S.faults shelf.new) }
     ensures never { S.steady shelf.old → S.tells shelf.old ≡ true → IsSome (file_of (S.files shelf.old) log.now) → IsSome (file_of (S.files shelf.old) times.now) → IsErrOf result Stop.ReadFailed → ⊥ }
     ensures later { S.faults shelf.old ≤ S.faults shelf.new }
@@ -121,8 +115,7 @@ pub fn replay<S: Shelf>(
     times: &str,
 ) -> Result<Reply, Stop>
     ensures outcome { S.tells shelf.old ≡ true → Gives (ReplayOutcome (S.files shelf.old) formula.now log.now times.now) result }
-    ensures answer { IfOk result (λ r. IsAnswer r.status) }
-    ensures command { IfOk result (λ r. r.status ≡ Status.Words → ⊥) }
+    ensures verdict { IfOk result (λ r. IsVerdict r.status) }
     ensures failed { IsErrOf result Stop.ReadFailed → Rose (S.faults shelf.old) (S.faults shelf.new) }
     ensures never { S.steady shelf.old → S.tells shelf.old ≡ true → IsSome (file_of (S.files shelf.old) formula.now) → IsSome (file_of (S.files shelf.old) log.now) → IsSome (file_of (S.files shelf.old) times.now) → IsErrOf result Stop.ReadFailed → ⊥ }
     ensures later { S.faults shelf.old ≤ S.faults shelf.new }

@@ -1,6 +1,6 @@
 ghost use Rattle.std.specs.Prelude.{◌≡◌, ◌^◌, ◌<◌, ◌≤◌, true, length, IfOk, IsErrOf, IsSome, string_bytes};
 ghost use Rattle.mt_port.specs.Port.{Rose, file_of};
-ghost use Rattle.skew_cli.specs.Statuses.{IsAnswer};
+ghost use Rattle.skew_cli.specs.Statuses.{IsVerdict};
 ghost use Rattle.skew_cli.specs.Stops.{Gives};
 ghost use Rattle.skew_cli.specs.TimesOutcome.{TimesOfLog, TimesOutcome};
 
@@ -18,8 +18,7 @@ use std::alloc::{AllocError, Global};
 // What `times` answers for a log.
 fn times_of_log(alloc: Global, log: &Log) -> Result<Reply, AllocError>
     ensures outcome { IfOk result (λ r. TimesOfLog log.now (string_bytes r.text) r.status) }
-    ensures answer { IfOk result (λ r. IsAnswer r.status) }
-    ensures command { IfOk result (λ r. r.status ≡ Status.Words → ⊥) }
+    ensures verdict { IfOk result (λ r. IsVerdict r.status) }
 {
     conflict_excludes_timings();
     match settle(alloc, log)? {
@@ -43,8 +42,7 @@ fn times_of_log(alloc: Global, log: &Log) -> Result<Reply, AllocError>
 /// What `times` answers for the log of a name.
 pub fn times<S: Shelf>(alloc: Global, shelf: &mut S, log: &str) -> Result<Reply, Stop>
     ensures outcome { S.tells shelf.old ≡ true → Gives (TimesOutcome (S.files shelf.old) log.now) result }
-    ensures answer { IfOk result (λ r. IsAnswer r.status) }
-    ensures command { IfOk result (λ r. r.status ≡ Status.Words → ⊥) }
+    ensures verdict { IfOk result (λ r. IsVerdict r.status) }
     ensures failed { IsErrOf result Stop.ReadFailed → Rose (S.faults shelf.old) (S.faults shelf.new) }
     ensures never { S.steady shelf.old → S.tells shelf.old ≡ true → IsSome (file_of (S.files shelf.old) log.now) → IsErrOf result Stop.ReadFailed → ⊥ }
     ensures later { S.faults shelf.old ≤ S.faults shelf.new }

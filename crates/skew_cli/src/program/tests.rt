@@ -577,6 +577,7 @@ fn a_failed_write_leaves_the_beginning(rt: HostRuntime) -> Result<(), Fail> {
     Ok(())
 }
 
+mod language;
 mod order;
 mod replay;
 

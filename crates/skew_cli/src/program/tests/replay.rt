@@ -7,13 +7,13 @@ use std::test::Fail;
 const HEADER: &str = "kind,host,time,name\n";
 
 // Two rows of hosts whose clocks may be off by 2.
-const REQUEST: &str = "host,a,2,1\nhost,b,2,1\nset,a,10,req\nset,b,15,ack\n";
+pub const REQUEST: &str = "host,a,2,1\nhost,b,2,1\nset,a,10,req\nset,b,15,ack\n";
 
 // Two rows at one instant.
 const MEETING: &str = "host,a,0,0\nhost,b,0,0\nset,a,10,p\nset,b,10,q\n";
 
 // Fails where `replay` of a formula, a log under its header, and times answers otherwise.
-fn check(
+pub fn check(
     rt: &(impl Abort + AllocGlobal),
     formula: &str,
     log: &str,
@@ -116,14 +116,20 @@ fn files_are_tested_in_their_order(rt: HostRuntime) -> Result<(), Fail> {
     let times = Status::TimesRefused;
     let cases = [
         (
-            "a.req | b.ack",
+            "a.req b.ack",
             REQUEST,
             "10\n15",
-            "refused formula 9\n",
+            "refused formula 6 at byte 6\n",
             formula,
         ),
-        ("", REQUEST, "10\n15", "refused formula 9\n", formula),
-        ("c.req &", "", "x", "refused formula 9\n", formula),
+        (
+            "",
+            REQUEST,
+            "10\n15",
+            "refused formula 7 at byte 0\n",
+            formula,
+        ),
+        ("c.req &", "", "x", "refused formula 2 at byte 7\n", formula),
         ("c.req", "", "x", "refused log 11\n", Status::LogRefused),
         (
             "c.req",
@@ -193,7 +199,7 @@ fn signs(rt: &impl AllocGlobal, count: usize) -> Result<String, AllocError> {
 
 #[test]
 fn heights_and_lengths_have_limits(rt: HostRuntime) -> Result<(), Fail> {
-    let refused = "refused formula 9\n";
+    let refused = "refused formula 5 at byte 0\n";
     for (count, text, status) in [
         (199, "false\n", Status::One),
         (200, refused, Status::FormulaRefused),
