@@ -1,0 +1,134 @@
+"""Compares a built program with the reference, on fixed and on random cases.
+
+Run as: python3 compare.py PROGRAM [--cases N] [--seed S] [--only KIND]
+
+It stops at the first difference, prints that case in full and ends with 1.
+"""
+
+import argparse
+import os
+import random
+import subprocess
+import sys
+import tempfile
+from typing import NamedTuple
+
+sys.dont_write_bytecode = True  # leaves no compiled files beside the sources
+
+import cases
+import generate
+import judge
+
+PATIENCE = 60  # seconds that one run of the program may take
+
+
+class Outcome(NamedTuple):
+    status: int  # None where the program came to no end
+    output: bytes
+    errors: bytes
+
+
+def run_program(program, folder, words, files):
+    """Runs the program on real files, of which - is the standard input."""
+    named = {name: data for name, data in files.items() if name != "-"}
+    for name, data in named.items():
+        with open(os.path.join(folder, name), "wb") as file:
+            file.write(data)
+    given = files.get("-", b"")
+    try:
+        done = subprocess.run(
+            [program, *words], cwd=folder, input=given, capture_output=True, timeout=PATIENCE
+        )
+    except subprocess.TimeoutExpired:
+        return Outcome(None, b"", b"stopped by the comparison, as it came to no end")
+    finally:
+        for name in named:
+            os.unlink(os.path.join(folder, name))
+    return Outcome(done.returncode, done.stdout, done.stderr)
+
+
+def fixed_complaint(case, outcome):
+    """What is wrong with the answer to a fixed case, or nothing."""
+    if outcome.status != case.status or outcome.output not in case.outputs:
+        return "another answer is written out by hand"
+    return ""
+
+
+def fixed_expectation(case):
+    """The answers to a fixed case that are written out by hand."""
+    outputs = " or ".join(repr(output) for output in case.outputs)
+    return f"status {case.status}, output {outputs}"
+
+
+def print_difference(title, case, wanted, outcome, complaint):
+    """Prints a case in full, with what was expected and what came."""
+    print(f"difference: {title}: {complaint}")
+    print(f"words = {case.words!r}")
+    print("files = {")
+    for name, data in case.files.items():
+        print(f"    {name!r}: {data!r},")
+    print("}")
+    print(f"expected: {wanted}")
+    print(f"came: status {outcome.status}, output {outcome.output!r}")
+    if outcome.errors:
+        print(f"standard error: {outcome.errors!r}")
+
+
+def compare(program, folder, title, case, by_hand=False):
+    """Whether the program answers a case rightly; a difference is printed."""
+    outcome = run_program(program, folder, case.words, case.files)
+    complaint = fixed_complaint(case, outcome) if by_hand else ""
+    if not complaint:
+        complaint = judge.complaint(case.words, case.files, outcome.output, outcome.status)
+    if not complaint and outcome.errors:
+        complaint = "something is written to the standard error"
+    if complaint:
+        wanted = fixed_expectation(case) if by_hand else judge.expectation(case.words, case.files)
+        print_difference(title, case, wanted, outcome, complaint)
+    return not complaint
+
+
+def is_kind(case, only):
+    """Whether a fixed case is of the only kind that is wanted, if there is one."""
+    kind = case.words[0] if case.words else "times"
+    if case.status == 64:
+        kind = "words"
+    return only is None or kind == only
+
+
+def compare_all(program, count, seed, only):
+    """Whether the program answers all fixed and count random cases rightly."""
+    draw = random.Random(seed)
+    with tempfile.TemporaryDirectory() as folder:
+        for case in cases.fixed_cases():
+            title = f"fixed case, {case.title}"
+            if is_kind(case, only) and not compare(program, folder, title, case, by_hand=True):
+                return False
+        for place in range(count):
+            case = generate.random_case(draw, only)
+            if not compare(program, folder, f"random case {place} of seed {seed}", case):
+                return False
+    return True
+
+
+def read_arguments():
+    """The program and the options of the command line."""
+    parser = argparse.ArgumentParser(description="compare a built skewcheck with the reference")
+    parser.add_argument("program")
+    parser.add_argument("--cases", type=int, default=3000, help="number of random cases")
+    parser.add_argument("--seed", type=int, default=1)
+    parser.add_argument("--only", choices=list(generate.CASES), help="take cases of one kind alone")
+    return parser.parse_args()
+
+
+def main():
+    """Compares, and ends with 0 where there is no difference and with 1 where there is one."""
+    arguments = read_arguments()
+    program = os.path.abspath(arguments.program)
+    if not compare_all(program, arguments.cases, arguments.seed, arguments.only):
+        sys.exit(1)
+    print(f"{arguments.cases} cases, no difference")
+
+
+if __name__ == "__main__":
+    main()

@@ -1,0 +1,114 @@
+"""Says whether what the program wrote is a right answer.
+
+Most answers leave no choice and are compared byte for byte. A timing, and a
+list of steps or events that shows that there is none, may be any right one:
+these are checked by adding up.
+"""
+
+import reference
+
+
+def complaint(words, files, output, status):
+    """What is wrong with an answer, or nothing where it is right."""
+    wanted = reference.answer(words, files)
+    if isinstance(wanted, reference.Exact):
+        right = (status, output) == wanted
+        return "" if right else "another status or other bytes are expected"
+    if wanted.command == "order":
+        return cycle_complaint(wanted.log, output, status)
+    return times_complaint(wanted.log, output, status)
+
+
+def expectation(words, files):
+    """The right answer in words, for a reader."""
+    wanted = reference.answer(words, files)
+    if isinstance(wanted, reference.Exact):
+        return f"status {wanted.status}, output {wanted.output!r}"
+    if wanted.command == "order":
+        return "status 3, a cycle of events that are each directly before the next"
+    return "status 0 and an admissible timing, or status 3 and bounds that can't all hold"
+
+
+def lines_of(output):
+    """The lines of an output, or None where its last line isn't ended."""
+    *lines, last = output.split(b"\n")
+    return None if last else lines
+
+
+def whole_number(text):
+    """A number of any size that an answer may hold, or None."""
+    return reference.number(text, 10**40)
+
+
+def times_complaint(log, output, status):
+    """What is wrong with an answer of times, or nothing."""
+    lines = lines_of(output)
+    if lines is None:
+        return "the last line has no newline"
+    if status == 0:
+        return timing_complaint(log, lines)
+    if status == 3:
+        return steps_complaint(log, lines)
+    return "the status is neither 0 nor 3"
+
+
+def timing_complaint(log, lines):
+    """What is wrong with the lines of a timing, or nothing."""
+    times = [reference.signed_number(line, 10**40) for line in lines]
+    if None in times:
+        return f"line {times.index(None) + 1} isn't a signed number"
+    if len(times) != len(log.rows):
+        return f"there are {len(times)} times for {len(log.rows)} events"
+    broken = reference.first_broken(log, times)
+    if broken:
+        return f"the timing breaks {broken.kind.decode()} {broken.event}"
+    if not reference.admissible(log, times):
+        return "the timing isn't admissible"
+    return ""
+
+
+def counted_lines(lines, word):
+    """The lines after a first line of a word and their number, or None."""
+    first, *rest = lines or [b""]
+    given, blank, count = first.partition(b" ")
+    if given != word or not blank or whole_number(count) != len(rest):
+        return None
+    return rest or None
+
+
+def steps_complaint(log, lines):
+    """What is wrong with the steps that show that no timing is admissible, or nothing."""
+    texts = counted_lines(lines, b"inconsistent")
+    if texts is None:
+        return "the first line doesn't count the steps"
+    known = {b"%s %d" % (bound.kind, bound.event): bound for bound in reference.bounds(log)}
+    for text in texts:
+        if text not in known:
+            return f"{text!r} is no bound of the log"
+    steps = [known[text] for text in texts]
+    for step, following in zip(steps, steps[1:] + steps[:1]):
+        if step.end != following.start:
+            return "the steps are no closed walk"
+    if sum(step.most for step in steps) >= 0:
+        return "the sum of the steps isn't negative"
+    if len({step.start for step in steps}) < len(steps):
+        return "the walk visits a node twice"
+    return ""
+
+
+def cycle_complaint(log, output, status):
+    """What is wrong with a cycle of events, or nothing."""
+    if status != 3:
+        return "an event happens before itself, and the status isn't 3"
+    lines = lines_of(output)
+    texts = counted_lines(lines, b"cycle") if lines is not None else None
+    if texts is None:
+        return "the first line doesn't count the events"
+    events = [whole_number(text) for text in texts]
+    if any(event is None or event >= len(log.rows) for event in events):
+        return "a line isn't an event of the log"
+    pairs = reference.directly_before(log)
+    for pair in zip(events, events[1:] + events[:1]):
+        if pair not in pairs:
+            return f"event {pair[0]} isn't directly before event {pair[1]}"
+    return ""

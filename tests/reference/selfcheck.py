@@ -1,0 +1,420 @@
+"""Checks the reference against slower or different ways, without the program.
+
+Run as: python3 selfcheck.py [--seed S]
+"""
+
+import argparse
+import csv
+import functools
+import io
+import itertools
+import random
+import sys
+
+sys.dont_write_bytecode = True  # leaves no compiled files beside the sources
+
+import cases
+import generate
+import judge
+import reference
+
+
+def check(right, *what):
+    """Ends with an error that names what isn't right."""
+    if not right:
+        raise SystemExit(f"not right: {what!r}")
+
+
+def check_fixed_cases():
+    """The answers written out by hand are right by the judge, and no others of a few."""
+    for case in cases.fixed_cases():
+        for output in case.outputs:
+            found = judge.complaint(case.words, case.files, output, case.status)
+            check(not found, case, output, found)
+            for status, other in ((case.status ^ 1, output), (case.status, output + b"\n")):
+                check(judge.complaint(case.words, case.files, other, status), case, other)
+
+
+# The grammar as productions; what isn't a key is a token.
+GRAMMAR = {
+    "implies": [["or"], ["or", "->", "implies"]],
+    "or": [["and"], ["or", "|", "and"]],
+    "and": [["until"], ["and", "&", "until"]],
+    "until": [["unary"], ["unary", "U", "interval", "until"]],
+    "unary": [["!", "unary"], ["F", "interval", "unary"], ["atom"]],
+    "atom": [["true"], ["a", ".", "word"], ["(", "implies", ")"]],
+    "word": [["a"], ["true"], ["inf"]],
+    "interval": [[], ["[", "1", ",", "1", "]"], ["[", "1", ",", "inf", "]"]],
+}
+TOKENS = ["a", "true", "inf", "1", "(", ")", "[", "]", ",", ".", "!", "&", "|", "->", "U", "F"]
+
+
+def joined(firsts, lasts, longest):
+    """All lists of a first and a last part that aren't too long."""
+    short_enough = [[last for last in lasts if len(last) <= room] for room in range(longest + 1)]
+    return {first + last for first in firsts for last in short_enough[longest - len(first)]}
+
+
+def grown(words, starts, longest):
+    """The words and the beginnings of words after one more use of every production.
+
+    Each symbol of the grammar derives some word, so a beginning of a part is a
+    beginning of the whole.
+    """
+    new_words, new_starts = {}, {}
+    for symbol, productions in GRAMMAR.items():
+        new_words[symbol], new_starts[symbol] = set(), {()}
+        for production in productions:
+            done = {()}
+            for part in production:
+                new_starts[symbol] |= joined(done, starts.get(part, {(), (part,)}), longest)
+                done = joined(done, words.get(part, {(part,)}), longest)
+            new_words[symbol] |= done
+    return new_words, new_starts
+
+
+def words_and_starts(longest):
+    """All formulas, and all beginnings of formulas, of at most that many tokens."""
+    words = {symbol: set() for symbol in GRAMMAR}
+    starts = {symbol: set() for symbol in GRAMMAR}
+    while True:
+        following = grown(words, starts, longest)
+        if following == (words, starts):
+            return words["implies"], starts["implies"]
+        words, starts = following
+
+
+def fault_by_lists(tokens, formulas, starts):
+    """The grammar fault of tokens with one blank between, from the lists of beginnings."""
+    if not tokens:
+        return 7, 0
+    for place in range(len(tokens)):
+        if tokens[: place + 1] not in starts:
+            byte = sum(len(token) + 1 for token in tokens[:place])
+            return (6 if tokens[:place] in formulas else 2), byte
+    return None if tokens in formulas else (2, len(" ".join(tokens)))
+
+
+def fault_by_reference(tokens):
+    """The fault of tokens with one blank between, or None."""
+    found = reference.read_formula(" ".join(tokens).encode())
+    return tuple(found) if isinstance(found, reference.FormulaFault) else None
+
+
+def check_places():
+    """The places of faults in all short token lists, and in longer ones that begin well."""
+    formulas, starts = words_and_starts(7)
+    short = (tokens for count in range(6) for tokens in itertools.product(TOKENS, repeat=count))
+    longer = (start + (token,) for start in starts if 5 <= len(start) < 7 for token in TOKENS)
+    count = 0
+    for tokens in itertools.chain(short, longer):
+        wanted, found = fault_by_lists(tokens, formulas, starts), fault_by_reference(tokens)
+        check(wanted == found, tokens, wanted, found)
+        count += 1
+    print(f"{count} token lists, of them {len(formulas)} formulas")
+    return formulas
+
+
+def trees_by_spans(tokens):
+    """All trees that the grammar gives to tokens, each rule tried at every place."""
+
+    @functools.cache
+    def implies(start, end):
+        return either(start, end) + between("->", either, implies, start, end)
+
+    @functools.cache
+    def either(start, end):
+        return both(start, end) + between("|", either, both, start, end)
+
+    @functools.cache
+    def both(start, end):
+        return until(start, end) + between("&", both, until, start, end)
+
+    @functools.cache
+    def until(start, end):
+        found = unary(start, end)
+        for form in ("U", "S"):
+            for place in range(start, end):
+                if tokens[place] == form:
+                    for interval, after in intervals(place + 1):
+                        sides = itertools.product(unary(start, place), until(after, end))
+                        found = found + [(form, interval, *pair) for pair in sides]
+        return found
+
+    @functools.cache
+    def unary(start, end):
+        found = atom(start, end)
+        if start < end and tokens[start] == "!":
+            found = found + [("!", None, inner) for inner in unary(start + 1, end)]
+        if start < end and tokens[start] in ("F", "G", "O", "H"):
+            for interval, after in intervals(start + 1):
+                found = found + [(tokens[start], interval, inner) for inner in unary(after, end)]
+        return found
+
+    @functools.cache
+    def atom(start, end):
+        part = tokens[start:end]
+        if len(part) == 1 and part[0] in ("true", "false"):
+            return [(part[0], None)]
+        if len(part) == 3 and part[1] == ".":
+            return [("prop", part[0], part[2])]
+        if len(part) > 2 and part[0] == "(" and part[-1] == ")":
+            return implies(start + 1, end - 1)
+        return []
+
+    def between(form, left_side, right_side, start, end):
+        return [
+            (form, None, left, right)
+            for place in range(start, end)
+            if tokens[place] == form
+            for left in left_side(start, place)
+            for right in right_side(place + 1, end)
+        ]
+
+    def intervals(place):
+        found = [((0, None), place)]
+        if place + 4 < len(tokens) and tokens[place] == "[":
+            low, high = tokens[place + 1], tokens[place + 3]
+            found.append(((int(low), None if high == "inf" else int(high)), place + 5))
+        return found
+
+    return implies(0, len(tokens))
+
+
+def plain(tree):
+    """A tree of the reference as a tuple."""
+    if tree.form == "prop":
+        return "prop", tree.host.decode(), tree.name.decode()
+    return (tree.form, tree.interval, *(plain(child) for child in tree.children))
+
+
+def planned(tree):
+    """A tree of the generator as the same tuple."""
+    if tree[0] == "prop":
+        return "prop", tree[1].decode(), tree[2].decode()
+    timed = tree[0] in reference.TIMED
+    children = tree[2:] if timed else tree[1:]
+    return (tree[0], tree[1] if timed else None, *(planned(child) for child in children))
+
+
+def check_trees(draw, formulas):
+    """The trees of all short formulas and of random longer ones."""
+    for tokens in formulas:
+        found = plain(reference.read_formula(" ".join(tokens).encode()))
+        check(trees_by_spans(tokens) == [found], tokens, found)
+    for _ in range(1500):
+        log = generate.some_log(draw)
+        tree = generate.some_tree(draw, log, draw.randint(0, 6))
+        tokens = generate.tokens_of(draw, tree)
+        found = plain(reference.read_formula(generate.formula_text(draw, tokens)))
+        check(found == planned(tree), tokens, found)
+        if len(tokens) <= 40:
+            spelled = tuple(token.decode() for token in tokens)
+            check(trees_by_spans(spelled) == [found], tokens, found)
+
+
+def core(tree):
+    """The core of a tree as nested tuples."""
+    children = [core(child) for child in tree.children]
+    form, interval = tree.form, tree.interval
+    if form == "prop":
+        return "prop", tree.host, tree.name
+    table = {
+        "true": lambda: ("true",),
+        "false": lambda: ("not", ("true",)),
+        "!": lambda f: ("not", f),
+        "&": lambda f, g: ("and", f, g),
+        "|": lambda f, g: ("not", ("and", ("not", f), ("not", g))),
+        "->": lambda f, g: ("not", ("and", f, ("not", g))),
+        "U": lambda f, g: ("until", interval, f, g),
+        "S": lambda f, g: ("since", interval, f, g),
+        "F": lambda f: ("until", interval, ("true",), f),
+        "G": lambda f: ("not", ("until", interval, ("true",), ("not", f))),
+        "O": lambda f: ("since", interval, ("true",), f),
+        "H": lambda f: ("not", ("since", interval, ("true",), ("not", f))),
+    }
+    return table[form](*children)
+
+
+def subtrees(node):
+    """The set of all subtrees of a core."""
+    found = {node}
+    for part in node[1:]:
+        if isinstance(part, tuple) and isinstance(part[0], str):
+            found |= subtrees(part)
+    return found
+
+
+def core_truth(log, times, node, place):
+    """The truth of a core at a position, without any memory."""
+    instants = reference.positions(times)
+    kind = node[0]
+    if kind == "true":
+        return True
+    if kind == "prop":
+        rows = [
+            row
+            for row, time in zip(log.rows, times)
+            if time <= instants[place] and row.act in (b"set", b"clear")
+            and (log.hosts[row.host].name, row.name) == node[1:]
+        ]
+        return bool(rows) and rows[-1].act == b"set"
+    if kind == "not":
+        return not core_truth(log, times, node[1], place)
+    if kind == "and":
+        return all(core_truth(log, times, part, place) for part in node[1:])
+    (low, high), left, right = node[1:]
+    forward = kind == "until"
+    way = range(place, len(instants)) if forward else range(place, -1, -1)
+    for other in way:
+        distance = abs(instants[other] - instants[place])
+        near_enough = high is None or distance <= high
+        if low <= distance and near_enough and core_truth(log, times, right, other):
+            return True
+        if not core_truth(log, times, left, other):
+            return False
+    return False
+
+
+def check_truth(draw):
+    """Truth and node counts against the core of the formula."""
+    values = []
+    for _ in range(3000):
+        log = generate.some_log(draw)
+        planned_tree = generate.some_tree(draw, log, draw.randint(0, 5))
+        text = generate.formula_text(draw, generate.tokens_of(draw, planned_tree))
+        tree = reference.read_formula(text)
+        times = generate.near_times(draw, log)
+        nested = core(tree)
+        check(len(reference.core_nodes(tree)) == len(subtrees(nested)), text)
+        values.append(reference.truth(log, times, tree))
+        check(values[-1] == core_truth(log, times, nested, 0), text, log, times)
+    print(f"{len(values)} truth values, of them {sum(values)} true")
+    text = b"G (a.req -> F[0,5] b.ack)"
+    numbered = [
+        ("true",), ("prop", b"a", b"req"), ("prop", b"b", b"ack"), ("until", (0, 5), 0, 2),
+        ("not", 3), ("and", 1, 4), ("not", 5), ("not", 6), ("until", (0, None), 0, 7), ("not", 8),
+    ]
+    check(reference.core_nodes(reference.read_formula(text)) == numbered, text)
+
+
+def check_records(draw):
+    """Records against the reader of Python's library, on random bytes without order marks."""
+    pieces = [b'"', b'""', b",", b"\n", b"\r", b"\r\n", b"a", b" "]
+    for _ in range(20000):
+        data = b"".join(draw.choices(pieces, k=draw.randint(0, 14)))
+        lines = io.StringIO(data.decode(), newline="")
+        wanted = [[field.encode() for field in record] for record in csv.reader(lines) if record]
+        check(reference.csv_records(data) == wanted, data, wanted)
+
+
+def cycle_of_bounds(log):
+    """Bounds that form a closed walk of negative sum and visit no node twice, or none.
+
+    All walks without a second visit are tried, from every node.
+    """
+    edges = reference.bounds(log)
+
+    def longer(walk, visited):
+        for edge in edges:
+            if edge.start == walk[-1].end:
+                if edge.end == walk[0].start and sum(step.most for step in walk) + edge.most < 0:
+                    return [*walk, edge]
+                if edge.end not in visited:
+                    found = longer([*walk, edge], visited | {edge.end})
+                    if found:
+                        return found
+        return None
+
+    for edge in edges:
+        found = longer([edge], {edge.start, edge.end})
+        if found:
+            return found
+    return None
+
+
+def messages_fit(log):
+    """Whether each message is sent once at most, and sent if it is received."""
+    sent = reference.sent_names(log)
+    received = [row.name for row in log.rows if row.act == b"recv"]
+    return len(set(sent)) == len(sent) and set(received) <= set(sent)
+
+
+def check_times(draw):
+    """Timings and shut-out logs: one of the two is always there, and the judge knows it."""
+    shut = 0
+    for _ in range(600):
+        log = generate.some_log(draw)
+        if not messages_fit(log):
+            continue
+        near = generate.near_times(draw, log)
+        unbroken = reference.first_broken(log, near) is None
+        check(reference.admissible(log, near) == unbroken, log, near)
+        times = generate.relaxed_times(draw, log)
+        steps = cycle_of_bounds(log)
+        check(reference.admissible(log, times) == (steps is None), log, times, steps)
+        written = b"".join(b"%d\n" % time for time in times)
+        check((judge.times_complaint(log, written, 0) == "") == (steps is None), log, written)
+        if steps:
+            shut += 1
+            check_steps(log, [b"%s %d\n" % (step.kind, step.event) for step in steps])
+    print(f"{shut} logs without a timing")
+
+
+def check_steps(log, lines):
+    """A right list of steps is accepted from any of its steps, and worse ones aren't."""
+    for place in range(len(lines)):
+        turned = lines[place:] + lines[:place]
+        first = b"inconsistent %d\n" % len(lines)
+        check(judge.times_complaint(log, first + b"".join(turned), 3) == "", log, lines)
+        check(judge.times_complaint(log, first + b"".join(turned[1:]), 3), log, lines)
+        fewer = b"inconsistent %d\n" % (len(lines) - 1) + b"".join(turned[1:])
+        check(judge.times_complaint(log, fewer, 3), log, lines)
+        twice = b"inconsistent %d\n" % (2 * len(lines)) + b"".join(turned * 2)
+        check(judge.times_complaint(log, twice, 3), log, lines)
+
+
+def reached(log, event):
+    """The events that happen before an event, by going back from it."""
+    pairs = reference.directly_before(log)
+    found, open_events = set(), [event]
+    while open_events:
+        last = open_events.pop()
+        for first, second in pairs:
+            if second == last and first not in found:
+                found.add(first)
+                open_events.append(first)
+    return found
+
+
+def check_order(draw):
+    """Happened-before against a search backwards."""
+    cyclic = 0
+    for _ in range(2000):
+        log = generate.wild_log(draw)
+        if not messages_fit(log):
+            continue
+        pairs = reference.before(log)
+        for event in range(len(log.rows)):
+            wanted = {other for other in range(len(log.rows)) if (other, event) in pairs}
+            check(reached(log, event) == wanted, log, event)
+        cyclic += reference.clocks(log) is None
+    print(f"{cyclic} logs with a cycle")
+
+
+def main():
+    """Runs all checks."""
+    parser = argparse.ArgumentParser(description="check the reference against other ways")
+    parser.add_argument("--seed", type=int, default=1)
+    draw = random.Random(parser.parse_args().seed)
+    check_fixed_cases()
+    check_trees(draw, check_places())
+    check_truth(draw)
+    check_records(draw)
+    check_times(draw)
+    check_order(draw)
+    print("all checks hold")
+
+
+if __name__ == "__main__":
+    main()
