@@ -7,8 +7,9 @@ What the program must answer is left to the reference.
 
 from typing import NamedTuple
 
+import formats
 import reference
-from reference import Host, Log, Row
+from formats import Host, Log, Row
 
 HOST_NAMES = [b"a", b"b", b"c", b"web", b"h_1", b"u2", b"truer", b"inf0", b"h" * 32]
 EVENT_NAMES = [b"p", b"p", b"p", b"q", b"q", b"r", b"true", b"inf", b"x_1", b"n" * 32]
@@ -136,12 +137,12 @@ def records_of(draw, log):
     hosts = [[b"host", name, b"%d" % skew, b"%d" % gap] for name, skew, gap in log.hosts]
     rows = [[row.act, log.hosts[row.host].name, b"%d" % row.local, row.name] for row in log.rows]
     if chance(draw, 0.8):
-        return [list(reference.HEADER)] + hosts + rows
+        return [list(formats.HEADER)] + hosts + rows
     records = list(rows)
     for place in reversed(range(len(hosts))):
         uses = [at for at, record in enumerate(records) if record[1] == hosts[place][1]]
         records.insert(draw.randint(0, uses[0] if uses else len(records)), hosts[place])
-    return [list(reference.HEADER)] + records
+    return [list(formats.HEADER)] + records
 
 
 def log_text(draw, records):
@@ -388,7 +389,7 @@ def wide_tree(draw, log):
 def node_count(draw, tree):
     """The number of distinct nodes of a tree's core."""
     text = b" ".join(tokens_of(draw, tree, spare=0))
-    return len(reference.core_nodes(reference.read_formula(text)))
+    return len(formats.core_nodes(formats.read_formula(text)))
 
 
 def full_tree(draw, host, forms, first, count):
@@ -585,7 +586,7 @@ def relaxed_times(draw, log):
     Times near the local ones are lowered, or raised, until each bound holds;
     then the zero moment is put back to zero and some rows are moved a little.
     """
-    if any(row.act == b"recv" and row.name not in reference.sent_names(log) for row in log.rows):
+    if any(row.act == b"recv" and row.name not in formats.sent_names(log) for row in log.rows):
         return near_times(draw, log)
     edges = reference.bounds(log)
     times = dict(enumerate(near_times(draw, log)))

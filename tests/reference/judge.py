@@ -5,6 +5,7 @@ list of steps or events that shows that there is none, may be any right one:
 these are checked by adding up.
 """
 
+import formats
 import reference
 
 
@@ -37,7 +38,7 @@ def lines_of(output):
 
 def whole_number(text):
     """A number of any size that an answer may hold, or None."""
-    return reference.number(text, 10**40)
+    return formats.number(text, 10**40)
 
 
 def times_complaint(log, output, status):
@@ -54,7 +55,7 @@ def times_complaint(log, output, status):
 
 def timing_complaint(log, lines):
     """What is wrong with the lines of a timing, or nothing."""
-    times = [reference.signed_number(line, 10**40) for line in lines]
+    times = [formats.signed_number(line, 10**40) for line in lines]
     if None in times:
         return f"line {times.index(None) + 1} isn't a signed number"
     if len(times) != len(log.rows):

@@ -14,6 +14,7 @@ import sys
 sys.dont_write_bytecode = True  # leaves no compiled files beside the sources
 
 import cases
+import formats
 import generate
 import judge
 import reference
@@ -97,8 +98,8 @@ def fault_by_lists(tokens, formulas, starts):
 
 def fault_by_reference(tokens):
     """The fault of tokens with one blank between, or None."""
-    found = reference.read_formula(" ".join(tokens).encode())
-    return tuple(found) if isinstance(found, reference.FormulaFault) else None
+    found = formats.read_formula(" ".join(tokens).encode())
+    return tuple(found) if isinstance(found, formats.FormulaFault) else None
 
 
 def check_places():
@@ -192,7 +193,7 @@ def planned(tree):
     """A tree of the generator as the same tuple."""
     if tree[0] == "prop":
         return "prop", tree[1].decode(), tree[2].decode()
-    timed = tree[0] in reference.TIMED
+    timed = tree[0] in formats.TIMED
     children = tree[2:] if timed else tree[1:]
     return (tree[0], tree[1] if timed else None, *(planned(child) for child in children))
 
@@ -200,13 +201,13 @@ def planned(tree):
 def check_trees(draw, formulas):
     """The trees of all short formulas and of random longer ones."""
     for tokens in formulas:
-        found = plain(reference.read_formula(" ".join(tokens).encode()))
+        found = plain(formats.read_formula(" ".join(tokens).encode()))
         check(trees_by_spans(tokens) == [found], tokens, found)
     for _ in range(1500):
         log = generate.some_log(draw)
         tree = generate.some_tree(draw, log, draw.randint(0, 6))
         tokens = generate.tokens_of(draw, tree)
-        found = plain(reference.read_formula(generate.formula_text(draw, tokens)))
+        found = plain(formats.read_formula(generate.formula_text(draw, tokens)))
         check(found == planned(tree), tokens, found)
         if len(tokens) <= 40:
             spelled = tuple(token.decode() for token in tokens)
@@ -283,10 +284,10 @@ def check_truth(draw):
         log = generate.some_log(draw)
         planned_tree = generate.some_tree(draw, log, draw.randint(0, 5))
         text = generate.formula_text(draw, generate.tokens_of(draw, planned_tree))
-        tree = reference.read_formula(text)
+        tree = formats.read_formula(text)
         times = generate.near_times(draw, log)
         nested = core(tree)
-        check(len(reference.core_nodes(tree)) == len(subtrees(nested)), text)
+        check(len(formats.core_nodes(tree)) == len(subtrees(nested)), text)
         values.append(reference.truth(log, times, tree))
         check(values[-1] == core_truth(log, times, nested, 0), text, log, times)
     print(f"{len(values)} truth values, of them {sum(values)} true")
@@ -295,7 +296,7 @@ def check_truth(draw):
         ("true",), ("prop", b"a", b"req"), ("prop", b"b", b"ack"), ("until", (0, 5), 0, 2),
         ("not", 3), ("and", 1, 4), ("not", 5), ("not", 6), ("until", (0, None), 0, 7), ("not", 8),
     ]
-    check(reference.core_nodes(reference.read_formula(text)) == numbered, text)
+    check(formats.core_nodes(formats.read_formula(text)) == numbered, text)
 
 
 def check_records(draw):
@@ -305,7 +306,7 @@ def check_records(draw):
         data = b"".join(draw.choices(pieces, k=draw.randint(0, 14)))
         lines = io.StringIO(data.decode(), newline="")
         wanted = [[field.encode() for field in record] for record in csv.reader(lines) if record]
-        check(reference.csv_records(data) == wanted, data, wanted)
+        check(formats.csv_records(data) == wanted, data, wanted)
 
 
 def cycle_of_bounds(log):
@@ -335,7 +336,7 @@ def cycle_of_bounds(log):
 
 def messages_fit(log):
     """Whether each message is sent once at most, and sent if it is received."""
-    sent = reference.sent_names(log)
+    sent = formats.sent_names(log)
     received = [row.name for row in log.rows if row.act == b"recv"]
     return len(set(sent)) == len(sent) and set(received) <= set(sent)
 

@@ -23,9 +23,6 @@ interval_same I J h =
     let high = bound_same I.high J.high both.1 in
     λ i. record { low = low i; high = high i }
 
-under_one : (make : Form → Form) (f g : Form) → f ≡ g → make f ≡ make g
-under_one make f g e = ap make e
-
 under_two : (make : Form → Form → Form) (f g h k : Form) → f ≡ h → g ≡ k → make f g ≡ make h k
 under_two make f g h k p q = λ i. make (p i) (q i)
 

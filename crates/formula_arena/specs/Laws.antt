@@ -15,7 +15,7 @@ pub record TruthOfCore : Type 0 where
 -- a core is a core tree, and the test of equality decides it
 pub record CoresAreCores : Type 0 where
   pub core : (f : Form) → IsCore (core_of f)
-  pub same : (f g : Form) → (same_form f g ≡ true) ↔ (f ≡ g)
+  pub equality : (f g : Form) → (same_form f g ≡ true) ↔ (f ≡ g)
 
 -- the nodes of a formula are the subtrees of its core, each once, each after its children, the core itself last
 pub record NodesAreSubtrees : Type 0 where

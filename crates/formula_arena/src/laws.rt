@@ -1,4 +1,7 @@
+ghost use Rattle.std.specs.Prelude.{◌≡◌};
 ghost use Rattle.formula_arena.specs.Laws.{CoresAreCores, NodesAreSubtrees, TruthOfCore};
+
+use crate::MAX_NODES;
 
 /// A formula and its core are true at the same positions of each timing.
 pub fn truth_of_core()
@@ -14,4 +17,9 @@ pub fn cores_are_cores()
 /// itself last.
 pub fn nodes_are_subtrees()
     ensures { NodesAreSubtrees }
+{}
+
+/// The number that limits arenas.
+pub fn limit_is_a_number()
+    ensures nodes { MAX_NODES ≡ 512 }
 {}

@@ -8,5 +8,5 @@ mod node;
 
 pub use arena::{Arena, MAX_NODES};
 pub use fault::ArenaFault;
-pub use laws::{cores_are_cores, nodes_are_subtrees, truth_of_core};
+pub use laws::{cores_are_cores, limit_is_a_number, nodes_are_subtrees, truth_of_core};
 pub use node::Core;

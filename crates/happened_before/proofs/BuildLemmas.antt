@@ -26,7 +26,7 @@ position-within : (test : Row → Bool) (rows : List Row) (e : ℕ) → position
 position-within test [] e is = none-within e is
 position-within test (r ∷ rs) e is = (position-Some test (r ∷ rs) e r is).0
 
-hosts-below : (hosts : ℕ) (rows : List Row) → All (IsRow hosts) rows → (e : ℕ) → e < length rows → option_map_or (λ r. r.host) (slice_get rows e) 0 < hosts
+pub hosts-below : (hosts : ℕ) (rows : List Row) → All (IsRow hosts) rows → (e : ℕ) → e < length rows → option_map_or (λ r. r.host) (slice_get rows e) 0 < hosts
 hosts-below hosts [] each e within = absurd (omega arith)
 hosts-below hosts (r ∷ rs) each zero within = (each 0 r within).host
 hosts-below hosts (r ∷ rs) each (suc e) within = hosts-below hosts rs (λ k d below. each (suc k) d (omega arith)) e (omega arith)

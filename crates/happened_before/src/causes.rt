@@ -1,10 +1,9 @@
 //! The events directly before each event of a log, and which events wait for them.
 
-ghost use Rattle.std.specs.Prelude.{◌≡◌, ℕ, ◌<◌, length, position, All, IfNone, IfOk, IfSome, true, false};
-ghost use Rattle.mt_model.specs.Timing.{host_of, is_send_of, previous_row, send_of};
+ghost use Rattle.std.specs.Prelude.{◌≡◌, ℕ, ◌<◌, length, All, IfNone, IfOk, IfSome, true, false};
 ghost use Rattle.happened_before.specs.Causes.{AreWithin, IsAmong, IsReady, IsStuck, IsWhole, causes_of_row, causes_of_rows, is_finished};
 
-use mt_model::{HostId, Log, Row};
+use mt_model::Log;
 use std::alloc::{AllocError, Global};
 
 /// The events directly before an event: the previous one of its host, and the send of the message that
@@ -37,60 +36,13 @@ impl Causes {
     }
 }
 
-fn host_at(log: &Log, e: usize) -> HostId
-    requires { e < length log.now.rows }
-    ensures { result ≡ host_of log.now e }
-{
-    log.rows()[e].host
-}
-
-// The last row before a row that is of its host.
-fn previous(log: &Log, f: usize) -> Option<usize>
-    requires { f < length log.now.rows }
-    ensures { result ≡ previous_row log.now f }
-{
-    let host = host_at(log, f);
-    for e in (0..f).rev() {
-        if host_at(log, e) == host {
-            return Some(e);
-        }
-    }
-    None
-}
-
-fn sends(row: &Row, message: &[u8]) -> bool
-    ensures { result ≡ is_send_of message.now row.now }
-{
-    match row.act.sent() {
-        Some(name) => name.bytes() == message,
-        None => false,
-    }
-}
-
-fn sender(rows: &[Row], message: &[u8]) -> Option<usize>
-    ensures { result ≡ position (is_send_of message.now) rows.now }
-{
-    rows.iter().position(|row| sends(row, message))
-}
-
-// The row that sends the message that a row receives.
-fn send(log: &Log, r: usize) -> Option<usize>
-    requires { r < length log.now.rows }
-    ensures { result ≡ send_of log.now r }
-{
-    match log.rows()[r].act.received() {
-        Some(message) => sender(log.rows(), message.bytes()),
-        None => None,
-    }
-}
-
 fn causes_in(log: &Log, f: usize) -> Causes
     requires { f < length log.now.rows }
     ensures { result ≡ causes_of_row log.now f }
 {
     Causes {
-        previous: previous(log, f),
-        send: send(log, f),
+        previous: log.row_before(f),
+        send: log.send_for(f),
     }
 }
 

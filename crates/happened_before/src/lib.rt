@@ -3,7 +3,9 @@
 
 mod causes;
 mod cycle;
+mod laws;
 mod order;
 mod progress;
 
+pub use laws::clocks_tell_order;
 pub use order::{Order, OrderFault};

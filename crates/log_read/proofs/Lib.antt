@@ -3,7 +3,6 @@ pub mod Begun
 pub mod ClearHosts
 pub mod ClearRows
 pub mod Copies
-pub mod Digits
 pub mod FirstFaults
 pub mod Lines
 pub mod Listing

@@ -9,7 +9,7 @@ use Rattle.std.proofs.lemmas.Bool.Decides.{nat_tests}
 use Rattle.std.proofs.lemmas.Fmt.{decimal_digit, decimal_nonempty, digits_decimal, digits_value-decimal, first_decimal}
 use Rattle.std.proofs.lemmas.Int.{ints}
 use Rattle.log_read.specs.Numbers.{is_number, number_up_to, negated, signed_up_to}
-use Rattle.log_read.proofs.Digits.{digits_model}
+use Rattle.mt_model.proofs.Digits.{digits_model}
 
 -- digits of which the first is not `0`
 not_zero-first : (ds : List ℕ) → list_all is_ascii_digit ds ≡ true → 0 < length ds → 48 < get_or ds 0 0 → is_number ds ≡ true

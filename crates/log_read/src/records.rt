@@ -4,7 +4,7 @@ ghost use Rattle.csv.specs.Records.{field_at, fields_of};
 ghost use Rattle.csv.specs.declared.parser.State.TheVariants as st;
 
 use crate::fields::{Fields, RecordList};
-use csv::{ByteRecord, ReaderBuilder};
+use csv::{ByteRecord, ErrorKind, ReaderBuilder};
 use std::alloc::{AllocError, Global};
 
 fn field_of(row: &ByteRecord, i: usize) -> &[u8]
@@ -43,7 +43,10 @@ pub fn all_records(alloc: Global, text: &[u8]) -> Result<RecordList, AllocError>
                 let fields = copied(alloc, &row)?;
                 list.push(fields)?;
             }
-            Err(_) => return Err(AllocError),
+            Err(error) => match error.kind() {
+                ErrorKind::Io(_) | ErrorKind::OutOfMemory => return Err(AllocError),
+                _ => unreachable!(),
+            },
         }
     }
     Ok(list)

@@ -44,7 +44,7 @@ IfSome-where : {A : Type 0} (o : Option A) (P : A → Type 0) → ((x : A) → o
 IfSome-where None P h = tt
 IfSome-where (Some x) P h = h x refl
 
-step_of-is_bound : (b : Bound) → IsBound (step_of b)
+pub step_of-is_bound : (b : Bound) → IsBound (step_of b)
 step_of-is_bound (bound.Low e) = tt
 step_of-is_bound (bound.High e) = tt
 step_of-is_bound (bound.Rise e) = tt

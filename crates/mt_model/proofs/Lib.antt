@@ -1,3 +1,4 @@
+pub mod Digits
 pub mod BoundLists
 pub mod Pairs
 pub mod FormLemmas

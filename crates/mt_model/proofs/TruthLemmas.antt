@@ -25,11 +25,11 @@ values-none log f = (
   λ none v is. none is.timing is.admissible,
 )
 
-implies-then : (a b : Bool) → implies a b ≡ true → a ≡ true → b ≡ true
+pub implies-then : (a b : Bool) → implies a b ≡ true → a ≡ true → b ≡ true
 implies-then true b h is = h
 implies-then false b h is = absurd (cc)
 
-implies-from : (a b : Bool) → (a ≡ true → b ≡ true) → implies a b ≡ true
+pub implies-from : (a b : Bool) → (a ≡ true → b ≡ true) → implies a b ≡ true
 implies-from true b h = h refl
 implies-from false b h = refl
 

@@ -1,5 +1,6 @@
 pub mod Name
 pub mod Log
+pub mod Limits
 pub mod Timing
 pub mod Walks
 pub mod Bounds

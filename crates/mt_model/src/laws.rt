@@ -1,6 +1,7 @@
 ghost use Rattle.mt_model.specs.Before.{BeforeIsNotLater, CyclesExcludeTimings};
 ghost use Rattle.mt_model.specs.Bounds.{BoundsAreAdmissible, UnbrokenIsAdmissible};
 ghost use Rattle.mt_model.specs.Laws.{ConflictExcludesTimings, PreviousRowIsLast};
+ghost use Rattle.mt_model.specs.Limits.{FormulaLimits, LogLimits};
 ghost use Rattle.mt_model.specs.TruthLaws.{PositionsAreTimes, TruthByRows, TruthIsTheTable, ValuesHaveTimings};
 
 /// Where bounds of a log form a closed walk of negative sum, the log admits no timing.
@@ -55,4 +56,10 @@ pub fn before_is_not_later()
 /// A log of which some row happens before itself admits no timing.
 pub fn cycles_exclude_timings()
     ensures { CyclesExcludeTimings }
+{}
+
+/// The numbers that limit logs, timings and formulas.
+pub fn limits_are_numbers()
+    ensures log { LogLimits }
+    ensures formula { FormulaLimits }
 {}

@@ -2,6 +2,7 @@
 #![tactic(auto)]
 
 mod bound;
+mod causes;
 mod formula;
 mod ids;
 mod laws;
@@ -17,8 +18,8 @@ pub use formula::Formula;
 pub use ids::{EventId, HostId, NodeId, PropId};
 pub use laws::{
     before_is_not_later, bounds_are_admissible, conflict_excludes_timings, cycles_exclude_timings,
-    positions_are_times, previous_row_is_last, truth_by_rows, truth_is_the_table,
-    unbroken_is_admissible, values_have_timings,
+    limits_are_numbers, positions_are_times, previous_row_is_last, truth_by_rows,
+    truth_is_the_table, unbroken_is_admissible, values_have_timings,
 };
 pub use limits::{
     MAX_DISTANCE, MAX_EXTRA, MAX_EXTRAS, MAX_GAP, MAX_HEIGHT, MAX_HOSTS, MAX_LOCAL,

@@ -7,8 +7,8 @@ use Rattle.mt_model.specs.declared.tree.Interval.{Interval}
 use Rattle.mt_model.specs.Form.{Form, Not, And, Or, Implies, height_of}
 use Rattle.mtl_parse.specs.declared.fault.FormulaFault.{FormulaFault}
 use Rattle.mtl_parse.specs.declared.fault.FormulaFault.TheVariants as fault
-use Rattle.mtl_parse.specs.Tokens.{Infix, U, S, Prefix, F, G, O, H, Token, Close, CloseBracket, Comma, Dot, Ampersand, Bar, Arrow, Between, Number, Word, Placed}
-use Rattle.mtl_parse.specs.Grammar.{before, between, from_to}
+use Rattle.mtl_parse.specs.Tokens.{Infix, U, S, Prefix, F, G, O, H, Token, Close, CloseBracket, Comma, Dot, Ampersand, Bar, Arrow, InfixLetter, Number, Word, Placed}
+use Rattle.mtl_parse.specs.Grammar.{prefix_form, infix_form, from_to}
 use Rattle.mtl_parse.specs.Machine.{Letter, OfOne, OfTwo, Pending, Opened, Negation, Timed, LeftOfAnd, LeftOfOr, LeftOfImplies, Stage, Wanted, HostRead, DotRead, LetterRead, BracketRead, LowRead, CommaRead, HighRead, Read, State, Completed, after_word, applied, capped, closed, complete, finish, finished, has_opened, is_whole, left_of, letter_after, negations, read_after, read_all, refusal, step_at, step_comma, step_letter, step_read, step_result, step_wanted, strength, tall}
 use Rattle.mtl_parse.proofs.Comparing.{test_fails, test_false, test_holds, test_true}
 use Rattle.mtl_parse.proofs.Completeness.{plain}
@@ -76,13 +76,13 @@ over_two node heights g f = right (fits f) ∙ left (fits g)
         ∙ capped-high (node tall f) (let e = heights tall f in omega (arith, e, t))
         ∙ sym (capped-high (node g f) (let e = heights g f in omega (arith, e)))
 
-height_before : (op : Prefix) (I : Interval) (f : Form) → height_of (before op I f) ≡ height_of f + 1
+height_before : (op : Prefix) (I : Interval) (f : Form) → height_of (prefix_form op I f) ≡ height_of f + 1
 height_before F I f = refl
 height_before G I f = refl
 height_before O I f = refl
 height_before H I f = refl
 
-height_between : (op : Infix) (I : Interval) (g f : Form) → height_of (between op I g f) ≡ max (height_of g) (height_of f) + 1
+height_between : (op : Infix) (I : Interval) (g f : Form) → height_of (infix_form op I g f) ≡ max (height_of g) (height_of f) + 1
 height_between U I g f = refl
 height_between S I g f = refl
 
@@ -127,8 +127,8 @@ cap_result (Err e) = Err e
 applied_capped : (p : Pending) (f : Form) → capped (applied (cap_pending p) (capped f)) ≡ capped (applied p f)
 applied_capped Opened f = capped_capped f
 applied_capped Negation f = over_one Not (λ f. refl) f
-applied_capped (Timed (OfOne op) I) f = over_one (before op I) (height_before op I) f
-applied_capped (Timed (OfTwo op g) I) f = over_two (between op I) (height_between op I) g f
+applied_capped (Timed (OfOne op) I) f = over_one (prefix_form op I) (height_before op I) f
+applied_capped (Timed (OfTwo op g) I) f = over_two (infix_form op I) (height_between op I) g f
 applied_capped (LeftOfAnd g) f = over_two And (λ g f. refl) g f
 applied_capped (LeftOfOr g) f = over_two Or (λ g f. refl) g f
 applied_capped (LeftOfImplies g) f = over_two Implies (λ g f. refl) g f
@@ -189,7 +189,7 @@ read_capped stack f Close = ap closed (complete_capped 1 stack f) ∙ closed_cap
 read_capped stack f Ampersand = ap (left_of LeftOfAnd) (complete_capped 3 stack f)
 read_capped stack f Bar = ap (left_of LeftOfOr) (complete_capped 2 stack f)
 read_capped stack f Arrow = ap (left_of LeftOfImplies) (complete_capped 2 stack f)
-read_capped stack f (Between op) = ap (letter_after op) (complete_capped 5 stack f)
+read_capped stack f (InfixLetter op) = ap (letter_after op) (complete_capped 5 stack f)
 read_capped stack f _ = refl
 
 host_capped : (stack : List Pending) (host : List ℕ) (t : Token) → step_at capped (cap_stack stack) (HostRead host) t ≡ option_map cap_state (step_at plain stack (HostRead host) t)

@@ -4,7 +4,7 @@ use Rattle.std.specs.Prelude.{◌||◌, nat_le, bytes_eq, codes, option_and_then
 use Rattle.mt_model.specs.declared.tree.Interval.{Interval}
 use Rattle.mt_model.specs.Form.{Form}
 use Rattle.mt_model.specs.Name.{is_reserved}
-use Rattle.mtl_parse.specs.Tokens.{Infix, Token, Open, Close, OpenBracket, CloseBracket, Comma, Dot, Bang, Ampersand, Bar, Arrow, Between, Before, Number, Word}
+use Rattle.mtl_parse.specs.Tokens.{Infix, Token, Open, Close, OpenBracket, CloseBracket, Comma, Dot, Bang, Ampersand, Bar, Arrow, InfixLetter, PrefixLetter, Number, Word}
 use Rattle.mtl_parse.specs.Grammar.{Level, Implication, Disjunction, Conjunction, UntilOrSince, Unary, Atom, Reads, ReadsInterval, from_to, everything, bounded, unbounded, implies, implication, or, disjunction, and, conjunction, timed, until_or_since, not, prefixed, unary, constant_true, constant_false, proposition, parentheses}
 use Rattle.mtl_parse.specs.Machine.{Letter, OfOne, OfTwo, Pending, Opened, Negation, Timed, LeftOfAnd, LeftOfOr, LeftOfImplies, Wanted, HostRead, LetterRead, Read, State, after_word, applied, at_stage, begin, closed, complete, finish, finished, left_of, letter_after, step, strength}
 use Rattle.mtl_parse.proofs.Comparing.{test_false, test_true}
@@ -29,7 +29,7 @@ completes Close = 1
 completes Ampersand = 3
 completes Bar = 2
 completes Arrow = 2
-completes (Between op) = 5
+completes (InfixLetter op) = 5
 completes _ = 0
 
 -- the same for the first of tokens, and for their end
@@ -80,8 +80,8 @@ join p stack f (Bang ∷ ts) h some = refl
 join p stack f (Ampersand ∷ ts) h some = ap (λ c. option_and_then (λ next. run next ts) (left_of LeftOfAnd c)) (popped 3 p stack f h)
 join p stack f (Bar ∷ ts) h some = ap (λ c. option_and_then (λ next. run next ts) (left_of LeftOfOr c)) (popped 2 p stack f h)
 join p stack f (Arrow ∷ ts) h some = ap (λ c. option_and_then (λ next. run next ts) (left_of LeftOfImplies c)) (popped 2 p stack f h)
-join p stack f (Between op ∷ ts) h some = ap (λ c. option_and_then (λ next. run next ts) (letter_after op c)) (popped 5 p stack f h)
-join p stack f (Before op ∷ ts) h some = refl
+join p stack f (InfixLetter op ∷ ts) h some = ap (λ c. option_and_then (λ next. run next ts) (letter_after op c)) (popped 5 p stack f h)
+join p stack f (PrefixLetter op ∷ ts) h some = refl
 join p stack f (Number n ∷ ts) h some = refl
 join p stack f (Word word ∷ ts) h some = refl
 
@@ -105,7 +105,7 @@ no_bracket (or left right ts f g e l r) rest = along left (Bar ∷ right) ts res
 no_bracket (disjunction ts f r) rest = no_bracket r rest
 no_bracket (and left right ts f g e l r) rest = along left (Ampersand ∷ right) ts rest e (no_bracket l)
 no_bracket (conjunction ts f r) rest = no_bracket r rest
-no_bracket (timed op left interval right ts I f g e l i r) rest = along left (Between op ∷ interval ++ right) ts rest (e ∙ append_assoc left (Between op ∷ interval) right) (no_bracket l)
+no_bracket (timed op left interval right ts I f g e l i r) rest = along left (InfixLetter op ∷ interval ++ right) ts rest (e ∙ append_assoc left (InfixLetter op ∷ interval) right) (no_bracket l)
 no_bracket (until_or_since ts f r) rest = no_bracket r rest
 no_bracket (not ts f r) rest = refl
 no_bracket (prefixed op interval operand ts I f e i r) rest = ap (λ xs. begins_with_bracket (xs ++ rest)) e
@@ -127,8 +127,8 @@ no_interval l stack (Bang ∷ ts) h = refl
 no_interval l stack (Ampersand ∷ ts) h = refl
 no_interval l stack (Bar ∷ ts) h = refl
 no_interval l stack (Arrow ∷ ts) h = refl
-no_interval l stack (Between op ∷ ts) h = refl
-no_interval l stack (Before op ∷ ts) h = refl
+no_interval l stack (InfixLetter op ∷ ts) h = refl
+no_interval l stack (PrefixLetter op ∷ ts) h = refl
 no_interval l stack (Number n ∷ ts) h = refl
 no_interval l stack (Word word ∷ ts) h = refl
 
@@ -158,7 +158,7 @@ parted left more ts stack rest e = ap (λ xs. run (wanted stack) (xs ++ rest)) e
 -- the tokens between the sides of a `U` or `S`
 timed_read : (op : Infix) (left interval right : List Token) (I : Interval) (f : Form) → ReadsInterval interval I → (stack : List Pending) (rest : List Token)
     → complete plain 5 stack f ≡ record { stack = stack; form = f } → begins_with_bracket (right ++ rest) ≡ false
-    → run (read stack f) (Between op ∷ ((interval ++ right) ++ rest)) ≡ run (wanted (Timed (OfTwo op f) I ∷ stack)) (right ++ rest)
+    → run (read stack f) (InfixLetter op ∷ ((interval ++ right) ++ rest)) ≡ run (wanted (Timed (OfTwo op f) I ∷ stack)) (right ++ rest)
 timed_read op left interval right I f i stack rest keeps begins =
     ap (λ c. option_and_then (λ next. run next ((interval ++ right) ++ rest)) (letter_after op c)) keeps
     ∙ ap (run (record { stack = stack; stage = LetterRead (OfTwo op f) })) (append_assoc interval right rest)
@@ -190,8 +190,8 @@ leads (and left right ts f g e l r) stack rest low after =
     ∙ join (LeftOfAnd f) stack g rest after (omega arith)
 leads (conjunction ts f r) stack rest low after = leads r stack rest (omega arith) (omega arith)
 leads (timed op left interval right ts I f g e l i r) stack rest low after =
-    parted left (Between op ∷ interval ++ right) ts stack rest (e ∙ append_assoc left (Between op ∷ interval) right)
-    ∙ leads l stack ((Between op ∷ interval ++ right) ++ rest) (omega arith) (omega arith)
+    parted left (InfixLetter op ∷ interval ++ right) ts stack rest (e ∙ append_assoc left (InfixLetter op ∷ interval) right)
+    ∙ leads l stack ((InfixLetter op ∷ interval ++ right) ++ rest) (omega arith) (omega arith)
     ∙ timed_read op left interval right I f i stack rest (kept 5 stack f low) (no_bracket r rest)
     ∙ leads r (Timed (OfTwo op f) I ∷ stack) rest (omega arith) after
     ∙ join (Timed (OfTwo op f) I) stack g rest after (omega arith)

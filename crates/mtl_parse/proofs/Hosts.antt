@@ -4,8 +4,8 @@ use Rattle.std.proofs.lemmas.List.{map-append}
 use Rattle.std.specs.Prelude.{map, if◌then◌else◌}
 use Rattle.mt_model.specs.declared.tree.Interval.{Interval}
 use Rattle.mt_model.specs.Form.{Form, And, Implies, Or, propositions_of}
-use Rattle.mtl_parse.specs.Tokens.{Infix, U, S, Prefix, F, G, O, H, Token, Placed, Open, Close, CloseBracket, Bang, Ampersand, Bar, Arrow, Between, Before, Word}
-use Rattle.mtl_parse.specs.Grammar.{Level, Implication, Reads, ReadsInterval, before, between, everything, bounded, unbounded, implies, implication, or, disjunction, and, conjunction, timed, until_or_since, not, prefixed, unary, constant_true, constant_false, proposition, parentheses}
+use Rattle.mtl_parse.specs.Tokens.{Infix, U, S, Prefix, F, G, O, H, Token, Placed, Open, Close, CloseBracket, Bang, Ampersand, Bar, Arrow, InfixLetter, PrefixLetter, Word}
+use Rattle.mtl_parse.specs.Grammar.{Level, Implication, Reads, ReadsInterval, prefix_form, infix_form, everything, bounded, unbounded, implies, implication, or, disjunction, and, conjunction, timed, until_or_since, not, prefixed, unary, constant_true, constant_false, proposition, parentheses}
 use Rattle.mtl_parse.specs.FormulaOf.{tokens_in}
 use Rattle.mtl_parse.specs.Places.{is_dot, begins_with_dot, before_dots}
 
@@ -46,7 +46,7 @@ begins_so (or left right ts f g e l r) rest = along left (Bar ∷ right) ts rest
 begins_so (disjunction ts f r) rest = begins_so r rest
 begins_so (and left right ts f g e l r) rest = along left (Ampersand ∷ right) ts rest e (begins_so l)
 begins_so (conjunction ts f r) rest = begins_so r rest
-begins_so (timed op left interval right ts I f g e l i r) rest = along left (Between op ∷ interval ++ right) ts rest (e ∙ append_assoc left (Between op ∷ interval) right) (begins_so l)
+begins_so (timed op left interval right ts I f g e l i r) rest = along left (InfixLetter op ∷ interval ++ right) ts rest (e ∙ append_assoc left (InfixLetter op ∷ interval) right) (begins_so l)
 begins_so (until_or_since ts f r) rest = begins_so r rest
 begins_so (not ts f r) rest = refl
 begins_so (prefixed op interval operand ts I f e i r) rest = ap (λ xs. begins (xs ++ rest)) e
@@ -70,7 +70,7 @@ interval_passed everything rest h = refl
 interval_passed (bounded low high) rest h = passed CloseBracket rest h
 interval_passed (unbounded low) rest h = passed CloseBracket rest h
 
-hosts_before : (op : Prefix) (I : Interval) (f : Form) → hosts (before op I f) ≡ hosts f
+hosts_before : (op : Prefix) (I : Interval) (f : Form) → hosts (prefix_form op I f) ≡ hosts f
 hosts_before F I f = refl
 hosts_before G I f = refl
 hosts_before O I f = refl
@@ -79,7 +79,7 @@ hosts_before H I f = refl
 hosts_two : (f g : Form) → map (λ p. Word p.host) (propositions_of f ++ propositions_of g) ≡ hosts f ++ hosts g
 hosts_two f g = map-append (λ p. Word p.host) (propositions_of f) (propositions_of g)
 
-hosts_between : (op : Infix) (I : Interval) (f g : Form) → hosts (between op I f g) ≡ hosts f ++ hosts g
+hosts_between : (op : Infix) (I : Interval) (f g : Form) → hosts (infix_form op I f g) ≡ hosts f ++ hosts g
 hosts_between U I f g = hosts_two f g
 hosts_between S I f g = hosts_two f g
 
@@ -102,18 +102,18 @@ finds (disjunction ts f r) rest h = finds r rest h
 finds (and left right ts f g e l r) rest h = joined left (Ampersand ∷ right) ts rest f g (And f g) e (hosts_two f g) (finds l (Ampersand ∷ right ++ rest) refl) (passed Ampersand (right ++ rest) (begins_so r rest) ∙ finds r rest h)
 finds (conjunction ts f r) rest h = finds r rest h
 finds (timed op left interval right ts I f g e l i r) rest h =
-    joined left (Between op ∷ interval ++ right) ts rest f g (between op I f g) (e ∙ append_assoc left (Between op ∷ interval) right) (hosts_between op I f g)
-    (finds l ((Between op ∷ interval ++ right) ++ rest) refl)
-    (ap (λ xs. dotted (Between op ∷ xs)) (append_assoc interval right rest)
-    ∙ passed (Between op) (interval ++ (right ++ rest)) (interval_begins i (right ++ rest) (begins_so r rest))
+    joined left (InfixLetter op ∷ interval ++ right) ts rest f g (infix_form op I f g) (e ∙ append_assoc left (InfixLetter op ∷ interval) right) (hosts_between op I f g)
+    (finds l ((InfixLetter op ∷ interval ++ right) ++ rest) refl)
+    (ap (λ xs. dotted (InfixLetter op ∷ xs)) (append_assoc interval right rest)
+    ∙ passed (InfixLetter op) (interval ++ (right ++ rest)) (interval_begins i (right ++ rest) (begins_so r rest))
     ∙ interval_passed i (right ++ rest) (begins_so r rest)
     ∙ finds r rest h)
 finds (until_or_since ts f r) rest h = finds r rest h
 finds (not ts f r) rest h = passed Bang (ts ++ rest) (begins_so r rest) ∙ finds r rest h
 finds (prefixed op interval operand ts I f e i r) rest h =
     ap (λ xs. dotted (xs ++ rest)) e
-    ∙ ap (λ xs. dotted (Before op ∷ xs)) (append_assoc interval operand rest)
-    ∙ passed (Before op) (interval ++ (operand ++ rest)) (interval_begins i (operand ++ rest) (begins_so r rest))
+    ∙ ap (λ xs. dotted (PrefixLetter op ∷ xs)) (append_assoc interval operand rest)
+    ∙ passed (PrefixLetter op) (interval ++ (operand ++ rest)) (interval_begins i (operand ++ rest) (begins_so r rest))
     ∙ interval_passed i (operand ++ rest) (begins_so r rest)
     ∙ finds r rest h
     ∙ ap (λ xs. xs ++ dotted rest) (sym (hosts_before op I f))

@@ -78,7 +78,7 @@ is_not_whole ps s h other = elim (cases_Bool (is_whole s)) [
   | inr w ↦ w
 ]
 
-read_before : (before rest : List Placed) (s next : State) → read_all plain s before ≡ Ok next → read_all plain s (before ++ rest) ≡ read_all plain next rest
+read_before : (front rest : List Placed) (s next : State) → read_all plain s front ≡ Ok next → read_all plain s (front ++ rest) ≡ read_all plain next rest
 read_before [] rest s next h = let same : s ≡ next = cc in ap (λ s. read_all plain s rest) same
 read_before (p ∷ ps) rest s next h = by (λ n. read_before ps rest n next) (read_one plain s p) h
   where
@@ -88,12 +88,12 @@ read_before (p ∷ ps) rest s next h = by (λ n. read_before ps rest n next) (re
 
 -- the fault of the first token that is refused
 pub record Refused (s : State) (ps : List Placed) (e : FormulaFault) : Type 0 where
-  pub before : List Placed
+  pub front : List Placed
   pub place : Placed
   pub after : List Placed
   pub state : State
-  pub parts : ps ≡ before ++ place ∷ after
-  pub reaches : read_all plain s before ≡ Ok state
+  pub parts : ps ≡ front ++ place ∷ after
+  pub reaches : read_all plain s front ≡ Ok state
   pub refuses : step plain state place.token ≡ None
   pub fault : e ≡ refusal state place.byte
 
@@ -102,48 +102,48 @@ refused [] s e h = absurd (cc)
 refused (p ∷ ps) s e h = by (λ n. refused ps n e) (step plain s p.token) refl h
   where
     by : ((n : State) → read_all plain n ps ≡ Err e → Refused n ps e) → (o : Option State) → step plain s p.token ≡ o → read_after (step_result o (refusal s p.byte)) (λ n. read_all plain n ps) ≡ Err e → Refused s (p ∷ ps) e
-    by on None is h = record { before = []; place = p; after = ps; state = s; parts = refl; reaches = refl; refuses = is; fault = cc }
+    by on None is h = record { front = []; place = p; after = ps; state = s; parts = refl; reaches = refl; refuses = is; fault = cc }
     by on (Some n) is h =
         let r = on n h in
         record {
-          before = p ∷ r.before;
+          front = p ∷ r.front;
           place = r.place;
           after = r.after;
           state = r.state;
           parts = ap (λ xs. p ∷ xs) r.parts;
-          reaches = ap (λ o. read_after (step_result o (refusal s p.byte)) (λ n. read_all plain n r.before)) is ∙ r.reaches;
+          reaches = ap (λ o. read_after (step_result o (refusal s p.byte)) (λ n. read_all plain n r.front)) is ∙ r.reaches;
           refuses = r.refuses;
           fault = r.fault;
         }
 
-one_read : (before : List Placed) (p : Placed) (s : State) → read_all plain begin before ≡ Ok s → read_all plain begin (before ++ p ∷ []) ≡ read_after (step_result (step plain s p.token) (refusal s p.byte)) Ok
-one_read before p s h = read_before before (p ∷ []) begin s h ∙ by (step_result (step plain s p.token) (refusal s p.byte))
+one_read : (front : List Placed) (p : Placed) (s : State) → read_all plain begin front ≡ Ok s → read_all plain begin (front ++ p ∷ []) ≡ read_after (step_result (step plain s p.token) (refusal s p.byte)) Ok
+one_read front p s h = read_before front (p ∷ []) begin s h ∙ by (step_result (step plain s p.token) (refusal s p.byte))
   where
     by : (r : Result State FormulaFault) → read_after r (λ n. Ok n) ≡ read_after r Ok
     by (Ok n) = refl
     by (Err e) = refl
 
-is_unexpected : (ps before after : List Placed) (p : Placed) (s : State) → ps ≡ before ++ p ∷ after → read_all plain begin before ≡ Ok s → step plain s p.token ≡ None → IsUnexpected ps before p
-is_unexpected ps before after p s parts h none = record {
+is_unexpected : (ps front after : List Placed) (p : Placed) (s : State) → ps ≡ front ++ p ∷ after → read_all plain begin front ≡ Ok s → step plain s p.token ≡ None → IsUnexpected ps front p
+is_unexpected ps front after p s parts h none = record {
   after = after;
   parts = parts;
-  begins = read_begins before s h;
+  begins = read_begins front s h;
   unexpected = λ b.
-      let r = begins_read (before ++ p ∷ []) b in
-      let other : Err (refusal s p.byte) ≡ Ok r.0 = sym (one_read before p s h ∙ ap (λ o. read_after (step_result o (refusal s p.byte)) Ok) none) ∙ r.1 in
+      let r = begins_read (front ++ p ∷ []) b in
+      let other : Err (refusal s p.byte) ≡ Ok r.0 = sym (one_read front p s h ∙ ap (λ o. read_after (step_result o (refusal s p.byte)) Ok) none) ∙ r.1 in
       absurd (cc);
 }
 
 -- the token that is unexpected is refused
-refuses_unexpected : (ps before : List Placed) (p : Placed) → IsUnexpected ps before p → (s : State) × (read_all plain begin before ≡ Ok s) × (read_all plain begin ps ≡ Err (refusal s p.byte))
-refuses_unexpected ps before p u =
-    let b = begins_read before u.begins in
+refuses_unexpected : (ps front : List Placed) (p : Placed) → IsUnexpected ps front p → (s : State) × (read_all plain begin front ≡ Ok s) × (read_all plain begin ps ≡ Err (refusal s p.byte))
+refuses_unexpected ps front p u =
+    let b = begins_read front u.begins in
     let none = by (step plain b.0 p.token) refl in
-    (b.0, b.1, ap (read_all plain begin) u.parts ∙ read_before before (p ∷ u.after) begin b.0 b.1 ∙ ap (λ o. read_after (step_result o (refusal b.0 p.byte)) (λ n. read_all plain n u.after)) none)
+    (b.0, b.1, ap (read_all plain begin) u.parts ∙ read_before front (p ∷ u.after) begin b.0 b.1 ∙ ap (λ o. read_after (step_result o (refusal b.0 p.byte)) (λ n. read_all plain n u.after)) none)
   where
-    by : (o : Option State) → step plain (begins_read before u.begins).0 p.token ≡ o → step plain (begins_read before u.begins).0 p.token ≡ None
+    by : (o : Option State) → step plain (begins_read front u.begins).0 p.token ≡ o → step plain (begins_read front u.begins).0 p.token ≡ None
     by None is = is
-    by (Some n) is = absurd (u.unexpected (read_begins (before ++ p ∷ []) n (one_read before p (begins_read before u.begins).0 (begins_read before u.begins).1 ∙ ap (λ o. read_after (step_result o (refusal (begins_read before u.begins).0 p.byte)) Ok) is)))
+    by (Some n) is = absurd (u.unexpected (read_begins (front ++ p ∷ []) n (one_read front p (begins_read front u.begins).0 (begins_read front u.begins).1 ∙ ap (λ o. read_after (step_result o (refusal (begins_read front u.begins).0 p.byte)) Ok) is)))
 
 -- the answer for what was read to the end
 abbrev pub judged_end : ℕ → Option ℕ → Option Form → Result Form FormulaFault
@@ -168,9 +168,9 @@ some_tokens : (n : ℕ) (ps : List Placed) → (ps ≡ [] → ⊥) → judged n 
 some_tokens n [] h = absurd (h refl)
 some_tokens n (p ∷ ps) h = refl
 
-not_empty : (ps before after : List Placed) (p : Placed) → ps ≡ before ++ p ∷ after → ps ≡ [] → ⊥
+not_empty : (ps front after : List Placed) (p : Placed) → ps ≡ front ++ p ∷ after → ps ≡ [] → ⊥
 not_empty ps [] after p h e = absurd (cc)
-not_empty ps (q ∷ before) after p h e = absurd (cc)
+not_empty ps (q ∷ front) after p h e = absurd (cc)
 
 no_formula : (f : Form) → Reads Implication [] f → ⊥
 no_formula f r = let none : None ≡ Some f = run-reads [] f r in absurd (cc)
@@ -178,10 +178,10 @@ no_formula f r = let none : None ≡ Some f = run-reads [] f r in absurd (cc)
 not_empty_formula : (ps : List Placed) (f : Form) → Reads Implication (tokens_in ps) f → ps ≡ [] → ⊥
 not_empty_formula ps f r e = no_formula f (subst (λ ps. Reads Implication (tokens_in ps) f) e r)
 
-judged_unexpected : (text : List ℕ) (ps before : List Placed) (p : Placed) → tokens_of text ≡ Ok ps → IsUnexpected ps before p → (s : State) × (read_all plain begin before ≡ Ok s) × (outcome text ≡ Err (refusal s p.byte))
-judged_unexpected text ps before p scanned u =
-    let r = refuses_unexpected ps before p u in
-    (r.0, r.1, ap (judged (length text)) scanned ∙ some_tokens (length text) ps (not_empty ps before u.after p u.parts) ∙ ap (judged_tokens (length text) ps) r.2)
+judged_unexpected : (text : List ℕ) (ps front : List Placed) (p : Placed) → tokens_of text ≡ Ok ps → IsUnexpected ps front p → (s : State) × (read_all plain begin front ≡ Ok s) × (outcome text ≡ Err (refusal s p.byte))
+judged_unexpected text ps front p scanned u =
+    let r = refuses_unexpected ps front p u in
+    (r.0, r.1, ap (judged (length text)) scanned ∙ some_tokens (length text) ps (not_empty ps front u.after p u.parts) ∙ ap (judged_tokens (length text) ps) r.2)
 
 judged_formula : (text : List ℕ) (ps : List Placed) (f : Form) → tokens_of text ≡ Ok ps → Reads Implication (tokens_in ps) f → outcome text ≡ judged_end (length text) (first_empty_interval ps) (Some f)
 judged_formula text ps f scanned r =
@@ -192,12 +192,12 @@ judged_formula text ps f scanned r =
 pub one_answer : (text : List ℕ) (r : Result Form FormulaFault) → FormulaOf text r → outcome text ≡ r
 one_answer text r (scanned_in_part e scanned) = ap (judged (length text)) scanned
 one_answer text r (empty scanned) = ap (judged (length text)) scanned
-one_answer text r (trailing ps before p scanned u w) =
-    let j = judged_unexpected text ps before p scanned u in
-    j.2 ∙ ap (λ v. Err (if v then fault.Trailing p.byte else fault.Expected p.byte)) (is_whole_read before j.0 j.1 w)
-one_answer text r (unexpected ps before p scanned u other) =
-    let j = judged_unexpected text ps before p scanned u in
-    j.2 ∙ ap (λ v. Err (if v then fault.Trailing p.byte else fault.Expected p.byte)) (is_not_whole before j.0 j.1 other)
+one_answer text r (trailing ps front p scanned u w) =
+    let j = judged_unexpected text ps front p scanned u in
+    j.2 ∙ ap (λ v. Err (if v then fault.Trailing p.byte else fault.Expected p.byte)) (is_whole_read front j.0 j.1 w)
+one_answer text r (unexpected ps front p scanned u other) =
+    let j = judged_unexpected text ps front p scanned u in
+    j.2 ∙ ap (λ v. Err (if v then fault.Trailing p.byte else fault.Expected p.byte)) (is_not_whole front j.0 j.1 other)
 one_answer text r (cut_short ps scanned some begins other) =
     let b = begins_read ps begins in
     let none : finish plain b.0 ≡ None = none_form (finish plain b.0) (whole b.0.stack b.0.stage ∙ is_not_whole ps b.0 b.1 other) in
@@ -211,8 +211,8 @@ one_answer text r (formula ps f scanned reads none low) =
 
 pub given_refused : (text : List ℕ) (ps : List Placed) (e : FormulaFault) → tokens_of text ≡ Ok ps → Refused begin ps e → FormulaOf text (Err e)
 given_refused text ps e scanned r = subst (λ e. FormulaOf text (Err e)) (sym r.fault) (elim (cases_Bool (is_whole r.state)) [
-  | inl w ↦ rw w (trailing ps r.before r.place scanned (is_unexpected ps r.before r.after r.place r.state r.parts r.reaches r.refuses) (whole_read r.before r.state r.reaches w))
-  | inr w ↦ rw w (unexpected ps r.before r.place scanned (is_unexpected ps r.before r.after r.place r.state r.parts r.reaches r.refuses) (λ v. let other : true ≡ false = sym (is_whole_read r.before r.state r.reaches v) ∙ w in absurd (cc)))
+  | inl w ↦ rw w (trailing ps r.front r.place scanned (is_unexpected ps r.front r.after r.place r.state r.parts r.reaches r.refuses) (whole_read r.front r.state r.reaches w))
+  | inr w ↦ rw w (unexpected ps r.front r.place scanned (is_unexpected ps r.front r.after r.place r.state r.parts r.reaches r.refuses) (λ v. let other : true ≡ false = sym (is_whole_read r.front r.state r.reaches v) ∙ w in absurd (cc)))
 ])
 
 pub given_end : (text : List ℕ) (ps : List Placed) (s : State) → tokens_of text ≡ Ok ps → (ps ≡ [] → ⊥) → read_all plain begin ps ≡ Ok s
@@ -237,8 +237,8 @@ FormulaIfOk text (Err e) = Unit {0}
 formula_if_ok : (text : List ℕ) (r : Result Form FormulaFault) → FormulaOf text r → FormulaIfOk text r
 formula_if_ok text r (scanned_in_part e scanned) = tt
 formula_if_ok text r (empty scanned) = tt
-formula_if_ok text r (trailing ps before p scanned u w) = tt
-formula_if_ok text r (unexpected ps before p scanned u other) = tt
+formula_if_ok text r (trailing ps front p scanned u w) = tt
+formula_if_ok text r (unexpected ps front p scanned u other) = tt
 formula_if_ok text r (cut_short ps scanned some begins other) = tt
 formula_if_ok text r (empty_interval ps byte scanned w found) = tt
 formula_if_ok text r (too_deep ps f scanned reads none high) = tt

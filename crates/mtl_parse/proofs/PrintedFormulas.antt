@@ -8,8 +8,8 @@ use Rattle.mt_model.specs.declared.limits.TheConstants.{MAX_HEIGHT}
 use Rattle.mt_model.specs.Form.{Form, True, False, Prop, Not, And, Or, Implies, Until, Since, Eventually, Always, Once, Historically, Proposition, height_of, intervals_of, is_interval, is_named, propositions_of}
 use Rattle.mt_model.specs.Name.{is_name, is_reserved}
 use Rattle.mtl_parse.specs.declared.fault.FormulaFault.{FormulaFault}
-use Rattle.mtl_parse.specs.Tokens.{Infix, U, S, Prefix, F, G, O, H, Placed, Token, Open, Close, Bang, Ampersand, Bar, Arrow, Between, Before, is_blank, lexeme_at, Found, tokens_of}
-use Rattle.mtl_parse.specs.Grammar.{ReadsInterval, bounded, unbounded, before, between, from_to, Reads, Implication, Disjunction, Conjunction, UntilOrSince, Unary, implies, implication, or, disjunction, and, conjunction, timed, until_or_since, not as negated, prefixed as preceded, unary, constant_true, constant_false, proposition, parentheses}
+use Rattle.mtl_parse.specs.Tokens.{Infix, U, S, Prefix, F, G, O, H, Placed, Token, Open, Close, Bang, Ampersand, Bar, Arrow, InfixLetter, PrefixLetter, is_blank, lexeme_at, Found, tokens_of}
+use Rattle.mtl_parse.specs.Grammar.{ReadsInterval, bounded, unbounded, prefix_form, infix_form, from_to, Reads, Implication, Disjunction, Conjunction, UntilOrSince, Unary, implies, implication, or, disjunction, and, conjunction, timed, until_or_since, not as negated, prefixed as preceded, unary, constant_true, constant_false, proposition, parentheses}
 use Rattle.mtl_parse.specs.FormulaOf.{FormulaOf, formula, tokens_in}
 use Rattle.mtl_parse.specs.FormulaText.{TextsReadBack, formula_text, interval_text, joined, prefixed}
 use Rattle.mtl_parse.proofs.PrintedTokens.{Scans, both, without_places}
@@ -68,20 +68,20 @@ printed-joined h ms m reads p q = record {
 }
 
 -- a formula of two with an interval between them
-printed-timed : {left right : List ℕ} {f g : Form} (b : ℕ) (op : Infix) (I : Interval) → is_blank b ≡ false → ((bs : List ℕ) → lexeme_at b bs ≡ Found (Between op) 0) → is_interval I ≡ true
-    → Printed left f → Printed right g → Printed (joined left (b ∷ [] ++ interval_text I) right) (between op I f g)
+printed-timed : {left right : List ℕ} {f g : Form} (b : ℕ) (op : Infix) (I : Interval) → is_blank b ≡ false → ((bs : List ℕ) → lexeme_at b bs ≡ Found (InfixLetter op) 0) → is_interval I ≡ true
+    → Printed left f → Printed right g → Printed (joined left (b ∷ [] ++ interval_text I) right) (infix_form op I f g)
 printed-timed {f = f} {g = g} b op I solid lexeme sound =
-    printed-joined (between op I f g) (Between op ∷ interval_tokens I) (sign-piece b (Between op) solid lexeme (λ ts. refl) (interval-piece I sound))
-    (λ ts us r s. let all : List Token = ts ++ ((Between op ∷ interval_tokens I) ++ us) in
-    as_implication all (between op I f g) (timed op ts (interval_tokens I) us all I f g (sym (append_assoc ts (Between op ∷ interval_tokens I) us)) r (interval-reads I) (until_or_since us g s)))
+    printed-joined (infix_form op I f g) (InfixLetter op ∷ interval_tokens I) (sign-piece b (InfixLetter op) solid lexeme (λ ts. refl) (interval-piece I sound))
+    (λ ts us r s. let all : List Token = ts ++ ((InfixLetter op ∷ interval_tokens I) ++ us) in
+    as_implication all (infix_form op I f g) (timed op ts (interval_tokens I) us all I f g (sym (append_assoc ts (InfixLetter op ∷ interval_tokens I) us)) r (interval-reads I) (until_or_since us g s)))
 
 -- a formula behind a letter and an interval
-printed-prefixed : {operand : List ℕ} {f : Form} (b : ℕ) (op : Prefix) (I : Interval) → is_blank b ≡ false → ((bs : List ℕ) → lexeme_at b bs ≡ Found (Before op) 0) → is_interval I ≡ true
-    → Printed operand f → Printed (prefixed (b ∷ []) I operand) (before op I f)
+printed-prefixed : {operand : List ℕ} {f : Form} (b : ℕ) (op : Prefix) (I : Interval) → is_blank b ≡ false → ((bs : List ℕ) → lexeme_at b bs ≡ Found (PrefixLetter op) 0) → is_interval I ≡ true
+    → Printed operand f → Printed (prefixed (b ∷ []) I operand) (prefix_form op I f)
 printed-prefixed {f = f} b op I solid lexeme sound p = record {
-  tokens = Before op ∷ (interval_tokens I ++ p.tokens);
-  piece = prefixed-piece b (Before op) I solid lexeme (λ ts. refl) sound p.piece;
-  reads = preceded op (interval_tokens I) p.tokens (Before op ∷ (interval_tokens I ++ p.tokens)) I f refl (interval-reads I) p.reads;
+  tokens = PrefixLetter op ∷ (interval_tokens I ++ p.tokens);
+  piece = prefixed-piece b (PrefixLetter op) I solid lexeme (λ ts. refl) sound p.piece;
+  reads = preceded op (interval_tokens I) p.tokens (PrefixLetter op ∷ (interval_tokens I ++ p.tokens)) I f refl (interval-reads I) p.reads;
 }
 
 -- the parts of a formula of two

@@ -8,7 +8,7 @@ use Rattle.std.proofs.lemmas.List.Sums.{take_while-cons}
 use Rattle.mt_model.specs.declared.limits.TheConstants.{MAX_DISTANCE, MAX_NAME_LENGTH}
 use Rattle.mt_model.specs.Name.{is_digit, is_letter, is_name_byte}
 use Rattle.mtl_parse.specs.declared.fault.FormulaFault.{FormulaFault}
-use Rattle.mtl_parse.specs.Tokens.{U, S, F, G, O, H, Open, Close, OpenBracket, CloseBracket, Comma, Dot, Bang, Ampersand, Bar, Arrow, Between, Before, Number, Placed, Lexeme, Found, NoToken, BadNumber, arrow_lexeme, has_leading_zero, is_blank, lexeme_at, number_lexeme, sign_lexeme, then_tokens, tokens_from, tokens_of, with_token, word_lexeme}
+use Rattle.mtl_parse.specs.Tokens.{U, S, F, G, O, H, Open, Close, OpenBracket, CloseBracket, Comma, Dot, Bang, Ampersand, Bar, Arrow, InfixLetter, PrefixLetter, Number, Placed, Lexeme, Found, NoToken, BadNumber, arrow_lexeme, has_leading_zero, is_blank, lexeme_at, number_lexeme, sign_lexeme, then_tokens, tokens_from, tokens_of, with_token, word_lexeme}
 use Rattle.mtl_parse.specs.Machine.{is_sound}
 use Rattle.mtl_parse.proofs.Digits.{run_passes}
 
@@ -18,7 +18,7 @@ SoundIfFound (Found t more) = is_sound t ≡ true
 SoundIfFound NoToken = Unit {0}
 SoundIfFound BadNumber = Unit {0}
 
-sign_sound : (a0 a1 a2 a3 a4 a5 a6 a7 a8 a9 a10 a11 a12 a13 a14 : Bool) → SoundIfFound (if a0 then Found Open 0 else if a1 then Found Close 0 else if a2 then Found OpenBracket 0 else if a3 then Found CloseBracket 0 else if a4 then Found Comma 0 else if a5 then Found Dot 0 else if a6 then Found Bang 0 else if a7 then Found Ampersand 0 else if a8 then Found Bar 0 else if a9 then Found (Between U) 0 else if a10 then Found (Between S) 0 else if a11 then Found (Before F) 0 else if a12 then Found (Before G) 0 else if a13 then Found (Before O) 0 else if a14 then Found (Before H) 0 else NoToken)
+sign_sound : (a0 a1 a2 a3 a4 a5 a6 a7 a8 a9 a10 a11 a12 a13 a14 : Bool) → SoundIfFound (if a0 then Found Open 0 else if a1 then Found Close 0 else if a2 then Found OpenBracket 0 else if a3 then Found CloseBracket 0 else if a4 then Found Comma 0 else if a5 then Found Dot 0 else if a6 then Found Bang 0 else if a7 then Found Ampersand 0 else if a8 then Found Bar 0 else if a9 then Found (InfixLetter U) 0 else if a10 then Found (InfixLetter S) 0 else if a11 then Found (PrefixLetter F) 0 else if a12 then Found (PrefixLetter G) 0 else if a13 then Found (PrefixLetter O) 0 else if a14 then Found (PrefixLetter H) 0 else NoToken)
 sign_sound true a1 a2 a3 a4 a5 a6 a7 a8 a9 a10 a11 a12 a13 a14 = refl
 sign_sound false true a2 a3 a4 a5 a6 a7 a8 a9 a10 a11 a12 a13 a14 = refl
 sign_sound false false true a3 a4 a5 a6 a7 a8 a9 a10 a11 a12 a13 a14 = refl

@@ -6,7 +6,7 @@ use Rattle.std.proofs.lemmas.Slice.Eq.{bytes_eq-Decides}
 use Rattle.mt_model.specs.declared.tree.Interval.{Interval}
 use Rattle.mt_model.specs.Form.{Form, True, False, Prop}
 use Rattle.mt_model.specs.Name.{is_reserved}
-use Rattle.mtl_parse.specs.Tokens.{Infix, Token, Open, Close, OpenBracket, CloseBracket, Comma, Dot, Bang, Ampersand, Bar, Arrow, Between, Before, Number, Word}
+use Rattle.mtl_parse.specs.Tokens.{Infix, Token, Open, Close, OpenBracket, CloseBracket, Comma, Dot, Bang, Ampersand, Bar, Arrow, InfixLetter, PrefixLetter, Number, Word}
 use Rattle.mtl_parse.specs.Grammar.{Level, Implication, Disjunction, Conjunction, UntilOrSince, Unary, Atom, Reads, ReadsInterval, from_to, everything, bounded, unbounded, implies, implication, or, disjunction, and, conjunction, timed, until_or_since, not, prefixed, unary, constant_true, constant_false, proposition, parentheses}
 use Rattle.mtl_parse.specs.Machine.{Letter, OfOne, OfTwo, Pending, Opened, Negation, Timed, LeftOfAnd, LeftOfOr, LeftOfImplies, Stage, Wanted, HostRead, DotRead, LetterRead, BracketRead, LowRead, CommaRead, HighRead, Read, State, Completed, after_word, applied, begin, closed, complete, finish_at, finished, left_of, letter_after, letter_strength, step, step_at, step_wanted, step_host, step_dot, step_letter, step_bracket, step_low, step_comma, step_high, step_read, strength}
 use Rattle.mtl_parse.proofs.Comparing.{test_fails, test_holds}
@@ -55,8 +55,8 @@ record LeftRead (level : Level) (t : Token) (f : Form) (ts : List Token) : Type 
   reads : Reads level left f
 
 abbrev LetterReads : Letter → List Token → Type 0
-LetterReads (OfOne op) ts = ts ≡ Before op ∷ []
-LetterReads (OfTwo op f) ts = LeftRead Unary (Between op) f ts
+LetterReads (OfOne op) ts = ts ≡ PrefixLetter op ∷ []
+LetterReads (OfTwo op f) ts = LeftRead Unary (InfixLetter op) f ts
 
 -- the tokens are a letter with its left side and its interval
 record TimedRead (l : Letter) (I : Interval) (ts : List Token) : Type 0 where
@@ -131,7 +131,7 @@ record StateRead (stack : List Pending) (stage : Stage) (ts : List Token) : Type
   out : List Token
   inner : List Token
   split : ts ≡ out ++ inner
-  before : StackRead stack out
+  prefix_form : StackRead stack out
   reads : StageRead stack stage inner
 
 abbrev NextRead : Option State → List Token → Type 0
@@ -214,13 +214,13 @@ grown stack stage next ts t read reads = record {
   out = read.out;
   inner = read.inner ++ t ∷ [];
   split = ap (λ xs. xs ++ t ∷ []) read.split ∙ append_assoc read.out read.inner (t ∷ []);
-  before = read.before;
+  prefix_form = read.prefix_form;
   reads = reads;
 }
 
 -- the tokens of the stage become something that is pending
 pushed : (p : Pending) (stack : List Pending) (out inner ts : List Token) → ts ≡ out ++ inner → StackRead stack out → PendingRead p inner → takes stack ≤ rank (made p) → StateRead (p ∷ stack) Wanted ts
-pushed p stack out inner ts e before own fits = record { out = ts; inner = []; split = sym (append-nil ts); before = (out, inner, e, before, own, fits); reads = refl }
+pushed p stack out inner ts e prefix_form own fits = record { out = ts; inner = []; split = sym (append-nil ts); prefix_form = (out, inner, e, prefix_form, own, fits); reads = refl }
 
 same_bytes : (word text : List ℕ) → bytes_eq word text ≡ true → text ≡ word
 same_bytes word text h = sym ((bytes_eq-Decides word text).0 h)
@@ -245,11 +245,11 @@ word_reads stack word ts read =
 wanted_reads : (stack : List Pending) (t : Token) (ts : List Token) → StateRead stack Wanted ts → NextRead (step_wanted stack t) (ts ++ t ∷ [])
 wanted_reads stack Open ts read =
     let few = takes_few stack in
-    pushed Opened stack read.out (Open ∷ []) (ts ++ Open ∷ []) (ap (λ xs. xs ++ Open ∷ []) (read.split ∙ ap (λ xs. read.out ++ xs) read.reads ∙ append-nil read.out)) read.before refl (omega arith)
+    pushed Opened stack read.out (Open ∷ []) (ts ++ Open ∷ []) (ap (λ xs. xs ++ Open ∷ []) (read.split ∙ ap (λ xs. read.out ++ xs) read.reads ∙ append-nil read.out)) read.prefix_form refl (omega arith)
 wanted_reads stack Bang ts read =
-    pushed Negation stack read.out (Bang ∷ []) (ts ++ Bang ∷ []) (ap (λ xs. xs ++ Bang ∷ []) (read.split ∙ ap (λ xs. read.out ++ xs) read.reads ∙ append-nil read.out)) read.before refl (takes_few stack)
-wanted_reads stack (Before op) ts read =
-    grown stack Wanted (LetterRead (OfOne op)) ts (Before op) read (record { letter = Before op ∷ []; split = alone (Before op) read.inner read.reads; reads = refl; fits = takes_few stack })
+    pushed Negation stack read.out (Bang ∷ []) (ts ++ Bang ∷ []) (ap (λ xs. xs ++ Bang ∷ []) (read.split ∙ ap (λ xs. read.out ++ xs) read.reads ∙ append-nil read.out)) read.prefix_form refl (takes_few stack)
+wanted_reads stack (PrefixLetter op) ts read =
+    grown stack Wanted (LetterRead (OfOne op)) ts (PrefixLetter op) read (record { letter = PrefixLetter op ∷ []; split = alone (PrefixLetter op) read.inner read.reads; reads = refl; fits = takes_few stack })
 wanted_reads stack (Word word) ts read = word_reads stack word ts read
 wanted_reads stack _ ts read = tt
 
@@ -271,7 +271,7 @@ made_letter (OfTwo op f) I = omega arith
 letter_wanted : (stack : List Pending) (l : Letter) (ts : List Token) → StateRead stack (LetterRead l) ts → StateRead (Timed l (from_to 0 None) ∷ stack) Wanted ts
 letter_wanted stack l ts read =
     let fits = read.reads.fits in
-    pushed (Timed l (from_to 0 None)) stack read.out read.inner ts read.split read.before (record { letter = read.reads.letter; interval = []; split = read.reads.split; reads = read.reads.reads; reads_interval = everything }) (omega (arith, made_letter l (from_to 0 None)))
+    pushed (Timed l (from_to 0 None)) stack read.out read.inner ts read.split read.prefix_form (record { letter = read.reads.letter; interval = []; split = read.reads.split; reads = read.reads.reads; reads_interval = everything }) (omega (arith, made_letter l (from_to 0 None)))
 
 letter_reads : (stack : List Pending) (l : Letter) (t : Token) (ts : List Token) → StateRead stack (LetterRead l) ts → NextRead (step_letter stack l t) (ts ++ t ∷ [])
 letter_reads stack l OpenBracket ts read = grown stack (LetterRead l) (BracketRead l) ts OpenBracket read (record {
@@ -282,7 +282,7 @@ letter_reads stack l OpenBracket ts read = grown stack (LetterRead l) (BracketRe
 })
 letter_reads stack l Open ts read = wanted_reads (Timed l (from_to 0 None) ∷ stack) Open ts (letter_wanted stack l ts read)
 letter_reads stack l Bang ts read = wanted_reads (Timed l (from_to 0 None) ∷ stack) Bang ts (letter_wanted stack l ts read)
-letter_reads stack l (Before op) ts read = wanted_reads (Timed l (from_to 0 None) ∷ stack) (Before op) ts (letter_wanted stack l ts read)
+letter_reads stack l (PrefixLetter op) ts read = wanted_reads (Timed l (from_to 0 None) ∷ stack) (PrefixLetter op) ts (letter_wanted stack l ts read)
 letter_reads stack l (Word word) ts read = wanted_reads (Timed l (from_to 0 None) ∷ stack) (Word word) ts (letter_wanted stack l ts read)
 letter_reads stack l _ ts read = tt
 
@@ -321,7 +321,7 @@ high_reads : (stack : List Pending) (l : Letter) (I : Interval) (t : Token) (ts 
 high_reads stack l I CloseBracket ts read =
     let b = behind stack l read.reads.more read.inner CloseBracket read.reads.behind in
     let fits = b.fits in
-    pushed (Timed l I) stack read.out (read.inner ++ CloseBracket ∷ []) (ts ++ CloseBracket ∷ []) (ap (λ xs. xs ++ CloseBracket ∷ []) read.split ∙ append_assoc read.out read.inner (CloseBracket ∷ [])) read.before
+    pushed (Timed l I) stack read.out (read.inner ++ CloseBracket ∷ []) (ts ++ CloseBracket ∷ []) (ap (λ xs. xs ++ CloseBracket ∷ []) read.split ∙ append_assoc read.out read.inner (CloseBracket ∷ [])) read.prefix_form
     (record { letter = b.letter; interval = read.reads.more ++ CloseBracket ∷ []; split = b.split; reads = b.reads; reads_interval = read.reads.closes }) (omega (arith, made_letter l I))
 high_reads stack l I _ ts read = tt
 
@@ -329,7 +329,7 @@ high_reads stack l I _ ts read = tt
 operand_reads : (n : ℕ) (stack : List Pending) (f : Form) (ts : List Token) → 0 < n → n ≤ 6 → StateRead stack (Read f) ts → Reduced n (complete plain n stack f).stack (complete plain n stack f).form ts
 operand_reads n stack f ts some most read =
     let few = takes_few stack in
-    subst (λ xs. Reduced n (complete plain n stack f).stack (complete plain n stack f).form xs) (sym read.split) (complete_reads n stack f read.out read.inner Atom some read.before read.reads (omega arith) most)
+    subst (λ xs. Reduced n (complete plain n stack f).stack (complete plain n stack f).form xs) (sym read.split) (complete_reads n stack f read.out read.inner Atom some read.prefix_form read.reads (omega arith) most)
 
 -- the operand becomes a left side
 side_reads : (level : Level) (t : Token) (f : Form) (inner : List Token) → Reads level inner f → LeftRead level t f (inner ++ t ∷ [])
@@ -349,13 +349,13 @@ or_reads c ts r =
 implies_reads : (c : Completed) (ts : List Token) → Reduced 2 c.stack c.form ts → NextRead (left_of LeftOfImplies c) (ts ++ Arrow ∷ [])
 implies_reads c ts r = pushed (LeftOfImplies c.form) c.stack r.out (r.inner ++ Arrow ∷ []) (ts ++ Arrow ∷ []) (split_more Arrow ts r.out r.inner r.split) r.below (side_reads Disjunction Arrow c.form r.inner (to_disjunction r.level r.inner c.form r.tight r.reads)) ((takes_less c.stack).2 r.low)
 
-between_reads : (op : Infix) (c : Completed) (ts : List Token) → Reduced 5 c.stack c.form ts → NextRead (letter_after op c) (ts ++ Between op ∷ [])
+between_reads : (op : Infix) (c : Completed) (ts : List Token) → Reduced 5 c.stack c.form ts → NextRead (letter_after op c) (ts ++ InfixLetter op ∷ [])
 between_reads op c ts r = record {
   out = r.out;
-  inner = r.inner ++ Between op ∷ [];
-  split = split_more (Between op) ts r.out r.inner r.split;
-  before = r.below;
-  reads = record { letter = r.inner ++ Between op ∷ []; split = sym (append-nil (r.inner ++ Between op ∷ [])); reads = side_reads Unary (Between op) c.form r.inner (to_unary r.level r.inner c.form r.tight r.reads); fits = (takes_less c.stack).0 r.low };
+  inner = r.inner ++ InfixLetter op ∷ [];
+  split = split_more (InfixLetter op) ts r.out r.inner r.split;
+  prefix_form = r.below;
+  reads = record { letter = r.inner ++ InfixLetter op ∷ []; split = sym (append-nil (r.inner ++ InfixLetter op ∷ [])); reads = side_reads Unary (InfixLetter op) c.form r.inner (to_unary r.level r.inner c.form r.tight r.reads); fits = (takes_less c.stack).0 r.low };
 }
 
 closes : (ps : List Pending) (f : Form) (ts : List Token) → Reduced 1 (Opened ∷ ps) f ts → StateRead ps (Read f) (ts ++ Close ∷ [])
@@ -365,7 +365,7 @@ closes ps f ts r =
       out = below.0;
       inner = (Open ∷ r.inner) ++ Close ∷ [];
       split = ap (λ xs. xs ++ Close ∷ []) (r.split ∙ ap (λ xs. xs ++ r.inner) (below.2 ∙ ap (λ xs. below.0 ++ xs) below.4)) ∙ simp append_assoc;
-      before = below.3;
+      prefix_form = below.3;
       reads = parentheses r.inner ((Open ∷ r.inner) ++ Close ∷ []) f refl (to_implication r.level r.inner f r.reads);
     }
 
@@ -384,7 +384,7 @@ read_reads stack f Close ts read = close_reads (complete plain 1 stack f).stack 
 read_reads stack f Ampersand ts read = and_reads (complete plain 3 stack f) ts (operand_reads 3 stack f ts (omega arith) (omega arith) read)
 read_reads stack f Bar ts read = or_reads (complete plain 2 stack f) ts (operand_reads 2 stack f ts (omega arith) (omega arith) read)
 read_reads stack f Arrow ts read = implies_reads (complete plain 2 stack f) ts (operand_reads 2 stack f ts (omega arith) (omega arith) read)
-read_reads stack f (Between op) ts read = between_reads op (complete plain 5 stack f) ts (operand_reads 5 stack f ts (omega arith) (omega arith) read)
+read_reads stack f (InfixLetter op) ts read = between_reads op (complete plain 5 stack f) ts (operand_reads 5 stack f ts (omega arith) (omega arith) read)
 read_reads stack f _ ts read = tt
 
 step_reads : (stack : List Pending) (stage : Stage) (t : Token) (ts : List Token) → StateRead stack stage ts → NextRead (step_at plain stack stage t) (ts ++ t ∷ [])
@@ -423,4 +423,4 @@ reads_from (t ∷ ts) s done f read h =
 
 -- what tokens lead to is what they are
 pub reads-run : (ts : List Token) (f : Form) → run begin ts ≡ Some f → Reads Implication ts f
-reads-run ts f h = reads_from ts begin [] f (record { out = []; inner = []; split = refl; before = refl; reads = refl }) h
+reads-run ts f h = reads_from ts begin [] f (record { out = []; inner = []; split = refl; prefix_form = refl; reads = refl }) h

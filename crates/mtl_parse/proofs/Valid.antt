@@ -9,8 +9,8 @@ use Rattle.mt_model.specs.declared.limits.TheConstants.{MAX_DISTANCE, MAX_HEIGHT
 use Rattle.mt_model.specs.declared.tree.Interval.{Interval}
 use Rattle.mt_model.specs.Form.{Form, Proposition, IsFormula, height_of, intervals_of, is_interval, is_named, propositions_of}
 use Rattle.mt_model.specs.Name.{is_name, is_reserved}
-use Rattle.mtl_parse.specs.Tokens.{Infix, U, S, Prefix, F, G, O, H, Token, Placed, Open, Close, OpenBracket, Comma, Dot, Bang, Ampersand, Bar, Arrow, Between, Before, Number, Word, tokens_of}
-use Rattle.mtl_parse.specs.Grammar.{Level, Implication, Reads, ReadsInterval, before, between, everything, bounded, unbounded, implies, implication, or, disjunction, and, conjunction, timed, until_or_since, not, prefixed, unary, constant_true, constant_false, proposition, parentheses}
+use Rattle.mtl_parse.specs.Tokens.{Infix, U, S, Prefix, F, G, O, H, Token, Placed, Open, Close, OpenBracket, Comma, Dot, Bang, Ampersand, Bar, Arrow, InfixLetter, PrefixLetter, Number, Word, tokens_of}
+use Rattle.mtl_parse.specs.Grammar.{Level, Implication, Reads, ReadsInterval, prefix_form, infix_form, everything, bounded, unbounded, implies, implication, or, disjunction, and, conjunction, timed, until_or_since, not, prefixed, unary, constant_true, constant_false, proposition, parentheses}
 use Rattle.mtl_parse.specs.FormulaOf.{begins_below, begins_with_empty_interval, first_empty_interval, has_bound_below, has_bounds_exchanged, tokens_in}
 use Rattle.mtl_parse.specs.Machine.{is_sound}
 use Rattle.mtl_parse.proofs.SoundTokens.{tokens-few, tokens-sound}
@@ -133,14 +133,14 @@ interval_good (unbounded low) g =
     let low_is : nat_le low MAX_DISTANCE ≡ true = and_left (nat_le low MAX_DISTANCE) true g.sound in
     rw low_is refl
 
-before_parts : (op : Prefix) (I : Interval) (f : Form) (n k : ℕ) → n ≤ k → is_interval I ≡ true → Parts (propositions_of f) (intervals_of f) n → Parts (propositions_of (before op I f)) (intervals_of (before op I f)) k
+before_parts : (op : Prefix) (I : Interval) (f : Form) (n k : ℕ) → n ≤ k → is_interval I ≡ true → Parts (propositions_of f) (intervals_of f) n → Parts (propositions_of (prefix_form op I f)) (intervals_of (prefix_form op I f)) k
 before_parts F I f n k fits ok p = with_interval I (propositions_of f) (intervals_of f) n k fits ok p
 before_parts G I f n k fits ok p = with_interval I (propositions_of f) (intervals_of f) n k fits ok p
 before_parts O I f n k fits ok p = with_interval I (propositions_of f) (intervals_of f) n k fits ok p
 before_parts H I f n k fits ok p = with_interval I (propositions_of f) (intervals_of f) n k fits ok p
 
 between_parts : (op : Infix) (I : Interval) (f g : Form) (n m k : ℕ) → n + m ≤ k → is_interval I ≡ true → Parts (propositions_of f) (intervals_of f) n → Parts (propositions_of g) (intervals_of g) m
-    → Parts (propositions_of (between op I f g)) (intervals_of (between op I f g)) k
+    → Parts (propositions_of (infix_form op I f g)) (intervals_of (infix_form op I f g)) k
 between_parts U I f g n m k fits ok p q = two_parts (propositions_of f) (propositions_of g) (intervals_of f) (I ∷ intervals_of g) n m k fits p (with_interval I (propositions_of g) (intervals_of g) m m (omega arith) ok q)
 between_parts S I f g n m k fits ok p q = two_parts (propositions_of f) (propositions_of g) (intervals_of f) (I ∷ intervals_of g) n m k fits p (with_interval I (propositions_of g) (intervals_of g) m m (omega arith) ok q)
 
@@ -161,14 +161,14 @@ parts (and left right ts f g e l r) good =
     two_parts (propositions_of f) (propositions_of g) (intervals_of f) (intervals_of g) (length left) (length right) (length ts) (omega (arith, ap length e, length-append left (Ampersand ∷ right))) (parts l (good_left left (Ampersand ∷ right) whole)) (parts r (good_rest Ampersand right (good_right left (Ampersand ∷ right) whole)))
 parts (conjunction ts f r) good = parts r good
 parts (timed op left interval right ts I f g e l i r) good =
-    let same = e ∙ append_assoc left (Between op ∷ interval) right in
-    let whole = good_as ts (left ++ (Between op ∷ interval ++ right)) same good in
-    let rest = good_rest (Between op) (interval ++ right) (good_right left (Between op ∷ interval ++ right) whole) in
-    between_parts op I f g (length left) (length right) (length ts) (omega (arith, ap length same, length-append left (Between op ∷ interval ++ right), length-append interval right)) (interval_good i (good_left interval right rest)) (parts l (good_left left (Between op ∷ interval ++ right) whole)) (parts r (good_right interval right rest))
+    let same = e ∙ append_assoc left (InfixLetter op ∷ interval) right in
+    let whole = good_as ts (left ++ (InfixLetter op ∷ interval ++ right)) same good in
+    let rest = good_rest (InfixLetter op) (interval ++ right) (good_right left (InfixLetter op ∷ interval ++ right) whole) in
+    between_parts op I f g (length left) (length right) (length ts) (omega (arith, ap length same, length-append left (InfixLetter op ∷ interval ++ right), length-append interval right)) (interval_good i (good_left interval right rest)) (parts l (good_left left (InfixLetter op ∷ interval ++ right) whole)) (parts r (good_right interval right rest))
 parts (until_or_since ts f r) good = parts r good
 parts (not ts f r) good = more_room (propositions_of f) (intervals_of f) (length ts) (length (Bang ∷ ts)) (omega arith) (parts r (good_rest Bang ts good))
 parts (prefixed op interval operand ts I f e i r) good =
-    let rest = good_rest (Before op) (interval ++ operand) (good_as ts (Before op ∷ interval ++ operand) e good) in
+    let rest = good_rest (PrefixLetter op) (interval ++ operand) (good_as ts (PrefixLetter op ∷ interval ++ operand) e good) in
     before_parts op I f (length operand) (length ts) (omega (arith, ap length e, length-append interval operand)) (interval_good i (good_left interval operand rest)) (parts r (good_right interval operand rest))
 parts (unary ts f r) good = parts r good
 parts constant_true good = record { names = refl; hosts = refl; intervals = refl; few = omega arith }

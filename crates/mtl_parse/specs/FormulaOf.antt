@@ -20,11 +20,11 @@ abbrev pub Begins : List Placed → Type 0
 Begins ps = (more : List Token) × (f : Form) × Reads Implication (tokens_in ps ++ more) f
 
 -- p is the first token such that no formula's tokens begin with the tokens up to and including it, and these stand before it
-pub record IsUnexpected (ps before : List Placed) (p : Placed) : Type 0 where
+pub record IsUnexpected (ps front : List Placed) (p : Placed) : Type 0 where
   pub after : List Placed
-  pub parts : ps ≡ before ++ p ∷ after
-  pub begins : Begins before
-  pub unexpected : Begins (before ++ p ∷ []) → ⊥
+  pub parts : ps ≡ front ++ p ∷ after
+  pub begins : Begins front
+  pub unexpected : Begins (front ++ p ∷ []) → ⊥
 
 -- a number below another begins the tokens
 abbrev pub begins_below : ℕ → List Token → Bool
@@ -57,9 +57,9 @@ pub data FormulaOf (text : List ℕ) : Result Form FormulaFault → Type 0 where
   scanned_in_part : (f : FormulaFault) → tokens_of text ≡ Err f → FormulaOf text (Err f)
   empty : tokens_of text ≡ Ok [] → FormulaOf text (Err (fault.Empty 0))
   -- what stands before a token is a whole formula, and no formula goes on with the token
-  trailing : (ps before : List Placed) (p : Placed) → tokens_of text ≡ Ok ps → IsUnexpected ps before p → Whole before → FormulaOf text (Err (fault.Trailing p.byte))
+  trailing : (ps front : List Placed) (p : Placed) → tokens_of text ≡ Ok ps → IsUnexpected ps front p → Whole front → FormulaOf text (Err (fault.Trailing p.byte))
   -- no formula goes on with a token, and what stands before it is no whole formula
-  unexpected : (ps before : List Placed) (p : Placed) → tokens_of text ≡ Ok ps → IsUnexpected ps before p → (Whole before → ⊥) → FormulaOf text (Err (fault.Expected p.byte))
+  unexpected : (ps front : List Placed) (p : Placed) → tokens_of text ≡ Ok ps → IsUnexpected ps front p → (Whole front → ⊥) → FormulaOf text (Err (fault.Expected p.byte))
   -- the text ends within a formula
   cut_short : (ps : List Placed) → tokens_of text ≡ Ok ps → (ps ≡ [] → ⊥) → Begins ps → (Whole ps → ⊥) → FormulaOf text (Err (fault.Expected (length text)))
   empty_interval : (ps : List Placed) (byte : ℕ) → tokens_of text ≡ Ok ps → Whole ps → first_empty_interval ps ≡ Some byte → FormulaOf text (Err (fault.EmptyInterval byte))

@@ -3,19 +3,19 @@ use Rattle.std.specs.Prelude.{◌≡◌, ℕ, false, List, [], ◌∷◌, ◌++�
 use Rattle.mt_model.specs.declared.tree.Interval.{Interval}
 use Rattle.mt_model.specs.Form.{Form, True, False, Prop, Not, And, Or, Implies, Until, Since, Eventually, Always, Once, Historically}
 use Rattle.mt_model.specs.Name.{is_reserved}
-use Rattle.mtl_parse.specs.Tokens.{Infix, U, S, Prefix, F, G, O, H, Token, Open, Close, OpenBracket, CloseBracket, Comma, Dot, Bang, Ampersand, Bar, Arrow, Between, Before, Number, Word}
+use Rattle.mtl_parse.specs.Tokens.{Infix, U, S, Prefix, F, G, O, H, Token, Open, Close, OpenBracket, CloseBracket, Comma, Dot, Bang, Ampersand, Bar, Arrow, InfixLetter, PrefixLetter, Number, Word}
 
 -- the formula that `U` or `S` makes of two
-abbrev pub between : Infix → Interval → Form → Form → Form
-between U I f g = Until I f g
-between S I f g = Since I f g
+abbrev pub infix_form : Infix → Interval → Form → Form → Form
+infix_form U I f g = Until I f g
+infix_form S I f g = Since I f g
 
 -- the formula that `F`, `G`, `O` or `H` makes of one
-abbrev pub before : Prefix → Interval → Form → Form
-before F I f = Eventually I f
-before G I f = Always I f
-before O I f = Once I f
-before H I f = Historically I f
+abbrev pub prefix_form : Prefix → Interval → Form → Form
+prefix_form F I f = Eventually I f
+prefix_form G I f = Always I f
+prefix_form O I f = Once I f
+prefix_form H I f = Historically I f
 
 -- an interval by its bounds
 abbrev pub from_to : ℕ → Option ℕ → Interval
@@ -48,12 +48,12 @@ pub data Reads : Level → List Token → Form → Type 0 where
   and : (left right ts : List Token) (f g : Form) → ts ≡ left ++ Ampersand ∷ right → Reads Conjunction left f → Reads UntilOrSince right g → Reads Conjunction ts (And f g)
   conjunction : (ts : List Token) (f : Form) → Reads UntilOrSince ts f → Reads Conjunction ts f
   -- `U` and `S` bind together, to the right
-  timed : (op : Infix) (left interval right ts : List Token) (I : Interval) (f g : Form) → ts ≡ left ++ Between op ∷ interval ++ right
-      → Reads Unary left f → ReadsInterval interval I → Reads UntilOrSince right g → Reads UntilOrSince ts (between op I f g)
+  timed : (op : Infix) (left interval right ts : List Token) (I : Interval) (f g : Form) → ts ≡ left ++ InfixLetter op ∷ interval ++ right
+      → Reads Unary left f → ReadsInterval interval I → Reads UntilOrSince right g → Reads UntilOrSince ts (infix_form op I f g)
   until_or_since : (ts : List Token) (f : Form) → Reads Unary ts f → Reads UntilOrSince ts f
   not : (ts : List Token) (f : Form) → Reads Unary ts f → Reads Unary (Bang ∷ ts) (Not f)
-  prefixed : (op : Prefix) (interval operand ts : List Token) (I : Interval) (f : Form) → ts ≡ Before op ∷ interval ++ operand
-      → ReadsInterval interval I → Reads Unary operand f → Reads Unary ts (before op I f)
+  prefixed : (op : Prefix) (interval operand ts : List Token) (I : Interval) (f : Form) → ts ≡ PrefixLetter op ∷ interval ++ operand
+      → ReadsInterval interval I → Reads Unary operand f → Reads Unary ts (prefix_form op I f)
   unary : (ts : List Token) (f : Form) → Reads Atom ts f → Reads Unary ts f
   constant_true : Reads Atom (Word (codes "true") ∷ []) True
   constant_false : Reads Atom (Word (codes "false") ∷ []) False

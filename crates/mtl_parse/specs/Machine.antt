@@ -7,8 +7,8 @@ use Rattle.mt_model.specs.Form.{Form, True, False, Prop, Not, And, Or, Implies, 
 use Rattle.mt_model.specs.Name.{is_name}
 use Rattle.mtl_parse.specs.declared.fault.FormulaFault.{FormulaFault}
 use Rattle.mtl_parse.specs.declared.fault.FormulaFault.TheVariants as fault
-use Rattle.mtl_parse.specs.Tokens.{Infix, Prefix, Token, Open, Close, OpenBracket, CloseBracket, Comma, Dot, Bang, Ampersand, Bar, Arrow, Between, Before, Number, Word, Placed}
-use Rattle.mtl_parse.specs.Grammar.{before, between, from_to}
+use Rattle.mtl_parse.specs.Tokens.{Infix, Prefix, Token, Open, Close, OpenBracket, CloseBracket, Comma, Dot, Bang, Ampersand, Bar, Arrow, InfixLetter, PrefixLetter, Number, Word, Placed}
+use Rattle.mtl_parse.specs.Grammar.{prefix_form, infix_form, from_to}
 
 -- a letter that was read: `F`, `G`, `O` or `H`, or the left side of a `U` or `S`
 pub data Letter : Type 0 where
@@ -26,8 +26,8 @@ pub data Pending : Type 0 where
 
 -- the formula that a letter with its interval makes of its operand
 abbrev pub timed : Letter → Interval → Form → Form
-timed (OfOne op) I f = before op I f
-timed (OfTwo op g) I f = between op I g f
+timed (OfOne op) I f = prefix_form op I f
+timed (OfTwo op g) I f = infix_form op I g f
 
 -- what was pending, with its operand
 abbrev pub applied : Pending → Form → Form
@@ -114,7 +114,7 @@ after_word stack word =
 abbrev pub step_wanted : List Pending → Token → Option State
 step_wanted stack Open = at_stage (Opened ∷ stack) Wanted
 step_wanted stack Bang = at_stage (Negation ∷ stack) Wanted
-step_wanted stack (Before op) = at_stage stack (LetterRead (OfOne op))
+step_wanted stack (PrefixLetter op) = at_stage stack (LetterRead (OfOne op))
 step_wanted stack (Word word) = after_word stack word
 step_wanted stack _ = None
 
@@ -181,7 +181,7 @@ step_read cap stack f Close = closed (complete cap 1 stack f)
 step_read cap stack f Ampersand = left_of LeftOfAnd (complete cap 3 stack f)
 step_read cap stack f Bar = left_of LeftOfOr (complete cap 2 stack f)
 step_read cap stack f Arrow = left_of LeftOfImplies (complete cap 2 stack f)
-step_read cap stack f (Between op) = letter_after op (complete cap 5 stack f)
+step_read cap stack f (InfixLetter op) = letter_after op (complete cap 5 stack f)
 step_read cap stack f _ = None
 
 -- after a token at any stage

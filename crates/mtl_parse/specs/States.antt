@@ -1,7 +1,7 @@
 -- What the code's tokens, operands and parser are.
 use Rattle.std.specs.Prelude.{ℕ, List, [], ◌∷◌, map, reverse}
 use Rattle.mt_model.specs.Form.{Form, form_of}
-use Rattle.mtl_parse.specs.Tokens.{Infix, U, S, Prefix, F, G, O, H, Token, Open, Close, OpenBracket, CloseBracket, Comma, Dot, Bang, Ampersand, Bar, Arrow, Between, Before, Number, Word, Placed, Lexeme, Found, NoToken, BadNumber, lexeme_at}
+use Rattle.mtl_parse.specs.Tokens.{Infix, U, S, Prefix, F, G, O, H, Token, Open, Close, OpenBracket, CloseBracket, Comma, Dot, Bang, Ampersand, Bar, Arrow, InfixLetter, PrefixLetter, Number, Word, Placed, Lexeme, Found, NoToken, BadNumber, lexeme_at}
 use Rattle.mtl_parse.specs.Machine.{Letter, OfOne, OfTwo, Pending, Opened, Negation, Timed, LeftOfAnd, LeftOfOr, LeftOfImplies, Stage, Wanted, HostRead, DotRead, LetterRead, BracketRead, LowRead, CommaRead, HighRead, Read, State, Completed, tall}
 use Rattle.mtl_parse.specs.declared.token.Infix.{Infix as ScannedInfix}
 use Rattle.mtl_parse.specs.declared.token.Infix.TheVariants as infix_of
@@ -47,8 +47,8 @@ token_in token_of.Bang = Bang
 token_in token_of.Ampersand = Ampersand
 token_in token_of.Bar = Bar
 token_in token_of.Arrow = Arrow
-token_in (token_of.Between op) = Between (infix_in op)
-token_in (token_of.Before op) = Before (prefix_in op)
+token_in (token_of.InfixLetter op) = InfixLetter (infix_in op)
+token_in (token_of.PrefixLetter op) = PrefixLetter (prefix_in op)
 token_in (token_of.Number value) = Number value
 token_in (token_of.Word bytes) = Word bytes.now
 

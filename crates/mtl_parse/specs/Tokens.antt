@@ -31,8 +31,8 @@ pub data Token : Type 0 where
   Ampersand : Token
   Bar : Token
   Arrow : Token
-  Between : Infix → Token
-  Before : Prefix → Token
+  InfixLetter : Infix → Token
+  PrefixLetter : Prefix → Token
   Number : (value : ℕ) → Token
   Word : (bytes : List ℕ) → Token
 
@@ -82,12 +82,12 @@ sign_lexeme b =
     else if b == 33 then Found Bang 0
     else if b == 38 then Found Ampersand 0
     else if b == 124 then Found Bar 0
-    else if b == 85 then Found (Between U) 0
-    else if b == 83 then Found (Between S) 0
-    else if b == 70 then Found (Before F) 0
-    else if b == 71 then Found (Before G) 0
-    else if b == 79 then Found (Before O) 0
-    else if b == 72 then Found (Before H) 0
+    else if b == 85 then Found (InfixLetter U) 0
+    else if b == 83 then Found (InfixLetter S) 0
+    else if b == 70 then Found (PrefixLetter F) 0
+    else if b == 71 then Found (PrefixLetter G) 0
+    else if b == 79 then Found (PrefixLetter O) 0
+    else if b == 72 then Found (PrefixLetter H) 0
     else NoToken
 
 -- what stands at a byte, with the bytes after it

@@ -1,6 +1,6 @@
 ghost use Rattle.std.specs.Prelude.{◌≡◌, ◌<◌, ◌≤◌, ◌+◌, ◌↔◌, max, IfOk, IfSome, IsSome};
 ghost use Rattle.mt_model.specs.Form.{And, Implies, Not, Or, form_of, height_of};
-ghost use Rattle.mtl_parse.specs.Grammar.{before, between};
+ghost use Rattle.mtl_parse.specs.Grammar.{infix_form, prefix_form};
 ghost use Rattle.mtl_parse.specs.Machine.{capped};
 ghost use Rattle.mtl_parse.specs.States.{form_in, infix_in, prefix_in};
 
@@ -126,8 +126,8 @@ fn sides_of(alloc: Global, left: Operand, right: Operand) -> Result<Option<Sides
     }
 }
 
-fn before_tree(op: Prefix, interval: Interval, operand: Box<Tree>) -> Tree
-    ensures { form_of result ≡ before (prefix_in op) interval (form_of operand.value) }
+fn prefix_tree(op: Prefix, interval: Interval, operand: Box<Tree>) -> Tree
+    ensures { form_of result ≡ prefix_form (prefix_in op) interval (form_of operand.value) }
 {
     match op {
         Prefix::Eventually => Tree::Eventually(interval, operand),
@@ -137,8 +137,8 @@ fn before_tree(op: Prefix, interval: Interval, operand: Box<Tree>) -> Tree
     }
 }
 
-fn between_tree(op: Infix, interval: Interval, left: Box<Tree>, right: Box<Tree>) -> Tree
-    ensures { form_of result ≡ between (infix_in op) interval (form_of left.value) (form_of right.value) }
+fn infix_tree(op: Infix, interval: Interval, left: Box<Tree>, right: Box<Tree>) -> Tree
+    ensures { form_of result ≡ infix_form (infix_in op) interval (form_of left.value) (form_of right.value) }
 {
     match op {
         Infix::Until => Tree::Until(interval, left, right),
@@ -175,10 +175,10 @@ impl Operand {
 
     /// The formula that a letter makes of it.
     pub fn timed(self, alloc: Global, op: Prefix, interval: Interval) -> Result<Operand, AllocError>
-        ensures ok { IfOk result (λ o. form_in o ≡ capped (before (prefix_in op) interval (form_in self))) }
+        ensures ok { IfOk result (λ o. form_in o ≡ capped (prefix_form (prefix_in op) interval (form_in self))) }
     {
         match part_of(alloc, self)? {
-            Some(part) => Ok(low(before_tree(op, interval, part.tree), part.height + 1)),
+            Some(part) => Ok(low(prefix_tree(op, interval, part.tree), part.height + 1)),
             None => Ok(Operand::TooHigh),
         }
     }
@@ -191,11 +191,11 @@ impl Operand {
         interval: Interval,
         right: Operand,
     ) -> Result<Operand, AllocError>
-        ensures ok { IfOk result (λ o. form_in o ≡ capped (between (infix_in op) interval (form_in self) (form_in right))) }
+        ensures ok { IfOk result (λ o. form_in o ≡ capped (infix_form (infix_in op) interval (form_in self) (form_in right))) }
     {
         match sides_of(alloc, self, right)? {
             Some(sides) => Ok(low(
-                between_tree(op, interval, sides.left, sides.right),
+                infix_tree(op, interval, sides.left, sides.right),
                 sides.height + 1,
             )),
             None => Ok(Operand::TooHigh),

@@ -89,7 +89,7 @@ fn step_wanted(
     match token {
         Token::Open => Ok(Some(wanted(stack, Pending::Opened)?)),
         Token::Bang => Ok(Some(wanted(stack, Pending::Negation)?)),
-        Token::Before(op) => Ok(Some(Parser {
+        Token::PrefixLetter(op) => Ok(Some(Parser {
             stack,
             stage: Stage::Letter(Letter::OfOne(op)),
         })),
@@ -304,7 +304,7 @@ fn step_read(
         Token::Ampersand => Ok(after_and(alloc, stack, operand)?),
         Token::Bar => Ok(after_or(alloc, stack, operand)?),
         Token::Arrow => Ok(after_arrow(alloc, stack, operand)?),
-        Token::Between(op) => Ok(after_between(alloc, stack, operand, op)?),
+        Token::InfixLetter(op) => Ok(after_between(alloc, stack, operand, op)?),
         _ => Err(refusal_behind(&stack, byte)),
     }
 }

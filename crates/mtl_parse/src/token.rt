@@ -44,8 +44,8 @@ pub enum Token<'a> {
     Bar,
     /// `->`.
     Arrow,
-    Between(Infix),
-    Before(Prefix),
+    InfixLetter(Infix),
+    PrefixLetter(Prefix),
     Number(u64),
     Word(&'a [u8]),
 }
@@ -198,12 +198,12 @@ fn sign_lexeme(byte: u8) -> Lexeme<'static>
         b'!' => Token::Bang,
         b'&' => Token::Ampersand,
         b'|' => Token::Bar,
-        b'U' => Token::Between(Infix::Until),
-        b'S' => Token::Between(Infix::Since),
-        b'F' => Token::Before(Prefix::Eventually),
-        b'G' => Token::Before(Prefix::Always),
-        b'O' => Token::Before(Prefix::Once),
-        b'H' => Token::Before(Prefix::Historically),
+        b'U' => Token::InfixLetter(Infix::Until),
+        b'S' => Token::InfixLetter(Infix::Since),
+        b'F' => Token::PrefixLetter(Prefix::Eventually),
+        b'G' => Token::PrefixLetter(Prefix::Always),
+        b'O' => Token::PrefixLetter(Prefix::Once),
+        b'H' => Token::PrefixLetter(Prefix::Historically),
         _ => return Lexeme::NoToken,
     };
     Lexeme::Found(token, 0)

@@ -1,6 +1,6 @@
 //! What holds of potentials and closed walks whatever finds them.
 
-ghost use Rattle.neg_cycle.specs.Laws.{PotentialExcludesCycles, SystemsHaveOutcomes};
+ghost use Rattle.neg_cycle.specs.Laws.{PotentialExcludesCycles, SystemLimits, SystemsHaveOutcomes};
 
 /// Where numbers meet every edge, no closed walk over the edges has a negative sum: no system has
 /// both outcomes.
@@ -12,4 +12,9 @@ pub fn potential_excludes_cycles()
 /// node twice. `solve` finds it unless memory runs out.
 pub fn systems_have_outcomes()
     ensures law { SystemsHaveOutcomes }
+{}
+
+/// The numbers that limit systems.
+pub fn limits_are_numbers()
+    ensures law { SystemLimits }
 {}

@@ -6,7 +6,7 @@ mod outcome;
 mod search;
 mod system;
 
-pub use laws::{potential_excludes_cycles, systems_have_outcomes};
+pub use laws::{limits_are_numbers, potential_excludes_cycles, systems_have_outcomes};
 pub use outcome::{Numbers, Outcome, Places};
 pub use search::solve;
 pub use system::{Edge, EdgeList, MAX_BOUND, MAX_EDGES, MAX_NODES, is_system};

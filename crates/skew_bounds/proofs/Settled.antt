@@ -6,8 +6,8 @@ use Rattle.std.proofs.lemmas.List.{get_or-map, length-map}
 use Rattle.std.proofs.lemmas.List.Elements.{All-nil, All-cons, All-head, All-tail}
 use Rattle.neg_cycle.specs.declared.system.Edge.{Edge as SystemEdge}
 use Rattle.neg_cycle.specs.Systems as system
+use Rattle.mt_model.proofs.BoundLists.{step_of-is_bound}
 use Rattle.mt_model.specs.declared.bound.Bound.{Bound}
-use Rattle.mt_model.specs.declared.bound.Bound.TheVariants as bound
 use Rattle.mt_model.specs.declared.step.Step.{Step}
 use Rattle.mt_model.specs.Bounds.{BoundsAreAdmissible, bounds_of, step_of}
 use Rattle.mt_model.specs.Laws.{IsBound}
@@ -88,13 +88,6 @@ sum-same edges (p ∷ ps) = ap (λ s. (system.edge_at edges p).bound +ℤ s) (su
 closed-same : (edges : List SystemEdge) (places : List ℕ) → system.IsClosedWalk edges places → IsClosedWalk (edges_at edges places)
 closed-same edges [] closed = closed
 closed-same edges (p ∷ ps) closed = (leads-same edges (system.edge_at edges p).from (p ∷ ps) (system.edge_at edges p).from closed).1
-
-step_of-is_bound : (b : Bound) → IsBound (step_of b)
-step_of-is_bound (bound.Low e) = tt
-step_of-is_bound (bound.High e) = tt
-step_of-is_bound (bound.Rise e) = tt
-step_of-is_bound (bound.Message e) = tt
-step_of-is_bound (bound.Extra k) = tt
 
 steps-are-bounds : (bounds : List Bound) (places : List ℕ) → All IsBound (steps_at bounds places)
 steps-are-bounds bounds [] = All-nil IsBound

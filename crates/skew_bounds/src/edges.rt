@@ -6,7 +6,7 @@ ghost use Rattle.mt_model.specs.declared.step.Step.TheVariants.{Low, High, Rise,
 ghost use Rattle.neg_cycle.specs.Systems.{IsEdge};
 ghost use Rattle.skew_bounds.specs.Edges.{edge_in};
 
-use crate::rows::{gap_at, local_at, previous, send, skew_at};
+use crate::rows::{gap_at, local_at, skew_at};
 use mt_model::{Bound, EventId, Log};
 use neg_cycle::Edge;
 
@@ -55,7 +55,7 @@ fn rise(log: &Log, f: EventId) -> Option<Edge>
 {
     let f = f.get() as usize;
     if f < log.rows().len() {
-        let e = previous(log, f)?;
+        let e = log.row_before(f)?;
         Some(Edge {
             from: node_of(e),
             to: node_of(f),
@@ -72,7 +72,7 @@ fn message(log: &Log, r: EventId) -> Option<Edge>
 {
     let r = r.get() as usize;
     if r < log.rows().len() {
-        let s = send(log, r)?;
+        let s = log.send_for(r)?;
         Some(Edge {
             from: node_of(s),
             to: node_of(r),

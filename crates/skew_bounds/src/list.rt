@@ -3,7 +3,6 @@ ghost use Rattle.std.specs.List.{flat_map, range_with_len};
 ghost use Rattle.mt_model.specs.Bounds.{bounds_at, bounds_of};
 ghost use Rattle.mt_model.specs.declared.bound.Bound.TheVariants as bound;
 
-use crate::rows::{previous, send};
 use mt_model::{Bound, BoundList, EventId, Log};
 use std::alloc::{AllocError, Global};
 
@@ -15,10 +14,10 @@ fn add_row(log: &Log, row: EventId, list: &mut BoundList) -> Result<(), AllocErr
     let e = row.get() as usize;
     list.push(Bound::Low(row))?;
     list.push(Bound::High(row))?;
-    if previous(log, e).is_some() {
+    if log.row_before(e).is_some() {
         list.push(Bound::Rise(row))?;
     }
-    if send(log, e).is_some() {
+    if log.send_for(e).is_some() {
         list.push(Bound::Message(row))?;
     }
     Ok(())

@@ -8,6 +8,7 @@ pub mod Tests
 pub mod TimesOutcome
 pub mod ReplayOutcome
 pub mod OrderOutcome
+pub mod Reads
 pub mod Outcome
 pub use Rattle.mt_port.specs.Port
 pub use Rattle.mt_port.specs.Whole

@@ -4,6 +4,7 @@ use Rattle.mt_port.specs.Port.{Files, file_of}
 use Rattle.mt_port.specs.Whole.{WrotePrefix}
 use Rattle.skew_cli.specs.declared.status.Status.{Status}
 use Rattle.skew_cli.specs.declared.status.Status.TheVariants as status
+use Rattle.skew_cli.specs.Reads.{HoldsFormula}
 use Rattle.skew_cli.specs.Statuses.{IsAnswer}
 use Rattle.skew_cli.specs.Texts.{line}
 use Rattle.skew_cli.specs.TimesOutcome.{TimesOutcome}
@@ -25,13 +26,13 @@ CommandOutcome (Order log) files = OrderOutcome files log
 abbrev pub Outcome : List Word → Files → List ℕ → Status → Type 0
 Outcome words files out s = MatchOption (command_of words) (Says (codes "refused words") status.Words out s) (λ command. CommandOutcome command files out s)
 
--- the files that a command names are held
+-- the files that a command comes to read are held
 abbrev pub HoldsFiles : Files → Command → Type 0
 HoldsFiles files (Times log) = IsSome (file_of files log)
-HoldsFiles files (Replay formula log times) = IsSome (file_of files formula) × IsSome (file_of files log) × IsSome (file_of files times)
+HoldsFiles files (Replay formula log times) = HoldsFormula files formula log times
 HoldsFiles files (Order log) = IsSome (file_of files log)
 
--- the files that words name are held
+-- the files that the command of words comes to read are held
 abbrev pub HoldsNamed : List Word → Files → Type 0
 HoldsNamed words files = MatchOption (command_of words) (Unit {0}) (HoldsFiles files)
 

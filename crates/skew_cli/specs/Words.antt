@@ -31,26 +31,26 @@ file_name [] = None
 file_name (b ∷ bs) = Some (b ∷ bs)
 
 -- `times` has one operand, the name of a log
-abbrev pub times_of : List Word → Option Command
-times_of (log ∷ []) = option_map Times (file_name log)
-times_of _ = None
+abbrev pub times_command : List Word → Option Command
+times_command (log ∷ []) = option_map Times (file_name log)
+times_command _ = None
 
 -- `replay` has three, the names of a formula, a log and a file of times
-abbrev pub replay_of : List Word → Option Command
-replay_of (formula ∷ log ∷ times ∷ []) = option_and_then (λ f. option_and_then (λ l. option_map (λ t. Replay f l t) (file_name times)) (file_name log)) (file_name formula)
-replay_of _ = None
+abbrev pub replay_command : List Word → Option Command
+replay_command (formula ∷ log ∷ times ∷ []) = option_and_then (λ f. option_and_then (λ l. option_map (λ t. Replay f l t) (file_name times)) (file_name log)) (file_name formula)
+replay_command _ = None
 
 -- `order` has one operand, the name of a log
-abbrev pub order_of : List Word → Option Command
-order_of (log ∷ []) = option_map Order (file_name log)
-order_of _ = None
+abbrev pub order_command : List Word → Option Command
+order_command (log ∷ []) = option_map Order (file_name log)
+order_command _ = None
 
 -- the command of a first word and its operands
 abbrev pub command_with : Word → List Word → Option Command
 command_with first operands =
-    if bytes_eq first (codes "times") then times_of operands
-    else if bytes_eq first (codes "replay") then replay_of operands
-    else if bytes_eq first (codes "order") then order_of operands
+    if bytes_eq first (codes "times") then times_command operands
+    else if bytes_eq first (codes "replay") then replay_command operands
+    else if bytes_eq first (codes "order") then order_command operands
     else None
 
 -- the command that words are; no word at all is `times -`

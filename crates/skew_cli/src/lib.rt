@@ -14,6 +14,6 @@ mod texts;
 mod times;
 mod words;
 
-pub use limits::{FORMULA_LIMIT, LOG_LIMIT, TIMES_LIMIT};
+pub use limits::{FORMULA_LIMIT, LOG_LIMIT, TIMES_LIMIT, limits_are_numbers};
 pub use program::run;
 pub use status::Status;

@@ -1,5 +1,7 @@
 //! The limits of what the program takes, in one place.
 
+ghost use Rattle.std.specs.Prelude.{◌≡◌};
+
 /// The most bytes of a formula's file.
 pub const FORMULA_LIMIT: usize = 65_536;
 
@@ -8,3 +10,10 @@ pub const LOG_LIMIT: usize = 1_048_576;
 
 /// The most bytes of a file of times.
 pub const TIMES_LIMIT: usize = 65_536;
+
+/// The numbers that limit files.
+pub fn limits_are_numbers()
+    ensures formula { FORMULA_LIMIT ≡ 65536 }
+    ensures log { LOG_LIMIT ≡ 1048576 }
+    ensures times { TIMES_LIMIT ≡ 65536 }
+{}

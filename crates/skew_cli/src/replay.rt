@@ -1,10 +1,11 @@
-ghost use Rattle.std.specs.Prelude.{◌≡◌, ◌^◌, ◌<◌, ◌≤◌, true, length, All, IfOk, IsErrOf, IsSome, string_bytes};
+ghost use Rattle.std.specs.Prelude.{◌≡◌, ◌^◌, ◌<◌, ◌≤◌, true, length, All, IfOk, IsErrOf, string_bytes};
 ghost use Rattle.formula_arena.specs.Cores.{core_of};
 ghost use Rattle.mt_model.specs.Form.{Form, form_of};
 ghost use Rattle.mt_model.specs.Log.{IsWithin};
 ghost use Rattle.mt_model.specs.declared.limits.TheConstants.{MAX_TIME};
-ghost use Rattle.mt_port.specs.Port.{Rose, file_of};
+ghost use Rattle.mt_port.specs.Port.{Rose};
 ghost use Rattle.mtl_parse.specs.FormulaOf.{FormulaOf};
+ghost use Rattle.skew_cli.specs.Reads.{HoldsFormula, HoldsLog, HoldsTimes};
 ghost use Rattle.skew_cli.specs.ReplayOutcome.{ReplayOfFormula, ReplayOfLog, ReplayOfTimes, ReplayOutcome, value_status, value_text};
 ghost use Rattle.skew_cli.specs.Statuses.{IsVerdict};
 ghost use Rattle.skew_cli.specs.Stops.{Gives};
@@ -74,7 +75,7 @@ fn replay_of_log<S: Shelf>(
     ensures outcome { S.tells shelf.old ≡ true → Gives (ReplayOfLog (S.files shelf.old) times.now text.now (form_of formula.now) log.now) result }
     ensures verdict { IfOk result (λ r. IsVerdict r.status) }
     ensures failed { IsErrOf result Stop.ReadFailed → Rose (S.faults shelf.old) (S.faults shelf.new) }
-    ensures never { S.steady shelf.old → S.tells shelf.old ≡ true → IsSome (file_of (S.files shelf.old) times.now) → IsErrOf result Stop.ReadFailed → ⊥ }
+    ensures never { S.steady shelf.old → S.tells shelf.old ≡ true → HoldsTimes (S.files shelf.old) times.now (form_of formula.now) log.now → IsErrOf result Stop.ReadFailed → ⊥ }
     ensures later { S.faults shelf.old ≤ S.faults shelf.new }
 {
     files::known_hosts(text, formula, log)?;
@@ -98,7 +99,7 @@ fn replay_of_formula<S: Shelf>(
     ensures outcome { S.tells shelf.old ≡ true → Gives (ReplayOfFormula (S.files shelf.old) log.now times.now text.now (form_of formula.now)) result }
     ensures verdict { IfOk result (λ r. IsVerdict r.status) }
     ensures failed { IsErrOf result Stop.ReadFailed → Rose (S.faults shelf.old) (S.faults shelf.new) }
-    ensures never { S.steady shelf.old → S.tells shelf.old ≡ true → IsSome (file_of (S.files shelf.old) log.now) → IsSome (file_of (S.files shelf.old) times.now) → IsErrOf result Stop.ReadFailed → ⊥ }
+    ensures never { S.steady shelf.old → S.tells shelf.old ≡ true → HoldsLog (S.files shelf.old) log.now times.now (form_of formula.now) → IsErrOf result Stop.ReadFailed → ⊥ }
     ensures later { S.faults shelf.old ≤ S.faults shelf.new }
 {
     let file = files::file(alloc, shelf, log, LOG_LIMIT, Named::Log)?;
@@ -117,7 +118,7 @@ pub fn replay<S: Shelf>(
     ensures outcome { S.tells shelf.old ≡ true → Gives (ReplayOutcome (S.files shelf.old) formula.now log.now times.now) result }
     ensures verdict { IfOk result (λ r. IsVerdict r.status) }
     ensures failed { IsErrOf result Stop.ReadFailed → Rose (S.faults shelf.old) (S.faults shelf.new) }
-    ensures never { S.steady shelf.old → S.tells shelf.old ≡ true → IsSome (file_of (S.files shelf.old) formula.now) → IsSome (file_of (S.files shelf.old) log.now) → IsSome (file_of (S.files shelf.old) times.now) → IsErrOf result Stop.ReadFailed → ⊥ }
+    ensures never { S.steady shelf.old → S.tells shelf.old ≡ true → HoldsFormula (S.files shelf.old) formula.now log.now times.now → IsErrOf result Stop.ReadFailed → ⊥ }
     ensures later { S.faults shelf.old ≤ S.faults shelf.new }
 {
     let text = files::file(alloc, shelf, formula, FORMULA_LIMIT, Named::Formula)?;

@@ -1,6 +1,6 @@
 ghost use Rattle.std.specs.Prelude.{◌≡◌, map, option_map, string_bytes};
 ghost use Rattle.skew_cli.specs.Called.{command_in, words_in};
-ghost use Rattle.skew_cli.specs.Words.{command_of, command_with, order_of, replay_of, times_of};
+ghost use Rattle.skew_cli.specs.Words.{command_of, command_with, order_command, replay_command, times_command};
 
 use crate::operands::Operands;
 
@@ -24,7 +24,7 @@ pub enum Call<'a> {
 }
 
 fn times_call<'a>(operands: Operands<'a>) -> Option<Call<'a>>
-    ensures { option_map command_in result ≡ times_of (words_in operands.entry) }
+    ensures { option_map command_in result ≡ times_command (words_in operands.entry) }
 {
     if operands.count() != 1 {
         return None;
@@ -34,7 +34,7 @@ fn times_call<'a>(operands: Operands<'a>) -> Option<Call<'a>>
 }
 
 fn replay_call<'a>(operands: Operands<'a>) -> Option<Call<'a>>
-    ensures { option_map command_in result ≡ replay_of (words_in operands.entry) }
+    ensures { option_map command_in result ≡ replay_command (words_in operands.entry) }
 {
     if operands.count() != 3 {
         return None;
@@ -50,7 +50,7 @@ fn replay_call<'a>(operands: Operands<'a>) -> Option<Call<'a>>
 }
 
 fn order_call<'a>(operands: Operands<'a>) -> Option<Call<'a>>
-    ensures { option_map command_in result ≡ order_of (words_in operands.entry) }
+    ensures { option_map command_in result ≡ order_command (words_in operands.entry) }
 {
     if operands.count() != 1 {
         return None;

@@ -5,6 +5,7 @@ use Rattle.std.specs.Option.{option_map_or}
 use Rattle.std.specs.List.{list_any, range_with_len}
 use Rattle.std.proofs.lemmas.Int.{ints}
 use Rattle.std.proofs.lemmas.Bool.{and_from, and_parts, cases_Bool}
+use Rattle.mt_model.proofs.TruthLemmas.{implies-from, implies-then}
 use Rattle.mt_model.specs.Frame.{Frame, implies, reaches, span}
 use Rattle.mt_model.proofs.Members.{Among, any_same, same_bool, all_each, each_all}
 use Rattle.mt_model.proofs.PositionLemmas.{below, within_has}
@@ -60,14 +61,6 @@ module _ (d : Direction) (t : List ℤ) (test : ℕ → Bool) (e : ℕ) where
     gap = some.gap;
     first = below_more (λ m. is_gap F test e m ≡ true → F.not_after g m ≡ true) n some.first (λ is. either d t n g (fails is));
   }
-
-implies-then : (a b : Bool) → implies a b ≡ true → a ≡ true → b ≡ true
-implies-then true b h is = h
-implies-then false b h is = absurd (cc)
-
-implies-from : (a b : Bool) → (a ≡ true → b ≡ true) → implies a b ≡ true
-implies-from true b h = h refl
-implies-from false b h = refl
 
 not-true : (a : Bool) → not a ≡ true → a ≡ false
 not-true true h = absurd (cc)

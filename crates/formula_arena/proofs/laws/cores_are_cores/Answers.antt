@@ -7,5 +7,5 @@ use Rattle.formula_arena.proofs.laws.cores_are_cores.Goals as goal
 pub returns : goal.returns
 returns c = record {
   core = core-core;
-  same = λ f g. (form_same f g, λ e. ap (same_form f) (sym e) ∙ form_itself f);
+  equality = λ f g. (form_same f g, λ e. ap (same_form f) (sym e) ∙ form_itself f);
 }

@@ -1,7 +1,7 @@
 use Rattle.std.proofs.Common.{ℕ, Result, Ok, Err}
 use Rattle.std.specs.Result.{OkIff, result_ok}
 use Rattle.std.specs.Option.{SomeIff}
-use Rattle.log_read.proofs.Digits.{digits_model, IsUtf8-digits}
+use Rattle.mt_model.proofs.Digits.{digits_model, IsUtf8-digits}
 use Rattle.std.proofs.lemmas.Str.Parse.{parse_digits}
 use Rattle.log_read.proofs.number.value_of.Goals as goal
 

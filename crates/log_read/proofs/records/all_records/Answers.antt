@@ -18,6 +18,7 @@ loop-row-init c =
       inr (inr (rw e at fr.has_headers, fr.headers)),
       left,
       rw e at fr.config ∙ c.new.ensures.config,
+      rw e at fr.flexible,
       strip_bom c.args.text.now,
       fr.source,
       (sym fr.state, refl),
@@ -27,12 +28,13 @@ pub loop-row-preserved : goal.loop-row-preserved
 loop-row-preserved c =
     let inv = c.loop-row.invariant in
     let s = rw (c.in-Some.is, c.in-Ok.is) at ((c.next.ensures.steps inv.2 inv.0).0 inv.1) in
+    let flexible = rw (c.in-Some.is, c.in-Ok.is) at (c.next.ensures.steps inv.2 inv.0).3 in
     let pushed : c.push.new.self ≡ c.loop-row.list ++ fields_of c.in-Ok.row ∷ [] = c.in_ok-push-in-Ok.ensures.ok ∙ ap (λ f. c.loop-row.list ++ f ∷ []) c.in_ok-fields-in-Ok.ensures in
-    let m = rows-more (λ (s : Bor (List ℕ)). Some s.now) c.loop-row.row-iterator.rdr c.next.new.self.rdr (fields_of c.in-Ok.row) default_config st.StartRecord (strip_bom c.args.text.now) inv.4 c.loop-row.list inv.3 inv.5 inv.6 s.0 in
-    (s.0.3 ∙ inv.0, inl s.1, s.2, s.0.2 ∙ inv.3, m.0, m.1, rw (pushed) m.2)
+    let m = rows-more (λ (s : Bor (List ℕ)). Some s.now) c.loop-row.row-iterator.rdr c.next.new.self.rdr (fields_of c.in-Ok.row) default_config st.StartRecord (strip_bom c.args.text.now) inv.5 c.loop-row.list inv.3 inv.6 inv.7 s.0 in
+    (s.0.3 ∙ inv.0, inl s.1, s.2, s.0.2 ∙ inv.3, flexible ∙ inv.4, m.0, m.1, rw (pushed) m.2)
 
 pub returns : goal.returns
 returns c =
     let inv = c.loop-row.invariant in
     let s = rw c.in-None.is at ((c.next.ensures.steps inv.2 inv.0).0 inv.1) in
-    record { records = (c.loop-row.row-iterator.rdr.state, inv.4, inv.6, rows-end (λ (s : Bor (List ℕ)). Some s.now) c.loop-row.row-iterator.rdr c.next.new.self.rdr [] default_config inv.4 inv.3 inv.5 s) }
+    record { records = (c.loop-row.row-iterator.rdr.state, inv.5, inv.7, rows-end (λ (s : Bor (List ℕ)). Some s.now) c.loop-row.row-iterator.rdr c.next.new.self.rdr [] default_config inv.5 inv.3 inv.6 s) }

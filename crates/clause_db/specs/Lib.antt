@@ -1,0 +1,5 @@
+pub mod Literals
+pub mod Clauses
+pub mod Flat
+pub mod Hinted
+pub mod Laws

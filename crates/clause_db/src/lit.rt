@@ -1,0 +1,63 @@
+ghost use Rattle.std.specs.Prelude.{◌≡◌};
+ghost use Rattle.clause_db.specs.Literals.{negation};
+
+use crate::Var;
+
+/// A literal: a variable with a sense.
+#[derive(Clone, Copy, Debug, PartialEq, Eq, PartialOrd, Ord, Hash)]
+pub struct Lit {
+    var: u32,
+    positive: bool,
+}
+
+impl Lit {
+    /// The literal that says of the variable that it is true, or else that it is false.
+    pub fn new(var: Var, positive: bool) -> Lit
+        ensures variable { result.var ≡ var }
+        ensures sense { result.positive ≡ positive }
+    {
+        Lit {
+            var: var.get(),
+            positive,
+        }
+    }
+
+    /// Its variable.
+    pub fn var(&self) -> Var
+        ensures variable { result ≡ self.now.var }
+    {
+        Var::new(self.var)
+    }
+
+    /// Whether it says that its variable is true.
+    pub fn positive(&self) -> bool
+        ensures sense { result ≡ self.now.positive }
+    {
+        self.positive
+    }
+
+    /// The literal of the same variable and the other sense.
+    pub fn negated(&self) -> Lit
+        ensures other { result ≡ negation self.now }
+    {
+        Lit {
+            var: self.var,
+            positive: !self.positive,
+        }
+    }
+}
+
+#[cfg(test)]
+mod tests {
+    use super::*;
+
+    #[test]
+    fn a_negated_literal_has_the_other_sense(rt: HostRuntime) {
+        for positive in [false, true] {
+            let lit = Lit::new(Var::new(7), positive);
+            assert_eq!(rt; lit.var(), Var::new(7));
+            assert_eq!(rt; lit.positive(), positive);
+            assert_eq!(rt; lit.negated(), Lit::new(Var::new(7), !positive));
+        }
+    }
+}

@@ -1,0 +1,5 @@
+pub mod Hints
+pub mod Propagation
+pub mod Laws
+pub mod Maps
+pub mod Worked

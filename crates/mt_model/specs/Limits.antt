@@ -1,0 +1,23 @@
+-- The numbers that limit logs, timings and formulas.
+use Rattle.std.specs.Prelude.{◌≡◌, pos}
+use Rattle.mt_model.specs.declared.limits.TheConstants.{MAX_NAME_LENGTH, MAX_HOSTS, MAX_ROWS, MAX_EXTRAS, MAX_LOCAL, MAX_WRITTEN_SKEW, MAX_SKEW, MAX_GAP, MAX_EXTRA, MAX_ORDER, MAX_HEIGHT, MAX_PROPOSITIONS, MAX_DISTANCE, MAX_TIME}
+
+-- the limits of logs, whose skews, gaps and local times are below the limits of true times and bounds
+pub record LogLimits : Type 0 where
+  pub name_length : MAX_NAME_LENGTH ≡ 32
+  pub hosts : MAX_HOSTS ≡ 64
+  pub rows : MAX_ROWS ≡ 64
+  pub extras : MAX_EXTRAS ≡ 1048576
+  pub local : MAX_LOCAL ≡ pos 4000000000000000000
+  pub written_skew : MAX_WRITTEN_SKEW ≡ pos 1000000000000000000
+  pub skew : MAX_SKEW ≡ pos 2000000000000000000
+  pub gap : MAX_GAP ≡ pos 1000000000000000000
+  pub extra : MAX_EXTRA ≡ pos 100000000000000000000
+  pub time : MAX_TIME ≡ pos 10000000000000000000
+  pub order : MAX_ORDER ≡ pos 1000000000000000000000
+
+-- the limits of formulas
+pub record FormulaLimits : Type 0 where
+  pub height : MAX_HEIGHT ≡ 200
+  pub propositions : MAX_PROPOSITIONS ≡ 2147483648
+  pub distance : MAX_DISTANCE ≡ 1000000000000000000

@@ -1,0 +1,541 @@
+"""A slow, plain reading of the texts that skewcheck takes: logs, formulas and times files.
+
+Nothing here is made to be fast. Each function does one thing in the most
+direct way. The module shares no code with the program, so that the two can be
+compared.
+"""
+
+import re
+import sys
+from typing import NamedTuple, Optional
+
+sys.setrecursionlimit(max(sys.getrecursionlimit(), 20_000))
+
+FORMULA_LIMIT = 65_536
+LOG_LIMIT = 1_048_576
+TIMES_LIMIT = 65_536
+HOST_LIMIT = 64
+ROW_LIMIT = 64
+NODE_LIMIT = 512
+HEIGHT_LIMIT = 200
+NAME_LIMIT = 32
+
+SKEW_GREATEST = 10**18
+LOCAL_GREATEST = 4 * 10**18
+INTERVAL_GREATEST = 10**18
+TIME_GREATEST = 10**19
+
+
+# Numbers and names
+
+
+def number(text, greatest):
+    """The value of a decimal number from 0 to greatest, or None."""
+    if not re.fullmatch(rb"0|[1-9][0-9]*", text):
+        return None
+    if len(text) > len(str(greatest)):
+        return None
+    value = int(text)
+    return value if value <= greatest else None
+
+
+def signed_number(text, greatest):
+    """The value of a number that may have a minus sign, or None."""
+    if not text.startswith(b"-"):
+        return number(text, greatest)
+    value = number(text[1:], greatest)
+    return -value if value else None
+
+
+def is_name(text):
+    """Whether the bytes are a name: a small letter, then letters, digits, underscores."""
+    return len(text) <= NAME_LIMIT and bool(re.fullmatch(rb"[a-z][a-z0-9_]*", text))
+
+
+# The log
+
+
+class Host(NamedTuple):
+    name: bytes
+    skew: int
+    gap: int
+
+
+class Row(NamedTuple):
+    host: int  # the number of its host
+    local: int
+    act: bytes  # set, clear, send, recv or note
+    name: bytes
+
+
+class Log(NamedTuple):
+    hosts: list
+    rows: list
+
+
+class LogFault(NamedTuple):
+    number: int
+    record: Optional[int]  # None where the fault lies in no record
+
+
+HEADER = [b"kind", b"host", b"time", b"name"]
+EVENT_KINDS = (b"set", b"clear", b"send", b"recv", b"note")
+KEPT_WORDS = (b"true", b"false", b"inf")
+LINE_ENDS = b"\r\n"
+
+
+def csv_records(data):
+    """The records of a comma-separated text, each a list of its fields.
+
+    A quote opens a quoted field only as the first byte of the field. In it two
+    quotes stand for one, and a single quote closes it; what then follows up to
+    the comma or the line's end is added as it is. Commas and line ends inside
+    quotes are plain bytes. Empty lines give no record. At the end of the text
+    an open record is complete, whether quotes are closed or not.
+    """
+    if data.startswith(b"\xef\xbb\xbf"):
+        data = data[3:]
+    records, record, field = [], [], bytearray()
+    place = "line start"
+    for byte in data:
+        if place == "line start":
+            if byte in LINE_ENDS:
+                continue
+            place = "field start"
+        if place == "field start" and byte == ord('"'):
+            place = "quoted"
+        elif place == "quoted" and byte == ord('"'):
+            place = "after quote"
+        elif place == "quoted":
+            field.append(byte)
+        elif place == "after quote" and byte == ord('"'):
+            field.append(byte)
+            place = "quoted"
+        elif byte == ord(","):
+            record.append(bytes(field))
+            field.clear()
+            place = "field start"
+        elif byte in LINE_ENDS:
+            record.append(bytes(field))
+            field.clear()
+            records.append(record)
+            record = []
+            place = "line start"
+        else:
+            field.append(byte)
+            place = "unquoted"
+    if place != "line start":
+        record.append(bytes(field))
+        records.append(record)
+    return records
+
+
+def read_log(data):
+    """The log that the bytes spell, or its LogFault."""
+    records = csv_records(data)
+    if not records or records[0] != HEADER:
+        return LogFault(1, 1)
+    log = Log([], [])
+    record_of_row = []
+    for place, record in enumerate(records[1:], start=2):
+        fault = record_fault(log, record)
+        if fault:
+            return LogFault(fault, place)
+        add_record(log, record)
+        if record[0] != b"host":
+            record_of_row.append(place)
+    for row, place in zip(log.rows, record_of_row):
+        if row.act == b"recv" and row.name not in sent_names(log):
+            return LogFault(10, place)
+    return log if log.rows else LogFault(11, None)
+
+
+def record_fault(log, record):
+    """The number of the first test that a record fails after the log so far, or 0."""
+    if len(record) != 4:
+        return 2
+    if record[0] != b"host" and record[0] not in EVENT_KINDS:
+        return 3
+    if record[0] == b"host":
+        return host_fault(log, record)
+    return event_fault(log, record)
+
+
+def host_fault(log, record):
+    """The number of the first test that a host record fails, or 0."""
+    _, name, skew, gap = record
+    if not is_name(name) or name in KEPT_WORDS:
+        return 4
+    if host_number(log, name) is not None:
+        return 5
+    if len(log.hosts) >= HOST_LIMIT:
+        return 12
+    if number(skew, SKEW_GREATEST) is None or number(gap, SKEW_GREATEST) is None:
+        return 7
+    return 0
+
+
+def event_fault(log, record):
+    """The number of the first test that an event record fails, or 0."""
+    kind, host, local, name = record
+    if host_number(log, host) is None:
+        return 6
+    if signed_number(local, LOCAL_GREATEST) is None:
+        return 7
+    if not is_name(name):
+        return 8
+    if kind == b"send" and name in sent_names(log):
+        return 9
+    if len(log.rows) >= ROW_LIMIT:
+        return 13
+    return 0
+
+
+def add_record(log, record):
+    """Adds the host or the row of a record without fault."""
+    kind, second, third, fourth = record
+    if kind == b"host":
+        skew = number(third, SKEW_GREATEST)
+        gap = number(fourth, SKEW_GREATEST)
+        log.hosts.append(Host(second, skew, gap))
+    else:
+        local = signed_number(third, LOCAL_GREATEST)
+        log.rows.append(Row(host_number(log, second), local, kind, fourth))
+
+
+def host_number(log, name):
+    """The number of the host with that name, or None."""
+    for place, host in enumerate(log.hosts):
+        if host.name == name:
+            return place
+    return None
+
+
+def sent_names(log):
+    """The messages that the rows of the log send."""
+    return [row.name for row in log.rows if row.act == b"send"]
+
+
+# The formula
+
+
+class Token(NamedTuple):
+    kind: str  # "number", "word", or the sign itself
+    text: bytes
+    byte: int  # the place of its first byte
+
+
+class FormulaFault(NamedTuple):
+    number: int
+    byte: int
+
+
+class Tree:
+    """A node of a formula as it is written: parentheses leave no trace.
+
+    The forms are true, false, prop and the signs of the operators. An
+    interval is a pair whose second part is None for no upper bound.
+    """
+
+    __slots__ = ("form", "interval", "children", "height", "host", "name", "byte")
+
+    def __init__(self, form, children=(), interval=None, host=None, name=None, byte=None):
+        self.form = form
+        self.children = children
+        self.interval = interval
+        self.host = host
+        self.name = name
+        self.byte = byte
+        self.height = 1 + max((child.height for child in children), default=0)
+
+
+PREFIXED = ("!", "F", "G", "O", "H")
+BETWEEN = ("->", "|", "&", "U", "S")
+TIMED = ("F", "G", "O", "H", "U", "S")
+
+# How tightly an operator binds, and which of those between operands lean right.
+TIGHTNESS = {"->": 1, "|": 2, "&": 3, "U": 4, "S": 4, "!": 5, "F": 5, "G": 5, "O": 5, "H": 5}
+RIGHTWARD = ("->", "U", "S")
+
+
+def read_formula(data):
+    """The tree that the bytes spell, or the FormulaFault."""
+    tokens = read_tokens(data)
+    if isinstance(tokens, FormulaFault):
+        return tokens
+    if not tokens:
+        return FormulaFault(7, 0)
+    fault = grammar_fault(tokens, len(data)) or interval_fault(tokens)
+    if fault:
+        return fault
+    tree = build_tree(tokens)
+    return tree if tree.height <= HEIGHT_LIMIT else FormulaFault(5, 0)
+
+
+def read_tokens(data):
+    """The tokens of the text, or the fault of the leftmost bad one."""
+    pattern = re.compile(rb"([0-9]+)|([a-z][a-z0-9_]*)|(->|[()\[\],.!&|USFGOH])")
+    tokens = []
+    place = 0
+    while place < len(data):
+        if data[place] in b" \t\r\n":
+            place += 1
+            continue
+        found = pattern.match(data, place)
+        if not found:
+            return FormulaFault(1, place)
+        text = found.group()
+        if found.group(1):
+            if number(text, INTERVAL_GREATEST) is None:
+                return FormulaFault(3, place)
+            tokens.append(Token("number", text, place))
+        elif found.group(2):
+            if len(text) > NAME_LIMIT:
+                return FormulaFault(1, place)
+            tokens.append(Token("word", text, place))
+        else:
+            tokens.append(Token(text.decode(), text, place))
+        place = found.end()
+    return tokens
+
+
+def grammar_fault(tokens, length):
+    """The fault of tokens that aren't a formula, or None.
+
+    What may stand next depends only on a state and on how many parentheses
+    are open, so the first token that has no state to go to is the first that
+    no formula can go on with.
+    """
+    state, depth = "operand", 0
+    for token in tokens:
+        following = next_state(state, depth, token)
+        if following is None:
+            whole = state == "operator" and depth == 0
+            return FormulaFault(6 if whole else 2, token.byte)
+        state = following
+        depth += {"(": 1, ")": -1}.get(token.kind, 0)
+    if state == "operator" and depth == 0:
+        return None
+    return FormulaFault(2, length)
+
+
+def next_state(state, depth, token):
+    """What is asked for after the token, or None where it can't stand there."""
+    kind = token.kind
+    if state == "operator":
+        if kind == ")" and depth > 0:
+            return "operator"
+        return state_after_sign(kind) if kind in BETWEEN else None
+    if state == "operand or interval" and kind == "[":
+        return "low"
+    if state in ("operand", "operand or interval"):
+        return state_after_operand_start(token)
+    if state == "dot" and kind == ".":
+        return "second word"
+    if state == "second word" and kind == "word":
+        return "operator"
+    if state == "low" and kind == "number":
+        return "comma"
+    if state == "comma" and kind == ",":
+        return "high"
+    if state == "high" and (kind == "number" or token.text == b"inf"):
+        return "bracket"
+    if state == "bracket" and kind == "]":
+        return "operand"
+    return None
+
+
+def state_after_operand_start(token):
+    """What is asked for after a token where an operand begins, or None."""
+    if token.kind == "(":
+        return "operand"
+    if token.kind in PREFIXED:
+        return state_after_sign(token.kind)
+    if token.text in (b"true", b"false"):
+        return "operator"
+    if token.kind == "word" and token.text != b"inf":
+        return "dot"
+    return None
+
+
+def state_after_sign(kind):
+    """What is asked for after an operator."""
+    return "operand or interval" if kind in TIMED else "operand"
+
+
+def interval_fault(tokens):
+    """The fault of the leftmost interval of a formula whose ends are crossed, or None."""
+    for place, token in enumerate(tokens):
+        if token.kind == "[":
+            low, high = interval_at(tokens, place)
+            if high is not None and low > high:
+                return FormulaFault(4, token.byte)
+    return None
+
+
+def interval_at(tokens, place):
+    """The ends of the interval whose bracket stands at that place."""
+    low, high = tokens[place + 1], tokens[place + 3]
+    return int(low.text), None if high.text == b"inf" else int(high.text)
+
+
+def build_tree(tokens):
+    """The tree of tokens that are a formula.
+
+    Operands and waiting operators stand on two lists, so depth costs no
+    recursion. A waiting operator takes its operands as soon as one comes that
+    binds less tightly, or as tightly and leans left.
+    """
+    operands, waiting = [], []
+    place = 0
+    while place < len(tokens):
+        token = tokens[place]
+        if token.kind == "word":
+            leaf, place = read_leaf(tokens, place)
+            operands.append(leaf)
+        elif token.kind == "(":
+            waiting.append(("(", None))
+            place += 1
+        elif token.kind == ")":
+            while waiting[-1][0] != "(":
+                take_operands(operands, waiting)
+            waiting.pop()
+            place += 1
+        else:
+            while token.kind in BETWEEN and waiting and goes_first(waiting[-1][0], token.kind):
+                take_operands(operands, waiting)
+            interval, place = read_interval(tokens, place)
+            waiting.append((token.kind, interval))
+    while waiting:
+        take_operands(operands, waiting)
+    return operands.pop()
+
+
+def read_leaf(tokens, place):
+    """The constant or proposition at that place, and the place after it."""
+    token = tokens[place]
+    if token.text in (b"true", b"false"):
+        return Tree(token.text.decode()), place + 1
+    name = tokens[place + 2].text
+    return Tree("prop", host=token.text, name=name, byte=token.byte), place + 3
+
+
+def read_interval(tokens, place):
+    """The interval of the operator at that place, if it has one, and the place after it."""
+    if tokens[place].kind not in TIMED:
+        return None, place + 1
+    if tokens[place + 1].kind != "[":
+        return (0, None), place + 1
+    return interval_at(tokens, place + 1), place + 6
+
+
+def goes_first(waiting, coming):
+    """Whether a waiting operator takes its operands before one that comes between operands."""
+    if waiting == "(":
+        return False
+    if TIGHTNESS[waiting] == TIGHTNESS[coming]:
+        return coming not in RIGHTWARD
+    return TIGHTNESS[waiting] > TIGHTNESS[coming]
+
+
+def take_operands(operands, waiting):
+    """Makes the last waiting operator into a tree over the last operands."""
+    form, interval = waiting.pop()
+    count = 1 if form in PREFIXED else 2
+    children = tuple(operands[-count:])
+    del operands[-count:]
+    operands.append(Tree(form, children, interval))
+
+
+def propositions(tree):
+    """The propositions of a tree from left to right, each as often as it occurs."""
+    if tree.form == "prop":
+        return [tree]
+    return [leaf for child in tree.children for leaf in propositions(child)]
+
+
+def unknown_host(tree, log):
+    """The byte of the first host word that the log doesn't have, or None."""
+    for leaf in propositions(tree):
+        if host_number(log, leaf.host) is None:
+            return leaf.byte
+    return None
+
+
+def core_nodes(tree):
+    """The distinct subtrees of the core of a tree, in the order in which they are finished.
+
+    The core has only true, propositions, not, and, until and since. Each node
+    is a tuple of its form, its interval or names, and its children's numbers.
+    """
+    numbers = {}
+    core_number(tree, numbers)
+    return list(numbers)
+
+
+def core_number(tree, numbers):
+    """The number of a tree's core, which is put into the numbers with all below it."""
+
+    def node(*shape):
+        return numbers.setdefault(shape, len(numbers))
+
+    def negated(inner):
+        return node("not", inner)
+
+    form, interval, children = tree.form, tree.interval, tree.children
+    if form == "true":
+        return node("true")
+    if form == "false":
+        return negated(node("true"))
+    if form == "prop":
+        return node("prop", tree.host, tree.name)
+    if form in ("F", "O"):
+        kind = "until" if form == "F" else "since"
+        always = node("true")
+        return node(kind, interval, always, core_number(children[0], numbers))
+    if form in ("G", "H"):
+        kind = "until" if form == "G" else "since"
+        always = node("true")
+        inner = negated(core_number(children[0], numbers))
+        return negated(node(kind, interval, always, inner))
+    left = core_number(children[0], numbers)
+    if form == "!":
+        return negated(left)
+    if form == "|":
+        left = negated(left)
+        right = negated(core_number(children[1], numbers))
+        return negated(node("and", left, right))
+    right = core_number(children[1], numbers)
+    if form == "->":
+        return negated(node("and", left, negated(right)))
+    if form == "&":
+        return node("and", left, right)
+    return node("until" if form == "U" else "since", interval, left, right)
+
+
+# Times files
+
+
+class TimesFault(NamedTuple):
+    number: int
+    line: int
+
+
+def read_times(data, events):
+    """One time per event, or the TimesFault."""
+    lines = times_lines(data)
+    times = [signed_number(line, TIME_GREATEST) for line in lines[:events]]
+    if None in times:
+        return TimesFault(1, times.index(None) + 1)
+    if len(lines) < events:
+        return TimesFault(2, len(lines) + 1)
+    if len(lines) > events:
+        return TimesFault(2, events + 1)
+    return times
+
+
+def times_lines(data):
+    """The lines of a times file, without newlines and the carriage returns before them."""
+    *ended, last = data.split(b"\n")
+    lines = [line[:-1] if line.endswith(b"\r") else line for line in ended]
+    return lines + [last] if last else lines
