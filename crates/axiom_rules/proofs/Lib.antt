@@ -1,0 +1,17 @@
+mod BoolLemmas
+mod Orders
+mod FrameRules
+mod PartLemmas
+mod TimingLemmas
+mod ChangeLemmas
+mod TreeLemmas
+mod MeaningLemmas
+mod AddingLemmas
+mod EachLemmas
+mod Lookups
+mod RowLemmas
+mod OnceLemmas
+mod AtomLemmas
+mod ShapeLemmas
+mod RulesHold
+mod WorkedCases

@@ -1,0 +1,536 @@
+-- Each rule holds, and so each clause does.
+use Rattle.std.proofs.Common.{◌≡◌, ◌∙◌, sym, ap, refl, subst, ℕ, zero, suc, ◌+◌, ◌-◌, ◌<◌, Bool, true, false, not, ◌&&◌, ◌||◌, if◌then◌else◌, List, [], ◌∷◌, ◌++◌, length, Option, Some, None, Ok, Err, inl, inr, ℤ, pos, arith}
+use Rattle.std.specs.Prelude.{◌↔◌, int_le, nat_lt, option_and_then, slice_get, reverse, find, All}
+use Rattle.std.specs.List.{list_any, range_with_len}
+use Rattle.std.specs.Option.{option_map_or}
+use Rattle.std.proofs.lemmas.Int.{ints}
+use Rattle.std.proofs.lemmas.Bool.{and_parts, cases_Bool}
+use Rattle.std.proofs.lemmas.Bool.Decides.{nat_tests}
+use Rattle.std.proofs.lemmas.Option.{slice_get_read}
+use Rattle.mt_model.specs.declared.tree.Interval.{Interval}
+use Rattle.mt_model.specs.Before.{BeforeIsNotLater}
+use Rattle.mt_model.specs.Form.{Form, True, Prop, Not, And, Until, Since}
+use Rattle.mt_model.specs.Frame.{Frame, span, witness}
+use Rattle.mt_model.specs.Log.{Logged, IsLog}
+use Rattle.mt_model.specs.State.{Change, changes_of, host_named}
+use Rattle.mt_model.specs.Timing.{Admissible, time_of}
+use Rattle.mt_model.specs.Truth.{rows_in, truth}
+use Rattle.mt_model.proofs.Members.{all_each, any_some, each_all, some_any}
+use Rattle.mt_model.proofs.PositionLemmas.{below, place-of_first, within_has}
+use Rattle.formula_arena.specs.Laws.{CoresAreCores, NodesAreSubtrees, TruthOfCore}
+use Rattle.formula_arena.specs.Nodes.{StandsBefore, nodes_of, tree_at}
+use Rattle.formula_arena.specs.Subtrees.{children_of, same_form}
+use Rattle.axiom_rules.specs.declared.fault.RuleFault.TheVariants.{NoRule, Range, Kind}
+use Rattle.axiom_rules.specs.declared.literal.Atom.{Atom}
+use Rattle.axiom_rules.specs.declared.literal.Atom.TheVariants.{First, Gap, Node, Span, Wit}
+use Rattle.axiom_rules.specs.declared.literal.Literal.{Literal}
+use Rattle.axiom_rules.specs.declared.part.Part.{Part}
+use Rattle.axiom_rules.specs.declared.part.Part.TheVariants.{Says, Known}
+use Rattle.axiom_rules.specs.declared.reach.Reach.{Reach}
+use Rattle.axiom_rules.specs.declared.rule.Argument.TheVariants.{ANode, AnEvent}
+use Rattle.axiom_rules.specs.declared.rule.Rule.{Rule}
+use Rattle.axiom_rules.specs.Clauses.{Row, are_there, clause_of, is_there, lasting_rows, of_event, of_events, of_node_event, of_node_event_change, of_node_events, of_node_three_events, of_nothing, row_of, rows}
+use Rattle.axiom_rules.specs.Holds.{clause_holds, gap, is_near, means}
+use Rattle.axiom_rules.specs.Laws.{RulesHold}
+use Rattle.axiom_rules.specs.Parts.{Written, after, clause_of_written, not_after}
+use Rattle.axiom_rules.specs.Rules as rule
+use Rattle.axiom_rules.specs.Sought.{Sought}
+use Rattle.axiom_rules.specs.NodeShapes.{changes_in, is_constant, operand_in, reach_in, sides_in, number_of, shape_of, shape_at}
+use Rattle.axiom_rules.specs.Rules.{of_kind, for_each_event, has_come, is, is_not, is_not_up_to}
+use Rattle.axiom_rules.proofs.BoolLemmas.{any_1, any_2, any_3, any_4, any_5, any_rest, apart, failing, not_false, was_true}
+use Rattle.axiom_rules.proofs.ChangeLemmas.{Falls, changes-fall, first-none, first_passes, is_by, last-at}
+use Rattle.axiom_rules.proofs.FrameRules.{gap_parts, gap_without_span, reached, reaches_from, span_at, span_to_gap, witness_from, witness_parts}
+use Rattle.axiom_rules.proofs.MeaningLemmas.{F, at_row, from, is_from-says, is_not_from-says, is_not_up_to-says, is_up_to-says, means-gap, means-node, means-reaches, means-span, means-wit, met_after-says, near-ahead, near-parts, not_met_after-says, row_at, told, tree_of, up_to}
+use Rattle.axiom_rules.proofs.Orders.{first_of, order-met, order-rows}
+use Rattle.axiom_rules.proofs.PartLemmas.{any-map, clause_from_parts, not_after_is, not_order-says, order-says, part_holds}
+use Rattle.axiom_rules.proofs.ShapeLemmas.{index_or-there}
+use Rattle.axiom_rules.proofs.TimingLemmas.{times-rise}
+use Rattle.axiom_rules.proofs.TreeLemmas.{child-number}
+
+-- clauses of a value and those that it is made of
+negation-not_both : (x y : Bool) → x ≡ not y → (not x || (not y || false)) ≡ true
+negation-not_both x true is = rw is refl
+negation-not_both x false is = rw is refl
+
+negation-one : (x y : Bool) → x ≡ not y → (x || (y || false)) ≡ true
+negation-one x true is = rw is refl
+negation-one x false is = rw is refl
+
+and-left : (x y z : Bool) → x ≡ (y && z) → (not x || (y || false)) ≡ true
+and-left x true z is = any_2 (not x) true (λ no. refl)
+and-left x false z is = rw is refl
+
+and-right : (x y z : Bool) → x ≡ (y && z) → (not x || (z || false)) ≡ true
+and-right x true true is = any_2 (not x) true (λ no. refl)
+and-right x true false is = rw is refl
+and-right x false z is = rw is refl
+
+and-both : (x y z : Bool) → x ≡ (y && z) → (x || (not y || (not z || false))) ≡ true
+and-both x true true is = rw is refl
+and-both x true false is = any_3 x false true (λ a b. refl)
+and-both x false z is = any_3 x true (not z) (λ a b. absurd (cc))
+
+-- a literal of a sense holds where its atom has that value
+of-sense : (sense value : Bool) → value ≡ sense → (if sense then value else not value) ≡ true
+of-sense true value is = is
+of-sense false value is = rw is refl
+
+below-of : (m n : ℕ) → nat_lt m n ≡ true → m < n
+below-of m n h = grind (arith, nat_tests)
+
+module _ (log : Logged) (t : List ℤ) (trees : List Form) (root : ℕ) (value : Bool) where
+  abbrev s : Sought
+  s = record { log = log; trees = trees; root = root; value = value }
+
+  abbrev M : Atom → Bool
+  M = means log t trees
+
+  -- what is written holds
+  abbrev Right : Written → Type 0
+  Right (Ok parts) = list_any (part_holds M) parts ≡ true
+  Right (Err fault) = Unit {0}
+
+  module _ (count : length t ≡ length log.rows) (same : (f g : Form) → (same_form f g ≡ true) ↔ (f ≡ g)) (children_first : (k : ℕ) → k < length trees → All (StandsBefore trees k) (children_of (tree_at trees k))) where
+    shape-there : (k : ℕ) → k < length trees → shape_of log trees (tree_at trees k) ≡ shape_at s k
+    shape-there k low = sym (ap (option_and_then (shape_of log trees)) (slice_get_read trees (length trees) k (tree_at trees k) refl low (index_or-there trees k True low)))
+
+    by_not : (k : ℕ) (write : ℕ → Written) → k < length trees → ((f : Form) (a : ℕ) → tree_at trees k ≡ Not f → tree_at trees a ≡ f → Right (write a)) → Right (of_kind (operand_in (shape_at s k)) write)
+    by_not k write low h = subst (λ o. Right (of_kind (operand_in o) write)) (shape-there k low) (go (tree_at trees k) refl)
+      where
+        go : (tree : Form) → tree_at trees k ≡ tree → Right (of_kind (operand_in (shape_of log trees tree)) write)
+        go (Not f) at = h f (number_of trees f) at (child-number same trees children_first k 0 (Not f) f low at (omega arith) refl)
+        go _ at = tt
+
+    by_and : (k : ℕ) (write : ℕ × ℕ → Written) → k < length trees → ((f g : Form) (a b : ℕ) → tree_at trees k ≡ And f g → tree_at trees a ≡ f → tree_at trees b ≡ g → Right (write (a, b))) → Right (of_kind (sides_in (shape_at s k)) write)
+    by_and k write low h = subst (λ o. Right (of_kind (sides_in o) write)) (shape-there k low) (go (tree_at trees k) refl)
+      where
+        go : (tree : Form) → tree_at trees k ≡ tree → Right (of_kind (sides_in (shape_of log trees tree)) write)
+        go (And f g) at = h f g (number_of trees f) (number_of trees g) at (child-number same trees children_first k 0 (And f g) f low at (omega arith) refl) (child-number same trees children_first k 1 (And f g) g low at (omega arith) refl)
+        go _ at = tt
+
+    by_reach : (k : ℕ) (write : Reach → Written) → k < length trees
+        → ((back : Bool) (I : Interval) (f g : Form) (l r : ℕ) → tree_at trees k ≡ tree_of back I f g → tree_at trees l ≡ f → tree_at trees r ≡ g → Right (write (record { back = back; interval = I; left = l; right = r }))) → Right (of_kind (reach_in (shape_at s k)) write)
+    by_reach k write low h = subst (λ o. Right (of_kind (reach_in o) write)) (shape-there k low) (go (tree_at trees k) refl)
+      where
+        go : (tree : Form) → tree_at trees k ≡ tree → Right (of_kind (reach_in (shape_of log trees tree)) write)
+        go (Until I f g) at = h false I f g (number_of trees f) (number_of trees g) at (child-number same trees children_first k 0 (Until I f g) f low at (omega arith) refl) (child-number same trees children_first k 1 (Until I f g) g low at (omega arith) refl)
+        go (Since I f g) at = h true I f g (number_of trees f) (number_of trees g) at (child-number same trees children_first k 0 (Since I f g) f low at (omega arith) refl) (child-number same trees children_first k 1 (Since I f g) g low at (omega arith) refl)
+        go _ at = tt
+
+    -- a part for each event holds where it does for one
+    some-event : (part : ℕ → Part) (e : ℕ) → e < length t → part_holds M (part e) ≡ true → list_any (part_holds M) (for_each_event s part) ≡ true
+    some-event part e low h = any-map (part_holds M) part (range_with_len 0 (length log.rows)) ∙ some_any (λ x. part_holds M (part x)) (range_with_len 0 (length log.rows)) e (within_has (length log.rows) e (omega (arith, low, count))) h
+
+    node-is : (k e : ℕ) (f : Form) → e < length t → tree_at trees k ≡ f → M (Node k e) ≡ told log t trees f e
+    node-is k e f low at = means-node log t trees k e low ∙ ap (λ tree. told log t trees tree e) at
+
+    right_3 : (k e : ℕ) → k < length trees → e < length t → Right (rule.rule_3 s k e)
+    right_3 k e low in_ = subst (λ o. Right (if is_constant o then Ok (is (Node k e) ∷ []) else Err Kind)) (shape-there k low) (go (tree_at trees k) refl)
+      where
+        go : (tree : Form) → tree_at trees k ≡ tree → Right (if is_constant (shape_of log trees tree) then Ok (is (Node k e) ∷ []) else Err Kind)
+        go True at = any_1 (M (Node k e)) (node-is k e True in_ at)
+        go _ at = tt
+
+    right_4 : (k e : ℕ) → k < length trees → e < length t → Right (rule.rule_4 s k e)
+    right_4 k e low in_ = by_not k (λ a. Ok (is_not (Node k e) ∷ is_not (Node a e) ∷ [])) low (λ f a at child. negation-not_both (M (Node k e)) (M (Node a e)) (node-is k e (Not f) in_ at ∙ ap not (sym (node-is a e f in_ child))))
+
+    right_5 : (k e : ℕ) → k < length trees → e < length t → Right (rule.rule_5 s k e)
+    right_5 k e low in_ = by_not k (λ a. Ok (is (Node k e) ∷ is (Node a e) ∷ [])) low (λ f a at child. negation-one (M (Node k e)) (M (Node a e)) (node-is k e (Not f) in_ at ∙ ap not (sym (node-is a e f in_ child))))
+
+    and-is : (k e a b : ℕ) (f g : Form) → e < length t → tree_at trees k ≡ And f g → tree_at trees a ≡ f → tree_at trees b ≡ g → M (Node k e) ≡ (M (Node a e) && M (Node b e))
+    and-is k e a b f g in_ at left right = node-is k e (And f g) in_ at ∙ (ap (λ x. x && told log t trees g e) (sym (node-is a e f in_ left)) ∙ ap (λ y. M (Node a e) && y) (sym (node-is b e g in_ right)))
+
+    right_6 : (k e : ℕ) → k < length trees → e < length t → Right (rule.rule_6 s k e)
+    right_6 k e low in_ = by_and k (λ sides. Ok (is_not (Node k e) ∷ is (Node sides.0 e) ∷ [])) low (λ f g a b at left right. and-left (M (Node k e)) (M (Node a e)) (M (Node b e)) (and-is k e a b f g in_ at left right))
+
+    right_7 : (k e : ℕ) → k < length trees → e < length t → Right (rule.rule_7 s k e)
+    right_7 k e low in_ = by_and k (λ sides. Ok (is_not (Node k e) ∷ is (Node sides.1 e) ∷ [])) low (λ f g a b at left right. and-right (M (Node k e)) (M (Node a e)) (M (Node b e)) (and-is k e a b f g in_ at left right))
+
+    right_8 : (k e : ℕ) → k < length trees → e < length t → Right (rule.rule_8 s k e)
+    right_8 k e low in_ = by_and k (λ sides. Ok (is (Node k e) ∷ is_not (Node sides.0 e) ∷ is_not (Node sides.1 e) ∷ [])) low (λ f g a b at left right. and-both (M (Node k e)) (M (Node a e)) (M (Node b e)) (and-is k e a b f g in_ at left right))
+
+    not_after-says : (e f : ℕ) → part_holds M (not_after e f) ≡ int_le (time_of t e) (time_of t f)
+    not_after-says e f = order-says M (time_of t) (λ e f c. refl) e f (pos 0) ∙ not_after_is (time_of t e) (time_of t f)
+
+    after-says : (e f : ℕ) → part_holds M (after e f) ≡ not (int_le (time_of t e) (time_of t f))
+    after-says e f = not_order-says M (time_of t) (λ e f c. refl) e f (pos 0) ∙ ap not (not_after_is (time_of t e) (time_of t f))
+
+    first-at : (e x : ℕ) → M (First e) ≡ true → x < length t → int_le (time_of t e) (time_of t x) ≡ true
+    first-at e x first low = all_each (λ x. int_le (time_of t e) (time_of t x)) (range_with_len 0 (length t)) x first (within_has (length t) x low)
+
+    right_9 : (e x : ℕ) → e < length t → x < length t → Right (rule.rule_9 s e x)
+    right_9 e x in_ low = any_2 _ _ (λ no. not_after-says e x ∙ first-at e x (was_true _ no) low)
+
+    right_10 : (e : ℕ) → e < length t → Right (rule.rule_10 s e)
+    right_10 e in_ = any_rest _ _ (λ no.
+        let (x, there, fails) = failing (λ x. int_le (time_of t e) (time_of t x)) (range_with_len 0 (length t)) no in
+        some-event (λ x. after e x) x (below (length t) x there) (after-says e x ∙ not_false _ fails))
+
+    right_11 : 0 < length t → Right (rule.rule_11 s)
+    right_11 some =
+        let (e, first) = first_of (rows_in t) (order-rows t) (λ x. true) (range_with_len 0 (length t)) 0 (within_has (length t) 0 some) refl in
+        some-event (λ e. is (First e)) e (below (length t) e first.among) (each_all (λ x. int_le (time_of t e) (time_of t x)) (range_with_len 0 (length t)) (λ x in_. first.first x in_ refl))
+
+    -- of an until or since node
+    module _ (k : ℕ) (low : k < length trees) where
+      module _ (back : Bool) (I : Interval) (f g : Form) (l r : ℕ) (at : tree_at trees k ≡ tree_of back I f g) (left : tree_at trees l ≡ f) (right : tree_at trees r ≡ g) where
+        abbrev L : ℕ → Bool
+        L e = told log t trees f e
+
+        abbrev R : ℕ → Bool
+        R e = told log t trees g e
+
+        abbrev near : ℕ → ℕ → Bool
+        near = is_near back (rows_in t) I
+
+        abbrev O : Frame ℕ
+        O = F log t trees back
+
+        is-wit : (i j : ℕ) → i < length t → j < length t → M (Wit k i j) ≡ witness O near L R i j
+        is-wit i j a b = means-wit log t trees k back I f g at i j a b
+
+        is-span : (i j : ℕ) → i < length t → j < length t → M (Span k i j) ≡ span O L i j
+        is-span i j a b = means-span log t trees k back I f g at i j a b
+
+        is-gap : (i m : ℕ) → i < length t → m < length t → M (Gap k i m) ≡ gap O L i m
+        is-gap i m a b = means-gap log t trees k back I f g at i m a b
+
+        wit-parts : (i j : ℕ) → i < length t → j < length t → M (Wit k i j) ≡ true → (near i j ≡ true) × (R j ≡ true) × (span O L i j ≡ true)
+        wit-parts i j a b h = witness_parts O near L R i j (sym (is-wit i j a b) ∙ h)
+
+        the-gap : (i m : ℕ) → i < length t → m < length t → M (Gap k i m) ≡ true → gap O L i m ≡ true
+        the-gap i m a b h = sym (is-gap i m a b) ∙ h
+
+        parts_12 : (i j : ℕ) → i < length t → j < length t → list_any (part_holds M) (is_not (Wit k i j) ∷ rule.is_from back I i j ∷ []) ≡ true
+        parts_12 i j a b = any_2 _ _ (λ no.
+            let near_it = sym (near-parts log t trees back I i j) ∙ (wit-parts i j a b (was_true _ no)).0 in
+            is_from-says log t trees back I i j ∙ (and_parts (from log t trees back I i j) (up_to log t trees back I.high i j) near_it).0)
+
+        parts_13 : (i j : ℕ) → i < length t → j < length t → (high : Option ℕ) → I.high ≡ high → Right (option_map_or (λ b. Ok (is_not (Wit k i j) ∷ rule.is_up_to back b i j ∷ [])) high (Err NoRule))
+        parts_13 i j a b None none = tt
+        parts_13 i j a b (Some bound) some = any_2 _ _ (λ no.
+            let near_it = sym (near-parts log t trees back I i j) ∙ (wit-parts i j a b (was_true _ no)).0 in
+            let far : up_to log t trees back I.high i j ≡ true = (and_parts (from log t trees back I i j) (up_to log t trees back I.high i j) near_it).1 in
+            is_up_to-says log t trees back bound i j ∙ (rw some at far))
+
+        parts_14 : (i j : ℕ) → i < length t → j < length t → list_any (part_holds M) (is_not (Wit k i j) ∷ is (Node r j) ∷ []) ≡ true
+        parts_14 i j a b = any_2 _ _ (λ no. node-is r j g b right ∙ (wit-parts i j a b (was_true _ no)).1)
+
+        parts_15 : (i j : ℕ) → i < length t → j < length t → list_any (part_holds M) (is_not (Wit k i j) ∷ is (Span k i j) ∷ []) ≡ true
+        parts_15 i j a b = any_2 _ _ (λ no. is-span i j a b ∙ (wit-parts i j a b (was_true _ no)).2)
+
+        far_part : (i j : ℕ) (high : Option ℕ) → part_holds M (option_map_or (λ b. is_not_up_to back b i j) high (Known false)) ≡ false → up_to log t trees back high i j ≡ true
+        far_part i j None fails = refl
+        far_part i j (Some bound) fails = was_true _ (sym (is_not_up_to-says log t trees back bound i j) ∙ fails)
+
+        parts_16 : (i j : ℕ) → i < length t → j < length t
+            → list_any (part_holds M) (is (Wit k i j) ∷ rule.is_not_from back I i j ∷ option_map_or (λ b. is_not_up_to back b i j) I.high (Known false) ∷ is_not (Node r j) ∷ is_not (Span k i j) ∷ []) ≡ true
+        parts_16 i j a b = any_5 _ _ _ _ _ (λ none low_ok high_ok right_ok. elim (cases_Bool (M (Span k i j))) [
+          | inr fails ↦ not_false _ fails
+          | inl spans ↦
+              let from_it : from log t trees back I i j ≡ true = was_true _ (sym (is_not_from-says log t trees back I i j) ∙ low_ok) in
+              let far_it = far_part i j I.high high_ok in
+              let near_it : near i j ≡ true = near-parts log t trees back I i j ∙ (rw (from_it, far_it) refl) in
+              let there : R j ≡ true = sym (node-is r j g b right) ∙ was_true _ right_ok in
+              let wit = is-wit i j a b ∙ witness_from O near L R i j near_it there (sym (is-span i j a b) ∙ spans) in
+              absurd (apart (M (Wit k i j)) wit none)
+        ])
+
+        parts_17 : (i : ℕ) → i < length t → list_any (part_holds M) (is_not (Node k i) ∷ for_each_event s (λ j. is (Wit k i j))) ≡ true
+        parts_17 i a = any_rest _ _ (λ no.
+            let reaching = sym (means-reaches log t trees k back I f g at i a) ∙ was_true _ no in
+            let (j, there, wit) = any_some (λ y. witness O near L R i y) O.points (reached O near L R i reaching) in
+            let b = row_at log t trees back j there in
+            some-event (λ j. is (Wit k i j)) j b (is-wit i j a b ∙ wit))
+
+        parts_18 : (i j : ℕ) → i < length t → j < length t → list_any (part_holds M) (is (Node k i) ∷ is_not (Wit k i j) ∷ []) ≡ true
+        parts_18 i j a b = any_2 _ _ (λ no. elim (cases_Bool (M (Wit k i j))) [
+          | inr none ↦ not_false _ none
+          | inl wit ↦
+              let ahead = near-ahead log t trees back I i j (wit-parts i j a b wit).0 in
+              let reaching = means-reaches log t trees k back I f g at i a ∙ reaches_from O near L R i j (at_row log t trees back j b) ahead (sym (is-wit i j a b) ∙ wit) in
+              absurd (apart (M (Node k i)) reaching no)
+        ])
+
+        parts_19 : (i j m : ℕ) → i < length t → j < length t → m < length t → list_any (part_holds M) (is_not (Span k i j) ∷ rule.met_after back i m ∷ rule.not_met_after back j m ∷ is (Node l m) ∷ []) ≡ true
+        parts_19 i j m a b c = any_4 _ _ _ _ (λ no early late.
+            let spans = sym (is-span i j a b) ∙ was_true _ no in
+            let begun : O.not_after i m ≡ true = was_true _ (sym (met_after-says log t trees back i m) ∙ early) in
+            let before : O.not_after j m ≡ false = sym (not_met_after-says log t trees back j m) ∙ late in
+            node-is l m f c left ∙ span_at O L i j m spans (at_row log t trees back m c) begun before)
+
+        parts_20 : (i j : ℕ) → i < length t → j < length t → list_any (part_holds M) (is (Span k i j) ∷ for_each_event s (λ m. is (Gap k i m))) ≡ true
+        parts_20 i j a b = any_rest _ _ (λ no.
+            let (m, there, broken) = any_some (λ z. gap O L i z) O.points (gap_without_span O L (order-met back t) i j (sym (is-span i j a b) ∙ no)) in
+            let c = row_at log t trees back m there in
+            some-event (λ m. is (Gap k i m)) m c (is-gap i m a c ∙ broken))
+
+        parts_21 : (i j m : ℕ) → i < length t → j < length t → m < length t → list_any (part_holds M) (is_not (Gap k i m) ∷ rule.met_after back j m ∷ is (Span k i j) ∷ []) ≡ true
+        parts_21 i j m a b c = any_3 _ _ _ (λ no early.
+            let up : O.not_after j m ≡ true = was_true _ (sym (met_after-says log t trees back j m) ∙ early) in
+            is-span i j a b ∙ span_to_gap O L (order-met back t) i j m (the-gap i m a c (was_true _ no)) up)
+
+        parts_22 : (i m : ℕ) → i < length t → m < length t → list_any (part_holds M) (is_not (Gap k i m) ∷ rule.not_met_after back i m ∷ []) ≡ true
+        parts_22 i m a c = any_2 _ _ (λ no. not_met_after-says log t trees back i m ∙ (gap_parts O L i m (the-gap i m a c (was_true _ no))).0)
+
+        parts_23 : (i m : ℕ) → i < length t → m < length t → list_any (part_holds M) (is_not (Gap k i m) ∷ is_not (Node l m) ∷ []) ≡ true
+        parts_23 i m a c = any_2 _ _ (λ no. not_false _ (node-is l m f c left ∙ (gap_parts O L i m (the-gap i m a c (was_true _ no))).1))
+
+    right_12 : (k i j : ℕ) → k < length trees → i < length t → j < length t → Right (rule.rule_12 s k i j)
+    right_12 k i j low a b = by_reach k (λ u. Ok (is_not (Wit k i j) ∷ rule.is_from u.back u.interval i j ∷ [])) low (λ back I f g l r at left right. parts_12 k low back I f g l r at left right i j a b)
+
+    right_13 : (k i j : ℕ) → k < length trees → i < length t → j < length t → Right (rule.rule_13 s k i j)
+    right_13 k i j low a b = by_reach k (λ u. option_map_or (λ b. Ok (is_not (Wit k i j) ∷ rule.is_up_to u.back b i j ∷ [])) u.interval.high (Err NoRule)) low (λ back I f g l r at left right. parts_13 k low back I f g l r at left right i j a b I.high refl)
+
+    right_14 : (k i j : ℕ) → k < length trees → i < length t → j < length t → Right (rule.rule_14 s k i j)
+    right_14 k i j low a b = by_reach k (λ u. Ok (is_not (Wit k i j) ∷ is (Node u.right j) ∷ [])) low (λ back I f g l r at left right. parts_14 k low back I f g l r at left right i j a b)
+
+    right_15 : (k i j : ℕ) → k < length trees → i < length t → j < length t → Right (rule.rule_15 s k i j)
+    right_15 k i j low a b = by_reach k (λ u. Ok (is_not (Wit k i j) ∷ is (Span k i j) ∷ [])) low (λ back I f g l r at left right. parts_15 k low back I f g l r at left right i j a b)
+
+    right_16 : (k i j : ℕ) → k < length trees → i < length t → j < length t → Right (rule.rule_16 s k i j)
+    right_16 k i j low a b = by_reach k (λ u. Ok (is (Wit k i j) ∷ rule.is_not_from u.back u.interval i j ∷ option_map_or (λ b. is_not_up_to u.back b i j) u.interval.high (Known false) ∷ is_not (Node u.right j) ∷ is_not (Span k i j) ∷ [])) low (λ back I f g l r at left right. parts_16 k low back I f g l r at left right i j a b)
+
+    right_17 : (k i : ℕ) → k < length trees → i < length t → Right (rule.rule_17 s k i)
+    right_17 k i low a = by_reach k (λ u. Ok (is_not (Node k i) ∷ for_each_event s (λ j. is (Wit k i j)))) low (λ back I f g l r at left right. parts_17 k low back I f g l r at left right i a)
+
+    right_18 : (k i j : ℕ) → k < length trees → i < length t → j < length t → Right (rule.rule_18 s k i j)
+    right_18 k i j low a b = by_reach k (λ u. Ok (is (Node k i) ∷ is_not (Wit k i j) ∷ [])) low (λ back I f g l r at left right. parts_18 k low back I f g l r at left right i j a b)
+
+    right_19 : (k i j m : ℕ) → k < length trees → i < length t → j < length t → m < length t → Right (rule.rule_19 s k i j m)
+    right_19 k i j m low a b c = by_reach k (λ u. Ok (is_not (Span k i j) ∷ rule.met_after u.back i m ∷ rule.not_met_after u.back j m ∷ is (Node u.left m) ∷ [])) low (λ back I f g l r at left right. parts_19 k low back I f g l r at left right i j m a b c)
+
+    right_20 : (k i j : ℕ) → k < length trees → i < length t → j < length t → Right (rule.rule_20 s k i j)
+    right_20 k i j low a b = by_reach k (λ u. Ok (is (Span k i j) ∷ for_each_event s (λ m. is (Gap k i m)))) low (λ back I f g l r at left right. parts_20 k low back I f g l r at left right i j a b)
+
+    right_21 : (k i j m : ℕ) → k < length trees → i < length t → j < length t → m < length t → Right (rule.rule_21 s k i j m)
+    right_21 k i j m low a b c = by_reach k (λ u. Ok (is_not (Gap k i m) ∷ rule.met_after u.back j m ∷ is (Span k i j) ∷ [])) low (λ back I f g l r at left right. parts_21 k low back I f g l r at left right i j m a b c)
+
+    right_22 : (k i m : ℕ) → k < length trees → i < length t → m < length t → Right (rule.rule_22 s k i m)
+    right_22 k i m low a c = by_reach k (λ u. Ok (is_not (Gap k i m) ∷ rule.not_met_after u.back i m ∷ [])) low (λ back I f g l r at left right. parts_22 k low back I f g l r at left right i m a c)
+
+    right_23 : (k i m : ℕ) → k < length trees → i < length t → m < length t → Right (rule.rule_23 s k i m)
+    right_23 k i m low a c = by_reach k (λ u. Ok (is_not (Gap k i m) ∷ is_not (Node u.left m) ∷ [])) low (λ back I f g l r at left right. parts_23 k low back I f g l r at left right i m a c)
+
+    module _ (valid : IsLog log) (ok : Admissible log t) (law : BeforeIsNotLater) where
+      falls : (host : ℕ) (name : List ℕ) (instant : ℤ) → Falls (is_by t instant) (changes_of log host name)
+      falls host name instant = changes-fall log host name t instant (length log.rows) (λ e f within less own. times-rise law log t valid ok e f within less own) 0 (length log.rows) (omega arith)
+
+      has_come-says : (cs : List Change) (place e : ℕ) → part_holds M (has_come cs place e) ≡ option_map_or (is_by t (time_of t e)) (slice_get cs place) false
+      has_come-says cs place e = go (slice_get cs place)
+        where
+          go : (o : Option Change) → part_holds M (option_map_or (λ c. not_after c.row e) o (Known false)) ≡ option_map_or (is_by t (time_of t e)) o false
+          go None = refl
+          go (Some c) = not_after-says c.row e
+
+      right_1 : (k e : ℕ) → k < length trees → e < length t → Right (rule.rule_1 s k e)
+      right_1 k e low in_ = subst (λ o. Right (of_kind (changes_in o) (λ changes. Ok (is_not (Node k e) ∷ has_come changes 0 e ∷ [])))) (shape-there k low) (go (tree_at trees k) refl)
+        where
+          named : (host name : List ℕ) (h : Option ℕ) → M (Node k e) ≡ option_map_or (λ h. option_map_or (λ (c : Change). c.sets) (find (λ c. int_le (time_of t c.row) (time_of t e)) (reverse (changes_of log h name))) false) h false
+              → list_any (part_holds M) (is_not (Node k e) ∷ has_come (option_map_or (λ h. changes_of log h name) h []) 0 e ∷ []) ≡ true
+          named host name None state = any_2 (not (M (Node k e))) false (λ no. absurd (apart (M (Node k e)) (was_true _ no) state))
+          named host name (Some h) state = any_2 (not (M (Node k e))) (part_holds M (has_come (changes_of log h name) 0 e)) (λ no. has_come-says (changes_of log h name) 0 e ∙ (elim (cases_Bool (first_passes (is_by t (time_of t e)) (changes_of log h name))) [
+            | inl come ↦ come
+            | inr none ↦
+                let nothing = first-none (is_by t (time_of t e)) (changes_of log h name) (falls h name (time_of t e)) none in
+                absurd (apart (M (Node k e)) (was_true _ no) (state ∙ ap (λ o. option_map_or (λ (c : Change). c.sets) o false) nothing))
+          ]))
+
+          go : (tree : Form) → tree_at trees k ≡ tree → Right (of_kind (changes_in (shape_of log trees tree)) (λ changes. Ok (is_not (Node k e) ∷ has_come changes 0 e ∷ [])))
+          go (Prop host name) at = named host name (host_named log host) (node-is k e (Prop host name) in_ at)
+          go _ at = tt
+
+      right_2 : (k e place : ℕ) → k < length trees → e < length t → Right (rule.rule_2 s k e place)
+      right_2 k e place low in_ = subst (λ o. Right (of_kind (changes_in o) (λ changes. option_map_or (λ c. Ok (after c.row e ∷ has_come changes (place + 1) e ∷ Says (record { atom = Node k e; positive = c.sets }) ∷ [])) (slice_get changes place) (Err Range)))) (shape-there k low) (go (tree_at trees k) refl)
+        where
+          at_change : (h : ℕ) (name : List ℕ) → M (Node k e) ≡ option_map_or (λ (c : Change). c.sets) (find (λ c. int_le (time_of t c.row) (time_of t e)) (reverse (changes_of log h name))) false
+              → (o : Option Change) → slice_get (changes_of log h name) place ≡ o → Right (option_map_or (λ c. Ok (after c.row e ∷ has_come (changes_of log h name) (place + 1) e ∷ Says (record { atom = Node k e; positive = c.sets }) ∷ [])) o (Err Range))
+          at_change h name state None there = tt
+          at_change h name state (Some c) there = any_3 _ _ _ (λ begun next.
+              let by : int_le (time_of t c.row) (time_of t e) ≡ true = was_true _ (sym (after-says c.row e) ∙ begun) in
+              let last = last-at (is_by t (time_of t e)) (changes_of log h name) (falls h name (time_of t e)) place c there by (sym (has_come-says (changes_of log h name) (place + 1) e) ∙ next) in
+              of-sense c.sets (M (Node k e)) (state ∙ ap (λ o. option_map_or (λ (c : Change). c.sets) o false) last))
+
+          named : (host name : List ℕ) (h : Option ℕ) → M (Node k e) ≡ option_map_or (λ h. option_map_or (λ (c : Change). c.sets) (find (λ c. int_le (time_of t c.row) (time_of t e)) (reverse (changes_of log h name))) false) h false
+              → Right (option_map_or (λ c. Ok (after c.row e ∷ has_come (option_map_or (λ h. changes_of log h name) h []) (place + 1) e ∷ Says (record { atom = Node k e; positive = c.sets }) ∷ [])) (slice_get (option_map_or (λ h. changes_of log h name) h []) place) (Err Range))
+          named host name None state = tt
+          named host name (Some h) state = at_change h name state (slice_get (changes_of log h name) place) refl
+
+          go : (tree : Form) → tree_at trees k ≡ tree → Right (of_kind (changes_in (shape_of log trees tree)) (λ changes. option_map_or (λ c. Ok (after c.row e ∷ has_come changes (place + 1) e ∷ Says (record { atom = Node k e; positive = c.sets }) ∷ [])) (slice_get changes place) (Err Range)))
+          go (Prop host name) at = named host name (host_named log host) (node-is k e (Prop host name) in_ at)
+          go _ at = tt
+
+      right_24 : (e : ℕ) → e < length t → truth log t 0 (tree_at trees root) ≡ value → Right (rule.rule_24 s e)
+      right_24 e in_ gives = any_2 _ _ (λ no.
+          let place = place-of_first t e in_ (λ x low. let h = first-at e x (was_true _ no) low in omega (arith, ints)) in
+          of-sense value (M (Node root e)) (ap (λ i. truth log t i (tree_at trees root)) place ∙ gives))
+
+      -- a row holds: what it writes does, for arguments that are there
+      abbrev RowHolds : Row → Type 0
+      RowHolds row = (args : List ℕ) → are_there s row.arguments args ≡ true → Right (row.writes s args)
+
+      event-low : (e : ℕ) → nat_lt e (length log.rows) ≡ true → e < length t
+      event-low e h = let low = below-of e (length log.rows) h in omega (arith, low, count)
+
+      and-later : (a : Bool) → (a && false) ≡ true → ⊥
+      and-later true h = absurd (cc)
+      and-later false h = absurd (cc)
+
+      no_args : (write : Sought → Written) → Right (write s) → RowHolds (of_nothing write)
+      no_args write h args there = h
+
+      one_event : (write : Sought → ℕ → Written) → ((e : ℕ) → e < length t → Right (write s e)) → RowHolds (of_event write)
+      one_event write h [] there = absurd (cc)
+      one_event write h (e ∷ args) there = h e (event-low e (and_parts _ _ there).0)
+
+      two_events : (write : Sought → ℕ → ℕ → Written) → ((e x : ℕ) → e < length t → x < length t → Right (write s e x)) → RowHolds (of_events write)
+      two_events write h [] there = absurd (cc)
+      two_events write h (e ∷ []) there = absurd (and-later _ there)
+      two_events write h (e ∷ x ∷ args) there = let p = and_parts _ _ there in let q = and_parts _ _ p.1 in h e x (event-low e p.0) (event-low x q.0)
+
+      node_event : (write : Sought → ℕ → ℕ → Written) → ((k e : ℕ) → k < length trees → e < length t → Right (write s k e)) → RowHolds (of_node_event write)
+      node_event write h [] there = absurd (cc)
+      node_event write h (k ∷ []) there = absurd (and-later _ there)
+      node_event write h (k ∷ e ∷ args) there = let p = and_parts _ _ there in let q = and_parts _ _ p.1 in h k e (below-of k (length trees) p.0) (event-low e q.0)
+
+      node_events : (write : Sought → ℕ → ℕ → ℕ → Written) → ((k i j : ℕ) → k < length trees → i < length t → j < length t → Right (write s k i j)) → RowHolds (of_node_events write)
+      node_events write h [] there = absurd (cc)
+      node_events write h (k ∷ []) there = absurd (and-later _ there)
+      node_events write h (k ∷ i ∷ []) there = absurd (and-later _ (and_parts _ _ there).1)
+      node_events write h (k ∷ i ∷ j ∷ args) there =
+          let p = and_parts _ _ there in let q = and_parts _ _ p.1 in let r = and_parts _ _ q.1 in
+          h k i j (below-of k (length trees) p.0) (event-low i q.0) (event-low j r.0)
+
+      node_three_events : (write : Sought → ℕ → ℕ → ℕ → ℕ → Written) → ((k i j m : ℕ) → k < length trees → i < length t → j < length t → m < length t → Right (write s k i j m)) → RowHolds (of_node_three_events write)
+      node_three_events write h [] there = absurd (cc)
+      node_three_events write h (k ∷ []) there = absurd (and-later _ there)
+      node_three_events write h (k ∷ i ∷ []) there = absurd (and-later _ (and_parts _ _ there).1)
+      node_three_events write h (k ∷ i ∷ j ∷ []) there = let p = and_parts (is_there s ANode k) _ there in let q = and_parts (is_there s AnEvent i) (is_there s AnEvent j && false) p.1 in absurd (and-later (is_there s AnEvent j) q.1)
+      node_three_events write h (k ∷ i ∷ j ∷ m ∷ args) there =
+          let p = and_parts _ _ there in let q = and_parts _ _ p.1 in let r = and_parts _ _ q.1 in let u = and_parts _ _ r.1 in
+          h k i j m (below-of k (length trees) p.0) (event-low i q.0) (event-low j r.0) (event-low m u.0)
+
+      node_event_change : (write : Sought → ℕ → ℕ → ℕ → Written) → ((k e place : ℕ) → k < length trees → e < length t → Right (write s k e place)) → RowHolds (of_node_event_change write)
+      node_event_change write h [] there = absurd (cc)
+      node_event_change write h (k ∷ []) there = absurd (and-later _ there)
+      node_event_change write h (k ∷ e ∷ []) there = absurd (and-later _ (and_parts _ _ there).1)
+      node_event_change write h (k ∷ e ∷ place ∷ args) there = let p = and_parts _ _ there in let q = and_parts _ _ p.1 in h k e place (below-of k (length trees) p.0) (event-low e q.0)
+
+      -- each of some rows holds
+      abbrev RowsHold : List Row → Type 0
+      RowsHold [] = Unit {0}
+      RowsHold (row ∷ more) = RowHolds row × RowsHold more
+
+      lasting-hold : 0 < length t → RowsHold lasting_rows
+      lasting-hold some = (
+        node_event rule.rule_1 right_1,
+        (
+          node_event_change rule.rule_2 right_2,
+          (
+            node_event rule.rule_3 right_3,
+            (
+              node_event rule.rule_4 right_4,
+              (
+                node_event rule.rule_5 right_5,
+                (
+                  node_event rule.rule_6 right_6,
+                  (
+                    node_event rule.rule_7 right_7,
+                    (
+                      node_event rule.rule_8 right_8,
+                      (
+                        two_events rule.rule_9 right_9,
+                        (
+                          one_event rule.rule_10 right_10,
+                          (
+                            no_args rule.rule_11 (right_11 some),
+                            (
+                              node_events rule.rule_12 right_12,
+                              (
+                                node_events rule.rule_13 right_13,
+                                (
+                                  node_events rule.rule_14 right_14,
+                                  (
+                                    node_events rule.rule_15 right_15,
+                                    (
+                                      node_events rule.rule_16 right_16,
+                                      (
+                                        node_event rule.rule_17 right_17,
+                                        (
+                                          node_events rule.rule_18 right_18,
+                                          (node_three_events rule.rule_19 right_19, (node_events rule.rule_20 right_20, (node_three_events rule.rule_21 right_21, (node_events rule.rule_22 right_22, (node_events rule.rule_23 right_23, tt))))),
+                                        ),
+                                      ),
+                                    ),
+                                  ),
+                                ),
+                              ),
+                            ),
+                          ),
+                        ),
+                      ),
+                    ),
+                  ),
+                ),
+              ),
+            ),
+          ),
+        ),
+      )
+
+      rows-more : (xs ys : List Row) → RowsHold xs → RowsHold ys → RowsHold (xs ++ ys)
+      rows-more [] ys a b = b
+      rows-more (x ∷ xs) ys a b = (a.0, rows-more xs ys a.1 b)
+
+      row-holds : (xs : List Row) (n : ℕ) (row : Row) → RowsHold xs → slice_get xs n ≡ Some row → RowHolds row
+      row-holds [] n row h there = absurd (cc)
+      row-holds (x ∷ xs) zero row h there = let same : x ≡ row = cc in subst RowHolds same h.0
+      row-holds (x ∷ xs) (suc n) row h there = row-holds xs n row h.1 there
+
+      -- the clause of what a row writes holds
+      clause-right : (row : Row) (args : List ℕ) (c : List Literal) → RowHolds row → (if are_there s row.arguments args then clause_of_written (row.writes s args) else Err Range) ≡ Ok c → clause_holds log t trees c ≡ true
+      clause-right row args c h is = go (are_there s row.arguments args) refl is
+        where
+          written : (w : Written) → Right w → clause_of_written w ≡ Ok c → clause_holds log t trees c ≡ true
+          written (Ok parts) right is = clause_from_parts M parts c is right
+          written (Err fault) right is = absurd (cc)
+
+          go : (b : Bool) → are_there s row.arguments args ≡ b → (if b then clause_of_written (row.writes s args) else Err Range) ≡ Ok c → clause_holds log t trees c ≡ true
+          go true there is = written (row.writes s args) (h args there) is
+          go false there is = absurd (cc)
+
+      row-right : (rule : Rule) (c : List Literal) → ((row : Row) → row_of rule.number ≡ Some row → RowHolds row) → clause_of s rule ≡ Ok c → clause_holds log t trees c ≡ true
+      row-right rule c h is = go (row_of rule.number) refl is
+        where
+          go : (o : Option Row) → row_of rule.number ≡ o → option_map_or (λ row. if are_there s row.arguments rule.args then clause_of_written (row.writes s rule.args) else Err Range) o (Err NoRule) ≡ Ok c → clause_holds log t trees c ≡ true
+          go None there is = absurd (cc)
+          go (Some row) there is = clause-right row rule.args c (h row there) is
+
+      some-rows : 0 < length t
+      some-rows = omega (arith, count, valid.some_rows)
+
+      rows-left : (xs ys : List Row) (n : ℕ) → n < length xs → slice_get (xs ++ ys) n ≡ slice_get xs n
+      rows-left [] ys n less = absurd (omega arith)
+      rows-left (x ∷ xs) ys zero less = refl
+      rows-left (x ∷ xs) ys (suc n) less = rows-left xs ys n (omega arith)
+
+      lasting-row : (n : ℕ) (row : Row) → n < 24 → row_of n ≡ Some row → RowHolds row
+      lasting-row zero row less there = absurd (cc)
+      lasting-row (suc n) row less there = row-holds lasting_rows n row (lasting-hold some-rows) (sym (rows-left lasting_rows (of_event rule.rule_24 ∷ []) n (omega arith)) ∙ there)
+
+      any-row : truth log t 0 (tree_at trees root) ≡ value → (n : ℕ) (row : Row) → row_of n ≡ Some row → RowHolds row
+      any-row gives zero row there = absurd (cc)
+      any-row gives (suc n) row there = row-holds rows n row (rows-more lasting_rows (of_event rule.rule_24 ∷ []) (lasting-hold some-rows) (one_event rule.rule_24 (λ e in_. right_24 e in_ gives), tt)) there
+
+      pub lasting-right : (rule : Rule) (c : List Literal) → rule.number < 24 → clause_of s rule ≡ Ok c → clause_holds log t trees c ≡ true
+      lasting-right rule c less is = row-right rule c (λ row there. lasting-row rule.number row less there) is
+
+      pub sought-right : (rule : Rule) (c : List Literal) → truth log t 0 (tree_at trees root) ≡ value → clause_of s rule ≡ Ok c → clause_holds log t trees c ≡ true
+      sought-right rule c gives is = row-right rule c (λ row there. any-row gives rule.number row there) is
+
+pub rules-hold : CoresAreCores → NodesAreSubtrees → TruthOfCore → BeforeIsNotLater → RulesHold
+rules-hold cores nodes core before = record {
+  lasting = λ log t f v rule c valid ok less is. lasting-right log t (nodes_of f) (length (nodes_of f) - 1) v ok.count cores.equality (nodes.children_first f) valid ok before rule c less is;
+  sought_value = λ log t f v rule c valid ok gives is. sought-right log t (nodes_of f) (length (nodes_of f) - 1) v ok.count cores.equality (nodes.children_first f) valid ok before rule c
+      (ap (λ tree. truth log t 0 tree) (nodes.root f).1 ∙ core.at_position log t 0 f ∙ gives) is;
+}

@@ -1,0 +1,82 @@
+-- The clause of a rule, by its number and its arguments.
+use Rattle.std.specs.Prelude.{ℕ, zero, suc, ◌==◌, nat_lt, Bool, true, false, ◌&&◌, if◌then◌else◌, List, [], ◌∷◌, ◌++◌, length, Option, None, Result, Err, slice_get, slice_index_or}
+use Rattle.std.specs.Option.{option_map_or}
+use Rattle.axiom_rules.specs.declared.fault.RuleFault.{RuleFault}
+use Rattle.axiom_rules.specs.declared.fault.RuleFault.TheVariants.{NoRule, Range}
+use Rattle.axiom_rules.specs.declared.literal.Literal.{Literal}
+use Rattle.axiom_rules.specs.declared.rule.Argument.{Argument}
+use Rattle.axiom_rules.specs.declared.rule.Argument.TheVariants.{ANode, AnEvent, AChange, Unused}
+use Rattle.axiom_rules.specs.declared.rule.Rule.{Rule}
+use Rattle.axiom_rules.specs.Parts.{Written, clause_of_written}
+use Rattle.axiom_rules.specs.Sought.{Sought}
+use Rattle.axiom_rules.specs.Rules.{rule_1, rule_2, rule_3, rule_4, rule_5, rule_6, rule_7, rule_8, rule_9, rule_10, rule_11, rule_12, rule_13, rule_14, rule_15, rule_16, rule_17, rule_18, rule_19, rule_20, rule_21, rule_22, rule_23, rule_24}
+
+-- a row of the table: what the four arguments are, and what is written for them
+pub record Row : Type 0 where
+  pub arguments : List Argument
+  pub writes : Sought → List ℕ → Written
+
+-- an argument by its place
+abbrev pub arg : List ℕ → ℕ → ℕ
+arg args place = slice_index_or args place 0
+
+-- rows without an argument, of an event, of two events
+abbrev pub of_nothing : (Sought → Written) → Row
+of_nothing write = record { arguments = Unused ∷ Unused ∷ Unused ∷ Unused ∷ []; writes = λ s args. write s }
+
+abbrev pub of_event : (Sought → ℕ → Written) → Row
+of_event write = record { arguments = AnEvent ∷ Unused ∷ Unused ∷ Unused ∷ []; writes = λ s args. write s (arg args 0) }
+
+abbrev pub of_events : (Sought → ℕ → ℕ → Written) → Row
+of_events write = record { arguments = AnEvent ∷ AnEvent ∷ Unused ∷ Unused ∷ []; writes = λ s args. write s (arg args 0) (arg args 1) }
+
+-- rows of a node and an event, two or three events, an event and a change
+abbrev pub of_node_event : (Sought → ℕ → ℕ → Written) → Row
+of_node_event write = record { arguments = ANode ∷ AnEvent ∷ Unused ∷ Unused ∷ []; writes = λ s args. write s (arg args 0) (arg args 1) }
+
+abbrev pub of_node_events : (Sought → ℕ → ℕ → ℕ → Written) → Row
+of_node_events write = record { arguments = ANode ∷ AnEvent ∷ AnEvent ∷ Unused ∷ []; writes = λ s args. write s (arg args 0) (arg args 1) (arg args 2) }
+
+abbrev pub of_node_three_events : (Sought → ℕ → ℕ → ℕ → ℕ → Written) → Row
+of_node_three_events write = record { arguments = ANode ∷ AnEvent ∷ AnEvent ∷ AnEvent ∷ []; writes = λ s args. write s (arg args 0) (arg args 1) (arg args 2) (arg args 3) }
+
+abbrev pub of_node_event_change : (Sought → ℕ → ℕ → ℕ → Written) → Row
+of_node_event_change write = record { arguments = ANode ∷ AnEvent ∷ AChange ∷ Unused ∷ []; writes = λ s args. write s (arg args 0) (arg args 1) (arg args 2) }
+
+-- the rules 1 to 23, which are about all timings, and rule 24, which is about the value sought
+abbrev pub lasting_rows : List Row
+lasting_rows =
+    of_node_event rule_1 ∷ of_node_event_change rule_2 ∷ of_node_event rule_3 ∷ of_node_event rule_4 ∷ of_node_event rule_5 ∷ of_node_event rule_6 ∷ of_node_event rule_7 ∷ of_node_event rule_8
+    ∷ of_events rule_9 ∷ of_event rule_10 ∷ of_nothing rule_11
+    ∷ of_node_events rule_12 ∷ of_node_events rule_13 ∷ of_node_events rule_14 ∷ of_node_events rule_15 ∷ of_node_events rule_16 ∷ of_node_event rule_17 ∷ of_node_events rule_18
+    ∷ of_node_three_events rule_19 ∷ of_node_events rule_20 ∷ of_node_three_events rule_21 ∷ of_node_events rule_22 ∷ of_node_events rule_23 ∷ []
+
+abbrev pub rows : List Row
+rows = lasting_rows ++ of_event rule_24 ∷ []
+
+-- the row of a number, which counts from 1
+abbrev pub row_of : ℕ → Option Row
+row_of zero = None
+row_of (suc n) = slice_get rows n
+
+-- a node or an event is there, and an argument that is not used is 0; a change is looked for by the rule
+abbrev pub is_there : Sought → Argument → ℕ → Bool
+is_there s ANode k = nat_lt k (length s.trees)
+is_there s AnEvent e = nat_lt e (length s.log.rows)
+is_there s AChange place = true
+is_there s Unused n = n == 0
+
+-- each argument is there
+abbrev pub are_there : Sought → List Argument → List ℕ → Bool
+are_there s [] [] = true
+are_there s [] (n ∷ args) = false
+are_there s (a ∷ as_) [] = false
+are_there s (a ∷ as_) (n ∷ args) = is_there s a n && are_there s as_ args
+
+-- what the row of a rule's number writes for its arguments
+abbrev pub written_by : Sought → Rule → Written
+written_by s rule = option_map_or (λ row. row.writes s rule.args) (row_of rule.number) (Err NoRule)
+
+-- the clause of a rule, or why it has none
+abbrev pub clause_of : Sought → Rule → Result (List Literal) RuleFault
+clause_of s rule = option_map_or (λ row. if are_there s row.arguments rule.args then clause_of_written (row.writes s rule.args) else Err Range) (row_of rule.number) (Err NoRule)

@@ -1,0 +1,12 @@
+pub mod Literals
+pub mod Holds
+pub mod Parts
+pub mod Sought
+pub mod NodeShapes
+pub mod Rules
+pub mod Clauses
+pub mod Shapes
+pub mod Atoms
+pub mod Adding
+pub mod Each
+pub mod Laws

@@ -1,0 +1,152 @@
+-- The rules: what each takes and what it writes.
+use Rattle.std.specs.Prelude.{ℕ, ◌+◌, Bool, false, if◌then◌else◌, List, [], ◌∷◌, length, map, Option, Some, None, Ok, Err, slice_get, ℤ, pos, neg_ℤ}
+use Rattle.std.specs.List.{range_with_len}
+use Rattle.std.specs.Option.{option_map_or}
+use Rattle.mt_model.specs.declared.tree.Interval.{Interval}
+use Rattle.mt_model.specs.State.{Change}
+use Rattle.axiom_rules.specs.declared.fault.RuleFault.TheVariants.{NoRule, Range, Kind}
+use Rattle.axiom_rules.specs.declared.literal.Atom.{Atom}
+use Rattle.axiom_rules.specs.declared.literal.Atom.TheVariants.{Node, First, Wit, Span, Gap}
+use Rattle.axiom_rules.specs.declared.part.Part.{Part}
+use Rattle.axiom_rules.specs.declared.part.Part.TheVariants.{Says, Known}
+use Rattle.axiom_rules.specs.Literals.{no, yes}
+use Rattle.axiom_rules.specs.NodeShapes.{changes_in, is_constant, operand_in, reach_in, shape_at, sides_in}
+use Rattle.axiom_rules.specs.Sought.{Sought}
+use Rattle.axiom_rules.specs.Parts.{Written, after, not_after, not_order, order}
+
+-- an atom holds, and it does not
+abbrev pub is : Atom → Part
+is a = Says (yes a)
+
+abbrev pub is_not : Atom → Part
+is_not a = Says (no a)
+
+-- a part for each event, the events rising
+abbrev pub for_each_event : Sought → (ℕ → Part) → List Part
+for_each_event s part = map part (range_with_len 0 (length s.log.rows))
+
+-- what is written of a node of the kind that is asked for
+abbrev pub of_kind : {X : Type 0} → Option X → (X → Written) → Written
+of_kind None write = Err Kind
+of_kind (Some x) write = write x
+
+-- t_e - t_f <= c, where the node looks back with e and f exchanged
+abbrev pub met_order : Bool → ℕ → ℕ → ℤ → Part
+met_order back e f c = if back then order f e c else order e f c
+
+abbrev pub not_met_order : Bool → ℕ → ℕ → ℤ → Part
+not_met_order back e f c = if back then not_order f e c else not_order e f c
+
+-- event e is not after event f as the node looks, and it is
+abbrev pub not_met_after : Bool → ℕ → ℕ → Part
+not_met_after back e f = met_order back e f (pos 0)
+
+abbrev pub met_after : Bool → ℕ → ℕ → Part
+met_after back e f = not_met_order back e f (pos 0)
+
+-- event j is at least the lower bound from event i, and it is not
+abbrev pub is_from : Bool → Interval → ℕ → ℕ → Part
+is_from back I i j = met_order back i j (neg_ℤ (pos I.low))
+
+abbrev pub is_not_from : Bool → Interval → ℕ → ℕ → Part
+is_not_from back I i j = not_met_order back i j (neg_ℤ (pos I.low))
+
+-- event j is at most the upper bound b from event i, and it is not
+abbrev pub is_up_to : Bool → ℕ → ℕ → ℕ → Part
+is_up_to back b i j = met_order back j i (pos b)
+
+abbrev pub is_not_up_to : Bool → ℕ → ℕ → ℕ → Part
+is_not_up_to back b i j = not_met_order back j i (pos b)
+
+-- the change of a place has come at event e; left out where there is no such change
+abbrev pub has_come : List Change → ℕ → ℕ → Part
+has_come changes place e = option_map_or (λ c. not_after c.row e) (slice_get changes place) (Known false)
+
+module _ (s : Sought) where
+  -- a proposition that is true has been changed
+  abbrev pub rule_1 : ℕ → ℕ → Written
+  rule_1 k e = of_kind (changes_in (shape_at s k)) (λ changes. Ok (is_not (Node k e) ∷ has_come changes 0 e ∷ []))
+
+  -- from a change on up to the next one, a proposition is what the change makes it
+  abbrev pub rule_2 : ℕ → ℕ → ℕ → Written
+  rule_2 k e place = of_kind (changes_in (shape_at s k)) (λ changes. option_map_or (λ c. Ok (after c.row e ∷ has_come changes (place + 1) e ∷ Says (record { atom = Node k e; positive = c.sets }) ∷ [])) (slice_get changes place) (Err Range))
+
+  abbrev pub rule_3 : ℕ → ℕ → Written
+  rule_3 k e = if is_constant (shape_at s k) then Ok (is (Node k e) ∷ []) else Err Kind
+
+  abbrev pub rule_4 : ℕ → ℕ → Written
+  rule_4 k e = of_kind (operand_in (shape_at s k)) (λ a. Ok (is_not (Node k e) ∷ is_not (Node a e) ∷ []))
+
+  abbrev pub rule_5 : ℕ → ℕ → Written
+  rule_5 k e = of_kind (operand_in (shape_at s k)) (λ a. Ok (is (Node k e) ∷ is (Node a e) ∷ []))
+
+  abbrev pub rule_6 : ℕ → ℕ → Written
+  rule_6 k e = of_kind (sides_in (shape_at s k)) (λ sides. Ok (is_not (Node k e) ∷ is (Node sides.0 e) ∷ []))
+
+  abbrev pub rule_7 : ℕ → ℕ → Written
+  rule_7 k e = of_kind (sides_in (shape_at s k)) (λ sides. Ok (is_not (Node k e) ∷ is (Node sides.1 e) ∷ []))
+
+  abbrev pub rule_8 : ℕ → ℕ → Written
+  rule_8 k e = of_kind (sides_in (shape_at s k)) (λ sides. Ok (is (Node k e) ∷ is_not (Node sides.0 e) ∷ is_not (Node sides.1 e) ∷ []))
+
+  -- a first event is not after any
+  abbrev pub rule_9 : ℕ → ℕ → Written
+  rule_9 e x = Ok (is_not (First e) ∷ not_after e x ∷ [])
+
+  -- an event that is after none is a first one; that it is after itself is known to be false, and is left out
+  abbrev pub rule_10 : ℕ → Written
+  rule_10 e = Ok (is (First e) ∷ for_each_event s (λ x. after e x))
+
+  -- some event is a first one
+  abbrev pub rule_11 : Written
+  rule_11 = Ok (for_each_event s (λ e. is (First e)))
+
+  -- a witness is in the interval, ..
+  abbrev pub rule_12 : ℕ → ℕ → ℕ → Written
+  rule_12 k i j = of_kind (reach_in (shape_at s k)) (λ u. Ok (is_not (Wit k i j) ∷ is_from u.back u.interval i j ∷ []))
+
+  abbrev pub rule_13 : ℕ → ℕ → ℕ → Written
+  rule_13 k i j = of_kind (reach_in (shape_at s k)) (λ u. option_map_or (λ b. Ok (is_not (Wit k i j) ∷ is_up_to u.back b i j ∷ [])) u.interval.high (Err NoRule))
+
+  -- .. the right side holds there, ..
+  abbrev pub rule_14 : ℕ → ℕ → ℕ → Written
+  rule_14 k i j = of_kind (reach_in (shape_at s k)) (λ u. Ok (is_not (Wit k i j) ∷ is (Node u.right j) ∷ []))
+
+  -- .. and the left side up to there
+  abbrev pub rule_15 : ℕ → ℕ → ℕ → Written
+  rule_15 k i j = of_kind (reach_in (shape_at s k)) (λ u. Ok (is_not (Wit k i j) ∷ is (Span k i j) ∷ []))
+
+  -- what is all of this is a witness; an upper bound that is lacking is left out
+  abbrev pub rule_16 : ℕ → ℕ → ℕ → Written
+  rule_16 k i j = of_kind (reach_in (shape_at s k)) (λ u. Ok (is (Wit k i j) ∷ is_not_from u.back u.interval i j ∷ option_map_or (λ b. is_not_up_to u.back b i j) u.interval.high (Known false) ∷ is_not (Node u.right j) ∷ is_not (Span k i j) ∷ []))
+
+  -- the node is true where some event is a witness
+  abbrev pub rule_17 : ℕ → ℕ → Written
+  rule_17 k i = of_kind (reach_in (shape_at s k)) (λ u. Ok (is_not (Node k i) ∷ for_each_event s (λ j. is (Wit k i j))))
+
+  abbrev pub rule_18 : ℕ → ℕ → ℕ → Written
+  rule_18 k i j = of_kind (reach_in (shape_at s k)) (λ u. Ok (is (Node k i) ∷ is_not (Wit k i j) ∷ []))
+
+  -- over a span the left side holds
+  abbrev pub rule_19 : ℕ → ℕ → ℕ → ℕ → Written
+  rule_19 k i j m = of_kind (reach_in (shape_at s k)) (λ u. Ok (is_not (Span k i j) ∷ met_after u.back i m ∷ not_met_after u.back j m ∷ is (Node u.left m) ∷ []))
+
+  -- where there is no span there is a gap, ..
+  abbrev pub rule_20 : ℕ → ℕ → ℕ → Written
+  rule_20 k i j = of_kind (reach_in (shape_at s k)) (λ u. Ok (is (Span k i j) ∷ for_each_event s (λ m. is (Gap k i m))))
+
+  -- .. with a span up to there, ..
+  abbrev pub rule_21 : ℕ → ℕ → ℕ → ℕ → Written
+  rule_21 k i j m = of_kind (reach_in (shape_at s k)) (λ u. Ok (is_not (Gap k i m) ∷ met_after u.back j m ∷ is (Span k i j) ∷ []))
+
+  -- .. which is from here on, ..
+  abbrev pub rule_22 : ℕ → ℕ → ℕ → Written
+  rule_22 k i m = of_kind (reach_in (shape_at s k)) (λ u. Ok (is_not (Gap k i m) ∷ not_met_after u.back i m ∷ []))
+
+  -- .. and at which the left side fails
+  abbrev pub rule_23 : ℕ → ℕ → ℕ → Written
+  rule_23 k i m = of_kind (reach_in (shape_at s k)) (λ u. Ok (is_not (Gap k i m) ∷ is_not (Node u.left m) ∷ []))
+
+  -- at a first event the root has the value sought
+  abbrev pub rule_24 : ℕ → Written
+  rule_24 e = Ok (is_not (First e) ∷ Says (record { atom = Node s.root e; positive = s.value }) ∷ [])

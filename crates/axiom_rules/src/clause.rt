@@ -1,0 +1,125 @@
+//! Clauses that grow out of the parts that a rule writes.
+
+ghost use Rattle.std.specs.Prelude.{◌≡◌, ◌++◌, [], ◌∷◌, map, OnOk};
+ghost use Rattle.std.specs.List.{range_with_len};
+ghost use Rattle.axiom_rules.specs.Adding.{Answers, with_literal, with_part, with_parts};
+ghost use Rattle.axiom_rules.specs.Each.{part_at};
+ghost use Rattle.axiom_rules.specs.Literals.{has_literal};
+ghost use Rattle.axiom_rules.specs.Parts.{clause_of_parts};
+
+use crate::RuleFault;
+use crate::literal::{Atom, Literal};
+use crate::part::{Part, after, is};
+use smallvec::SmallVec;
+use std::alloc::{AllocError, Global};
+
+/// The literals of a clause.
+pub type Clause = SmallVec<Literal, 8, Global>;
+
+/// A part that a rule writes for each event.
+#[derive(Clone, Copy, Debug)]
+pub enum Each {
+    /// Event e is after it.
+    After { e: u32 },
+    /// It is a first event.
+    First,
+    /// It is a witness of node k at event i.
+    Wit { k: u32, i: u32 },
+    /// It is a gap of node k from event i on.
+    Gap { k: u32, i: u32 },
+}
+
+impl Each {
+    // What is written for an event.
+    fn at(self, x: u32) -> Part
+        ensures { result ≡ part_at self x }
+    {
+        match self {
+            Each::After { e } => after(e, x),
+            Each::First => is(Atom::First { e: x }),
+            Each::Wit { k, i } => is(Atom::Wit { k, i, j: x }),
+            Each::Gap { k, i } => is(Atom::Gap { k, i, m: x }),
+        }
+    }
+}
+
+// Whether a literal stands in a clause.
+fn has(clause: &[Literal], literal: &Literal) -> bool
+    ensures { result ≡ has_literal clause.now literal.now }
+{
+    clause.iter().any(|other| literal == other)
+}
+
+fn push(clause: &mut Clause, literal: Literal) -> Result<(), AllocError>
+    ensures ok { OnOk result (clause.new.items ≡ clause.old.items ++ literal ∷ []) }
+{
+    clause.push(literal)?;
+    Ok(())
+}
+
+fn add_literal(clause: &mut Clause, literal: Literal) -> Result<(), RuleFault>
+    ensures { Answers (with_literal clause.old.items literal) result clause.new.items }
+{
+    if has(clause.as_slice(), &literal.negated()) {
+        return Err(RuleFault::Trivial);
+    }
+    if has(clause.as_slice(), &literal) {
+        return Ok(());
+    }
+    push(clause, literal)?;
+    Ok(())
+}
+
+fn add(clause: &mut Clause, part: Part) -> Result<(), RuleFault>
+    ensures { Answers (with_part clause.old.items part) result clause.new.items }
+{
+    match part {
+        Part::Says(literal) => add_literal(clause, literal),
+        Part::Known(true) => Err(RuleFault::Trivial),
+        Part::Known(false) => Ok(()),
+    }
+}
+
+// Adds parts one after another.
+fn add_all(clause: &mut Clause, parts: &[Part]) -> Result<(), RuleFault>
+    ensures { Answers (with_parts clause.old.items parts.now) result clause.new.items }
+{
+    for part in parts {
+        add(clause, *part)?;
+    }
+    Ok(())
+}
+
+// Adds a part for each of so many events.
+fn add_each(clause: &mut Clause, events: u32, each: Each) -> Result<(), RuleFault>
+    ensures { Answers (with_parts clause.old.items (map (part_at each) (range_with_len 0 events))) result clause.new.items }
+{
+    for x in 0..events {
+        add(clause, each.at(x))?;
+    }
+    Ok(())
+}
+
+/// Makes a clause that of parts.
+#[tactic(auto, using(crate::proofs::AddingLemmas::clause_grows))]
+pub fn write(clause: &mut Clause, parts: &[Part]) -> Result<(), RuleFault>
+    ensures { Answers (clause_of_parts parts.now) result clause.new.items }
+{
+    clause.clear();
+    add_all(clause, parts)
+}
+
+/// Makes a clause that of parts and a part for each of so many events.
+#[tactic(auto, using(crate::proofs::AddingLemmas::clause_fault))]
+pub fn write_each(
+    clause: &mut Clause,
+    parts: &[Part],
+    events: u32,
+    each: Each,
+) -> Result<(), RuleFault>
+    ensures { Answers (clause_of_parts (parts.now ++ map (part_at each) (range_with_len 0 events))) result clause.new.items }
+{
+    clause.clear();
+    add_all(clause, parts)?;
+    add_each(clause, events, each)
+}

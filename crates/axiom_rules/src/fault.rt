@@ -1,0 +1,53 @@
+use std::alloc::AllocError;
+use thiserror::Error;
+
+/// Why a rule has no clause.
+#[derive(Clone, Copy, Debug, PartialEq, Eq, Error)]
+pub enum RuleFault {
+    /// There is no rule of this number, or the rule asks for an upper bound that the interval lacks.
+    #[error("no rule of this number")]
+    NoRule,
+    /// A node, an event or a change that isn't there, or an unused argument that isn't 0.
+    #[error("an argument that is out of range")]
+    Range,
+    /// A node of another kind than the rule is about.
+    #[error("a node of another kind")]
+    Kind,
+    /// The clause is true whatever the timing.
+    #[error("a clause that says nothing")]
+    Trivial,
+    #[error("out of memory")]
+    Memory,
+}
+
+impl From<AllocError> for RuleFault {
+    ghost use Rattle.std.specs.Prelude.{◌≡◌};
+    ghost use Rattle.axiom_rules.specs.declared.fault.RuleFault.TheVariants.{Memory};
+
+    ghost from_gives = { λ _ f. f ≡ Memory };
+
+    fn from(_: AllocError) -> Self {
+        RuleFault::Memory
+    }
+}
+
+#[cfg(test)]
+mod tests {
+    use super::*;
+    use std::test::Fail;
+
+    #[test]
+    fn faults_have_texts(rt: HostRuntime) -> Result<(), Fail> {
+        let cases = [
+            (RuleFault::NoRule, "no rule of this number"),
+            (RuleFault::Range, "an argument that is out of range"),
+            (RuleFault::Kind, "a node of another kind"),
+            (RuleFault::Trivial, "a clause that says nothing"),
+            (RuleFault::Memory, "out of memory"),
+        ];
+        for (fault, text) in cases {
+            assert_eq!(rt; format!(in rt.alloc(); "{fault}")?.as_str(), text);
+        }
+        Ok(())
+    }
+}

@@ -1,0 +1,20 @@
+//! The rules of the certificate: which clauses there are, and that each holds in every timing that a log admits.
+#![tactic(auto)]
+
+mod atom_table;
+mod clause;
+mod fault;
+mod laws;
+mod literal;
+mod part;
+mod reach;
+mod rule;
+mod rules;
+mod shape;
+
+pub use atom_table::AtomTable;
+pub use fault::RuleFault;
+pub use laws::{clauses_have_atoms_once, rules_hold};
+pub use literal::{Atom, Literal, order_literal};
+pub use rule::Rule;
+pub use rules::Rules;

@@ -1,0 +1,68 @@
+ghost use Rattle.std.specs.Prelude.{◌≡◌, ◌^◌, pos};
+ghost use Rattle.mt_model.specs.Log.{IsWithin};
+ghost use Rattle.axiom_rules.specs.Parts.{after as after_part, not_after as not_after_part, not_order as not_order_part, order as order_part};
+ghost use Rattle.axiom_rules.specs.Rules.{is as is_part, is_not as is_not_part};
+
+use crate::literal::{Atom, Literal, order_literal};
+use mt_model::MAX_ORDER;
+
+/// A part of what a rule writes: a literal, or a constant that is known from the rule's arguments.
+#[derive(Clone, Copy, Debug, PartialEq, Eq)]
+pub enum Part {
+    Says(Literal),
+    Known(bool),
+}
+
+/// The atom holds.
+pub fn is(atom: Atom) -> Part
+    ensures { result ≡ is_part atom }
+{
+    Part::Says(Literal {
+        atom,
+        positive: true,
+    })
+}
+
+/// The atom doesn't hold.
+pub fn is_not(atom: Atom) -> Part
+    ensures { result ≡ is_not_part atom }
+{
+    Part::Says(Literal {
+        atom,
+        positive: false,
+    })
+}
+
+/// `t_e - t_f <= c`.
+pub fn order(e: u32, f: u32, c: i128) -> Part
+    requires { IsWithin MAX_ORDER c }
+    ensures { result ≡ order_part e f c }
+{
+    if e == f {
+        Part::Known(0 <= c)
+    } else {
+        Part::Says(order_literal(e, f, c))
+    }
+}
+
+/// Not `t_e - t_f <= c`.
+pub fn not_order(e: u32, f: u32, c: i128) -> Part
+    requires { IsWithin (pos (2 ^ 64)) c }
+    ensures { result ≡ not_order_part e f c }
+{
+    order(f, e, -c - 1)
+}
+
+/// Event e is not after event f.
+pub fn not_after(e: u32, f: u32) -> Part
+    ensures { result ≡ not_after_part e f }
+{
+    order(e, f, 0)
+}
+
+/// Event e is after event f.
+pub fn after(e: u32, f: u32) -> Part
+    ensures { result ≡ after_part e f }
+{
+    order(f, e, -1)
+}

@@ -1,0 +1,518 @@
+ghost use Rattle.std.specs.Prelude.{◌≡◌, ◌<◌, ◌+◌, ◌⊎◌, ℕ, List, [], length, Some, None, IfOk, IfErr, OnOk, OnErr, Ok, Err, option_copied};
+ghost use Rattle.mt_model.specs.Form.{Form};
+ghost use Rattle.formula_arena.specs.Nodes.{nodes_of};
+ghost use Rattle.axiom_rules.specs.Adding.{Answers, Gives};
+ghost use Rattle.axiom_rules.specs.Clauses.{are_there as are_there_in, clause_of as clause_of_rule, is_there as is_there_in, written_by};
+ghost use Rattle.axiom_rules.specs.Sought.{sought_of};
+ghost use Rattle.axiom_rules.specs.Parts.{clause_of_written};
+ghost use Rattle.axiom_rules.specs.NodeShapes.{changes_in, is_constant as is_constant_shape, operand_in, reach_in, shape_at, sides_in};
+ghost use Rattle.axiom_rules.specs.Rules as written;
+
+use crate::RuleFault;
+use crate::clause::{Clause, Each, write, write_each};
+use crate::literal::{Atom, Literal};
+use crate::part::{Part, after, is, is_not, not_after};
+use crate::reach::Reach;
+use crate::rule::{Argument, Rule, arguments_of};
+use crate::shape::{ChangeRow, Shape, shapes};
+use formula_arena::Arena;
+use mt_model::{Log, NodeId};
+use std::alloc::{AllocError, Global};
+use std::marker::Model;
+
+/// The rules for one log, the nodes of one formula and a truth value. Contracts see the log, the nodes'
+/// trees, the root and the value, of which it keeps copies.
+#[derive(Debug, Drop)]
+pub struct Rules {
+    log: Log,
+    shapes: Vec<Shape>,
+    root: NodeId,
+    value: bool,
+}
+
+impl Model for Rules {
+    ghost use Rattle.std.specs.Coded.{codes};
+    ghost use Rattle.formula_arena.specs.CodedForms.{coded_form};
+    ghost use Rattle.axiom_rules.specs.Sought.{Sought};
+    ghost use Rattle.axiom_rules.specs.Shapes.{AreShapes, trees_of};
+
+    ghost Value = { Sought };
+
+    ghost coded = { Prim.hlevel (codes, coded_form (Prim.hlevel codes)) };
+
+    ghost view = { λ r. record { log = r.log; trees = trees_of r.shapes.items; root = r.root; value = r.value } };
+
+    ghost invariant = { λ r. AreShapes r.log (trees_of r.shapes.items) r.shapes.items };
+}
+
+// The change of a place has come at event e; left out where there is no such change.
+fn has_come(changes: &[ChangeRow], place: usize, e: u32) -> Part
+    ensures { result ≡ written.has_come changes.now place e }
+{
+    match changes.get(place) {
+        Some(change) => not_after(change.row(), e),
+        None => Part::Known(false),
+    }
+}
+
+impl Rules {
+    /// The rules for a log, the nodes of an arena and the value that is sought of the root.
+    pub fn new(
+        alloc: Global,
+        log: &Log,
+        arena: &Arena,
+        root: NodeId,
+        value: bool,
+    ) -> Result<Rules, AllocError>
+        ensures rules { IfOk result (λ r. r ≡ record { log = log.now; trees = arena.now; root = root; value = value }) }
+
+        // Where the nodes are those of a formula, the root being the last.
+        ensures formula { IfOk result (λ r. (f : Form) → arena.now ≡ nodes_of f → root + 1 ≡ length arena.now → r ≡ sought_of log.now f value) }
+    {
+        Ok(Rules {
+            log: log.copy(alloc)?,
+            shapes: shapes(alloc, log, arena)?,
+            root,
+            value,
+        })
+    }
+
+    // The number of events.
+    fn events(&self) -> u32
+        ensures { result ≡ length self.now.log.rows }
+    {
+        self.log.rows().len() as u32
+    }
+
+    // The number of nodes.
+    fn nodes(&self) -> usize
+        ensures { result ≡ length self.now.trees }
+    {
+        self.shapes.len()
+    }
+
+    // What a node is, where there is such a node.
+    fn shape(&self, k: u32) -> Option<&Shape>
+        ensures { shape_at self.now k ≡ option_copied result }
+    {
+        self.shapes.get(k as usize)
+    }
+
+    // Whether a node is `true`.
+    fn is_constant(&self, k: u32) -> bool
+        ensures { result ≡ is_constant_shape (shape_at self.now k) }
+    {
+        matches!(self.shape(k), Some(Shape::True))
+    }
+
+    // The changes of a proposition.
+    fn changes(&self, k: u32) -> Result<&[ChangeRow], RuleFault>
+        ensures found { IfOk result (λ changes. changes_in (shape_at self.now k) ≡ Some changes.now) }
+        ensures kind { IfErr result (λ fault. (fault ≡ RuleFault.Kind) × (changes_in (shape_at self.now k) ≡ None)) }
+    {
+        match self.shape(k) {
+            Some(Shape::Prop { changes, .. }) => Ok(changes.as_slice()),
+            _ => Err(RuleFault::Kind),
+        }
+    }
+
+    // The operand of a negation.
+    fn operand(&self, k: u32) -> Result<u32, RuleFault>
+        ensures found { IfOk result (λ a. operand_in (shape_at self.now k) ≡ Some a) }
+        ensures kind { IfErr result (λ fault. (fault ≡ RuleFault.Kind) × (operand_in (shape_at self.now k) ≡ None)) }
+    {
+        match self.shape(k) {
+            Some(Shape::Not(a)) => Ok(*a),
+            _ => Err(RuleFault::Kind),
+        }
+    }
+
+    // The sides of a conjunction.
+    fn sides(&self, k: u32) -> Result<(u32, u32), RuleFault>
+        ensures found { IfOk result (λ sides. sides_in (shape_at self.now k) ≡ Some sides) }
+        ensures kind { IfErr result (λ fault. (fault ≡ RuleFault.Kind) × (sides_in (shape_at self.now k) ≡ None)) }
+    {
+        match self.shape(k) {
+            Some(Shape::And(a, b)) => Ok((*a, *b)),
+            _ => Err(RuleFault::Kind),
+        }
+    }
+
+    // What an until or a since is.
+    fn reach(&self, k: u32) -> Result<Reach, RuleFault>
+        ensures found { IfOk result (λ u. reach_in (shape_at self.now k) ≡ Some u) }
+        ensures kind { IfErr result (λ fault. (fault ≡ RuleFault.Kind) × (reach_in (shape_at self.now k) ≡ None)) }
+    {
+        match self.shape(k) {
+            Some(Shape::Reach(reach)) => Ok(*reach),
+            _ => Err(RuleFault::Kind),
+        }
+    }
+
+    // A proposition that is true has been changed.
+    fn rule_1(&self, k: u32, e: u32, out: &mut Clause) -> Result<(), RuleFault>
+        ensures { Gives (written.rule_1 self.now k e) result out.new.items }
+    {
+        let changes = self.changes(k)?;
+        write(out, &[is_not(Atom::Node { k, e }), has_come(changes, 0, e)])
+    }
+
+    // From a change on up to the next one, a proposition is what the change makes it.
+    fn rule_2(&self, k: u32, e: u32, place: u32, out: &mut Clause) -> Result<(), RuleFault>
+        ensures { Gives (written.rule_2 self.now k e place) result out.new.items }
+    {
+        let changes = self.changes(k)?;
+        let change = changes.get(place as usize).ok_or(RuleFault::Range)?;
+        let literal = Literal {
+            atom: Atom::Node { k, e },
+            positive: change.sets(),
+        };
+        write(
+            out,
+            &[
+                after(change.row(), e),
+                has_come(changes, place as usize + 1, e),
+                Part::Says(literal),
+            ],
+        )
+    }
+
+    // `true` is true.
+    fn rule_3(&self, k: u32, e: u32, out: &mut Clause) -> Result<(), RuleFault>
+        ensures { Gives (written.rule_3 self.now k e) result out.new.items }
+    {
+        if self.is_constant(k) {
+            write(out, &[is(Atom::Node { k, e })])
+        } else {
+            Err(RuleFault::Kind)
+        }
+    }
+
+    // A negation and its operand aren't both true.
+    fn rule_4(&self, k: u32, e: u32, out: &mut Clause) -> Result<(), RuleFault>
+        ensures { Gives (written.rule_4 self.now k e) result out.new.items }
+    {
+        let a = self.operand(k)?;
+        write(
+            out,
+            &[is_not(Atom::Node { k, e }), is_not(Atom::Node { k: a, e })],
+        )
+    }
+
+    // One of them is.
+    fn rule_5(&self, k: u32, e: u32, out: &mut Clause) -> Result<(), RuleFault>
+        ensures { Gives (written.rule_5 self.now k e) result out.new.items }
+    {
+        let a = self.operand(k)?;
+        write(out, &[is(Atom::Node { k, e }), is(Atom::Node { k: a, e })])
+    }
+
+    // Where a conjunction is true, its left side is.
+    fn rule_6(&self, k: u32, e: u32, out: &mut Clause) -> Result<(), RuleFault>
+        ensures { Gives (written.rule_6 self.now k e) result out.new.items }
+    {
+        let (a, _) = self.sides(k)?;
+        write(
+            out,
+            &[is_not(Atom::Node { k, e }), is(Atom::Node { k: a, e })],
+        )
+    }
+
+    // So is its right side.
+    fn rule_7(&self, k: u32, e: u32, out: &mut Clause) -> Result<(), RuleFault>
+        ensures { Gives (written.rule_7 self.now k e) result out.new.items }
+    {
+        let (_, b) = self.sides(k)?;
+        write(
+            out,
+            &[is_not(Atom::Node { k, e }), is(Atom::Node { k: b, e })],
+        )
+    }
+
+    // Where both are, it is.
+    fn rule_8(&self, k: u32, e: u32, out: &mut Clause) -> Result<(), RuleFault>
+        ensures { Gives (written.rule_8 self.now k e) result out.new.items }
+    {
+        let (a, b) = self.sides(k)?;
+        write(
+            out,
+            &[
+                is(Atom::Node { k, e }),
+                is_not(Atom::Node { k: a, e }),
+                is_not(Atom::Node { k: b, e }),
+            ],
+        )
+    }
+
+    // A first event isn't after any.
+    fn rule_9(&self, e: u32, x: u32, out: &mut Clause) -> Result<(), RuleFault>
+        ensures { Gives (written.rule_9 self.now e x) result out.new.items }
+    {
+        write(out, &[is_not(Atom::First { e }), not_after(e, x)])
+    }
+
+    // An event that is after none is a first one.
+    fn rule_10(&self, e: u32, out: &mut Clause) -> Result<(), RuleFault>
+        ensures { Gives (written.rule_10 self.now e) result out.new.items }
+    {
+        write_each(
+            out,
+            &[is(Atom::First { e })],
+            self.events(),
+            Each::After { e },
+        )
+    }
+
+    // Some event is a first one.
+    fn rule_11(&self, out: &mut Clause) -> Result<(), RuleFault>
+        ensures { Gives (written.rule_11 self.now) result out.new.items }
+    {
+        write_each(out, &[], self.events(), Each::First)
+    }
+
+    // A witness is at least the lower bound away.
+    fn rule_12(&self, k: u32, i: u32, j: u32, out: &mut Clause) -> Result<(), RuleFault>
+        ensures { Gives (written.rule_12 self.now k i j) result out.new.items }
+    {
+        let u = self.reach(k)?;
+        write(out, &[is_not(Atom::Wit { k, i, j }), u.is_from(i, j)])
+    }
+
+    // It is at most the upper bound away, where there is one.
+    fn rule_13(&self, k: u32, i: u32, j: u32, out: &mut Clause) -> Result<(), RuleFault>
+        ensures { Gives (written.rule_13 self.now k i j) result out.new.items }
+    {
+        let u = self.reach(k)?;
+        let high = u.interval.high.ok_or(RuleFault::NoRule)?;
+        write(
+            out,
+            &[is_not(Atom::Wit { k, i, j }), u.is_up_to(high, i, j)],
+        )
+    }
+
+    // The right side holds there.
+    fn rule_14(&self, k: u32, i: u32, j: u32, out: &mut Clause) -> Result<(), RuleFault>
+        ensures { Gives (written.rule_14 self.now k i j) result out.new.items }
+    {
+        let u = self.reach(k)?;
+        write(
+            out,
+            &[
+                is_not(Atom::Wit { k, i, j }),
+                is(Atom::Node { k: u.right, e: j }),
+            ],
+        )
+    }
+
+    // The left side holds up to there.
+    fn rule_15(&self, k: u32, i: u32, j: u32, out: &mut Clause) -> Result<(), RuleFault>
+        ensures { Gives (written.rule_15 self.now k i j) result out.new.items }
+    {
+        self.reach(k)?;
+        write(
+            out,
+            &[is_not(Atom::Wit { k, i, j }), is(Atom::Span { k, i, j })],
+        )
+    }
+
+    // What is all of this is a witness.
+    fn rule_16(&self, k: u32, i: u32, j: u32, out: &mut Clause) -> Result<(), RuleFault>
+        ensures { Gives (written.rule_16 self.now k i j) result out.new.items }
+    {
+        let u = self.reach(k)?;
+        write(
+            out,
+            &[
+                is(Atom::Wit { k, i, j }),
+                u.is_not_from(i, j),
+                u.is_not_up_to(i, j),
+                is_not(Atom::Node { k: u.right, e: j }),
+                is_not(Atom::Span { k, i, j }),
+            ],
+        )
+    }
+
+    // Where the node is true, some event is a witness.
+    fn rule_17(&self, k: u32, i: u32, out: &mut Clause) -> Result<(), RuleFault>
+        ensures { Gives (written.rule_17 self.now k i) result out.new.items }
+    {
+        self.reach(k)?;
+        let each = Each::Wit { k, i };
+        write_each(out, &[is_not(Atom::Node { k, e: i })], self.events(), each)
+    }
+
+    // Where some event is a witness, the node is true.
+    fn rule_18(&self, k: u32, i: u32, j: u32, out: &mut Clause) -> Result<(), RuleFault>
+        ensures { Gives (written.rule_18 self.now k i j) result out.new.items }
+    {
+        self.reach(k)?;
+        write(
+            out,
+            &[is(Atom::Node { k, e: i }), is_not(Atom::Wit { k, i, j })],
+        )
+    }
+
+    // Over a span the left side holds.
+    fn rule_19(&self, k: u32, i: u32, j: u32, m: u32, out: &mut Clause) -> Result<(), RuleFault>
+        ensures { Gives (written.rule_19 self.now k i j m) result out.new.items }
+    {
+        let u = self.reach(k)?;
+        write(
+            out,
+            &[
+                is_not(Atom::Span { k, i, j }),
+                u.after(i, m),
+                u.not_after(j, m),
+                is(Atom::Node { k: u.left, e: m }),
+            ],
+        )
+    }
+
+    // Where there is no span there is a gap.
+    fn rule_20(&self, k: u32, i: u32, j: u32, out: &mut Clause) -> Result<(), RuleFault>
+        ensures { Gives (written.rule_20 self.now k i j) result out.new.items }
+    {
+        self.reach(k)?;
+        let each = Each::Gap { k, i };
+        write_each(out, &[is(Atom::Span { k, i, j })], self.events(), each)
+    }
+
+    // Up to a gap there is a span.
+    fn rule_21(&self, k: u32, i: u32, j: u32, m: u32, out: &mut Clause) -> Result<(), RuleFault>
+        ensures { Gives (written.rule_21 self.now k i j m) result out.new.items }
+    {
+        let u = self.reach(k)?;
+        write(
+            out,
+            &[
+                is_not(Atom::Gap { k, i, m }),
+                u.after(j, m),
+                is(Atom::Span { k, i, j }),
+            ],
+        )
+    }
+
+    // A gap is from here on.
+    fn rule_22(&self, k: u32, i: u32, m: u32, out: &mut Clause) -> Result<(), RuleFault>
+        ensures { Gives (written.rule_22 self.now k i m) result out.new.items }
+    {
+        let u = self.reach(k)?;
+        write(out, &[is_not(Atom::Gap { k, i, m }), u.not_after(i, m)])
+    }
+
+    // At a gap the left side fails.
+    fn rule_23(&self, k: u32, i: u32, m: u32, out: &mut Clause) -> Result<(), RuleFault>
+        ensures { Gives (written.rule_23 self.now k i m) result out.new.items }
+    {
+        let u = self.reach(k)?;
+        write(
+            out,
+            &[
+                is_not(Atom::Gap { k, i, m }),
+                is_not(Atom::Node { k: u.left, e: m }),
+            ],
+        )
+    }
+
+    // At a first event the root has the value sought.
+    fn rule_24(&self, e: u32, out: &mut Clause) -> Result<(), RuleFault>
+        ensures { Gives (written.rule_24 self.now e) result out.new.items }
+    {
+        let literal = Literal {
+            atom: Atom::Node {
+                k: self.root.get(),
+                e,
+            },
+            positive: self.value,
+        };
+        write(out, &[is_not(Atom::First { e }), Part::Says(literal)])
+    }
+
+    // Whether an argument names something that is there, or isn't used and 0.
+    fn is_there(&self, argument: Argument, n: u32) -> bool
+        ensures { result ≡ is_there_in self.now argument n }
+    {
+        match argument {
+            Argument::ANode => (n as usize) < self.nodes(),
+            Argument::AnEvent => n < self.events(),
+            Argument::AChange => true,
+            Argument::Unused => n == 0,
+        }
+    }
+
+    // Whether each argument does.
+    fn are_there(&self, arguments: &[Argument], args: &[u32]) -> bool
+        requires { length arguments.now ≡ length args.now }
+        ensures { result ≡ are_there_in self.now arguments.now args.now }
+    {
+        for i in 0..arguments.len() {
+            if !self.is_there(arguments[i], args[i]) {
+                return false;
+            }
+        }
+        true
+    }
+
+    // That there is a rule of the number, and that its arguments are there.
+    fn check(&self, rule: &Rule) -> Result<(), RuleFault>
+        ensures ok { OnOk result (clause_of_rule self.now rule.now ≡ clause_of_written (written_by self.now rule.now)) }
+        ensures fault { IfErr result (λ fault. clause_of_rule self.now rule.now ≡ Err fault) }
+    {
+        let arguments = arguments_of(rule.number).ok_or(RuleFault::NoRule)?;
+        if self.are_there(&arguments, &rule.args) {
+            Ok(())
+        } else {
+            Err(RuleFault::Range)
+        }
+    }
+
+    // Writes what the rule of the number does.
+    fn write_rule(&self, rule: &Rule, out: &mut Clause) -> Result<(), RuleFault>
+        ensures { Gives (written_by self.now rule.now) result out.new.items }
+    {
+        let [k, i, j, m] = rule.args;
+        match rule.number {
+            1 => self.rule_1(k, i, out),
+            2 => self.rule_2(k, i, j, out),
+            3 => self.rule_3(k, i, out),
+            4 => self.rule_4(k, i, out),
+            5 => self.rule_5(k, i, out),
+            6 => self.rule_6(k, i, out),
+            7 => self.rule_7(k, i, out),
+            8 => self.rule_8(k, i, out),
+            9 => self.rule_9(k, i, out),
+            10 => self.rule_10(k, out),
+            11 => self.rule_11(out),
+            12 => self.rule_12(k, i, j, out),
+            13 => self.rule_13(k, i, j, out),
+            14 => self.rule_14(k, i, j, out),
+            15 => self.rule_15(k, i, j, out),
+            16 => self.rule_16(k, i, j, out),
+            17 => self.rule_17(k, i, out),
+            18 => self.rule_18(k, i, j, out),
+            19 => self.rule_19(k, i, j, m, out),
+            20 => self.rule_20(k, i, j, out),
+            21 => self.rule_21(k, i, j, m, out),
+            22 => self.rule_22(k, i, j, out),
+            23 => self.rule_23(k, i, j, out),
+            24 => self.rule_24(k, out),
+            _ => Err(RuleFault::NoRule),
+        }
+    }
+
+    /// Makes `out` the clause of a rule, in the order in which the rule writes its literals, each once.
+    /// After a fault `out` is empty.
+    pub fn clause_of(&self, rule: &Rule, out: &mut Clause) -> Result<(), RuleFault>
+        ensures clause { OnOk result (clause_of_rule self.now rule.now ≡ Ok out.new.items) }
+        ensures fault { IfErr result (λ fault. (fault ≡ RuleFault.Memory) ⊎ (clause_of_rule self.now rule.now ≡ Err fault)) }
+        ensures empty { OnErr result (out.new.items ≡ []) }
+    {
+        out.clear();
+        self.check(rule)?;
+        let result = self.write_rule(rule, out);
+        if result.is_err() {
+            out.clear();
+        }
+        result
+    }
+}

@@ -1,0 +1,12 @@
+pub mod Spacing
+pub mod Cuts
+pub mod Numbers
+pub mod Items
+pub mod Giving
+pub mod ReadItems
+pub mod WrittenItems
+pub mod PlainWords
+pub mod LineReading
+pub mod ReadingLines
+pub mod Texts
+mod WorkedCases

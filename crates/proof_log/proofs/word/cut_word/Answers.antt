@@ -1,0 +1,13 @@
+use Rattle.std.proofs.Common.{◌∙◌, sym, ap, ◌∷◌, take}
+use Rattle.proof_log.specs.LinesText.{space}
+use Rattle.proof_log.proofs.Cuts.{after-place, cut-at, cut-none}
+use Rattle.proof_log.proofs.word.cut_word.Goals as goal
+
+pub returns-in-Some : goal.returns-in-Some
+returns-in-Some c =
+    let words = c.args.words.now in
+    let found = c.in-Some.ensures in
+    cut-at space words c.in-Some.end found.0 found.1 ∙ ap (λ ws. take c.in-Some.end words ∷ ws) (sym (after-place words c.in-Some.end found.0.high))
+
+pub returns-in-None : goal.returns-in-None
+returns-in-None c = cut-none space c.args.words.now c.in-None.ensures

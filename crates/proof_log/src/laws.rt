@@ -1,0 +1,21 @@
+ghost use Rattle.proof_log.specs.Laws.{BytesAreUnambiguous, StepsReadAlike, TextsReadBack, TextsTellApart};
+
+/// Bytes are at most one list of lines, or have at most one first faulty line.
+pub fn bytes_are_unambiguous()
+    ensures { BytesAreUnambiguous }
+{}
+
+/// The text of lines that each have a spelling is that of these lines.
+pub fn texts_read_back()
+    ensures { TextsReadBack }
+{}
+
+/// Two lists of lines that each have a spelling are equal where their texts are.
+pub fn texts_tell_apart()
+    ensures { TextsTellApart }
+{}
+
+/// A step in a line reads as it does where it is displayed.
+pub fn steps_read_alike()
+    ensures { StepsReadAlike }
+{}
