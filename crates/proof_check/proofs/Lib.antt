@@ -1,0 +1,4 @@
+mod Standing
+mod WalksHold
+mod LinesHold
+mod WalkLemmas
