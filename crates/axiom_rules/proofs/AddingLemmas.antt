@@ -82,7 +82,7 @@ once-among [] m in_ = in_
 once-among (l ∷ ls) m (inl here) = inl here
 once-among (l ∷ ls) m (inr there) = inr (once-among ls m (among-filter l (each_once ls) m there))
 
-among-once : (ls : List Literal) (m : Literal) → Among ls m → Among (each_once ls) m
+pub among-once : (ls : List Literal) (m : Literal) → Among ls m → Among (each_once ls) m
 among-once [] m in_ = in_
 among-once (l ∷ ls) m (inl here) = inl here
 among-once (l ∷ ls) m (inr there) = filter-among l (each_once ls) m (among-once ls m there)

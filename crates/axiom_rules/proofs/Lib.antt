@@ -1,17 +1,17 @@
-mod BoolLemmas
-mod Orders
-mod FrameRules
-mod PartLemmas
+pub mod BoolLemmas
+pub mod Orders
+pub mod FrameRules
+pub mod PartLemmas
 mod TimingLemmas
-mod ChangeLemmas
-mod TreeLemmas
-mod MeaningLemmas
-mod AddingLemmas
+pub mod ChangeLemmas
+pub mod TreeLemmas
+pub mod MeaningLemmas
+pub mod AddingLemmas
 mod EachLemmas
 mod Lookups
 mod RowLemmas
-mod OnceLemmas
-mod AtomLemmas
-mod ShapeLemmas
-mod RulesHold
+pub mod OnceLemmas
+pub mod AtomLemmas
+pub mod ShapeLemmas
+pub mod RulesHold
 mod WorkedCases

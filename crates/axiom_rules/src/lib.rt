@@ -16,5 +16,5 @@ pub use atom_table::AtomTable;
 pub use fault::RuleFault;
 pub use laws::{clauses_have_atoms_once, rules_hold};
 pub use literal::{Atom, Literal, order_literal};
-pub use rule::Rule;
+pub use rule::{Argument, Rule, RuleList, arguments_of};
 pub use rules::Rules;

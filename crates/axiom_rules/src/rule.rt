@@ -1,12 +1,17 @@
 ghost use Rattle.std.specs.Prelude.{◌≡◌, option_map};
 ghost use Rattle.axiom_rules.specs.Clauses.{row_of};
 
+use mt_list::ListOf;
+
 /// An instance of a rule: the rule's number and its arguments in order. Those that aren't used are 0.
 #[derive(Clone, Copy, Debug, PartialEq, Eq)]
 pub struct Rule {
     pub number: u8,
     pub args: [u32; 4],
 }
+
+/// Rules in order.
+pub type RuleList = ListOf<Rule>;
 
 /// What an argument of a rule is.
 #[derive(Clone, Copy, Debug, PartialEq, Eq)]

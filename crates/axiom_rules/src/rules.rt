@@ -1,4 +1,4 @@
-ghost use Rattle.std.specs.Prelude.{◌≡◌, ◌<◌, ◌+◌, ◌⊎◌, ℕ, List, [], length, Some, None, IfOk, IfErr, OnOk, OnErr, Ok, Err, option_copied};
+ghost use Rattle.std.specs.Prelude.{◌≡◌, ◌<◌, ◌+◌, ◌⊎◌, ℕ, List, [], length, Some, None, IfOk, IfErr, OnOk, OnErr, Ok, Err, is_some, option_copied};
 ghost use Rattle.mt_model.specs.Form.{Form};
 ghost use Rattle.formula_arena.specs.Nodes.{nodes_of};
 ghost use Rattle.axiom_rules.specs.Adding.{Answers, Gives};
@@ -77,16 +77,23 @@ impl Rules {
         })
     }
 
-    // The number of events.
-    fn events(&self) -> u32
-        ensures { result ≡ length self.now.log.rows }
+    /// The log. Takes no memory.
+    pub fn log(&self) -> &Log
+        ensures log { result.now ≡ self.now.log }
+    {
+        &self.log
+    }
+
+    /// The number of events. Takes no memory.
+    pub fn events(&self) -> u32
+        ensures events { result ≡ length self.now.log.rows }
     {
         self.log.rows().len() as u32
     }
 
-    // The number of nodes.
-    fn nodes(&self) -> usize
-        ensures { result ≡ length self.now.trees }
+    /// The number of nodes. Takes no memory.
+    pub fn nodes(&self) -> usize
+        ensures nodes { result ≡ length self.now.trees }
     {
         self.shapes.len()
     }
@@ -147,6 +154,13 @@ impl Rules {
             Some(Shape::Reach(reach)) => Ok(*reach),
             _ => Err(RuleFault::Kind),
         }
+    }
+
+    /// Whether there is a node of that number and it is an until or a since. Takes no memory.
+    pub fn is_reach(&self, k: u32) -> bool
+        ensures reach { result ≡ is_some (reach_in (shape_at self.now k)) }
+    {
+        matches!(self.shape(k), Some(Shape::Reach(_)))
     }
 
     // A proposition that is true has been changed.

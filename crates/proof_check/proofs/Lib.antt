@@ -1,4 +1,10 @@
 mod Standing
+mod TakeLemmas
+pub mod StepLemmas
+mod KeptLemmas
+mod HintLemmas
+mod AnswerLemmas
+mod NodeCounts
 mod WalksHold
 mod LinesHold
 mod WalkLemmas

@@ -1,8 +1,8 @@
 -- Where lines are right, their clauses hold.
-use Rattle.std.proofs.Common.{◌≡◌, ◌∙◌, sym, ap, refl, subst, ℕ, zero, suc, ◌<◌, ◌≤◌, Bool, true, false, if◌then◌else◌, List, [], ◌∷◌, length, Option, Some, None, Ok, Err, inl, inr, ℤ, arith}
-use Rattle.std.specs.Prelude.{Result, map, nat_lt, option_map, All}
+use Rattle.std.proofs.Common.{◌≡◌, ◌∙◌, sym, refl, subst, ℕ, zero, suc, ◌<◌, Bool, true, false, if◌then◌else◌, List, [], ◌∷◌, length, Option, Some, None, Ok, Err, inl, inr, ℤ, arith}
+use Rattle.std.specs.Prelude.{Result, nat_lt, option_map, All}
 use Rattle.std.specs.Result.{result_ok}
-use Rattle.std.proofs.lemmas.Bool.{cases_Bool, cases_lt, ltb-true}
+use Rattle.std.proofs.lemmas.Bool.{cases_lt, ltb-true}
 use Rattle.std.proofs.lemmas.List.Elements.{All-nil, All-cons}
 use Rattle.mt_model.specs.Form.{Form}
 use Rattle.mt_model.specs.Log.{Logged, IsLog}
@@ -21,7 +21,7 @@ use Rattle.proof_log.specs.declared.line.Hint.{Hint}
 use Rattle.proof_log.specs.declared.line.Hint.TheVariants as hint
 use Rattle.proof_log.specs.declared.line.Line.{Line}
 use Rattle.proof_log.specs.declared.line.Line.TheVariants as line
-use Rattle.proof_log.specs.Derivations.{HasClauses, IsLearnt, IsShown, Refutes, RightLine, clause_of_hint, clause_of_line, line_at}
+use Rattle.proof_log.specs.Derivations.{HasClauses, IsShown, RightLine, clause_of_hint, clause_of_line, line_at}
 use Rattle.proof_check.specs.Laws.{AreRight, RefutedIsNoValue, RightLinesHold}
 use Rattle.proof_check.proofs.Standing.{any_met, met_any}
 use Rattle.proof_check.proofs.WalksHold.{conflict_clause, valuation}

@@ -1,5 +1,5 @@
 -- Walks that go on, and walks that stop.
-use Rattle.std.proofs.Common.{◌≡◌, ◌∙◌, sym, ap, refl, subst, ℕ, zero, suc, ◌+◌, ◌-◌, ◌*◌, ◌^◌, ◌<◌, ◌≤◌, List, [], ◌∷◌, ◌++◌, length, take, get_or, map, Option, Some, None, inl, inr, ℤ, pos, ◌+ℤ◌, ◌<ℤ◌, arith, length-append}
+use Rattle.std.proofs.Common.{◌≡◌, ◌∙◌, sym, ap, refl, subst, ℕ, zero, suc, ◌+◌, ◌-◌, ◌*◌, ◌^◌, ◌<◌, ◌≤◌, List, [], ◌∷◌, ◌++◌, length, take, get_or, map, Option, Some, None, inl, ℤ, pos, ◌+ℤ◌, ◌<ℤ◌, arith, length-append}
 use Rattle.std.specs.Prelude.{◌≢◌, IfSome, option_map, option_and_then, slice_get, All}
 use Rattle.std.proofs.lemmas.Int.{ints}
 use Rattle.std.proofs.lemmas.List.Elements.{All-nil, All-cons, All-head, All-tail}
@@ -13,7 +13,7 @@ use Rattle.mt_model.specs.Walks.{Conflict, Edge, HasEdges, IsClosedWalk, LeadsTo
 use Rattle.neg_cycle.specs.declared.system.Edge.{Edge as SystemEdge}
 use Rattle.skew_bounds.specs.Edges.{edge_in}
 use Rattle.proof_check.specs.declared.walk.Walk.{Walk}
-use Rattle.proof_check.specs.Cycles.{FollowOneAnother, IsCycle, IsFirstLoose, IsPlace, IsWalk, bound_edge_of}
+use Rattle.proof_check.specs.Cycles.{FollowOneAnother, IsCycle, IsPlace, IsWalk, bound_edge_of}
 use Rattle.proof_check.specs.Walking.{BeginsAt, Covers, Goes, IsNear, Stops, with_edge}
 
 somes_same : {X : Type 0} (xs ys : List X) → map Some xs ≡ map Some ys → xs ≡ ys

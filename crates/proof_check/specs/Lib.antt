@@ -1,3 +1,7 @@
 pub mod Laws
 pub mod Cycles
 pub mod Walking
+pub mod Refutation
+pub mod Keeping
+pub mod Judging
+pub mod Answering

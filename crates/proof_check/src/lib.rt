@@ -1,8 +1,16 @@
-//! What right lines of derivations show, and which steps exclude every timing.
+//! What right lines of derivations show, which lines are right, and which steps exclude every timing.
 #![tactic(auto)]
 
+mod check;
+mod checker;
+mod clauses;
+mod judge;
 mod laws;
+mod range;
+mod refutation;
 mod walk;
 
+pub use check::Check;
+pub use checker::Checker;
 pub use laws::{refuted_is_no_value, right_lines_hold};
 pub use walk::{check_cycle, is_conflict};

@@ -9,4 +9,5 @@ pub mod PlainWords
 pub mod LineReading
 pub mod ReadingLines
 pub mod Texts
+pub mod AtomsApart
 mod WorkedCases

@@ -2,16 +2,20 @@
 #![tactic(auto)]
 
 mod arguments;
+mod atoms;
 mod fault;
 mod item;
 mod laws;
 mod line;
 mod printer;
 mod reader;
+mod spelling;
 mod word;
 
+pub use atoms::has_atoms_once;
 pub use fault::LineFault;
 pub use laws::{bytes_are_unambiguous, steps_read_alike, texts_read_back, texts_tell_apart};
 pub use line::{Hint, Hints, Line, Lines, Lits};
 pub use printer::print_lines;
 pub use reader::read_lines;
+pub use spelling::has_spelling;

@@ -1,17 +1,17 @@
 //! Lines from their text.
 
-ghost use Rattle.std.specs.Prelude.{◌≡◌, ◌↔◌, ◌<◌, ◌^◌, [], ◌∷◌, ◌++◌, length, None, Some, Any, AllPairs, IfOk, IsTrue, MatchOption};
+ghost use Rattle.std.specs.Prelude.{◌≡◌, ◌↔◌, ◌<◌, ◌^◌, [], ◌∷◌, ◌++◌, length, None, Some, IfOk, IsTrue, MatchOption};
 ghost use Rattle.std.specs.List.{slice_split};
 ghost use Rattle.memchr.specs.Find.{is_byte};
 ghost use Rattle.proof_log.specs.LinesOf.{Answers, HasAtomsOnce, IsLine};
 ghost use Rattle.proof_log.specs.LinesText.{space};
 ghost use Rattle.proof_log.specs.Reading.{counted_in, hint_in, learn_in, line_in, literal_in, made, step_in, whole, words_after};
 
+use crate::atoms::has_atoms_once;
 use crate::fault::LineFault;
 use crate::item::{next_hint, next_literal, next_number, next_step};
 use crate::line::{Hints, Line, Lines, Lits};
 use crate::word::cut_word;
-use axiom_rules::{Atom, Literal};
 use memchr::memchr;
 use mt_model::Steps;
 use std::alloc::{AllocError, Global};
@@ -121,29 +121,12 @@ fn line_of_words(alloc: Global, words: &[u8]) -> Result<Option<Line>, AllocError
     }
 }
 
-fn has_atom(lits: &[Literal], atom: Atom) -> bool
-    ensures { IsTrue result ↔ Any (λ m. m.atom ≡ atom) lits.now }
-{
-    lits.iter().any(|m| m.atom == atom)
-}
-
-fn atoms_differ(lits: &[Literal]) -> bool
-    ensures { IsTrue result ↔ AllPairs (λ l m. m.atom ≡ l.atom → ⊥) lits.now }
-{
-    for (i, literal) in lits.iter().enumerate() {
-        if has_atom(&lits[i + 1..], literal.atom) {
-            return false;
-        }
-    }
-    true
-}
-
-fn has_atoms_once(line: &Line) -> bool
-    ensures { IsTrue result ↔ HasAtomsOnce line.now }
+fn has_each_atom_once(alloc: Global, line: &Line) -> Result<bool, AllocError>
+    ensures { IfOk result (λ b. IsTrue b ↔ HasAtomsOnce line.now) }
 {
     match line {
-        Line::Cycle(_) => true,
-        Line::Learn { lits, .. } => atoms_differ(lits.as_slice()),
+        Line::Cycle(_) => Ok(true),
+        Line::Learn { lits, .. } => has_atoms_once(alloc, lits.as_slice()),
     }
 }
 
@@ -154,11 +137,8 @@ fn read_line(alloc: Global, bytes: &[u8]) -> Result<Option<Line>, AllocError>
     let Some(line) = line_of_words(alloc, bytes)? else {
         return Ok(None);
     };
-    if has_atoms_once(&line) {
-        Ok(Some(line))
-    } else {
-        Ok(None)
-    }
+    let once = has_each_atom_once(alloc, &line)?;
+    if once { Ok(Some(line)) } else { Ok(None) }
 }
 
 /// The lines whose text the bytes are.

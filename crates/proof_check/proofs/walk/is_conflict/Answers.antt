@@ -1,4 +1,4 @@
-use Rattle.std.proofs.Common.{◌∙◌, sym, ap, IsTrue, true}
+use Rattle.std.proofs.Common.{◌∙◌, sym, ap}
 use Rattle.std.specs.Prelude.{option_copied}
 use Rattle.mt_model.specs.Walks.{edge_of}
 use Rattle.proof_check.proofs.WalkLemmas.{conflict_cyclic, cyclic_conflict, cyclic_follows, follows_cyclic, follows_first, follows_more, follows_stops_all}

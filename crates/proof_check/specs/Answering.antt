@@ -1,0 +1,31 @@
+-- What is answered for lines.
+use Rattle.std.specs.Prelude.{◌≡◌, ◌↔◌, ◌≤◌, ℕ, Bool, IsTrue, List, map, take}
+use Rattle.mt_model.specs.Form.{Form}
+use Rattle.mt_model.specs.Log.{Logged}
+use Rattle.axiom_rules.specs.declared.literal.Literal.{Literal}
+use Rattle.axiom_rules.specs.Sought.{Sought, sought_of}
+use Rattle.proof_log.specs.declared.line.Line.{Line}
+use Rattle.proof_log.specs.Derivations.{Derives, FirstWrong, IsEmptyAt, IsGood, Refutes}
+use Rattle.proof_check.specs.declared.check.Check.{Check}
+use Rattle.proof_check.specs.declared.check.Check.TheVariants as check
+use Rattle.proof_check.specs.Keeping.{kept_of}
+
+-- P holds of the log, the formula and the value for which it is sought
+abbrev pub OfSought : Sought → (Logged → Form → Bool → Type 0) → Type 0
+OfSought s P = (log : Logged) (f : Form) (v : Bool) → s ≡ sought_of log f v → P log f v
+
+-- the answer is what the lines are: they refute, they derive, or this is the first wrong line
+pub record IsAnswer (log : Logged) (f : Form) (v : Bool) (lines : List Line) (answer : Check) : Type 0 where
+  pub refutes : (answer ≡ check.Refutes) ↔ Refutes log f v lines
+  pub derives : (answer ≡ check.Derives) ↔ Derives log f v lines
+  pub wrong : (n : ℕ) → (answer ≡ check.Wrong n) ↔ FirstWrong log f v lines n
+
+-- the first n lines are good
+abbrev pub AreGood : Logged → Form → Bool → List Line → ℕ → Type 0
+AreGood log f v lines n = (m : ℕ) → 1 ≤ m → m ≤ n → IsGood log f v lines m
+
+-- the first n lines are judged: they are good, this is what is kept of them, and it is known whether the last one's clause is empty
+pub record AreJudged (s : Sought) (lines : List Line) (n : ℕ) (kept : List (List Literal)) (ended : Bool) : Type 0 where
+  pub good : OfSought s (λ log f v. AreGood log f v lines n)
+  pub same : kept ≡ map kept_of (take n lines)
+  pub last : IsTrue ended ↔ IsEmptyAt lines n

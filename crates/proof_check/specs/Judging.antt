@@ -1,0 +1,29 @@
+-- How the hints of a line are taken, and when a line is right.
+use Rattle.std.specs.Prelude.{◌≡◌, ℕ, List, MatchOption}
+use Rattle.hint_refutation.specs.Hints.{Refutes}
+use Rattle.axiom_rules.specs.declared.literal.Literal.{Literal}
+use Rattle.axiom_rules.specs.Literals.{negated}
+use Rattle.axiom_rules.specs.Sought.{Sought}
+use Rattle.proof_log.specs.declared.line.Hint.{Hint}
+use Rattle.proof_log.specs.declared.line.Line.{Line}
+use Rattle.proof_log.specs.Derivations.{HasClauses, IsShown, clause_of_hint}
+use Rattle.proof_log.specs.Spelled.{IsSpelled}
+use Rattle.proof_check.specs.declared.refutation.Taken.{Taken}
+use Rattle.proof_check.specs.declared.refutation.Taken.TheVariants as taken
+use Rattle.proof_check.specs.Refutation.{IsTaken}
+
+module _ (s : Sought) (lines : List Line) (n : ℕ) where
+  -- what the clause of a hint of line n does to the literals that are assumed; a hint without a clause is stuck
+  abbrev pub IsHintTaken : Hint → List Literal → List Literal → Taken → Type 0
+  IsHintTaken hint old new found = MatchOption (clause_of_hint s lines n hint) (found ≡ taken.Stuck) (λ clause. IsTaken old clause new found)
+
+  -- each of the hints of line n has a clause, and the clauses refute what is assumed
+  pub record AreRefuting (assumed : List Literal) (hints : List Hint) : Type 0 where
+    pub clauses : List (List Literal)
+    pub cited : HasClauses s lines n hints clauses
+    pub refuted : Refutes negated assumed clauses
+
+  -- a line is right as line n: it has a spelling, and shows what it has to
+  pub record IsRight (line : Line) : Type 0 where
+    pub spelled : IsSpelled line
+    pub shown : IsShown s lines n line

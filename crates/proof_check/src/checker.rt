@@ -1,0 +1,122 @@
+ghost use Rattle.std.specs.Prelude.{◌≡◌, ◌↔◌, ◌<◌, ◌≤◌, ◌^◌, ℕ, length, IfOk, OnOk, None, Err};
+ghost use Rattle.mt_model.specs.Form.{form_of};
+ghost use Rattle.mt_model.specs.Log.{IsLog};
+ghost use Rattle.mt_model.specs.State.{unknown_host};
+ghost use Rattle.mt_model.specs.Truth.{IsValue};
+ghost use Rattle.formula_arena.specs.Nodes.{nodes_of};
+ghost use Rattle.formula_arena.specs.declared.arena.TheConstants.{MAX_NODES};
+ghost use Rattle.axiom_rules.specs.Sought.{sought_of};
+ghost use Rattle.proof_log.specs.Derivations.{Derives, FirstWrong, Refutes};
+ghost use Rattle.proof_check.specs.Answering.{IsAnswer, OfSought};
+
+use crate::check::Check;
+use crate::clauses::{clause_of, to_keep};
+use crate::judge::{Clause, is_right};
+use crate::laws::refuted_is_no_value;
+use axiom_rules::Rules;
+use formula_arena::{Arena, ArenaFault};
+use mt_list::ListOf;
+use mt_model::{Formula, Log};
+use proof_log::Line;
+use smallvec::SmallVec;
+use std::alloc::{AllocError, Global};
+use std::marker::Model;
+
+/// Checks derivations for one log, one formula and one value that is sought of it. Contracts see what is sought, of which
+/// it keeps copies.
+#[derive(Debug, Drop)]
+pub struct Checker {
+    alloc: Global,
+    rules: Rules,
+    clause: Clause,
+}
+
+impl Model for Checker {
+    ghost use Rattle.std.specs.Coded.{codes};
+    ghost use Rattle.formula_arena.specs.CodedForms.{coded_form};
+    ghost use Rattle.axiom_rules.specs.Sought.{Sought};
+
+    ghost Value = { Sought };
+
+    ghost coded = { Prim.hlevel (codes, coded_form (Prim.hlevel codes)) };
+
+    ghost view = { λ c. c.rules };
+}
+
+// That the log of rules is a log is known with its rows.
+fn log_is_valid(rules: &Rules)
+    ensures { IsLog rules.now.log }
+{
+    let _ = rules.log().rows();
+}
+
+// What lines are: each is judged by those before it.
+fn check_lines(
+    alloc: Global,
+    rules: &Rules,
+    clause: &mut Clause,
+    lines: &[Line],
+) -> Result<Check, AllocError>
+    requires { length lines.now < 2 ^ 32 }
+    ensures { IfOk result (λ c. OfSought rules.now (λ log f v. IsAnswer log f v lines.now c)) }
+{
+    let mut kept = ListOf::new(alloc);
+    let mut ended = false;
+    for (i, line) in lines.iter().enumerate() {
+        let number = i as u32 + 1;
+        if ended {
+            return Ok(Check::Wrong(number));
+        }
+        if !is_right(alloc, rules, lines, kept.as_slice(), line, clause)? {
+            return Ok(Check::Wrong(number));
+        }
+        let lits = to_keep(alloc, line)?;
+        ended = clause_of(line, &lits).is_empty();
+        kept.push(lits)?;
+    }
+    if ended {
+        Ok(Check::Refutes)
+    } else {
+        Ok(Check::Derives)
+    }
+}
+
+impl Checker {
+    /// A checker for a log, a formula whose hosts are in the log, and a value that is sought of it. `TooManyNodes` comes
+    /// exactly where the formula has more than 512 nodes.
+    pub fn new(alloc: Global, log: &Log, f: &Formula, value: bool) -> Result<Checker, ArenaFault>
+        requires hosts { unknown_host log.now (form_of f.now) ≡ None }
+        ensures sought { IfOk result (λ c. c ≡ sought_of log.now (form_of f.now) value) }
+        ensures enough { OnOk result (length (nodes_of (form_of f.now)) ≤ MAX_NODES) }
+        ensures too_many { result ≡ Err ArenaFault.TooManyNodes → MAX_NODES < length (nodes_of (form_of f.now)) }
+    {
+        let mut arena = Arena::new(alloc);
+        let root = arena.intern(f)?;
+        let rules = Rules::new(alloc, log, &arena, root, value)?;
+        Ok(Checker {
+            alloc,
+            rules,
+            clause: SmallVec::new(alloc),
+        })
+    }
+
+    /// What lines are for the log, the formula and the value. Fewer than 2^32 lines are asked for, and each call judges its
+    /// lines alone. A formula has no value that lines refute.
+    ///
+    /// The time is that of the clauses which the lines have and cite. An error is want of memory.
+    pub fn check(&mut self, lines: &[Line]) -> Result<Check, AllocError>
+        requires few { length lines.now < 2 ^ 32 }
+        ensures refutes { IfOk result (λ c. OfSought self.old (λ log f v. (c ≡ Check.Refutes) ↔ Refutes log f v lines.now)) }
+        ensures derives { IfOk result (λ c. OfSought self.old (λ log f v. (c ≡ Check.Derives) ↔ Derives log f v lines.now)) }
+        ensures wrong { IfOk result (λ c. OfSought self.old (λ log f v. (n : ℕ) → (c ≡ Check.Wrong n) ↔ FirstWrong log f v lines.now n)) }
+        ensures excludes { IfOk result (λ c. OfSought self.old (λ log f v. c ≡ Check.Refutes → IsValue log f v → ⊥)) }
+        ensures kept { self.new ≡ self.old }
+    {
+        refuted_is_no_value();
+        log_is_valid(&self.rules);
+        check_lines(self.alloc, &self.rules, &mut self.clause, lines)
+    }
+}
+
+#[cfg(test)]
+mod tests;
