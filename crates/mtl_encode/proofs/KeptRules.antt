@@ -1,0 +1,274 @@
+-- The rules that are gone through are those that have a clause, each once.
+use Rattle.std.proofs.Common.{◌≡◌, ◌∙◌, sym, ap, refl, subst, ℕ, zero, suc, ◌+◌, ◌==◌, ◌<◌, ◌≤◌, Bool, true, false, ◌&&◌, if◌then◌else◌, List, [], ◌∷◌, ◌++◌, length, map, Option, Some, None, Ok, Err, ◌⊎◌, inl, inr, arith}
+use Rattle.std.specs.Prelude.{◌≢◌, All, AllPairs, Contains, Result, is_ok, nat_lt, option_and_then, slice_get, slice_index, slice_index_or}
+use Rattle.std.specs.List.{AllByRecursion, cons_option, filter_map, flat_map, range_with_len}
+use Rattle.std.specs.Option.{option_map_or}
+use Rattle.std.proofs.lemmas.Bool.{and_parts, cases_Bool}
+use Rattle.std.proofs.lemmas.Bool.Decides.{nat_tests}
+use Rattle.std.proofs.lemmas.Option.{slice_get_within}
+use Rattle.mt_model.specs.Form.{Form, True, False, Prop, Not, And, Or, Implies, Until, Since, Eventually, Always, Once, Historically}
+use Rattle.mt_model.specs.Log.{Logged}
+use Rattle.mt_model.specs.State.{Change, change_at, changes_of, host_named}
+use Rattle.mt_model.proofs.Members.{Among}
+use Rattle.axiom_rules.specs.declared.fault.RuleFault.{RuleFault}
+use Rattle.axiom_rules.specs.declared.fault.RuleFault.TheVariants.{NoRule, Range}
+use Rattle.axiom_rules.specs.declared.literal.Literal.{Literal}
+use Rattle.axiom_rules.specs.declared.part.Part.{Part}
+use Rattle.axiom_rules.specs.declared.rule.Argument.{Argument}
+use Rattle.axiom_rules.specs.declared.rule.Argument.TheVariants.{ANode, AnEvent, AChange, Unused}
+use Rattle.axiom_rules.specs.declared.rule.Rule.{Rule}
+use Rattle.axiom_rules.specs.declared.shape.Shape.{Shape}
+use Rattle.axiom_rules.specs.declared.shape.Shape.TheVariants as shape
+use Rattle.axiom_rules.specs.Clauses.{Row, are_there, clause_of, is_there, of_event, of_events, of_node_event, of_node_event_change, of_node_events, of_node_three_events, of_nothing, row_of, rows}
+use Rattle.axiom_rules.specs.NodeShapes.{changes_in, changes_named, shape_at, shape_of}
+use Rattle.axiom_rules.specs.Parts.{Written, clause_of_written}
+use Rattle.axiom_rules.specs.Rules.{of_kind, rule_1, rule_2, rule_3, rule_4, rule_5, rule_6, rule_7, rule_8, rule_9, rule_10, rule_11, rule_12, rule_13, rule_14, rule_15, rule_16, rule_17, rule_18, rule_19, rule_20, rule_21, rule_22, rule_23, rule_24}
+use Rattle.axiom_rules.specs.Sought.{Sought}
+use Rattle.mtl_encode.proofs.RangeLemmas.{Apart, among-at, among-flat, apart-flat, apart-pairs, flat-among, place-of}
+use Rattle.mtl_encode.proofs.RowCases.{row-case}
+use Rattle.mtl_encode.specs.Instances.{count_of, instances, kept, of_number, rule_at, with_none, with_one, with_three, with_two}
+use Rattle.mtl_encode.specs.Listing.{HasClause, ListsRules}
+
+-- a rule that is kept is the rule, and has a clause
+kept-is : (s : Sought) (rule r : Rule) → Among (kept s rule) r → (rule ≡ r) × HasClause s r
+kept-is s rule r in_ = go (clause_of s rule) refl in_
+  where
+    go : (c : Result (List Literal) RuleFault) → clause_of s rule ≡ c → Among (if is_ok c then rule ∷ [] else []) r → (rule ≡ r) × HasClause s r
+    go (Ok c) at (inl here) = (here, (c, rw (← here) at))
+    go (Ok c) at (inr there) = absurd there
+    go (Err fault) at in_ = absurd in_
+
+kept-has : (s : Sought) (rule : Rule) (c : List Literal) → clause_of s rule ≡ Ok c → Among (kept s rule) rule
+kept-has s rule c is = rw is (inl refl)
+
+-- the arguments of a rule by their places, and its number
+abbrev arg_of : ℕ → Rule → ℕ
+arg_of place r = slice_index r.args place
+
+module _ (s : Sought) (number : ℕ) (counts : List ℕ) where
+  -- what stands among the rules of a number with these first arguments is one with them that has a clause
+  three-is : (a b c : ℕ) (r : Rule) → Among (with_three s number counts a b c) r → (d : ℕ) × (rule_at number a b c d ≡ r) × HasClause s r
+  three-is a b c r in_ =
+      let (d, low, high, at) = flat-among (λ d. kept s (rule_at number a b c d)) 0 (slice_index counts 3) r in_ in
+      let is = kept-is s (rule_at number a b c d) r at in
+      (d, is.0, is.1)
+
+  two-is : (a b : ℕ) (r : Rule) → Among (with_two s number counts a b) r → (c d : ℕ) × (rule_at number a b c d ≡ r) × HasClause s r
+  two-is a b r in_ =
+      let (c, low, high, at) = flat-among (with_three s number counts a b) 0 (slice_index counts 2) r in_ in
+      let (d, is, has) = three-is a b c r at in
+      (c, d, is, has)
+
+  one-is : (a : ℕ) (r : Rule) → Among (with_one s number counts a) r → (b c d : ℕ) × (rule_at number a b c d ≡ r) × HasClause s r
+  one-is a r in_ =
+      let (b, low, high, at) = flat-among (with_two s number counts a) 0 (slice_index counts 1) r in_ in
+      let (c, d, is, has) = two-is a b r at in
+      (b, c, d, is, has)
+
+  none-is : (r : Rule) → Among (with_none s number counts) r → (a b c d : ℕ) × (rule_at number a b c d ≡ r) × HasClause s r
+  none-is r in_ =
+      let (a, low, high, at) = flat-among (with_one s number counts) 0 (slice_index counts 0) r in_ in
+      let (b, c, d, is, has) = one-is a r at in
+      (a, b, c, d, is, has)
+
+  -- each of them once
+  kept-apart : (rule : Rule) → Apart (kept s rule)
+  kept-apart rule = go (is_ok (clause_of s rule))
+    where
+      go : (b : Bool) → Apart (let rs : List Rule = (if b then rule ∷ [] else []) in rs)
+      go true = ((λ r in_. absurd in_), tt)
+      go false = tt
+
+  three-apart : (a b c : ℕ) → Apart (with_three s number counts a b c)
+  three-apart a b c = apart-flat (λ d. kept s (rule_at number a b c d)) (arg_of 3) (λ d. kept-apart (rule_at number a b c d))
+      (λ d r in_. sym (ap (arg_of 3) (kept-is s (rule_at number a b c d) r in_).0)) 0 (slice_index counts 3)
+
+  two-apart : (a b : ℕ) → Apart (with_two s number counts a b)
+  two-apart a b = apart-flat (with_three s number counts a b) (arg_of 2) (three-apart a b)
+      (λ c r in_. let (d, is, has) = three-is a b c r in_ in sym (ap (arg_of 2) is)) 0 (slice_index counts 2)
+
+  one-apart : (a : ℕ) → Apart (with_one s number counts a)
+  one-apart a = apart-flat (with_two s number counts a) (arg_of 1) (two-apart a)
+      (λ b r in_. let (c, d, is, has) = two-is a b r in_ in sym (ap (arg_of 1) is)) 0 (slice_index counts 1)
+
+  none-apart : Apart (with_none s number counts)
+  none-apart = apart-flat (with_one s number counts) (arg_of 0) one-apart
+      (λ a r in_. let (b, c, d, is, has) = one-is a r in_ in sym (ap (arg_of 0) is)) 0 (slice_index counts 0)
+
+  -- a rule that has a clause stands among them where its arguments are below the counts
+  none-has : (a b c d : ℕ) (clause : List Literal) → clause_of s (rule_at number a b c d) ≡ Ok clause → a < slice_index counts 0 → b < slice_index counts 1 → c < slice_index counts 2 → d < slice_index counts 3
+      → Among (with_none s number counts) (rule_at number a b c d)
+  none-has a b c d clause is low-a low-b low-c low-d =
+      let rule = rule_at number a b c d in
+      let in-three = among-flat (λ d. kept s (rule_at number a b c d)) 0 (slice_index counts 3) d rule (omega arith) (omega (arith, low-d)) (kept-has s rule clause is) in
+      let in-two = among-flat (with_three s number counts a b) 0 (slice_index counts 2) c rule (omega arith) (omega (arith, low-c)) in-three in
+      let in-one = among-flat (with_two s number counts a) 0 (slice_index counts 1) b rule (omega arith) (omega (arith, low-b)) in-two in
+      among-flat (with_one s number counts) 0 (slice_index counts 0) a rule (omega arith) (omega (arith, low-a)) in-one
+
+-- a proposition has at most one change for each row
+changes-few : (h : ℕ → Option Change) (a n : ℕ) → length (filter_map h (range_with_len a n)) ≤ n
+changes-few h a zero = omega arith
+changes-few h a (suc n) = go (h a) (changes-few h (a + 1) n)
+  where
+    go : (o : Option Change) → length (filter_map h (range_with_len (a + 1) n)) ≤ n → length (cons_option o (filter_map h (range_with_len (a + 1) n))) ≤ suc n
+    go None low = omega (arith, low)
+    go (Some c) low = omega (arith, low)
+
+module _ (s : Sought) where
+  -- the arguments of a row that writes something are below the counts of what they name
+  abbrev AreBelow : Row → Type 0
+  AreBelow row = (args : List ℕ) (parts : List Part) → are_there s row.arguments args ≡ true → row.writes s args ≡ Ok parts
+      → (a b c d : ℕ) × (args ≡ a ∷ b ∷ c ∷ d ∷ []) × (a < slice_index (map (count_of s) row.arguments) 0) × (b < slice_index (map (count_of s) row.arguments) 1)
+      × (c < slice_index (map (count_of s) row.arguments) 2) × (d < slice_index (map (count_of s) row.arguments) 3)
+
+  -- an argument that is there is below the count, where it is no change
+  below : (a : Argument) (n : ℕ) → (a ≡ AChange → ⊥) → is_there s a n ≡ true → n < count_of s a
+  below ANode n other is = grind (arith, nat_tests)
+  below AnEvent n other is = grind (arith, nat_tests)
+  below AChange n other is = absurd (other refl)
+  below Unused n other is = grind (arith, nat_tests)
+
+  -- four arguments that are there
+  pub four : (p q r t : Argument) (args : List ℕ) → are_there s (p ∷ q ∷ r ∷ t ∷ []) args ≡ true
+      → (a b c d : ℕ) × (args ≡ a ∷ b ∷ c ∷ d ∷ []) × (is_there s p a ≡ true) × (is_there s q b ≡ true) × (is_there s r c ≡ true) × (is_there s t d ≡ true)
+  four p q r t [] is = absurd (cc)
+  four p q r t (a ∷ []) is = let past = (and_parts (is_there s p a) false is).1 in absurd (cc)
+  four p q r t (a ∷ b ∷ []) is = let past = (and_parts (is_there s q b) false (and_parts (is_there s p a) _ is).1).1 in absurd (cc)
+  four p q r t (a ∷ b ∷ c ∷ []) is = let past = (and_parts (is_there s r c) false (and_parts (is_there s q b) _ (and_parts (is_there s p a) _ is).1).1).1 in absurd (cc)
+  four p q r t (a ∷ b ∷ c ∷ d ∷ []) is =
+      let one = and_parts (is_there s p a) _ is in
+      let two = and_parts (is_there s q b) _ one.1 in
+      let three = and_parts (is_there s r c) _ two.1 in
+      let last = and_parts (is_there s t d) _ three.1 in
+      (a, b, c, d, refl, one.0, two.0, three.0, last.0)
+  four p q r t (a ∷ b ∷ c ∷ d ∷ e ∷ args) is =
+      let past = (and_parts (is_there s t d) false (and_parts (is_there s r c) _ (and_parts (is_there s q b) _ (and_parts (is_there s p a) _ is).1).1).1).1 in absurd (cc)
+
+  no-change : (p q r t : Argument) (write : Sought → List ℕ → Written) → (p ≡ AChange → ⊥) → (q ≡ AChange → ⊥) → (r ≡ AChange → ⊥) → (t ≡ AChange → ⊥) → AreBelow (record { arguments = p ∷ q ∷ r ∷ t ∷ []; writes = write })
+  no-change p q r t write hp hq hr ht args parts is written =
+      let (a, b, c, d, args-are, in-a, in-b, in-c, in-d) = four p q r t args is in
+      (a, b, c, d, args-are, below p a hp in-a, below q b hq in-b, below r c hr in-c, below t d ht in-d)
+
+  node-event : (w : Sought → ℕ → ℕ → Written) → AreBelow (of_node_event w)
+  node-event w = no-change ANode AnEvent Unused Unused ((of_node_event w).writes) (λ h. absurd (cc)) (λ h. absurd (cc)) (λ h. absurd (cc)) (λ h. absurd (cc))
+
+  node-events : (w : Sought → ℕ → ℕ → ℕ → Written) → AreBelow (of_node_events w)
+  node-events w = no-change ANode AnEvent AnEvent Unused ((of_node_events w).writes) (λ h. absurd (cc)) (λ h. absurd (cc)) (λ h. absurd (cc)) (λ h. absurd (cc))
+
+  three-events : (w : Sought → ℕ → ℕ → ℕ → ℕ → Written) → AreBelow (of_node_three_events w)
+  three-events w = no-change ANode AnEvent AnEvent AnEvent ((of_node_three_events w).writes) (λ h. absurd (cc)) (λ h. absurd (cc)) (λ h. absurd (cc)) (λ h. absurd (cc))
+
+  two-events : (w : Sought → ℕ → ℕ → Written) → AreBelow (of_events w)
+  two-events w = no-change AnEvent AnEvent Unused Unused ((of_events w).writes) (λ h. absurd (cc)) (λ h. absurd (cc)) (λ h. absurd (cc)) (λ h. absurd (cc))
+
+  one-event : (w : Sought → ℕ → Written) → AreBelow (of_event w)
+  one-event w = no-change AnEvent Unused Unused Unused ((of_event w).writes) (λ h. absurd (cc)) (λ h. absurd (cc)) (λ h. absurd (cc)) (λ h. absurd (cc))
+
+  no-argument : (w : Sought → Written) → AreBelow (of_nothing w)
+  no-argument w = no-change Unused Unused Unused Unused ((of_nothing w).writes) (λ h. absurd (cc)) (λ h. absurd (cc)) (λ h. absurd (cc)) (λ h. absurd (cc))
+
+  named-few : (host name : List ℕ) → length (changes_named s.log host name) ≤ length s.log.rows
+  named-few host name = go (host_named s.log host)
+    where
+      go : (o : Option ℕ) → length (option_map_or (λ h. changes_of s.log h name) o []) ≤ length s.log.rows
+      go None = omega arith
+      go (Some h) = changes-few (change_at s.log h name) 0 (length s.log.rows)
+
+  shape-few : (f : Form) (changes : List Change) → changes_in (shape_of s.log s.trees f) ≡ Some changes → length changes ≤ length s.log.rows
+  shape-few True changes is = absurd (cc)
+  shape-few False changes is = absurd (cc)
+  shape-few (Prop host name) changes is = let same : changes_named s.log host name ≡ changes = cc in rw (← same) (named-few host name)
+  shape-few (Not f) changes is = absurd (cc)
+  shape-few (And f g) changes is = absurd (cc)
+  shape-few (Or f g) changes is = absurd (cc)
+  shape-few (Implies f g) changes is = absurd (cc)
+  shape-few (Until I f g) changes is = absurd (cc)
+  shape-few (Since I f g) changes is = absurd (cc)
+  shape-few (Eventually I f) changes is = absurd (cc)
+  shape-few (Always I f) changes is = absurd (cc)
+  shape-few (Once I f) changes is = absurd (cc)
+  shape-few (Historically I f) changes is = absurd (cc)
+
+  node-few : (o : Option Form) (changes : List Change) → changes_in (option_and_then (shape_of s.log s.trees) o) ≡ Some changes → length changes ≤ length s.log.rows
+  node-few None changes is = absurd (cc)
+  node-few (Some f) changes is = shape-few f changes is
+
+  -- a change of which something is written is there
+  change-there : (o : Option (List Change)) (write : List Change → Change → Written) (place : ℕ) (parts : List Part)
+      → of_kind o (λ changes. option_map_or (write changes) (slice_get changes place) (Err Range)) ≡ Ok parts → (changes : List Change) × (o ≡ Some changes) × (place < length changes)
+  change-there None write place parts is = absurd (cc)
+  change-there (Some changes) write place parts is = (changes, refl, go (slice_get changes place) refl is)
+    where
+      go : (o : Option Change) → slice_get changes place ≡ o → option_map_or (write changes) o (Err Range) ≡ Ok parts → place < length changes
+      go None at is = absurd (cc)
+      go (Some c) at is = slice_get_within changes place c at
+
+  change-below : (k e place : ℕ) (parts : List Part) → rule_2 s k e place ≡ Ok parts → place < length s.log.rows
+  change-below k e place parts is =
+      let (changes, are, low) = change-there (changes_in (shape_at s k)) _ place parts is in
+      omega (arith, low, node-few (slice_get s.trees k) changes are)
+
+  event-change : AreBelow (of_node_event_change rule_2)
+  event-change args parts is written =
+      let (a, b, c, d, args-are, in-a, in-b, in-c, in-d) = four ANode AnEvent AChange Unused args is in
+      let low = change-below a b c parts (rw args-are at written) in
+      (a, b, c, d, args-are, below ANode a (λ h. absurd (cc)) in-a, below AnEvent b (λ h. absurd (cc)) in-b, low, below Unused d (λ h. absurd (cc)) in-d)
+
+  rows-below : AllByRecursion AreBelow rows
+  rows-below = (node-event rule_1, (event-change, (node-event rule_3, (node-event rule_4, (node-event rule_5, (node-event rule_6, (node-event rule_7, (node-event rule_8, (two-events rule_9, (one-event rule_10, (no-argument rule_11, (node-events rule_12, (node-events rule_13, (node-events rule_14, (node-events rule_15, (node-events rule_16, (node-event rule_17, (node-events rule_18, (three-events rule_19, (node-events rule_20, (three-events rule_21, (node-events rule_22, (node-events rule_23, (one-event rule_24, tt))))))))))))))))))))))))
+
+  of-row : (number : ℕ) (row : Row) (args : List ℕ) (c : List Literal) → row_of number ≡ Some row → clause_of s (record { number = number; args = args }) ≡ Ok c
+      → (are_there s row.arguments args ≡ true) × ((parts : List Part) × (row.writes s args ≡ Ok parts))
+  of-row number row args c at is = go (are_there s row.arguments args) refl (rw at at is)
+    where
+      written : (w : Written) → clause_of_written w ≡ Ok c → (parts : List Part) × (w ≡ Ok parts)
+      written (Ok parts) is = (parts, refl)
+      written (Err fault) is = absurd (cc)
+
+      go : (b : Bool) → are_there s row.arguments args ≡ b → (if b then clause_of_written (row.writes s args) else Err Range) ≡ Ok c
+          → (are_there s row.arguments args ≡ true) × ((parts : List Part) × (row.writes s args ≡ Ok parts))
+      go true there is = (there, written (row.writes s args) is)
+      go false there is = absurd (cc)
+
+  number-low : (number : ℕ) (row : Row) → row_of number ≡ Some row → number < 25
+  number-low zero row at = omega arith
+  number-low (suc n) row at = let low : n < 24 = slice_get_within rows n row at in omega (arith, low)
+
+  -- a rule that has a clause stands among all
+  pub every : (rule : Rule) (c : List Literal) → clause_of s rule ≡ Ok c → Among (instances s) rule
+  every rule c is = go (row_of rule.number) refl is
+    where
+      go : (o : Option Row) → row_of rule.number ≡ o → option_map_or (λ row. if are_there s row.arguments rule.args then clause_of_written (row.writes s rule.args) else Err Range) o (Err NoRule) ≡ Ok c → Among (instances s) rule
+      go None at is-now = absurd (cc)
+      go (Some row) at is-now =
+          let (there, (parts, written)) = of-row rule.number row rule.args c at is in
+          let (a, b, p, d, args-are, low-a, low-b, low-p, low-d) = row-case AreBelow rows-below rule.number row at rule.args parts there written in
+          let same : rule_at rule.number a b p d ≡ rule = ap (λ args. let r : Rule = record { number = rule.number; args = args } in r) (sym args-are) in
+          let has = none-has s rule.number (map (count_of s) row.arguments) a b p d c (subst (λ (r : Rule). clause_of s r ≡ Ok c) (sym same) is) low-a low-b low-p low-d in
+          among-flat (of_number s) 0 25 rule.number rule (omega arith) (omega (arith, number-low rule.number row at)) (subst (λ (o : Option Row). Among (option_map_or (λ row. with_none s rule.number (map (count_of s) row.arguments)) o []) rule) (sym at)
+          (subst (λ (r : Rule). Among (with_none s rule.number (map (count_of s) row.arguments)) r) same has))
+
+  number-is : (number : ℕ) (r : Rule) → Among (of_number s number) r → (number ≡ r.number) × HasClause s r
+  number-is number r in_ = go (row_of number) in_
+    where
+      go : (o : Option Row) → Among (option_map_or (λ row. with_none s number (map (count_of s) row.arguments)) o []) r → (number ≡ r.number) × HasClause s r
+      go None in_ = absurd in_
+      go (Some row) in_ = let (a, b, c, d, is, has) = none-is s number (map (count_of s) row.arguments) r in_ in (ap (λ (q : Rule). q.number) is, has)
+
+  number-apart : (number : ℕ) → Apart (of_number s number)
+  number-apart number = go (row_of number)
+    where
+      go : (o : Option Row) → Apart (option_map_or (λ row. with_none s number (map (count_of s) row.arguments)) o [])
+      go None = tt
+      go (Some row) = none-apart s number (map (count_of s) row.arguments)
+
+  only : (r : Rule) → Among (instances s) r → HasClause s r
+  only r in_ = let (number, low, high, at) = flat-among (of_number s) 0 25 r in_ in (number-is number r at).1
+
+  -- the rules that have a clause are listed
+  pub instances-listed : ListsRules s (instances s)
+  instances-listed = record {
+    only = λ k d low. only (slice_index_or (instances s) k d) (among-at (instances s) k d low);
+    once = apart-pairs (instances s) (apart-flat (of_number s) (λ r. r.number) number-apart (λ number r in_. sym (number-is number r in_).0) 0 25);
+    every = λ rule c is. place-of (instances s) rule (every rule c is);
+  }

@@ -1,0 +1,105 @@
+-- Each node has at each event the truth value of its tree.
+use Rattle.std.proofs.Common.{◌≡◌, ◌∙◌, ap, refl, subst, ℕ, ◌<◌, Bool, true, false, not, List, [], length, Option, Some, None, ℤ, ◌-ℤ◌, arith}
+use Rattle.std.specs.Prelude.{◌↔◌, All, int_le, slice_index_or}
+use Rattle.std.specs.Option.{option_map_or}
+use Rattle.mt_model.specs.declared.tree.Interval.{Interval}
+use Rattle.mt_model.specs.Form.{Form, True, False, Prop, Not, And, Or, Implies, Until, Since, Eventually, Always, Once, Historically}
+use Rattle.mt_model.specs.Frame.{Frame, reaches}
+use Rattle.mt_model.specs.State.{Change, changes_of, host_named, state}
+use Rattle.mt_model.specs.Timing.{time_of}
+use Rattle.mt_model.specs.Truth.{rows_in, truth_of}
+use Rattle.mt_model.proofs.FrameLemmas.{Carries, reaches_same}
+use Rattle.mt_model.proofs.Members.{Among}
+use Rattle.formula_arena.specs.Cores.{IsCore}
+use Rattle.formula_arena.specs.Nodes.{StandsBefore, tree_at}
+use Rattle.formula_arena.specs.Subtrees.{children_of, same_form}
+use Rattle.axiom_rules.specs.declared.literal.Atom.{Atom}
+use Rattle.axiom_rules.specs.declared.literal.Atom.TheVariants.{Gap, Node, Order, Span, Wit}
+use Rattle.axiom_rules.specs.Holds.{is_near, met}
+use Rattle.axiom_rules.specs.NodeShapes.{changes_in, changes_named, is_constant, number_of, operand_in, reach_in, shape_at, shape_of, sides_in}
+use Rattle.axiom_rules.specs.Sought.{Sought}
+use Rattle.axiom_rules.proofs.ChangeLemmas.{is_by, last_of}
+use Rattle.axiom_rules.proofs.MeaningLemmas.{at_row, near-ahead, row_at}
+use Rattle.mtl_encode.specs.Exact.{SatisfiesRules}
+use Rattle.mtl_encode.proofs.NodeLemmas.{IsThere, child-there, shape-is}
+use Rattle.mtl_encode.proofs.NodeUses.{conjunction-exact, constant-exact, negation-exact, proposition-exact}
+use Rattle.mtl_encode.proofs.ReachExact.{reach-exact}
+use Rattle.mtl_encode.proofs.ReachUses.{reach-allowed}
+
+-- the points of a frame, carried to themselves
+to_themselves : {X : Type 0} (F : Frame X) → Carries F F (λ x. x)
+to_themselves F = record { into = λ x a. a; onto = λ y b. (y, b, refl); not_after = λ x y a b. refl; instant = λ x a. refl }
+
+module _ (s : Sought) (v : Atom → Bool) (satisfied : SatisfiesRules s v) (t : List ℤ) (agrees : (e f : ℕ) (c : ℤ) → v (Order e f c) ≡ int_le (time_of t e -ℤ time_of t f) c) (count : length t ≡ length s.log.rows)
+    (same : (f g : Form) → (same_form f g ≡ true) ↔ (f ≡ g)) (cores : (k : ℕ) → k < length s.trees → IsCore (tree_at s.trees k))
+    (once : (j k : ℕ) → j < length s.trees → k < length s.trees → tree_at s.trees j ≡ tree_at s.trees k → j ≡ k) (children_first : (k : ℕ) → k < length s.trees → All (StandsBefore s.trees k) (children_of (tree_at s.trees k))) where
+  abbrev told : Form → ℕ → Bool
+  told f e = truth_of s.log t e f
+
+  -- wherever the tree is a node, the node has its truth value at each event
+  abbrev IsExact : Form → Type 0
+  IsExact f = (k e : ℕ) → k < length s.trees → tree_at s.trees k ≡ f → e < length s.log.rows → v (Node k e) ≡ told f e
+
+  -- the tree of a node is a core tree
+  is_core : (k : ℕ) (f : Form) → k < length s.trees → tree_at s.trees k ≡ f → IsCore f
+  is_core k f low tree = subst IsCore tree (cores k low)
+
+  child : (k place : ℕ) (g h : Form) → k < length s.trees → tree_at s.trees k ≡ g → place < length (children_of g) → slice_index_or (children_of g) place h ≡ h → IsThere same s once children_first (number_of s.trees h) h
+  child k place g h low tree within at = child-there same s once children_first k place g h low tree within at
+
+  is-shape : (k : ℕ) (g : Form) → k < length s.trees → tree_at s.trees k ≡ g → shape_at s k ≡ shape_of s.log s.trees g
+  is-shape k g low tree = shape-is same s once children_first k g low tree
+
+  state-named : (instant : ℤ) (host name : List ℕ) (h : Option ℕ) → option_map_or (λ (c : Change). c.sets) (last_of (is_by t instant) (option_map_or (λ h. changes_of s.log h name) h [])) false ≡ option_map_or (λ h. state s.log t instant h name) h false
+  state-named instant host name None = refl
+  state-named instant host name (Some h) = refl
+
+  exact-prop : (host name : List ℕ) → IsExact (Prop host name)
+  exact-prop host name k e low tree in_ = proposition-exact s v satisfied t agrees k e (changes_named s.log host name) low in_ (ap changes_in (is-shape k (Prop host name) low tree)) ∙ state-named (time_of t e) host name (host_named s.log host)
+
+  exact-not : (f : Form) → IsExact f → IsExact (Not f)
+  exact-not f exact k e low tree in_ =
+      let a = child k 0 (Not f) f low tree (omega arith) refl in
+      negation-exact s v satisfied k e (number_of s.trees f) low in_ (ap operand_in (is-shape k (Not f) low tree)) ∙ ap not (exact (number_of s.trees f) e a.low a.tree in_)
+
+  exact-and : (f g : Form) → IsExact f → IsExact g → IsExact (And f g)
+  exact-and f g exact_f exact_g k e low tree in_ =
+      let a = child k 0 (And f g) f low tree (omega arith) refl in
+      let b = child k 1 (And f g) g low tree (omega arith) refl in
+      conjunction-exact s v satisfied k e (number_of s.trees f) (number_of s.trees g) low in_ (ap sides_in (is-shape k (And f g) low tree))
+      ∙ rw (exact_f (number_of s.trees f) e a.low a.tree in_, exact_g (number_of s.trees g) e b.low b.tree in_) refl
+
+  exact-reach : (back : Bool) (I : Interval) (f g : Form) → IsExact f → IsExact g → (k e : ℕ) → k < length s.trees → e < length s.log.rows
+      → reach_in (shape_at s k) ≡ Some (record { back = back; interval = I; left = number_of s.trees f; right = number_of s.trees g })
+      → IsThere same s once children_first (number_of s.trees f) f → IsThere same s once children_first (number_of s.trees g) g
+      → v (Node k e) ≡ reaches (met back (rows_in t)) (is_near back (rows_in t) I) (told f) (told g) e
+  exact-reach back I f g exact_f exact_g k e low in_ node a b =
+      let O = met back (rows_in t) in
+      let near = is_near back (rows_in t) I in
+      let l = number_of s.trees f in
+      let r = number_of s.trees g in
+      let left : ℕ → Bool = λ x. v (Node l x) in
+      let right : ℕ → Bool = λ x. v (Node r x) in
+      let point = at_row s.log t s.trees back e (omega (arith, in_, count)) in
+      reach-exact O near left right (λ x. v (Node k x)) (λ i j. v (Wit k i j)) (λ i j. v (Span k i j)) (λ i m. v (Gap k i m)) (reach-allowed s v satisfied t agrees k low back I l r node count) (near-ahead s.log t s.trees back I) e point
+      ∙ reaches_same O O (λ x. x) (to_themselves O) near near (λ x y c d. refl) left (told f) (λ x c. exact_f l x a.low a.tree (in-log back x c)) right (told g) (λ x c. exact_g r x b.low b.tree (in-log back x c)) e point
+    where
+      in-log : (back : Bool) (x : ℕ) → Among (met back (rows_in t)).points x → x < length s.log.rows
+      in-log back x among = let less = row_at s.log t s.trees back x among in omega (arith, less, count)
+
+  pub node-exact : (f : Form) → IsExact f
+  node-exact True k e low tree in_ = constant-exact s v satisfied k e low in_ (ap is_constant (is-shape k True low tree))
+  node-exact False k e low tree in_ = absurd (cc (is_core k False low tree))
+  node-exact (Prop host name) k e low tree in_ = exact-prop host name k e low tree in_
+  node-exact (Not f) k e low tree in_ = exact-not f (node-exact f) k e low tree in_
+  node-exact (And f g) k e low tree in_ = exact-and f g (node-exact f) (node-exact g) k e low tree in_
+  node-exact (Or f g) k e low tree in_ = absurd (cc (is_core k (Or f g) low tree))
+  node-exact (Implies f g) k e low tree in_ = absurd (cc (is_core k (Implies f g) low tree))
+  node-exact (Until I f g) k e low tree in_ =
+      exact-reach false I f g (node-exact f) (node-exact g) k e low in_ (ap reach_in (is-shape k (Until I f g) low tree)) (child k 0 (Until I f g) f low tree (omega arith) refl) (child k 1 (Until I f g) g low tree (omega arith) refl)
+  node-exact (Since I f g) k e low tree in_ =
+      exact-reach true I f g (node-exact f) (node-exact g) k e low in_ (ap reach_in (is-shape k (Since I f g) low tree)) (child k 0 (Since I f g) f low tree (omega arith) refl) (child k 1 (Since I f g) g low tree (omega arith) refl)
+  node-exact (Eventually I f) k e low tree in_ = absurd (cc (is_core k (Eventually I f) low tree))
+  node-exact (Always I f) k e low tree in_ = absurd (cc (is_core k (Always I f) low tree))
+  node-exact (Once I f) k e low tree in_ = absurd (cc (is_core k (Once I f) low tree))
+  node-exact (Historically I f) k e low tree in_ = absurd (cc (is_core k (Historically I f) low tree))

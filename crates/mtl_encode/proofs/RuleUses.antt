@@ -1,0 +1,110 @@
+-- What each row of the rules says of truth values that satisfy the rules.
+use Rattle.std.proofs.Common.{◌≡◌, ◌∙◌, sym, ap, refl, subst, ℕ, ◌<◌, Bool, true, false, not, List, [], ◌∷◌, length, Option, Some, ℤ, pos, ◌-ℤ◌, neg_ℤ, lt-ltb}
+use Rattle.std.specs.Prelude.{int_le}
+use Rattle.std.specs.List.{list_any, range_with_len}
+use Rattle.std.proofs.lemmas.Bool.{and_from}
+use Rattle.mt_model.specs.declared.tree.Interval.{Interval}
+use Rattle.mt_model.specs.Form.{Form}
+use Rattle.mt_model.specs.Log.{Logged}
+use Rattle.mt_model.specs.Timing.{time_of}
+use Rattle.mt_model.specs.Truth.{rows_in}
+use Rattle.mt_model.proofs.Members.{any_some}
+use Rattle.mt_model.proofs.PositionLemmas.{below}
+use Rattle.axiom_rules.specs.declared.literal.Atom.{Atom}
+use Rattle.axiom_rules.specs.declared.literal.Atom.TheVariants.{Order}
+use Rattle.axiom_rules.specs.declared.part.Part.{Part}
+use Rattle.axiom_rules.specs.Clauses.{of_event, of_events, of_node_event, of_node_event_change, of_node_events, of_node_three_events, of_nothing, row_of}
+use Rattle.axiom_rules.specs.Holds.{means, met}
+use Rattle.axiom_rules.specs.Parts.{Written, after, not_after, order}
+use Rattle.axiom_rules.specs.Rules.{for_each_event, is_from, is_not_from, is_not_up_to, is_up_to, met_after, met_order, not_met_after, not_met_order, of_kind}
+use Rattle.axiom_rules.specs.Sought.{Sought}
+use Rattle.axiom_rules.proofs.MeaningLemmas.{distance, from, is_from-says, is_not_from-says, is_not_up_to-says, is_up_to-says, met_after-says, not_met_after-says}
+use Rattle.axiom_rules.proofs.PartLemmas.{any-map, not_after_is, not_order-says, order-says, part_holds}
+use Rattle.mtl_encode.specs.Exact.{SatisfiesRules}
+use Rattle.mtl_encode.proofs.PartUses.{WrittenIsTrue, written-true}
+
+module _ (s : Sought) (v : Atom → Bool) (satisfied : SatisfiesRules s v) where
+  -- a node, an event
+  abbrev pub IsNodeOf : ℕ → Type 0
+  IsNodeOf k = k < length s.trees
+
+  abbrev pub IsEventOf : ℕ → Type 0
+  IsEventOf e = e < length s.log.rows
+
+  pub of_nothing-true : (number : ℕ) (write : Sought → Written) → row_of number ≡ Some (of_nothing write) → WrittenIsTrue v (write s)
+  of_nothing-true number write is = written-true v s satisfied number (0 ∷ 0 ∷ 0 ∷ 0 ∷ []) (of_nothing write) is refl
+
+  pub of_event-true : (number : ℕ) (write : Sought → ℕ → Written) → row_of number ≡ Some (of_event write) → (e : ℕ) → IsEventOf e → WrittenIsTrue v (write s e)
+  of_event-true number write is e a = written-true v s satisfied number (e ∷ 0 ∷ 0 ∷ 0 ∷ []) (of_event write) is (and_from _ _ (lt-ltb e (length s.log.rows) a) refl)
+
+  pub of_events-true : (number : ℕ) (write : Sought → ℕ → ℕ → Written) → row_of number ≡ Some (of_events write) → (e x : ℕ) → IsEventOf e → IsEventOf x → WrittenIsTrue v (write s e x)
+  of_events-true number write is e x a b =
+      written-true v s satisfied number (e ∷ x ∷ 0 ∷ 0 ∷ []) (of_events write) is (and_from _ _ (lt-ltb e (length s.log.rows) a) (and_from _ _ (lt-ltb x (length s.log.rows) b) refl))
+
+  pub of_node_event-true : (number : ℕ) (write : Sought → ℕ → ℕ → Written) → row_of number ≡ Some (of_node_event write) → (k e : ℕ) → IsNodeOf k → IsEventOf e → WrittenIsTrue v (write s k e)
+  of_node_event-true number write is k e low a =
+      written-true v s satisfied number (k ∷ e ∷ 0 ∷ 0 ∷ []) (of_node_event write) is (and_from _ _ (lt-ltb k (length s.trees) low) (and_from _ _ (lt-ltb e (length s.log.rows) a) refl))
+
+  pub of_node_event_change-true : (number : ℕ) (write : Sought → ℕ → ℕ → ℕ → Written) → row_of number ≡ Some (of_node_event_change write) → (k e place : ℕ) → IsNodeOf k → IsEventOf e → WrittenIsTrue v (write s k e place)
+  of_node_event_change-true number write is k e place low a =
+      written-true v s satisfied number (k ∷ e ∷ place ∷ 0 ∷ []) (of_node_event_change write) is (and_from _ _ (lt-ltb k (length s.trees) low) (and_from _ _ (lt-ltb e (length s.log.rows) a) refl))
+
+  pub of_node_events-true : (number : ℕ) (write : Sought → ℕ → ℕ → ℕ → Written) → row_of number ≡ Some (of_node_events write) → (k i j : ℕ) → IsNodeOf k → IsEventOf i → IsEventOf j → WrittenIsTrue v (write s k i j)
+  of_node_events-true number write is k i j low a b =
+      written-true v s satisfied number (k ∷ i ∷ j ∷ 0 ∷ []) (of_node_events write) is (and_from _ _ (lt-ltb k (length s.trees) low) (and_from _ _ (lt-ltb i (length s.log.rows) a) (and_from _ _ (lt-ltb j (length s.log.rows) b) refl)))
+
+  pub of_node_three_events-true : (number : ℕ) (write : Sought → ℕ → ℕ → ℕ → ℕ → Written) → row_of number ≡ Some (of_node_three_events write) → (k i j m : ℕ) → IsNodeOf k → IsEventOf i → IsEventOf j → IsEventOf m → WrittenIsTrue v (write s k i j m)
+  of_node_three_events-true number write is k i j m low a b c =
+      written-true v s satisfied number (k ∷ i ∷ j ∷ m ∷ []) (of_node_three_events write) is
+      (and_from _ _ (lt-ltb k (length s.trees) low) (and_from _ _ (lt-ltb i (length s.log.rows) a) (and_from _ _ (lt-ltb j (length s.log.rows) b) (and_from _ _ (lt-ltb m (length s.log.rows) c) refl))))
+
+  -- what is written of a node that is of the kind
+  pub kind-true : {X : Type 0} (o : Option X) (x : X) (write : X → Written) → o ≡ Some x → WrittenIsTrue v (of_kind o write) → WrittenIsTrue v (write x)
+  kind-true o x write is h = subst (λ o. WrittenIsTrue v (of_kind o write)) is h
+
+  -- of the parts for each event one is true
+  pub event-true : (part : ℕ → Part) → list_any (part_holds v) (for_each_event s part) ≡ true → (e : ℕ) × (e < length s.log.rows) × (part_holds v (part e) ≡ true)
+  event-true part h =
+      let events = range_with_len 0 (length s.log.rows) in
+      let (e, in_, is) = any_some (λ x. part_holds v (part x)) events (sym (any-map (part_holds v) part events) ∙ h) in
+      (e, below (length s.log.rows) e in_, is)
+
+-- truth values that a timing gives the order atoms
+module _ (v : Atom → Bool) (log : Logged) (t : List ℤ) (trees : List Form) (agrees : (e f : ℕ) (c : ℤ) → v (Order e f c) ≡ int_le (time_of t e -ℤ time_of t f) c) where
+  abbrev M : Atom → Bool
+  M = means log t trees
+
+  pub not_after-true : (e f : ℕ) → part_holds v (not_after e f) ≡ int_le (time_of t e) (time_of t f)
+  not_after-true e f = order-says v (time_of t) agrees e f (pos 0) ∙ not_after_is (time_of t e) (time_of t f)
+
+  pub after-true : (e f : ℕ) → part_holds v (after e f) ≡ not (int_le (time_of t e) (time_of t f))
+  after-true e f = not_order-says v (time_of t) agrees e f (pos 0) ∙ ap not (not_after_is (time_of t e) (time_of t f))
+
+  same-order : (e f : ℕ) (c : ℤ) → part_holds v (order e f c) ≡ part_holds M (order e f c)
+  same-order e f c = order-says v (time_of t) agrees e f c ∙ sym (order-says M (time_of t) (λ e f c. refl) e f c)
+
+  same-met : (back : Bool) (e f : ℕ) (c : ℤ) → part_holds v (met_order back e f c) ≡ part_holds M (met_order back e f c)
+  same-met false e f c = same-order e f c
+  same-met true e f c = same-order f e c
+
+  same-not_met : (back : Bool) (e f : ℕ) (c : ℤ) → part_holds v (not_met_order back e f c) ≡ part_holds M (not_met_order back e f c)
+  same-not_met false e f c = same-order f e (neg_ℤ c -ℤ pos 1)
+  same-not_met true e f c = same-order e f (neg_ℤ c -ℤ pos 1)
+
+  pub met_not_after-true : (back : Bool) (e f : ℕ) → part_holds v (not_met_after back e f) ≡ (met back (rows_in t)).not_after e f
+  met_not_after-true back e f = same-met back e f (pos 0) ∙ not_met_after-says log t trees back e f
+
+  pub met_after-true : (back : Bool) (e f : ℕ) → part_holds v (met_after back e f) ≡ not ((met back (rows_in t)).not_after e f)
+  met_after-true back e f = same-not_met back e f (pos 0) ∙ met_after-says log t trees back e f
+
+  pub from-true : (back : Bool) (I : Interval) (i j : ℕ) → part_holds v (is_from back I i j) ≡ from log t trees back I i j
+  from-true back I i j = same-met back i j (neg_ℤ (pos I.low)) ∙ is_from-says log t trees back I i j
+
+  pub not_from-true : (back : Bool) (I : Interval) (i j : ℕ) → part_holds v (is_not_from back I i j) ≡ not (from log t trees back I i j)
+  not_from-true back I i j = same-not_met back i j (neg_ℤ (pos I.low)) ∙ is_not_from-says log t trees back I i j
+
+  pub up_to-true : (back : Bool) (b i j : ℕ) → part_holds v (is_up_to back b i j) ≡ int_le (distance log t trees back j i) (pos b)
+  up_to-true back b i j = same-met back j i (pos b) ∙ is_up_to-says log t trees back b i j
+
+  pub not_up_to-true : (back : Bool) (b i j : ℕ) → part_holds v (is_not_up_to back b i j) ≡ not (int_le (distance log t trees back j i) (pos b))
+  not_up_to-true back b i j = same-not_met back j i (pos b) ∙ is_not_up_to-says log t trees back b i j

@@ -1,0 +1,63 @@
+ghost use Rattle.std.specs.Prelude.{◌≡◌, ◌≤◌, ◌+◌, Bool, List, length, IfOk, ℤ};
+ghost use Rattle.mt_model.specs.Form.{Form};
+ghost use Rattle.mt_model.specs.Timing.{Admissible};
+ghost use Rattle.mt_model.specs.Truth.{truth};
+ghost use Rattle.formula_arena.specs.Nodes.{nodes_of};
+ghost use Rattle.axiom_rules.specs.Sought.{sought_of};
+ghost use Rattle.mtl_encode.specs.Listing.{ListsRules};
+ghost use Rattle.mtl_encode.specs.Models.{IsModel, times_of};
+ghost use Rattle.mtl_encode.specs.Problems.{Fits};
+ghost use Rattle.mtl_encode.specs.Size.{size};
+
+use crate::clauses::Clauses;
+use crate::edges::edges_of;
+use crate::{MAX_SIZE, Problem, rules_are_exact};
+use axiom_rules::Rules;
+use formula_arena::Arena;
+use mt_model::{Log, NodeId, bounds_are_admissible};
+use skew_bounds::bounds;
+use std::alloc::{AllocError, Global};
+
+/// The problem for a log, the nodes of a formula and the value that is sought of the root: the clauses of all
+/// rules that have one, and the bounds of the log with their edges. The nodes are those of one formula, the
+/// root being the last. An error is want of memory.
+pub fn encode(
+    alloc: Global,
+    log: &Log,
+    arena: &Arena,
+    root: NodeId,
+    value: bool,
+) -> Result<Problem, AllocError>
+    requires size { size log.now arena.now ≤ MAX_SIZE }
+
+    // Where the nodes are those of a formula, the root being the last.
+    ensures fits { IfOk result (λ p. (f : Form) → arena.now ≡ nodes_of f → root + 1 ≡ length arena.now → Fits (sought_of log.now f value) p) }
+    ensures complete { IfOk result (λ p. (f : Form) → arena.now ≡ nodes_of f → root + 1 ≡ length arena.now → ListsRules (sought_of log.now f value) p.rules) }
+
+    // What satisfies the problem gives an admissible timing in which the formula has the value.
+    ensures exact { IfOk result (λ p. (f : Form) → arena.now ≡ nodes_of f → root + 1 ≡ length arena.now → (values : List Bool) (numbers : List ℤ) → IsModel p values numbers
+        → Admissible log.now (times_of numbers) × (truth log.now (times_of numbers) 0 f ≡ value)) }
+{
+    rules_are_exact();
+    bounds_are_admissible();
+    // What a log and an arena are, their lengths are known with.
+    let events = log.rows().len() as u32;
+    let nodes = arena.len();
+    let sought = Rules::new(alloc, log, arena, root, value)?;
+    let mut clauses = Clauses::new(alloc);
+    clauses.add_all(alloc, &sought, nodes)?;
+    let ordered = clauses.in_order(alloc, &sought)?;
+    let bounds = bounds(alloc, log)?;
+    let edges = edges_of(alloc, log, bounds.as_slice())?;
+    let Clauses { db, rules, atoms } = ordered;
+    // That each atom has one variable, their number is known with.
+    let _ = atoms.len();
+    Ok(Problem {
+        db,
+        rules,
+        atoms,
+        bounds,
+        edges,
+        nodes: events + 1,
+    })
+}

@@ -1,0 +1,22 @@
+use axiom_rules::{AtomTable, RuleList};
+use clause_db::Db;
+use mt_model::BoundList;
+use neg_cycle::EdgeList;
+
+/// What is to be solved: truth values of atoms that make a literal of each clause true, with numbers of nodes
+/// that meet each edge, and each order atom in the sense of its value.
+#[derive(Debug, Drop)]
+pub struct Problem {
+    /// The clauses, over the variables of the atoms.
+    pub db: Db,
+    /// The rule of each clause.
+    pub rules: RuleList,
+    /// The atoms by their variables.
+    pub atoms: AtomTable,
+    /// The bounds of the log.
+    pub bounds: BoundList,
+    /// Their edges, in the log's unit of time.
+    pub edges: EdgeList,
+    /// The number of nodes of the edges: node 0 is the zero moment, and node e + 1 is event e.
+    pub nodes: u32,
+}
