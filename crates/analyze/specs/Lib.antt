@@ -1,0 +1,4 @@
+pub mod Asserting
+pub mod Places
+pub mod Marks
+pub mod Resolving

@@ -1,0 +1,4 @@
+pub mod GapLemmas
+pub mod TreeLemmas
+pub mod RepairLemmas
+pub mod GraphLemmas

@@ -1,0 +1,13 @@
+//! Difference constraints held one after another: each new one is kept, or refused by a closed walk
+//! of negative sum, and the last ones can be taken back.
+#![tactic(auto)]
+
+mod gaps;
+mod graph;
+mod numbers;
+mod push;
+mod repair;
+mod room;
+
+pub use graph::{Graph, graphs_are_solved};
+pub use push::Push;

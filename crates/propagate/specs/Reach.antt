@@ -1,0 +1,84 @@
+-- What propagation does to a trail and a graph.
+use Rattle.std.specs.Prelude.{◌≡◌, ℕ, ◌+◌, ◌<◌, ◌≤◌, List, length, take, Option, IsSome}
+use Rattle.neg_cycle.specs.declared.system.Edge.{Edge}
+use Rattle.difference_graph.specs.Graphs.{Constraints, HasSameLimits}
+use Rattle.clause_db.specs.declared.lit.Lit.{Lit}
+use Rattle.clause_db.specs.Clauses.{clause_at}
+use Rattle.propagate.specs.declared.moves.Reached.{Reached}
+use Rattle.propagate.specs.declared.moves.Reached.TheVariants as reached
+use Rattle.propagate.specs.Trails.{Assigned, entry_at}
+use Rattle.propagate.specs.Clauses.{AreSettled, HasReasons, IsFalsified}
+use Rattle.propagate.specs.Steps.{InStep, IsLinked, IsRefused, HasRoomFor, LacksLast}
+
+-- literals of the present level were added, each with a reason
+pub record IsGrown (old new : Assigned) : Type 0 where
+  pub vars : new.vars ≡ old.vars
+  pub levels : new.levels ≡ old.levels
+  pub longer : length old.entries ≤ length new.entries
+  pub kept : take (length old.entries) new.entries ≡ old.entries
+  pub added : (k : ℕ) → length old.entries ≤ k → k < length new.entries → ((entry_at new.entries k).level ≡ length old.levels) × IsSome (entry_at new.entries k).reason
+
+-- the graph has its old limits and its old edges, and perhaps more
+pub record IsExtended (old new : Constraints) : Type 0 where
+  pub limits : HasSameLimits old new
+  pub longer : length old.edges ≤ length new.edges
+  pub kept : take (length old.edges) new.edges ≡ old.edges
+
+-- the literal is the last of the trail
+pub record IsLast (t : Assigned) (l : Lit) : Type 0 where
+  pub place : ℕ
+  pub is_last : length t.entries ≡ place + 1
+  pub is : (entry_at t.entries place).lit ≡ l
+
+-- the fact holds, where propagation ended quietly
+abbrev pub IfQuiet : Reached → Type 0 → Type 0
+IfQuiet reached.Quiet P = P
+IfQuiet (reached.ClauseConflict c) P = Unit {0}
+IfQuiet (reached.TheoryConflict l) P = Unit {0}
+
+-- the fact holds of the clause, where it ended with a clause
+abbrev pub IfClause : Reached → (ℕ → Type 0) → Type 0
+IfClause reached.Quiet P = Unit {0}
+IfClause (reached.ClauseConflict c) P = P c
+IfClause (reached.TheoryConflict l) P = Unit {0}
+
+-- the fact holds of the literal, where it ended with a refused edge
+abbrev pub IfTheory : Reached → (Lit → Type 0) → Type 0
+IfTheory reached.Quiet P = Unit {0}
+IfTheory (reached.ClauseConflict c) P = Unit {0}
+IfTheory (reached.TheoryConflict l) P = P l
+
+-- the fact holds, unless propagation ended with a refused edge
+abbrev pub UnlessTheory : Reached → Type 0 → Type 0
+UnlessTheory reached.Quiet P = P
+UnlessTheory (reached.ClauseConflict c) P = P
+UnlessTheory (reached.TheoryConflict l) P = Unit {0}
+
+-- what propagation keeps as it goes on
+pub record IsProgress (db : List (List Lit)) (links : List (Option (Edge × Edge))) (old : Assigned) (before : Constraints) (new : Assigned) (after : Constraints) : Type 0 where
+  pub reasons : HasReasons new db
+  pub linked : IsLinked new links after
+  pub room : HasRoomFor new links after
+  pub grown : IsGrown old new
+  pub extended : IsExtended before after
+  pub in_step : (base : List Edge) → InStep old db links base before → InStep new db links base after
+
+-- what is so where an edge was refused
+pub record IsStopped (db : List (List Lit)) (links : List (Option (Edge × Edge))) (old : Assigned) (before : Constraints) (l : Lit) (new : Assigned) (after : Constraints) : Type 0 where
+  pub reasons : HasReasons new db
+  pub grown : IsGrown old new
+  pub extended : IsExtended before after
+  pub last : IsLast new l
+  pub refused : IsRefused links l after
+  pub lacks_last : (base : List Edge) → InStep old db links base before → LacksLast new db links base after
+
+-- a clause that is false
+pub record IsConflict (t : Assigned) (db : List (List Lit)) (c : ℕ) : Type 0 where
+  pub held : c < length db
+  pub falsified : IsFalsified t.entries (clause_at db c)
+
+-- where a pass over the clauses ended; where it found nothing and added nothing, no clause is false or unit
+abbrev pub IsPassed : List (List Lit) → List (Option (Edge × Edge)) → Assigned → Constraints → Reached → Assigned → Constraints → Type 0
+IsPassed db links old before reached.Quiet new after = IsProgress db links old before new after × (length new.entries ≡ length old.entries → AreSettled new.entries db)
+IsPassed db links old before (reached.ClauseConflict c) new after = IsProgress db links old before new after × IsConflict new db c
+IsPassed db links old before (reached.TheoryConflict l) new after = IsStopped db links old before l new after

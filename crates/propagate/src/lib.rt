@@ -1,0 +1,21 @@
+//! The trail of assigned literals, and unit propagation that keeps a difference graph in step with it.
+#![tactic(auto)]
+
+mod entry;
+mod laws;
+mod links;
+mod moves;
+mod room;
+mod scan;
+mod trail;
+
+pub use laws::{
+    added_clause_keeps_step, new_trail_is_in_step, room_for_all_is_room, set_links_are_linked,
+    step_holds_marks,
+};
+pub use links::Links;
+pub use moves::Reached;
+pub use trail::Trail;
+
+#[cfg(test)]
+mod tests;
