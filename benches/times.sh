@@ -111,3 +111,21 @@ for rows in 256 1023; do
     printf '%-28s %12s  %s\n' "$((rows + 1)) nodes, $kind" "$taken" "$(cat "$folder/answer")"
   done
 done
+
+# A derivation of 100,000 Learn lines with ten hints each: each row does what the one above does, and more.
+built check_bench 6000 check
+runs=3
+printf '\n%-28s %12s  %s\n' "100,000 learnt clauses" "milliseconds" "answer"
+for task in write read check; do
+  taken=$(least /dev/null ./crates/check_bench/out/check_bench 100000 "$task")
+  printf '%-28s %12s  %s\n' "$task" "$taken" "$(cat "$folder/answer")"
+done
+
+# Problems: logs of more and more rows with one until, and the most untils that logs of 8 and of 16 rows may have.
+built encode_bench 8 1
+printf '\n%-28s %12s  %s\n' "encode" "milliseconds" "answer"
+for case in "8 1" "16 1" "32 1" "48 1" "64 1" "16 32" "8 255"; do
+  read -r rows count <<<"$case"
+  taken=$(least /dev/null ./crates/encode_bench/out/encode_bench "$rows" "$count")
+  printf '%-28s %12s  %s\n' "$rows rows, $count joined" "$taken" "$(cat "$folder/answer")"
+done

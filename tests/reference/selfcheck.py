@@ -4,6 +4,7 @@ Run as: python3 selfcheck.py [--seed S]
 """
 
 import argparse
+import collections
 import csv
 import functools
 import io
@@ -14,9 +15,14 @@ import sys
 sys.dont_write_bytecode = True  # leaves no compiled files beside the sources
 
 import cases
+import derivation_cases
+import derivations
+import edits
 import formats
 import generate
+import invent
 import judge
+import meanings
 import reference
 
 
@@ -403,12 +409,108 @@ def check_order(draw):
     print(f"{cyclic} logs with a cycle")
 
 
+def problem_of(case):
+    """The problem of a fixed derivation or rule."""
+    formula = formats.read_formula(case.formula)
+    return derivations.problem_of(formats.read_log(case.log), formula, case.value)
+
+
+def clause_text(clause):
+    """The literals of a clause as a line spells them, or the name of a fault."""
+    if isinstance(clause, derivations.RuleFault):
+        return clause.name
+    words = [word for literal in clause for word in invent.literal_words(literal)]
+    return b" ".join(words).decode()
+
+
+def check_fixed_derivations():
+    """The second checker gives the answers and clauses that are written out by hand."""
+    count = 0
+    for case in derivation_cases.fixed_cases():
+        found = derivations.answer(problem_of(case), case.lines)
+        check(found == case.answer, case, found)
+        count += 1
+    for case in derivation_cases.fixed_rules():
+        number, *arguments = map(int, case.rule.split())
+        rule = derivations.Rule(number, tuple(arguments))
+        found = clause_text(derivations.clause_of(problem_of(case), rule))
+        check(found == case.clause, case, found)
+        count += 1
+    print(f"{count} derivations and rules by hand")
+
+
+def worlds_of(problem, most=400):
+    """The admissible timings as worlds, or None where there are too many to go through."""
+    timings = list(itertools.islice(meanings.admissible_timings(problem.log), most + 1))
+    if len(timings) > most:
+        return None
+    return [meanings.World(problem, times) for times in timings]
+
+
+def check_worlds(problem, tree, worlds):
+    """The worlds are admissible timings with the truth values of the reference."""
+    for world in worlds:
+        check(reference.admissible(problem.log, world.times), problem.log, world.times)
+        wanted = reference.truth(problem.log, world.times, tree) == problem.value
+        check(world.gives_value() == wanted, problem, world.times)
+
+
+def check_rules(problem, worlds):
+    """The clause of each rule holds in each of the worlds."""
+    for clause in invent.instances(problem):
+        for world in worlds:
+            check(world.clause_holds(clause.literals), problem, world.times, clause)
+
+
+def right_clauses(problem, text):
+    """The clauses of the lines before the first that isn't right."""
+    lines = derivations.read_lines(text)
+    clauses = []
+    for line in lines if isinstance(lines, list) else []:
+        if not derivations.is_right(problem, line, clauses):
+            break
+        clauses.append(derivations.clause_of_line(line))
+    return clauses
+
+
+def check_derivations(draw):
+    """What the second checker accepts is true, and what the search finds is accepted."""
+    answers = collections.Counter()
+    while sum(answers.values()) < 5000:
+        _, formula_text, problem = invent.some_problem(draw)
+        worlds = worlds_of(problem)
+        if worlds is None:
+            continue
+        check_worlds(problem, formats.read_formula(formula_text), worlds)
+        worlds = [world for world in worlds if world.gives_value()]
+        check_rules(problem, draw.sample(worlds, min(len(worlds), 6)))
+        search = invent.Search(draw, problem, patience=100)
+        lines = invent.right_lines(search)
+        text = invent.text_of(lines)
+        found = derivations.answer(problem, text)
+        gave_up = found == "derives" and search.patience <= 0
+        check(found == ("derives" if worlds else "refutes") or gave_up, problem, text, found)
+        check(invent.text_of(derivations.read_lines(text)) == text, text)
+        clauses = set()
+        for text in [text, *(edits.broken_text(draw, problem, lines) for _ in range(20))]:
+            found = derivations.answer(problem, text)
+            answers[found.split()[0]] += 1
+            check(found != "refutes" or not worlds, problem, text)
+            clauses.update(map(tuple, right_clauses(problem, text)))
+        for clause in clauses:
+            for world in worlds:
+                check(world.clause_holds(clause), problem, world.times, clause)
+    print("derivations: " + ", ".join(f"{answers[word]} {word}" for word in sorted(answers)))
+
+
 def main():
     """Runs all checks."""
     parser = argparse.ArgumentParser(description="check the reference against other ways")
     parser.add_argument("--seed", type=int, default=1)
     draw = random.Random(parser.parse_args().seed)
     check_fixed_cases()
+    check_fixed_derivations()
+    check_derivations(draw)
     check_trees(draw, check_places())
     check_truth(draw)
     check_records(draw)

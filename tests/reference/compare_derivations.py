@@ -1,0 +1,148 @@
+"""Compares the built program check_table with the second checker of derivations.
+
+Run as: python3 compare_derivations.py PROGRAM [--cases N] [--seed S]
+
+The program answers tables of derivations. They hold the derivations whose
+answers are written out by hand, and N that are made by chance, of which most
+are broken by an edit. The first difference is printed as a table of its own,
+ready to copy, and the end is 1.
+"""
+
+import argparse
+import os
+import random
+import subprocess
+import sys
+from typing import NamedTuple
+
+sys.dont_write_bytecode = True  # leaves no compiled files beside the sources
+
+import derivation_cases
+import derivations
+import edits
+import invent
+
+PATIENCE = 120  # seconds that one run of the program may take
+TABLE_MOST = 250_000  # bytes of one table, well below what the program takes
+EDITS = 20  # broken derivations for each right one
+
+
+class Question(NamedTuple):
+    title: str
+    head: bytes  # the formula, the log and the value as the table has them
+    lines: bytes  # the text of a derivation
+    answer: str
+
+    def table(self):
+        """The lines of a table after those of the head."""
+        *ended, rest = self.lines.split(b"\n")
+        last = b"/%s\n" % rest if rest else b""
+        return b"".join(b">%s\n" % line for line in ended) + last + b"?%s\n" % self.title.encode()
+
+
+def head_of(log, formula, value):
+    """The lines of a table that begin a case."""
+    lines = [b"=" + formula, *[b"|" + line for line in log.splitlines()]]
+    return b"".join(line + b"\n" for line in lines) + (b"+\n" if value else b"")
+
+
+def fixed_questions():
+    """The derivations with answers that are written out by hand."""
+    for place, case in enumerate(derivation_cases.fixed_cases()):
+        head = head_of(case.log, case.formula, case.value)
+        yield Question(f"fixed case {place}", head, case.lines, case.answer)
+
+
+def random_questions(seed, count):
+    """Derivations by chance, some right and most of them broken."""
+    asked, place = 0, 0
+    while asked < count:
+        draw = random.Random(f"{seed} {place}")
+        log, formula, problem = invent.some_problem(draw)
+        right = invent.right_lines(invent.Search(draw, problem))
+        texts = [invent.text_of(right)]
+        while len(texts) < min(EDITS + 1, count - asked):
+            texts.append(edits.broken_text(draw, problem, right))
+        head = head_of(log, formula, problem.value)
+        for number, text in enumerate(texts):
+            title = f"derivation {number} of problem {place} of seed {seed}"
+            yield Question(title, head, text, derivations.answer(problem, text))
+        asked += len(texts)
+        place += 1
+
+
+def tables(questions):
+    """The questions in tables: each the bytes, and the questions that it asks."""
+    table, asked, head, size = [], [], None, 0
+    for question in questions:
+        lines = question.table()
+        if asked and size + len(question.head) + len(lines) > TABLE_MOST:
+            yield b"".join(table), asked
+            table, asked, head, size = [], [], None, 0
+        if question.head != head:
+            table.append(question.head)
+            size += len(question.head)
+            head = question.head
+        table.append(lines)
+        size += len(lines)
+        asked.append(question)
+    if asked:
+        yield b"".join(table), asked
+
+
+def answers_of(program, table):
+    """The answers of the program to a table, of which there may be too few."""
+    done = subprocess.run([program], input=table, capture_output=True, timeout=PATIENCE)
+    if done.returncode or done.stderr:
+        print(f"the program ended with {done.returncode} and wrote {done.stderr!r}")
+    *lines, _ = done.stdout.decode(errors="replace").split("\n")
+    return [line for line in lines if line[:1] not in ("=", "?")]
+
+
+def compare_all(program, questions):
+    """How many questions the program answers alike, or None; the first difference is printed."""
+    count = 0
+    for table, asked in tables(questions):
+        found = answers_of(program, table)
+        for question, answer in zip(asked, found + ["nothing"] * len(asked)):
+            if answer != question.answer:
+                print_difference(question, answer)
+                return None
+        if len(found) != len(asked):
+            print(f"{len(found)} answers to {len(asked)} questions")
+            return None
+        count += len(asked)
+    return count
+
+
+def print_difference(question, answer):
+    """Prints a question as a table of its own, with both answers."""
+    print(f"difference: {question.title}: {question.answer} is expected, and {answer} came")
+    print("table = (")
+    for line in (question.head + question.table()).splitlines(keepends=True):
+        print(f"    {line!r}")
+    print(")", flush=True)
+
+
+def read_arguments():
+    """The program and the options of the command line."""
+    parser = argparse.ArgumentParser(description="compare check_table with the second checker")
+    parser.add_argument("program")
+    parser.add_argument("--cases", type=int, default=4000, help="number of random derivations")
+    parser.add_argument("--seed", type=int, default=1)
+    return parser.parse_args()
+
+
+def main():
+    """Compares, and ends with 0 where there is no difference and with 1 where there is one."""
+    arguments = read_arguments()
+    program = os.path.abspath(arguments.program)
+    questions = [*fixed_questions(), *random_questions(arguments.seed, arguments.cases)]
+    count = compare_all(program, questions)
+    if count is None:
+        sys.exit(1)
+    print(f"{count} derivations, no difference")
+
+
+if __name__ == "__main__":
+    main()

@@ -1,0 +1,593 @@
+"""A second checker of derivations: it reads their text and says what they show.
+
+Run as: python3 derivations.py FORMULA LOG VALUE DERIVATION
+
+FORMULA, LOG and DERIVATION are files, and VALUE is true or false. The answer
+is one line. `refutes`: each line is right and the last one has an empty
+clause, so the formula has the value in no admissible timing. `derives`: each
+line is right, but no clause is empty. `wrong N`: line N is the first that isn't
+right, or the line before it has an empty clause already. `syntax N`: line N is
+the first that isn't in the grammar of lines.
+
+The module reads from top to bottom: literals, the grammar of lines, the clause
+of each rule, the test of a line, the verdict. It goes over lines and hints one
+after another and searches for nothing.
+"""
+
+import sys
+from enum import Enum
+from typing import NamedTuple, Union
+
+sys.dont_write_bytecode = True  # leaves no compiled files beside the sources
+
+import formats
+import reference
+from formats import Log, number, signed_number
+
+NUMBER_GREATEST = 2**32 - 1
+BOUND_GREATEST = 10**21
+RULE_GREATEST = 255
+
+
+# Literals
+
+
+class Literal(NamedTuple):
+    """An atom and whether it is asserted or denied.
+
+    The atoms, and what they say of a timing t; tree k is that of node k.
+    ("order", e, f, c)  t_e - t_f <= c; e is below f
+    ("node", k, e)      tree k is true at the time of event e
+    ("first", e)        no event is earlier than e
+    ("span", k, i, j)   the left side of tree k is true on the whole way from i to j
+    ("wit", k, i, j)    event j makes tree k, an until or since, true at event i
+    ("gap", k, i, m)    event m ends the way from i on which the left side of tree k is true
+    """
+
+    atom: tuple
+    positive: bool
+
+
+# What a rule lists: a literal, or a constant that is known from the events alone.
+Part = Union[Literal, bool]
+
+
+def order(e, f, c) -> Part:
+    """That t_e - t_f <= c. Of one event alone this is the constant 0 <= c.
+
+    As times are whole numbers, t_e - t_f <= c is the denial of t_f - t_e <= -c - 1.
+    The atom is the one of the two that has its smaller event first.
+    """
+    if e == f:
+        return 0 <= c
+    if e < f:
+        return Literal(("order", e, f, c), True)
+    return Literal(("order", f, e, -c - 1), False)
+
+
+def negation(part: Part) -> Part:
+    """The same literal with the other sense, or the other constant."""
+    if isinstance(part, bool):
+        return not part
+    return Literal(part.atom, not part.positive)
+
+
+def le(e, x) -> Part:
+    """That event e isn't later than event x."""
+    return order(e, x, 0)
+
+
+def node(k, e):
+    """That tree k is true at event e."""
+    return Literal(("node", k, e), True)
+
+
+def first(e):
+    """That no event is earlier than e."""
+    return Literal(("first", e), True)
+
+
+def span(k, i, j):
+    """That the left side of tree k is true on the whole way from i to j."""
+    return Literal(("span", k, i, j), True)
+
+
+def wit(k, i, j):
+    """That event j is a witness of tree k at event i."""
+    return Literal(("wit", k, i, j), True)
+
+
+def gap(k, i, m):
+    """That the left side of tree k fails at m, and before m nowhere on the way from i."""
+    return Literal(("gap", k, i, m), True)
+
+
+# Lines
+
+
+class Step(NamedTuple):
+    """A step of a walk: a bound of the log by its kind and number, or an order step E F C."""
+
+    kind: bytes
+    numbers: tuple
+
+
+class Cycle(NamedTuple):
+    steps: list
+
+
+class LineHint(NamedTuple):
+    line: int  # lines count from 1
+
+
+class Rule(NamedTuple):
+    number: int
+    arguments: tuple
+
+
+class Learn(NamedTuple):
+    literals: list
+    hints: list  # of LineHint and Rule
+
+
+class SyntaxFault(NamedTuple):
+    line: int
+
+
+# The arguments of each rule: k is a node, e x i j m are events, s is a change row.
+RULE_ARGUMENTS = {
+    1: "ke", 2: "kes", 3: "ke", 4: "ke", 5: "ke", 6: "ke", 7: "ke", 8: "ke",
+    9: "ex", 10: "e", 11: "", 12: "kij", 13: "kij", 14: "kij", 15: "kij", 16: "kij",
+    17: "ki", 18: "kij", 19: "kijm", 20: "kij", 21: "kijm", 22: "kim", 23: "kim", 24: "e",
+}
+
+# The literals that are written with a sign, each with the count of its numbers.
+SIGNED_ATOMS = {b"node": 2, b"first": 1, b"wit": 3, b"span": 3, b"gap": 3}
+LOG_STEPS = (b"low", b"high", b"rise", b"message", b"extra")
+
+
+class NotInGrammar(Exception):
+    """A line that the grammar doesn't have."""
+
+
+class Words:
+    """The words of a line, which single blanks separate, from left to right."""
+
+    def __init__(self, line):
+        self.left = line.split(b" ")
+        self.left.reverse()
+
+    def take(self):
+        """The next word."""
+        if not self.left:
+            raise NotInGrammar
+        return self.left.pop()
+
+    def number(self, greatest=NUMBER_GREATEST):
+        """The next word, a number up to the greatest."""
+        value = number(self.take(), greatest)
+        if value is None:
+            raise NotInGrammar
+        return value
+
+    def numbers(self, count):
+        """The next words, that many numbers."""
+        return tuple(self.number() for _ in range(count))
+
+    def order(self):
+        """The events and the bound of an order constraint, whose first word is taken."""
+        e, f = self.numbers(2)
+        c = signed_number(self.take(), BOUND_GREATEST)
+        if e == f or c is None:
+            raise NotInGrammar
+        return e, f, c
+
+    def listed(self, read):
+        """A count and then that many items, each read by the function."""
+        return [read(self) for _ in range(self.number())]
+
+    def end(self):
+        """Nothing, as the line must end here."""
+        if self.left:
+            raise NotInGrammar
+
+
+def read_lines(data):
+    """The lines of a derivation, or the SyntaxFault of the first that isn't in the grammar."""
+    *ended, rest = data.split(b"\n")
+    lines = []
+    for place, text in enumerate(ended, start=1):
+        try:
+            lines.append(read_line(Words(text)))
+        except NotInGrammar:
+            return SyntaxFault(place)
+    return SyntaxFault(len(ended) + 1) if rest else lines
+
+
+def read_line(words):
+    """The line that the words spell."""
+    form = words.take()
+    if form == b"cycle":
+        line = Cycle(words.listed(read_step))
+    elif form == b"learn":
+        line = Learn(words.listed(read_literal), words.listed(read_hint))
+        atoms = [literal.atom for literal in line.literals]
+        if len(set(atoms)) < len(atoms):
+            raise NotInGrammar
+    else:
+        raise NotInGrammar
+    words.end()
+    return line
+
+
+def read_step(words):
+    """The next step."""
+    kind = words.take()
+    if kind == b"order":
+        return Step(kind, words.order())
+    if kind in LOG_STEPS:
+        return Step(kind, words.numbers(1))
+    raise NotInGrammar
+
+
+def read_literal(words):
+    """The next literal."""
+    word = words.take()
+    if word == b"order":
+        return order(*words.order())
+    sign, kind = word[:1], word[1:]
+    if sign not in (b"+", b"-") or kind not in SIGNED_ATOMS:
+        raise NotInGrammar
+    atom = (kind.decode(), *words.numbers(SIGNED_ATOMS[kind]))
+    return Literal(atom, sign == b"+")
+
+
+def read_hint(words):
+    """The next hint."""
+    kind = words.take()
+    if kind == b"line":
+        return LineHint(words.number())
+    if kind != b"rule":
+        raise NotInGrammar
+    rule = words.number(RULE_GREATEST)
+    return Rule(rule, words.numbers(len(RULE_ARGUMENTS.get(rule, ""))))
+
+
+# The clauses of rules
+
+
+class Problem(NamedTuple):
+    """A log, a formula and the value of it that is sought."""
+
+    log: Log
+    bounds: dict  # the bounds of the log by kind and number
+    nodes: list  # the nodes of the formula, of which the root is the last
+    value: bool
+
+
+def problem_of(log, formula, value):
+    """The problem whether some admissible timing gives the value."""
+    bounds = {(bound.kind, bound.event): bound for bound in reference.bounds(log)}
+    return Problem(log, bounds, formats.core_nodes(formula), value)
+
+
+class RuleFault(Enum):
+    """Why a rule with its arguments has no clause."""
+
+    NO_RULE = "no rule"
+    RANGE = "range"
+    KIND = "kind"
+    TRIVIAL = "trivial"
+
+
+# The kinds of node of which each rule asks one.
+RULE_KINDS = {
+    **dict.fromkeys((1, 2), ("prop",)),
+    3: ("true",),
+    **dict.fromkeys((4, 5), ("not",)),
+    **dict.fromkeys((6, 7, 8), ("and",)),
+    **dict.fromkeys(range(12, 24), ("until", "since")),
+}
+
+
+def clause_of(problem, rule):
+    """The literals of a rule's clause, or the RuleFault that is tested first."""
+    fault = argument_fault(problem, rule)
+    if fault:
+        return fault
+    literals = []
+    for part in rule_parts(problem, rule):
+        if part is False:
+            continue
+        if part is True or negation(part) in literals:
+            return RuleFault.TRIVIAL
+        if part not in literals:
+            literals.append(part)
+    return literals
+
+
+def argument_fault(problem, rule):
+    """The first fault of a rule's number and arguments, or None."""
+    if rule.number not in RULE_ARGUMENTS:
+        return RuleFault.NO_RULE
+    given = dict(zip(RULE_ARGUMENTS[rule.number], rule.arguments))
+    for letter, value in given.items():
+        there = problem.nodes if letter == "k" else problem.log.rows
+        if letter != "s" and value >= len(there):
+            return RuleFault.RANGE
+    if rule.number in RULE_KINDS and problem.nodes[given["k"]][0] not in RULE_KINDS[rule.number]:
+        return RuleFault.KIND
+    if rule.number == 2 and given["s"] >= len(change_rows(problem, given["k"])):
+        return RuleFault.RANGE
+    if rule.number == 13 and problem.nodes[given["k"]][1][1] is None:
+        return RuleFault.NO_RULE
+    return None
+
+
+def rule_parts(problem, rule):
+    """What the rule lists, in its order. Its arguments are without fault."""
+    if rule.number in (1, 2):
+        return proposition_parts(problem, rule.number, *rule.arguments)
+    if rule.number in range(3, 9):
+        return connective_parts(problem, rule.number, *rule.arguments)
+    if rule.number in (9, 10, 11, 24):
+        return first_parts(problem, rule.number, *rule.arguments)
+    k, *events = rule.arguments
+    timed = Timed(k, *problem.nodes[k])
+    if rule.number in range(12, 19):
+        return witness_parts(problem, rule.number, timed, *events)
+    if rule.number in (19, 20, 21):
+        return span_parts(problem, rule.number, timed, *events)
+    return gap_parts(rule.number, timed, *events)
+
+
+def change_rows(problem, k):
+    """The rows that set or clear the proposition of node k, in log order."""
+    _, host, name = problem.nodes[k]
+    return [
+        event
+        for event, row in enumerate(problem.log.rows)
+        if row.act in (b"set", b"clear")
+        and problem.log.hosts[row.host].name == host
+        and row.name == name
+    ]
+
+
+def proposition_parts(problem, rule, k, e, s=0):
+    """Rules 1 and 2: what a proposition is at e, by its change rows."""
+    rows = change_rows(problem, k)
+    if rule == 1:
+        return [negation(node(k, e)), *[le(row, e) for row in rows[:1]]]
+    next_rows = rows[s + 1 : s + 2]
+    state = node(k, e) if problem.log.rows[rows[s]].act == b"set" else negation(node(k, e))
+    return [negation(le(rows[s], e)), *[le(row, e) for row in next_rows], state]
+
+
+def connective_parts(problem, rule, k, e):
+    """Rules 3 to 8: what true, a negation and a conjunction are at e."""
+    whole = node(k, e)
+    parts = [node(child, e) for child in problem.nodes[k][1:]]
+    if rule == 3:
+        return [whole]
+    if rule == 4:
+        return [negation(whole), negation(parts[0])]
+    if rule == 5:
+        return [whole, parts[0]]
+    if rule == 6:
+        return [negation(whole), parts[0]]
+    if rule == 7:
+        return [negation(whole), parts[1]]
+    return [whole, negation(parts[0]), negation(parts[1])]
+
+
+def first_parts(problem, rule, e=0, x=0):
+    """Rules 9 to 11: which events are first. Rule 24: the value that is sought at these."""
+    events = range(len(problem.log.rows))
+    if rule == 9:
+        return [negation(first(e)), le(e, x)]
+    if rule == 10:
+        return [first(e), *[negation(le(e, other)) for other in events if other != e]]
+    if rule == 11:
+        return [first(event) for event in events]
+    root = node(len(problem.nodes) - 1, e)
+    return [negation(first(e)), root if problem.value else negation(root)]
+
+
+class Timed(NamedTuple):
+    """An until, which looks forward from an event, or a since, which looks back."""
+
+    number: int
+    kind: str
+    interval: tuple  # its ends, of which the second may be None
+    left: int
+    right: int
+
+    def near(self, i, j) -> Part:
+        """That j is at least as far from i as the interval's low end."""
+        low = self.interval[0]
+        return order(i, j, -low) if self.kind == "until" else order(j, i, -low)
+
+    def far(self, i, j) -> Part:
+        """That j is at most as far from i as the interval's high end."""
+        high = self.interval[1]
+        return order(j, i, high) if self.kind == "until" else order(i, j, high)
+
+    def onward(self, i, m) -> Part:
+        """That m isn't behind i in the direction in which the tree looks."""
+        return le(i, m) if self.kind == "until" else le(m, i)
+
+
+def witness_parts(problem, rule, timed, i, j=0):
+    """Rules 12 to 18: what a witness is, and that a tree is true where it has one."""
+    k = timed.number
+    if rule == 12:
+        return [negation(wit(k, i, j)), timed.near(i, j)]
+    if rule == 13:
+        return [negation(wit(k, i, j)), timed.far(i, j)]
+    if rule == 14:
+        return [negation(wit(k, i, j)), node(timed.right, j)]
+    if rule == 15:
+        return [negation(wit(k, i, j)), span(k, i, j)]
+    if rule == 16:
+        within = [timed.near(i, j)] + ([] if timed.interval[1] is None else [timed.far(i, j)])
+        asked = [*within, node(timed.right, j), span(k, i, j)]
+        return [wit(k, i, j), *[negation(part) for part in asked]]
+    if rule == 17:
+        events = range(len(problem.log.rows))
+        return [negation(node(k, i)), *[wit(k, i, event) for event in events]]
+    return [node(k, i), negation(wit(k, i, j))]
+
+
+def span_parts(problem, rule, timed, i, j, m=0):
+    """Rules 19 to 21: the way from i to j is free exactly where no gap is on it."""
+    k = timed.number
+    if rule == 19:
+        on_the_way = [negation(timed.onward(i, m)), timed.onward(j, m)]
+        return [negation(span(k, i, j)), *on_the_way, node(timed.left, m)]
+    if rule == 20:
+        events = range(len(problem.log.rows))
+        return [span(k, i, j), *[gap(k, i, event) for event in events]]
+    return [negation(gap(k, i, m)), negation(timed.onward(j, m)), span(k, i, j)]
+
+
+def gap_parts(rule, timed, i, m):
+    """Rules 22 and 23: a gap isn't behind i, and the left side is false at it."""
+    denied = negation(gap(timed.number, i, m))
+    if rule == 22:
+        return [denied, timed.onward(i, m)]
+    return [denied, negation(node(timed.left, m))]
+
+
+# The test of a line
+
+
+def clause_of_line(line):
+    """The clause of a line: what it learns, or that not all order steps of its walk hold."""
+    if isinstance(line, Learn):
+        return line.literals
+    clause = []
+    for step in line.steps:
+        if step.kind == b"order" and negation(order(*step.numbers)) not in clause:
+            clause.append(negation(order(*step.numbers)))
+    return clause
+
+
+def is_right(problem, line, earlier):
+    """Whether a line is right after lines with the earlier clauses."""
+    if isinstance(line, Cycle):
+        return is_conflict(problem, line.steps)
+    if not all(in_range(problem, literal) for literal in line.literals):
+        return False
+    clauses = [hint_clause(problem, hint, earlier) for hint in line.hints]
+    return None not in clauses and hints_refute(line.literals, clauses)
+
+
+def is_conflict(problem, steps):
+    """Whether the steps are a closed walk whose bounds add up to less than nothing."""
+    walk = [ends_and_bound(problem, step) for step in steps]
+    if not walk or None in walk:
+        return False
+    for (_, end, _), (start, _, _) in zip(walk, walk[1:] + walk[:1]):
+        if end != start:
+            return False
+    return sum(bound for _, _, bound in walk) < 0
+
+
+def ends_and_bound(problem, step):
+    """Where a step starts, where it ends, and its bound; None for a step that there isn't.
+
+    The zero moment, at which some bounds of the log start or end, is None too.
+    """
+    if step.kind == b"order":
+        e, f, c = step.numbers
+        return (e, f, c) if max(e, f) < len(problem.log.rows) else None
+    bound = problem.bounds.get((step.kind, step.numbers[0]))
+    return bound and (bound.start, bound.end, bound.most)
+
+
+def in_range(problem, literal):
+    """Whether a literal names events and nodes that there are, and an until or since if it must."""
+    kind, *numbers = literal.atom
+    if kind == "order":
+        events = numbers[:2]
+    elif kind == "first":
+        events = numbers
+    else:
+        k, *events = numbers
+        if k >= len(problem.nodes):
+            return False
+        if kind != "node" and problem.nodes[k][0] not in ("until", "since"):
+            return False
+    return all(event < len(problem.log.rows) for event in events)
+
+
+def hint_clause(problem, hint, earlier):
+    """The clause that a hint names, or None where there is none."""
+    if isinstance(hint, LineHint):
+        return earlier[hint.line - 1] if 1 <= hint.line <= len(earlier) else None
+    clause = clause_of(problem, hint)
+    return None if isinstance(clause, RuleFault) else clause
+
+
+def hints_refute(literals, clauses):
+    """Whether the clauses, one after another, show that one of the literals holds.
+
+    All of the literals are assumed false. Each clause but the last leaves just
+    one literal that may be true, which is then assumed; the last leaves none.
+    """
+    assumed = {negation(literal) for literal in literals}
+    for place, clause in enumerate(clauses):
+        left = [literal for literal in clause if negation(literal) not in assumed]
+        if place == len(clauses) - 1:
+            return not left
+        if len(left) != 1 or left[0] in assumed:
+            return False
+        assumed.add(left[0])
+    return False
+
+
+# The verdict
+
+
+def verdict(problem, lines):
+    """What the lines show: refutes, derives, or wrong and the first line that isn't right."""
+    clauses = []
+    for place, line in enumerate(lines, start=1):
+        after_empty = place > 1 and not clauses[-1]
+        if after_empty or not is_right(problem, line, clauses):
+            return f"wrong {place}"
+        clauses.append(clause_of_line(line))
+    return "refutes" if clauses and not clauses[-1] else "derives"
+
+
+def answer(problem, data):
+    """The verdict on the lines that the bytes spell, or syntax and the first faulty line."""
+    lines = read_lines(data)
+    if isinstance(lines, SyntaxFault):
+        return f"syntax {lines.line}"
+    return verdict(problem, lines)
+
+
+def read_file(name):
+    """The bytes of a file."""
+    with open(name, "rb") as file:
+        return file.read()
+
+
+def main(words):
+    """Prints the answer to the files that the words name."""
+    if len(words) != 4 or words[2] not in ("true", "false"):
+        sys.exit("usage: derivations.py FORMULA LOG VALUE DERIVATION")
+    formula = formats.read_formula(read_file(words[0]))
+    if isinstance(formula, formats.FormulaFault):
+        sys.exit(f"the formula has {formula}")
+    log = formats.read_log(read_file(words[1]))
+    if isinstance(log, formats.LogFault):
+        sys.exit(f"the log has {log}")
+    if formats.unknown_host(formula, log) is not None:
+        sys.exit("a host of the formula isn't in the log")
+    print(answer(problem_of(log, formula, words[2] == "true"), read_file(words[3])))
+
+
+if __name__ == "__main__":
+    main(sys.argv[1:])
