@@ -8,3 +8,4 @@ mod NodeLemmas
 mod TableLemmas
 mod Tables
 mod Steps
+pub mod NodeCounts

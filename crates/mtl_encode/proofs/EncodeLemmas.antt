@@ -18,7 +18,8 @@ use Rattle.mtl_encode.specs.declared.size.TheConstants.{MAX_SIZE}
 use Rattle.mtl_encode.specs.Growth.{AreClauses, Gains, HasRoom}
 use Rattle.mtl_encode.specs.Instances.{instances}
 use Rattle.mtl_encode.specs.Listing.{ListsRules}
-use Rattle.mtl_encode.specs.Problems.{AreEdges, Fits}
+use Rattle.skew_bounds.specs.Edges.{AreEdges}
+use Rattle.mtl_encode.specs.Problems.{Fits}
 use Rattle.mtl_encode.specs.Size.{size}
 
 -- there is room for all rules that have a clause

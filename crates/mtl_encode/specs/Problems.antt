@@ -1,12 +1,8 @@
 -- When a problem fits what is sought.
 use Rattle.std.specs.Prelude.{◌≡◌, ℕ, ◌+◌, ◌^◌, ◌≤◌, List, length, map, All, Any, Option, Some, option_map, Ok, slice_get}
-use Rattle.mt_model.specs.declared.bound.Bound.{Bound}
-use Rattle.mt_model.specs.Bounds.{bounds_of, step_of}
-use Rattle.mt_model.specs.Log.{Logged}
-use Rattle.mt_model.specs.Walks.{edge_of}
-use Rattle.neg_cycle.specs.declared.system.Edge.{Edge}
+use Rattle.mt_model.specs.Bounds.{bounds_of}
 use Rattle.neg_cycle.specs.Systems.{IsSystem}
-use Rattle.skew_bounds.specs.Edges.{edge_in}
+use Rattle.skew_bounds.specs.Edges.{AreEdges}
 use Rattle.clause_db.specs.declared.lit.Lit.{Lit}
 use Rattle.clause_db.specs.Clauses.{clause_at}
 use Rattle.axiom_rules.specs.declared.literal.Atom.{Atom}
@@ -35,10 +31,6 @@ pub record StandsIn (s : Sought) (a : Atom) (rule : Rule) : Type 0 where
   pub clause : List Literal
   pub of_rule : clause_of s rule ≡ Ok clause
   pub there : Any (λ l. l.atom ≡ a) clause
-
--- these are the edges of the bounds, place by place
-abbrev pub AreEdges : Logged → List Bound → List Edge → Type 0
-AreEdges log bounds edges = map (λ b. edge_of log (step_of b)) bounds ≡ map (λ e. Some (edge_in e)) edges
 
 -- the problem fits what is sought
 pub record Fits (s : Sought) (p : Problem) : Type 0 where

@@ -10,12 +10,11 @@ ghost use Rattle.mtl_encode.specs.Problems.{Fits};
 ghost use Rattle.mtl_encode.specs.Size.{size};
 
 use crate::clauses::Clauses;
-use crate::edges::edges_of;
 use crate::{MAX_SIZE, Problem, rules_are_exact};
 use axiom_rules::Rules;
 use formula_arena::Arena;
 use mt_model::{Log, NodeId, bounds_are_admissible};
-use skew_bounds::bounds;
+use skew_bounds::{bounds, edges_of};
 use std::alloc::{AllocError, Global};
 
 /// The problem for a log, the nodes of a formula and the value that is sought of the root: the clauses of all

@@ -3,7 +3,6 @@
 #![tactic(auto)]
 
 mod clauses;
-mod edges;
 mod encoding;
 mod laws;
 mod listing;

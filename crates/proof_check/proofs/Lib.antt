@@ -4,7 +4,6 @@ pub mod StepLemmas
 mod KeptLemmas
 mod HintLemmas
 mod AnswerLemmas
-mod NodeCounts
 mod WalksHold
 mod LinesHold
 mod WalkLemmas

@@ -51,17 +51,17 @@ digits-plain (d ∷ ds) digits = by (is_ascii_digit d) (list_all is_ascii_digit 
 plain-decimal : (n : ℕ) → n < 10 ^ 64 → is_plain (decimal n) ≡ true
 plain-decimal n small = digits-plain (decimal n) (digits_written n small)
 
-plain-number : (n : ℕ) → IsNumber n → is_plain (decimal n) ≡ true
+pub plain-number : (n : ℕ) → IsNumber n → is_plain (decimal n) ≡ true
 plain-number n is = plain-decimal n (omega arith)
 
-plain-bound : (c : ℤ) → IsWithin MAX_ORDER c → is_plain (signed_decimal c) ≡ true
+pub plain-bound : (c : ℤ) → IsWithin MAX_ORDER c → is_plain (signed_decimal c) ≡ true
 plain-bound (pos n) within = plain-decimal n (omega (arith, ints, within.high))
 plain-bound (negsuc n) within = plain-decimal (suc n) (omega (arith, ints, within.low))
 
 plain-order : (e f : ℕ) (c : ℤ) → IsNumber e → IsNumber f → IsWithin MAX_ORDER c → ArePlain (order_words e f c)
 plain-order e f c ie if_ ic = (refl, (plain-number e ie, (plain-number f if_, (plain-bound c ic, tt))))
 
-plain-step : (s : Step) → IsSpelledStep s → ArePlain (step_words s)
+pub plain-step : (s : Step) → IsSpelledStep s → ArePlain (step_words s)
 plain-step (step.Low e) is = (refl, (plain-number e is, tt))
 plain-step (step.High e) is = (refl, (plain-number e is, tt))
 plain-step (step.Rise e) is = (refl, (plain-number e is, tt))
@@ -105,7 +105,7 @@ plain-line (line.Learn lits hints) is =
     (refl, (plain-number (length lits) is.lit_count, plain-append (flat_map literal_words lits) (decimal (length hints) ∷ flat_map hint_words hints) (plain-all literal_words IsSpelledLiteral plain-literal lits is.each_lit) second))
 
 -- a plain word lacks a byte that is no greater than a space
-plain-lacks : (byte : ℕ) (w : Word) → byte ≤ 32 → is_plain w ≡ true → Lacks byte w
+pub plain-lacks : (byte : ℕ) (w : Word) → byte ≤ 32 → is_plain w ≡ true → Lacks byte w
 plain-lacks byte [] small plain = All-nil (λ b. is_byte byte b ≡ false)
 plain-lacks byte (b ∷ bs) small plain = by (nat_lt 32 b) (is_plain bs) refl refl plain (plain-lacks byte bs small)
   where

@@ -178,9 +178,11 @@ fn push_words(alloc: Global, text: &mut Vec<u8>, line: &Line) -> Result<(), Allo
     }
 }
 
-fn push_line(alloc: Global, text: &mut Vec<u8>, line: &Line) -> Result<(), AllocError>
+/// Adds the text of a line that has a spelling, with its newline. The error only says that memory ran
+/// out.
+pub fn push_line(alloc: Global, text: &mut Vec<u8>, line: &Line) -> Result<(), AllocError>
     requires { IsSpelled line.now }
-    ensures { OnOk result (text.new.items ≡ text.old.items ++ line_text line.now) }
+    ensures text { OnOk result (text.new.items ≡ text.old.items ++ line_text line.now) }
 {
     push_words(alloc, text, line)?;
     text.push(b'\n')?;

@@ -130,9 +130,9 @@ fn has_each_atom_once(alloc: Global, line: &Line) -> Result<bool, AllocError>
     }
 }
 
-// The line that the bytes before a newline are.
-fn read_line(alloc: Global, bytes: &[u8]) -> Result<Option<Line>, AllocError>
-    ensures { IfOk result (λ o. MatchOption o ((l : Line) → IsLine bytes.now l → ⊥) (λ l. IsLine bytes.now l)) }
+/// The line whose text, without its newline, the bytes are. The error only says that memory ran out.
+pub fn read_line(alloc: Global, bytes: &[u8]) -> Result<Option<Line>, AllocError>
+    ensures line { IfOk result (λ o. MatchOption o ((l : Line) → IsLine bytes.now l → ⊥) (λ l. IsLine bytes.now l)) }
 {
     let Some(line) = line_of_words(alloc, bytes)? else {
         return Ok(None);

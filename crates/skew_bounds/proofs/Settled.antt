@@ -15,18 +15,14 @@ use Rattle.mt_model.specs.Log.{IsLog, Logged}
 use Rattle.mt_model.specs.Timing.{Admissible}
 use Rattle.mt_model.specs.Walks.{Edge, HasEdges, IsClosedWalk, LeadsTo, Meets, edge_of, node_time, sum_of_bounds}
 use Rattle.skew_bounds.proofs.BoundCounts.{few-bounds}
-use Rattle.skew_bounds.specs.Edges.{bound_at, edge_in}
+use Rattle.skew_bounds.specs.Edges.{AreEdges, bound_at, edge_in}
 use Rattle.skew_bounds.specs.Consistency.{IsConflict, VisitsOnce, start_of}
-
--- these are the edges of the bounds, place by place
-abbrev pub AreEdges : Logged → List Bound → List SystemEdge → Type 0
-AreEdges log bounds edges = map (λ b. edge_of log (step_of b)) bounds ≡ map (λ e. Some (edge_in e)) edges
 
 tail-same : {A B C : Type 0} (f : A → C) (g : B → C) (x : A) (xs : List A) (y : B) (ys : List B) → map f (x ∷ xs) ≡ map g (y ∷ ys) → (f x ≡ g y) × (map f xs ≡ map g ys)
 tail-same f g x xs y ys h = (cc, cc)
 
 -- the edge of the bound at a place
-edge-at : (log : Logged) (bounds : List Bound) (edges : List SystemEdge) (p : ℕ) → AreEdges log bounds edges → p < length edges
+pub edge-at : (log : Logged) (bounds : List Bound) (edges : List SystemEdge) (p : ℕ) → AreEdges log bounds edges → p < length edges
     → edge_of log (step_of (bound_at bounds p)) ≡ Some (edge_in (system.edge_at edges p))
 edge-at log [] [] p are within = absurd (omega arith)
 edge-at log [] (y ∷ ys) p are within = absurd (cc)
@@ -66,10 +62,10 @@ bounds-met log nodes (b ∷ bs) (e ∷ es) x xs are count within meets =
 abbrev pub steps_at : List Bound → List ℕ → List Step
 steps_at bounds places = map (λ p. step_of (bound_at bounds p)) places
 
-abbrev edges_at : List SystemEdge → List ℕ → List Edge
+abbrev pub edges_at : List SystemEdge → List ℕ → List Edge
 edges_at edges places = map (λ p. edge_in (system.edge_at edges p)) places
 
-leads-same : (edges : List SystemEdge) (a : ℕ) (places : List ℕ) (b : ℕ) → system.LeadsTo edges a places b → LeadsTo a (edges_at edges places) b
+pub leads-same : (edges : List SystemEdge) (a : ℕ) (places : List ℕ) (b : ℕ) → system.LeadsTo edges a places b → LeadsTo a (edges_at edges places) b
 leads-same edges a [] b leads = leads
 leads-same edges a (p ∷ ps) b leads = (leads.1, leads-same edges (system.edge_at edges p).to ps b leads.2)
 
@@ -81,11 +77,11 @@ has-edges log bounds edges a (p ∷ ps) b are leads =
     let rest = has-edges log bounds edges (system.edge_at edges p).to ps b are leads.2 in
     rw (here, rest) refl
 
-sum-same : (edges : List SystemEdge) (places : List ℕ) → sum_of_bounds (edges_at edges places) ≡ system.sum_of_bounds edges places
+pub sum-same : (edges : List SystemEdge) (places : List ℕ) → sum_of_bounds (edges_at edges places) ≡ system.sum_of_bounds edges places
 sum-same edges [] = refl
 sum-same edges (p ∷ ps) = ap (λ s. (system.edge_at edges p).bound +ℤ s) (sum-same edges ps)
 
-closed-same : (edges : List SystemEdge) (places : List ℕ) → system.IsClosedWalk edges places → IsClosedWalk (edges_at edges places)
+pub closed-same : (edges : List SystemEdge) (places : List ℕ) → system.IsClosedWalk edges places → IsClosedWalk (edges_at edges places)
 closed-same edges [] closed = closed
 closed-same edges (p ∷ ps) closed = (leads-same edges (system.edge_at edges p).from (p ∷ ps) (system.edge_at edges p).from closed).1
 
@@ -101,7 +97,7 @@ places-of-walk : (edges : List SystemEdge) (a : ℕ) (places : List ℕ) (b : �
 places-of-walk edges a [] b leads = All-nil (λ p. p < length edges)
 places-of-walk edges a (p ∷ ps) b leads = All-cons (λ p. p < length edges) p ps leads.0 (places-of-walk edges (system.edge_at edges p).to ps b leads.2)
 
-places-of-cycle : (edges : List SystemEdge) (places : List ℕ) → system.IsClosedWalk edges places → All (λ p. p < length edges) places
+pub places-of-cycle : (edges : List SystemEdge) (places : List ℕ) → system.IsClosedWalk edges places → All (λ p. p < length edges) places
 places-of-cycle edges [] closed = absurd closed
 places-of-cycle edges (p ∷ ps) closed = places-of-walk edges (system.edge_at edges p).from (p ∷ ps) (system.edge_at edges p).from closed
 

@@ -1,9 +1,11 @@
 -- Bounds of a log as edges of a system of differences.
-use Rattle.std.specs.Prelude.{ℕ, List, slice_index_or}
+use Rattle.std.specs.Prelude.{◌≡◌, ℕ, List, Some, map, slice_index_or}
 use Rattle.neg_cycle.specs.declared.system.Edge.{Edge as SystemEdge}
 use Rattle.mt_model.specs.declared.bound.Bound.{Bound}
 use Rattle.mt_model.specs.declared.bound.Bound.TheVariants as bound
-use Rattle.mt_model.specs.Walks.{Edge}
+use Rattle.mt_model.specs.Bounds.{step_of}
+use Rattle.mt_model.specs.Log.{Logged}
+use Rattle.mt_model.specs.Walks.{Edge, edge_of}
 
 -- an edge of a system, as an edge between moments
 abbrev pub edge_in : SystemEdge → Edge
@@ -12,3 +14,7 @@ edge_in e = record { from = e.from; to = e.to; bound = e.bound }
 -- the bound at a place of a list
 abbrev pub bound_at : List Bound → ℕ → Bound
 bound_at bounds p = slice_index_or bounds p (bound.Extra 0)
+
+-- these are the edges of the bounds, place by place
+abbrev pub AreEdges : Logged → List Bound → List SystemEdge → Type 0
+AreEdges log bounds edges = map (λ b. edge_of log (step_of b)) bounds ≡ map (λ e. Some (edge_in e)) edges

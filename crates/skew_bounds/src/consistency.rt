@@ -1,9 +1,9 @@
-ghost use Rattle.std.specs.Prelude.{◌≡◌, ◌+◌, ◌<◌, ◌^◌, length, map, drop, All, IsSome, IfOk, Some, ℤ, pos, ◌-ℤ◌, ◌≤ℤ◌};
+ghost use Rattle.std.specs.Prelude.{◌≡◌, ◌+◌, ◌<◌, ◌^◌, length, map, drop, All, IsSome, IfOk, ℤ, pos, ◌-ℤ◌, ◌≤ℤ◌};
 ghost use Rattle.mt_model.specs.Bounds.{bounds_of, step_of as step_of_bound};
 ghost use Rattle.mt_model.specs.Walks.{edge_of};
 ghost use Rattle.neg_cycle.specs.Systems.{IsEdge, number_of};
 ghost use Rattle.skew_bounds.specs.Consistency.{Settles};
-ghost use Rattle.skew_bounds.specs.Edges.{bound_at, edge_in};
+ghost use Rattle.skew_bounds.specs.Edges.{AreEdges, bound_at};
 
 use crate::edges::edge_of;
 use crate::list::bounds;
@@ -21,10 +21,10 @@ pub enum Consistency {
     Conflict(Steps),
 }
 
-// The edges of bounds of the log, place by place.
-fn edges_of(alloc: Global, log: &Log, bounds: &[Bound]) -> Result<EdgeList, AllocError>
+/// The edges of bounds of the log, place by place. An error is want of memory.
+pub fn edges_of(alloc: Global, log: &Log, bounds: &[Bound]) -> Result<EdgeList, AllocError>
     requires { All (λ b. IsSome (edge_of log.now (step_of_bound b))) bounds.now }
-    ensures edges { IfOk result (λ edges. map (λ b. edge_of log.now (step_of_bound b)) bounds.now ≡ map (λ e. Some (edge_in e)) edges) }
+    ensures edges { IfOk result (AreEdges log.now bounds.now) }
     ensures within { IfOk result (λ edges. All (IsEdge (length log.now.rows + 1)) edges) }
 {
     let mut edges = EdgeList::new(alloc);

@@ -18,7 +18,7 @@ mod table;
 mod tightening;
 
 pub use broken::first_broken;
-pub use consistency::{Consistency, settle, step_of};
+pub use consistency::{Consistency, edges_of, settle, step_of};
 pub use differences::Tight;
 pub use edges::edge_of;
 pub use list::bounds;

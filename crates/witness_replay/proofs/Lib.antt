@@ -1,4 +1,3 @@
 mod StateLemmas
 mod GapLemmas
 mod TableLemmas
-mod NodeCounts

@@ -2,7 +2,7 @@ use Rattle.std.proofs.Common.{◌≡◌, ◌<◌, Err, length, subst, rules}
 use Rattle.mt_model.specs.Form.{form_of}
 use Rattle.formula_arena.specs.declared.fault.ArenaFault.TheVariants.{TooManyNodes}
 use Rattle.formula_arena.specs.declared.arena.TheConstants.{MAX_NODES}
-use Rattle.witness_replay.proofs.NodeCounts.{with_nodes-empty}
+use Rattle.formula_arena.proofs.NodeCounts.{with_nodes-empty}
 use Rattle.witness_replay.proofs.replayer.Replayer.new.Goals as goal
 
 pub returns-in_err-root-clause-too_many : goal.returns-in_err-root-clause-too_many
