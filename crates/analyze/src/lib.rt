@@ -7,3 +7,6 @@ mod places;
 mod resolve;
 
 pub use conflict::{ClauseRefList, Learned, LitList, learn, refute};
+
+#[cfg(test)]
+mod tests;

@@ -5,16 +5,18 @@
 //! - `|`: a line of the log.
 //! - `+`: the value sought is true.
 //! - `?`: a name. The problem of the case is printed under it.
+//! - `*`: a name. The size of that problem is printed under it, as `size` and the number.
 //!
-//! Formulas and names are written again. After a name come the number of nodes, `edge` with each edge, `rule`
-//! with each rule and its four arguments, and after each rule the variables of its clause with their senses,
-//! and at last `atom` with the atom of each variable, in order.
+//! Formulas and names are written again. After the name of a problem come the number of nodes, `edge` with each
+//! edge, `rule` with each rule and its four arguments, and after each rule the variables of its clause with
+//! their senses, and at last `atom` with the atom of each variable, in order.
 #![tactic(auto)]
 
 use axiom_rules::{Atom, AtomTable, Rule};
 use clause_db::{ClauseRef, Db, Lit, Var};
 use formula_arena::Arena;
 use log_read::read_log;
+use mt_model::{Log, NodeId};
 use mt_port::{FileShelf, StdSink, read_all, write_all};
 use mtl_encode::{MAX_SIZE, Problem, encode, size_of};
 use mtl_parse::parse_formula;
@@ -31,6 +33,14 @@ struct Case {
     formula: Vec<u8>,
     log: Vec<u8>,
     value: bool,
+}
+
+// The log of a case, and the nodes of its formula.
+#[derive(Drop)]
+struct Parsed {
+    log: Log,
+    arena: Arena,
+    root: NodeId,
 }
 
 fn atom_text(alloc: Global, atom: Atom) -> Option<String> {
@@ -92,8 +102,8 @@ fn push_problem(alloc: Global, problem: &Problem, out: &mut Vec<u8>) -> Option<(
     push_atoms(alloc, &problem.atoms, out)
 }
 
-// The problem of a case, if its texts are a formula and a log and it isn't too large.
-fn problem_of(alloc: Global, case: &Case) -> Option<Problem> {
+// What the texts of a case say, where they are a formula and a log.
+fn parse_case(alloc: Global, case: &Case) -> Option<Parsed> {
     if case.formula.len() >= 1 << 31 || case.log.len() >= 1 << 31 {
         return None;
     }
@@ -101,11 +111,24 @@ fn problem_of(alloc: Global, case: &Case) -> Option<Problem> {
     let log = read_log(alloc, &case.log).ok()?;
     let mut arena = Arena::new(alloc);
     let root = arena.intern(&formula).ok()?;
-    if size_of(&log, &arena) <= MAX_SIZE {
-        encode(alloc, &log, &arena, root, case.value).ok()
-    } else {
-        None
+    Some(Parsed { log, arena, root })
+}
+
+// Adds the problem of a case, if it isn't too large.
+fn push_problem_of(alloc: Global, case: &Case, out: &mut Vec<u8>) -> Option<()> {
+    let Parsed { log, arena, root } = parse_case(alloc, case)?;
+    if size_of(&log, &arena) > MAX_SIZE {
+        return None;
     }
+    let problem = encode(alloc, &log, &arena, root, case.value).ok()?;
+    push_problem(alloc, &problem, out)
+}
+
+// Adds the size of a case's problem.
+fn push_size_of(alloc: Global, case: &Case, out: &mut Vec<u8>) -> Option<()> {
+    let Parsed { log, arena, .. } = parse_case(alloc, case)?;
+    let text = format!(in alloc; "size {}\n", size_of(&log, &arena)).ok()?;
+    out.extend_from_slice(text.as_bytes()).ok()
 }
 
 // Adds a line as it was read.
@@ -135,14 +158,18 @@ impl Case {
             }
             b'?' => {
                 push_line(mark, text, out)?;
-                push_problem(alloc, &problem_of(alloc, self)?, out)
+                push_problem_of(alloc, self, out)
+            }
+            b'*' => {
+                push_line(mark, text, out)?;
+                push_size_of(alloc, self, out)
             }
             _ => Some(()),
         }
     }
 }
 
-// The problems of all cases.
+// The answers of all cases.
 fn answers(alloc: Global, table: &[u8]) -> Option<Vec<u8>> {
     let mut out = Vec::new(alloc);
     let mut case = Case {

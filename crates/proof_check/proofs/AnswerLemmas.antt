@@ -1,5 +1,5 @@
 -- What is answered for lines that are judged one after another.
-use Rattle.std.proofs.Common.{◌≡◌, ◌∙◌, sym, ap, refl, subst, ℕ, zero, suc, ◌+◌, ◌-◌, ◌<◌, Bool, true, false, ◌⊎◌, inl, inr, ◌↔◌, List, [], ◌∷◌, ◌++◌, length, get_or, map, take, Some, None, Ok, Err, ◌==◌, arith, eq-eqb, eqb-true}
+use Rattle.std.proofs.Common.{◌≡◌, ◌∙◌, sym, ap, refl, subst, ℕ, zero, suc, ◌+◌, ◌-◌, ◌<◌, Bool, ◌⊎◌, inl, inr, List, [], ◌∷◌, ◌++◌, length, get_or, map, take, Some, None, Ok, Err, arith}
 use Rattle.std.specs.Prelude.{IfOk, Result, option_map}
 use Rattle.std.proofs.lemmas.Bool.{cases_lt}
 use Rattle.std.proofs.lemmas.Option.{slice_get_past, slice_get_read}
@@ -26,13 +26,6 @@ line_there lines i line low at =
 no_line : (lines : List Line) (n : ℕ) → length lines < n → line_at lines n ≡ None
 no_line lines zero past = refl
 no_line lines (suc n) past = slice_get_past lines n (omega (arith, past))
-
--- the clause of a line that is there is empty, or isn't
-pub empty_there : (lines : List Line) (n : ℕ) (line : Line) → line_at lines n ≡ Some line → IsEmptyAt lines n ↔ (clause_of_line line ≡ [])
-empty_there lines n line at = (
-  λ empty. let both : Some (clause_of_line line) ≡ Some [] = sym (ap (option_map clause_of_line) at) ∙ empty in cc,
-  λ empty. ap (option_map clause_of_line) at ∙ ap Some empty,
-)
 
 no_empty : (lines : List Line) (n : ℕ) → line_at lines n ≡ None → IsEmptyAt lines n → ⊥
 no_empty lines n none empty = let both : None ≡ Some [] = sym (ap (option_map clause_of_line) none) ∙ empty in absurd (cc)
@@ -127,46 +120,31 @@ module _ (s : Sought) (lines : List Line) where
     next : kept ≡ map kept_of (take i lines) → length some + 1 ≡ i + 1
     next are = omega (arith, low, ap length same, kept_count lines kept i (omega (arith, low)) are)
 
-    pub judged_more : AreJudged s lines i kept false → IsRight s lines (length some + 1) line → (lits clause : List Literal) (more : List (List Literal)) (ended : Bool)
-        → lits ≡ kept_of line → more ≡ kept ++ lits ∷ [] → clause ≡ clause_of_line line → ended ≡ (length clause == 0) → AreJudged s lines (i + 1) more ended
-    judged_more judged right lits clause more ended kept_now grown whole tested = record {
+    pub judged_more : AreJudged s lines i kept → (IsEmptyAt lines i → ⊥) → IsRight s lines (length some + 1) line → (lits : List Literal) (more : List (List Literal))
+        → lits ≡ kept_of line → more ≡ kept ++ lits ∷ [] → AreJudged s lines (i + 1) more
+    judged_more judged unended right lits more kept_now grown = record {
       good = λ log f v sought.
           good_more log f v lines i (judged.good log f v sought)
-          (right_there log f v lines (i + 1) line there (subst (λ (x : Sought). IsRight x lines (i + 1) line) sought (subst (λ n. IsRight s lines n line) (next judged.same) right)))
-          (λ empty. let no : false ≡ true = judged.last.1 empty in absurd (cc));
+          (right_there log f v lines (i + 1) line there (subst (λ (x : Sought). IsRight x lines (i + 1) line) sought (subst (λ n. IsRight s lines n line) (next judged.same) right))) unended;
       same = grown ∙ ap (λ ls. kept ++ ls ∷ []) kept_now ∙ kept_more lines kept i line low at judged.same;
-      last = (
-        λ yes. (empty_there lines (i + 1) line there).1 (sym whole ∙ none_in clause (sym tested ∙ yes)),
-        λ empty. tested ∙ none_counted clause (whole ∙ (empty_there lines (i + 1) line there).0 empty),
-      );
     }
-      where
-        none_in : (ls : List Literal) → (length ls == 0) ≡ true → ls ≡ []
-        none_in [] is = refl
-        none_in (l ∷ ls) is = absurd (omega (arith, eqb-true (length (l ∷ ls)) 0 is))
-
-        none_counted : (ls : List Literal) → ls ≡ [] → (length ls == 0) ≡ true
-        none_counted ls is = eq-eqb (length ls) 0 (ap length is)
 
     -- the line after an empty clause is the first wrong one
-    pub judged_ended : AreJudged s lines i kept true → OfSought s (λ log f v. IsAnswer log f v lines (check.Wrong (i + 1)))
-    judged_ended judged log f v sought = answer_wrong log f v lines (i + 1) (first_wrong log f v lines i low (judged.good log f v sought) (inr (judged.last.0 refl)))
+    pub judged_ended : AreJudged s lines i kept → IsEmptyAt lines i → OfSought s (λ log f v. IsAnswer log f v lines (check.Wrong (i + 1)))
+    judged_ended judged empty log f v sought = answer_wrong log f v lines (i + 1) (first_wrong log f v lines i low (judged.good log f v sought) (inr empty))
 
     -- so is a line that isn't right
-    pub judged_wrong : (ended : Bool) → AreJudged s lines i kept ended → (IsRight s lines (length some + 1) line → ⊥) → OfSought s (λ log f v. IsAnswer log f v lines (check.Wrong (i + 1)))
-    judged_wrong ended judged wrong log f v sought =
+    pub judged_wrong : AreJudged s lines i kept → (IsRight s lines (length some + 1) line → ⊥) → OfSought s (λ log f v. IsAnswer log f v lines (check.Wrong (i + 1)))
+    judged_wrong judged wrong log f v sought =
         answer_wrong log f v lines (i + 1)
         (first_wrong log f v lines i low (judged.good log f v sought)
         (inl (λ right. wrong (subst (λ n. IsRight s lines n line) (sym (next judged.same)) (subst (λ (x : Sought). IsRight x lines (i + 1) line) (sym sought) (there_right log f v lines (i + 1) line there right))))))
 
-  pub judged_refutes : (n : ℕ) (kept : List (List Literal)) → n ≡ length lines → AreJudged s lines n kept true → OfSought s (λ log f v. IsAnswer log f v lines check.Refutes)
-  judged_refutes n kept all judged log f v same =
-      answer_refutes log f v lines (subst (AreGood log f v lines) all (judged.good log f v same)) (subst (IsEmptyAt lines) all (judged.last.0 refl))
+  pub judged_refutes : (n : ℕ) (kept : List (List Literal)) → n ≡ length lines → AreJudged s lines n kept → IsEmptyAt lines (length lines) → OfSought s (λ log f v. IsAnswer log f v lines check.Refutes)
+  judged_refutes n kept all judged last log f v same = answer_refutes log f v lines (subst (AreGood log f v lines) all (judged.good log f v same)) last
 
-  pub judged_derives : (n : ℕ) (kept : List (List Literal)) → n ≡ length lines → AreJudged s lines n kept false → OfSought s (λ log f v. IsAnswer log f v lines check.Derives)
-  judged_derives n kept all judged log f v same =
-      answer_derives log f v lines (subst (AreGood log f v lines) all (judged.good log f v same))
-      (λ empty. let no : false ≡ true = judged.last.1 (subst (IsEmptyAt lines) (sym all) empty) in absurd (cc))
+  pub judged_derives : (n : ℕ) (kept : List (List Literal)) → n ≡ length lines → AreJudged s lines n kept → (IsEmptyAt lines (length lines) → ⊥) → OfSought s (λ log f v. IsAnswer log f v lines check.Derives)
+  judged_derives n kept all judged unended log f v same = answer_derives log f v lines (subst (AreGood log f v lines) all (judged.good log f v same)) unended
 
 -- what follows from the answer, for the one who sought it
 pub answered : {E : Type 0} (s t : Sought) → s ≡ t → (lines : List Line) (r : Result Check E) → IfOk r (λ c. OfSought s (λ log f v. IsAnswer log f v lines c))

@@ -1,6 +1,6 @@
 -- What is kept of lines, and the clauses that are cited.
-use Rattle.std.proofs.Common.{◌≡◌, ◌∙◌, sym, ap, refl, ℕ, suc, ◌+◌, ◌<◌, ◌≤◌, inl, inr, List, [], ◌∷◌, ◌++◌, length, get_or, map, take, Option, Some, None, arith, append-nil}
-use Rattle.std.specs.Prelude.{slice_get}
+use Rattle.std.proofs.Common.{◌≡◌, ◌∙◌, sym, ap, refl, ℕ, suc, ◌+◌, ◌<◌, ◌≤◌, ◌↔◌, ◌==◌, inl, inr, Bool, true, false, List, [], ◌∷◌, ◌++◌, length, get_or, map, take, Option, Some, None, arith, append-nil, eqb-true}
+use Rattle.std.specs.Prelude.{option_map, slice_get}
 use Rattle.std.specs.List.{filter_map}
 use Rattle.std.proofs.lemmas.Bool.{cases_Bool, lt-ltb}
 use Rattle.std.proofs.lemmas.List.{length-map, length-take-le, map_more, take_more}
@@ -15,7 +15,7 @@ use Rattle.axiom_rules.specs.Sought.{Sought}
 use Rattle.axiom_rules.proofs.AddingLemmas.{among-once, once-among, once-new, once-old, stands, stands-has}
 use Rattle.proof_log.specs.declared.line.Hint.TheVariants as hint
 use Rattle.proof_log.specs.declared.line.Line.{Line}
-use Rattle.proof_log.specs.Derivations.{clause_of_hint, clause_of_line}
+use Rattle.proof_log.specs.Derivations.{IsEmptyAt, clause_of_hint, clause_of_line, line_at}
 use Rattle.proof_check.specs.Keeping.{kept_of}
 use Rattle.proof_check.proofs.TakeLemmas.{inserted}
 
@@ -38,6 +38,11 @@ pub gives_no_more : {X Y : Type 0} (h : X → Option Y) (xs : List X) (i : ℕ) 
     → filter_map h (take (i + 1) xs) ≡ filter_map h (take i xs)
 gives_no_more h xs i d low is = ap (filter_map h) (take_more xs i d low) ∙ filter_map-append h (take i xs) (get_or xs i d ∷ []) ∙ (rw is (append-nil (filter_map h (take i xs))))
 
+-- the test of a clause for being empty
+pub empty_tested : (clause : List Literal) (r : Bool) → r ≡ (length clause == 0) → (r ≡ true) ↔ (Some clause ≡ Some [])
+empty_tested [] r is = (λ _. refl, λ _. is)
+empty_tested (l ∷ ls) r is = (λ yes. absurd (omega (arith, eqb-true (length (l ∷ ls)) 0 (sym is ∙ yes))), λ none. absurd (cc))
+
 module _ (lines : List Line) where
   -- as much is kept as there are lines
   pub kept_count : (kept : List (List Literal)) (n : ℕ) → n ≤ length lines → kept ≡ map kept_of (take n lines) → length kept ≡ n
@@ -52,3 +57,11 @@ module _ (lines : List Line) where
   pub cites : (kept : List (List Literal)) (s : Sought) (i : ℕ) (line : Line) → i < length kept → slice_get lines i ≡ Some line
       → clause_of_hint s lines (length kept + 1) (hint.Line (suc i)) ≡ Some (clause_of_line line)
   cites kept s i line below at = rw (lt-ltb (suc i) (length kept + 1) (omega (arith, below)), at) refl
+
+  -- what is found of a line, where something is kept of it, tells whether its clause is empty
+  pub empty_where_found : (kept : List (List Literal)) (m : ℕ) (found : Option (List Literal)) → m ≤ length kept
+      → ((s : Sought) → found ≡ clause_of_hint s lines (length kept + 1) (hint.Line m)) → (found ≡ Some []) ↔ IsEmptyAt lines m
+  empty_where_found kept m found within is =
+      let none_sought : Sought = record { log = record { hosts = []; rows = []; extras = [] }; trees = []; root = 0; value = false } in
+      let same : found ≡ option_map clause_of_line (line_at lines m) = rw (lt-ltb m (length kept + 1) (omega (arith, within))) at (is none_sought) in
+      (λ empty. sym same ∙ empty, λ empty. same ∙ empty)

@@ -1,11 +1,11 @@
 -- What is answered for lines.
-use Rattle.std.specs.Prelude.{◌≡◌, ◌↔◌, ◌≤◌, ℕ, Bool, IsTrue, List, map, take}
+use Rattle.std.specs.Prelude.{◌≡◌, ◌↔◌, ◌≤◌, ℕ, Bool, List, map, take}
 use Rattle.mt_model.specs.Form.{Form}
 use Rattle.mt_model.specs.Log.{Logged}
 use Rattle.axiom_rules.specs.declared.literal.Literal.{Literal}
 use Rattle.axiom_rules.specs.Sought.{Sought, sought_of}
 use Rattle.proof_log.specs.declared.line.Line.{Line}
-use Rattle.proof_log.specs.Derivations.{Derives, FirstWrong, IsEmptyAt, IsGood, Refutes}
+use Rattle.proof_log.specs.Derivations.{Derives, FirstWrong, IsGood, Refutes}
 use Rattle.proof_check.specs.declared.check.Check.{Check}
 use Rattle.proof_check.specs.declared.check.Check.TheVariants as check
 use Rattle.proof_check.specs.Keeping.{kept_of}
@@ -24,8 +24,7 @@ pub record IsAnswer (log : Logged) (f : Form) (v : Bool) (lines : List Line) (an
 abbrev pub AreGood : Logged → Form → Bool → List Line → ℕ → Type 0
 AreGood log f v lines n = (m : ℕ) → 1 ≤ m → m ≤ n → IsGood log f v lines m
 
--- the first n lines are judged: they are good, this is what is kept of them, and it is known whether the last one's clause is empty
-pub record AreJudged (s : Sought) (lines : List Line) (n : ℕ) (kept : List (List Literal)) (ended : Bool) : Type 0 where
+-- the first n lines are judged: they are good, and this is what is kept of them
+pub record AreJudged (s : Sought) (lines : List Line) (n : ℕ) (kept : List (List Literal)) : Type 0 where
   pub good : OfSought s (λ log f v. AreGood log f v lines n)
   pub same : kept ≡ map kept_of (take n lines)
-  pub last : IsTrue ended ↔ IsEmptyAt lines n

@@ -10,7 +10,7 @@ ghost use Rattle.proof_log.specs.Derivations.{Derives, FirstWrong, Refutes};
 ghost use Rattle.proof_check.specs.Answering.{IsAnswer, OfSought};
 
 use crate::check::Check;
-use crate::clauses::{clause_of, to_keep};
+use crate::clauses::{has_empty_clause, to_keep};
 use crate::judge::{Clause, is_right};
 use crate::laws::refuted_is_no_value;
 use axiom_rules::Rules;
@@ -61,20 +61,18 @@ fn check_lines(
     ensures { IfOk result (λ c. OfSought rules.now (λ log f v. IsAnswer log f v lines.now c)) }
 {
     let mut kept = ListOf::new(alloc);
-    let mut ended = false;
     for (i, line) in lines.iter().enumerate() {
         let number = i as u32 + 1;
-        if ended {
+        if has_empty_clause(lines, kept.as_slice(), i as u32) {
             return Ok(Check::Wrong(number));
         }
         if !is_right(alloc, rules, lines, kept.as_slice(), line, clause)? {
             return Ok(Check::Wrong(number));
         }
         let lits = to_keep(alloc, line)?;
-        ended = clause_of(line, &lits).is_empty();
         kept.push(lits)?;
     }
-    if ended {
+    if has_empty_clause(lines, kept.as_slice(), lines.len() as u32) {
         Ok(Check::Refutes)
     } else {
         Ok(Check::Derives)

@@ -1,10 +1,10 @@
 //! The clauses of lines, and those that are kept.
 
-ghost use Rattle.std.specs.Prelude.{◌≡◌, ◌+◌, ◌∷◌, [], ◌++◌, length, List, All, IfOk, OnOk, option_copied};
+ghost use Rattle.std.specs.Prelude.{◌≡◌, ◌↔◌, ◌+◌, ◌≤◌, ◌∷◌, [], ◌++◌, length, List, All, IfOk, IsTrue, OnOk, option_copied};
 ghost use Rattle.std.specs.List.{filter_map};
 ghost use Rattle.axiom_rules.specs.Parts.{each_once};
 ghost use Rattle.axiom_rules.specs.Sought.{Sought};
-ghost use Rattle.proof_log.specs.Derivations.{clause_of_hint, clause_of_line, negated_step as negated_step_of};
+ghost use Rattle.proof_log.specs.Derivations.{IsEmptyAt, clause_of_hint, clause_of_line, negated_step as negated_step_of};
 ghost use Rattle.proof_log.specs.Spelled.{IsSpelled, IsSpelledStep};
 ghost use Rattle.proof_log.specs.declared.line.Hint.TheVariants as hint;
 ghost use Rattle.proof_check.specs.Keeping.{AreKept, kept_of};
@@ -60,8 +60,8 @@ pub fn to_keep(alloc: Global, line: &Line) -> Result<Lits, AllocError>
     }
 }
 
-/// The clause of a line, by what is kept of it.
-pub fn clause_of<'a>(line: &'a Line, kept: &'a Lits) -> &'a [Literal]
+// The clause of a line, by what is kept of it.
+fn clause_of<'a>(line: &'a Line, kept: &'a Lits) -> &'a [Literal]
     requires { kept.now ≡ kept_of line.now }
     ensures { result.now ≡ clause_of_line line.now }
 {
@@ -80,4 +80,16 @@ pub fn cited_clause<'a>(lines: &'a [Line], kept: &'a [Lits], m: u32) -> Option<&
     let kept = kept.get(place)?;
     let line = lines.get(place)?;
     Some(clause_of(line, kept))
+}
+
+/// Whether line m, of which something is kept, has an empty clause. There is no line 0.
+pub fn has_empty_clause(lines: &[Line], kept: &[Lits], m: u32) -> bool
+    requires kept { AreKept lines.now kept.now }
+    requires within { m ≤ length kept.now }
+    ensures { IsTrue result ↔ IsEmptyAt lines.now m }
+{
+    match cited_clause(lines, kept, m) {
+        Some(clause) => clause.is_empty(),
+        None => false,
+    }
 }

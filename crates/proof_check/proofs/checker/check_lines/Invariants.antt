@@ -2,4 +2,4 @@ use Rattle.proof_check.specs.Answering.{AreJudged}
 use Rattle.proof_check.proofs.checker.check_lines.Given as goal
 
 abbrev pub invariant-loop-i : goal.invariant-loop-i
-invariant-loop-i l = AreJudged l.rules l.lines l.i l.kept l.ended
+invariant-loop-i l = AreJudged l.rules l.lines l.i l.kept
