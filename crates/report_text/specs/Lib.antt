@@ -1,0 +1,6 @@
+pub mod Spelled
+pub mod ReportText
+pub mod ReportOf
+pub mod Stops
+pub mod Parts
+pub mod Laws

@@ -1,0 +1,16 @@
+ghost use Rattle.report_text.specs.Laws.{BytesAreUnambiguous, TextsReadBack, TextsTellApart};
+
+/// Bytes are at most one report, or have at most one first faulty line.
+pub fn bytes_are_unambiguous()
+    ensures { BytesAreUnambiguous }
+{}
+
+/// The text of a report that has a spelling is that of this report.
+pub fn texts_read_back()
+    ensures { TextsReadBack }
+{}
+
+/// Two reports that have a spelling are equal where their texts are.
+pub fn texts_tell_apart()
+    ensures { TextsTellApart }
+{}

@@ -1,0 +1,20 @@
+//! Reports: what is said of both truth values of a formula, and its text both ways.
+#![tactic(auto)]
+
+mod fault;
+mod front;
+mod items;
+mod laws;
+mod part;
+mod printer;
+mod reader;
+mod report;
+mod spelling;
+mod stop;
+
+pub use fault::ReportFault;
+pub use laws::{bytes_are_unambiguous, texts_read_back, texts_tell_apart};
+pub use printer::print_report;
+pub use reader::read_report;
+pub use report::{Report, Section};
+pub use spelling::has_spelling;

@@ -1,0 +1,20 @@
+//! The lines that say what follows them.
+
+/// The first line of a section.
+#[derive(Clone, Copy, Debug)]
+pub enum Kind {
+    Witness,
+    /// With the number of its lines.
+    Refuted(u32),
+    /// With the number of its lines.
+    Unknown(u32),
+}
+
+/// The first line after the number of events.
+#[derive(Clone, Copy, Debug)]
+pub enum Opening {
+    /// With the number of steps.
+    Inconsistent(u32),
+    /// The first line of the true section.
+    OnTrue(Kind),
+}
