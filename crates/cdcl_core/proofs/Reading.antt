@@ -1,0 +1,94 @@
+-- Clauses of variables read as clauses of atoms.
+use Rattle.std.proofs.Common.{◌≡◌, ◌∙◌, ap, refl, subst, ℕ, ◌+◌, ◌<◌, Bool, List, [], ◌∷◌, length, map}
+use Rattle.std.specs.Prelude.{IsTrue, nat_lt, All}
+use Rattle.std.proofs.lemmas.Bool.{lt-ltb, ltb-true}
+use Rattle.std.proofs.lemmas.List.Elements.{All-nil, All-cons, All-head, All-tail, All-weaker}
+use Rattle.hint_refutation.specs.Hints.{Refutes}
+use Rattle.hint_refutation.specs.Maps.{AreAmong, Carrier}
+use Rattle.hint_refutation.proofs.Carried.{words-carried}
+use Rattle.clause_db.specs.declared.lit.Lit.{Lit}
+use Rattle.clause_db.specs.Literals.{negation}
+use Rattle.clause_db.specs.Clauses.{AreHeld, clause_at, clauses_at}
+use Rattle.clause_db.specs.Hinted.{HintsRefute}
+use Rattle.axiom_rules.specs.declared.literal.Atom.{Atom}
+use Rattle.axiom_rules.specs.declared.literal.Literal.{Literal}
+use Rattle.axiom_rules.specs.Atoms.{AreOnce, IsVar}
+use Rattle.axiom_rules.specs.Literals.{negated}
+use Rattle.axiom_rules.specs.Sought.{Sought}
+use Rattle.proof_log.specs.declared.line.Hint.{Hint}
+use Rattle.proof_log.specs.declared.line.Line.{Line}
+use Rattle.proof_log.specs.Derivations.{HasClauses, IsLearnt, is_in_range}
+use Rattle.cdcl_core.specs.Orders.{atom_at, read_lit}
+use Rattle.cdcl_core.specs.Recording.{AreCited, cite_at, read_clause}
+use Rattle.cdcl_core.proofs.Pairs.{atom_there}
+
+lit_same : (k l : Lit) → k.var ≡ l.var → k.positive ≡ l.positive → k ≡ l
+lit_same k l var sense =
+    let lit : ℕ → Bool → Lit = λ v b. record { var = v; positive = b } in
+    ap (λ v. lit v k.positive) var ∙ ap (λ b. lit l.var b) sense
+
+module _ (atoms : List Atom) (once : AreOnce atoms) where
+  apart : (k l : Lit) → k.var < length atoms → l.var < length atoms → read_lit atoms k ≡ read_lit atoms l → k ≡ l
+  apart k l low_k low_l same =
+      let atom = ap (λ (x : Literal). x.atom) same in
+      let at : IsVar atoms k.var (atom_at atoms l.var) = subst (IsVar atoms k.var) atom (atom_there atoms k.var low_k) in
+      lit_same k l (once.once k.var l.var (atom_at atoms l.var) at (atom_there atoms l.var low_l)) (ap (λ (x : Literal). x.positive) same)
+
+  -- reading keeps the literals of the atoms' variables apart
+  abbrev reader : Carrier Lit Literal
+  reader = record {
+    among = λ l. nat_lt l.var (length atoms);
+    neg = negation;
+    opposite = negated;
+    carry = read_lit atoms;
+    negated = λ l is. is;
+    commutes = λ l is. refl;
+    apart = λ k l is_k is_l same. apart k l (ltb-true k.var (length atoms) is_k) (ltb-true l.var (length atoms) is_l) same;
+  }
+
+  among_of : (lits : List Lit) → All (λ l. l.var < length atoms) lits → AreAmong reader lits
+  among_of lits within = All-weaker (λ l. l.var < length atoms) (λ l. IsTrue (nat_lt l.var (length atoms))) (λ l low. lt-ltb l.var (length atoms) low) lits within
+
+  negated_read : (lits : List Lit) → map (read_lit atoms) (map negation lits) ≡ map negated (read_clause atoms lits)
+  negated_read [] = refl
+  negated_read (l ∷ ls) = ap (λ ms. negated (read_lit atoms l) ∷ ms) (negated_read ls)
+
+  negated_within : (lits : List Lit) → All (λ l. l.var < length atoms) lits → All (λ l. l.var < length atoms) (map negation lits)
+  negated_within [] within = All-nil (λ l. l.var < length atoms)
+  negated_within (l ∷ ls) within = All-cons (λ (k : Lit). k.var < length atoms) (negation l) (map negation ls) (All-head (λ (k : Lit). k.var < length atoms) l ls within)
+      (negated_within ls (All-tail (λ (k : Lit). k.var < length atoms) l ls within))
+
+  held_among : (db : List (List Lit)) (refs : List ℕ) → All (All (λ l. l.var < length atoms)) db → AreHeld db refs → All (AreAmong reader) (clauses_at db refs)
+  held_among db [] within held = All-nil (AreAmong reader)
+  held_among db (c ∷ cs) within held = All-cons (AreAmong reader) (clause_at db c) (clauses_at db cs)
+      (among_of (clause_at db c) (within c [] (All-head (λ (k : ℕ). k < length db) c cs held)))
+      (held_among db cs within (All-tail (λ (k : ℕ). k < length db) c cs held))
+
+  -- what clauses of variables refute, they refute when they are read
+  pub refutes_read : (db : List (List Lit)) (lits : List Lit) (refs : List ℕ) → All (All (λ l. l.var < length atoms)) db → All (λ l. l.var < length atoms) lits
+      → HintsRefute db (map negation lits) refs → Refutes negated (map negated (read_clause atoms lits)) (map (read_clause atoms) (clauses_at db refs))
+  refutes_read db lits refs within low hints =
+      let carried = ((words-carried Lit Literal).refutes reader (map negation lits) (clauses_at db refs) (among_of (map negation lits) (negated_within lits low)) (held_among db refs within hints.held)).0 hints.refutes in
+      subst (λ ms. Refutes negated ms (map (read_clause atoms) (clauses_at db refs))) (negated_read lits) carried
+
+-- the hints that cite clauses have these clauses
+pub cites_have : (s : Sought) (atoms : List Atom) (db : List (List Lit)) (cites : List Hint) (lines : List Line) (refs : List ℕ) → AreCited s atoms db cites lines → AreHeld db refs
+    → HasClauses s lines (length lines + 1) (map (cite_at cites) refs) (map (read_clause atoms) (clauses_at db refs))
+cites_have s atoms db cites lines [] are held = refl
+cites_have s atoms db cites lines (c ∷ cs) are held =
+    rw (are.each c (All-head (λ (k : ℕ). k < length db) c cs held), cites_have s atoms db cites lines cs are (All-tail (λ (k : ℕ). k < length db) c cs held)) refl
+
+-- a clause that clauses refute the negation of is learnt
+pub learnt_read : (s : Sought) (atoms : List Atom) (db : List (List Lit)) (cites : List Hint) (lines : List Line) (lits : List Lit) (refs : List ℕ) → AreOnce atoms → All (λ a. IsTrue (is_in_range s a)) atoms
+    → All (All (λ l. l.var < length atoms)) db → All (λ l. l.var < length atoms) lits → AreCited s atoms db cites lines → HintsRefute db (map negation lits) refs
+    → IsLearnt s lines (length lines + 1) (read_clause atoms lits) (map (cite_at cites) refs)
+learnt_read s atoms db cites lines lits refs once ranged within low are hints = record {
+  in_range = ranges lits low;
+  clauses = map (read_clause atoms) (clauses_at db refs);
+  cited = cites_have s atoms db cites lines refs are hints.held;
+  refuted = refutes_read atoms once db lits refs within low hints;
+} where
+  ranges : (ls : List Lit) → All (λ l. l.var < length atoms) ls → All (λ (l : Literal). IsTrue (is_in_range s l.atom)) (read_clause atoms ls)
+  ranges [] all = All-nil (λ (l : Literal). IsTrue (is_in_range s l.atom))
+  ranges (l ∷ ls) all = All-cons (λ (m : Literal). IsTrue (is_in_range s m.atom)) (read_lit atoms l) (read_clause atoms ls)
+      (ranged l.var _ (All-head (λ (k : Lit). k.var < length atoms) l ls all)) (ranges ls (All-tail (λ (k : Lit). k.var < length atoms) l ls all))

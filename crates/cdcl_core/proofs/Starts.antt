@@ -1,0 +1,126 @@
+-- What a search has at its start.
+use Rattle.std.proofs.Common.{◌≡◌, ◌∙◌, sym, ap, refl, subst, inl, inr, ℕ, ◌+◌, ◌<◌, Bool, true, false, List, [], length, map, get_or, Option, None, arith, ℤ, pos, ◌-ℤ◌, neg_ℤ, append-nil}
+use Rattle.std.specs.Prelude.{All, IfSome, slice_index_or}
+use Rattle.std.proofs.lemmas.Bool.{cases_lt}
+use Rattle.std.proofs.lemmas.Int.{ints}
+use Rattle.std.proofs.lemmas.List.{get_or_past}
+use Rattle.std.proofs.lemmas.List.Elements.{All-from_get_or}
+use Rattle.std.proofs.lemmas.Option.{slice_get-get_or, slice_get_within}
+use Rattle.mt_model.specs.Form.{Form}
+use Rattle.mt_model.specs.Log.{IsLog, Logged}
+use Rattle.neg_cycle.specs.declared.system.Edge.{Edge}
+use Rattle.neg_cycle.specs.Systems as system
+use Rattle.difference_graph.specs.Graphs.{Constraints}
+use Rattle.formula_arena.specs.Laws.{CoresAreCores, NodesAreSubtrees}
+use Rattle.clause_db.specs.declared.lit.Lit.{Lit}
+use Rattle.clause_db.specs.Clauses.{clause_at}
+use Rattle.propagate.specs.Laws.{NewTrailIsInStep}
+use Rattle.propagate.specs.Links.{edge_in as sensed_edge}
+use Rattle.propagate.specs.Steps.{IsLinked}
+use Rattle.propagate.specs.Trails.{Assigned, IsTrail}
+use Rattle.axiom_rules.specs.declared.literal.Atom.{Atom}
+use Rattle.axiom_rules.specs.declared.literal.Atom.TheVariants.{Order, Node, First, Wit, Span, Gap}
+use Rattle.axiom_rules.specs.declared.literal.Literal.{Literal}
+use Rattle.axiom_rules.specs.declared.rule.Rule.{Rule}
+use Rattle.axiom_rules.specs.Literals.{yes}
+use Rattle.axiom_rules.specs.Sought.{Sought, sought_of}
+use Rattle.proof_log.specs.declared.line.Hint.TheVariants as hint
+use Rattle.mtl_encode.specs.declared.problem.Problem.{Problem}
+use Rattle.mtl_encode.specs.Problems.{Fits, ReadsAs}
+use Rattle.mtl_encode.proofs.AtomGrowth.{read-at, read-atom}
+use Rattle.cdcl_core.specs.declared.derived.Derived.{Derived}
+use Rattle.cdcl_core.specs.Founds.{IsPosed}
+use Rattle.cdcl_core.specs.Orders.{AreLinks, IsOrderAmong, atom_at, order_edges}
+use Rattle.cdcl_core.specs.Recording.{AreOfLog, IsRecord, IsRuleInRange}
+use Rattle.cdcl_core.specs.Searching.{IsSearch}
+use Rattle.cdcl_core.proofs.Pairs.{atom_there}
+use Rattle.cdcl_core.proofs.ProblemAtoms.{atoms-in-range, orders-among}
+use Rattle.cdcl_core.proofs.Records.{begun, rules_spelled}
+
+-- the variables of a clause that is read through atoms are in range
+read_within : (atoms : List Atom) (lits : List Lit) (clause : List Literal) → ReadsAs atoms lits clause → All (λ l. l.var < length atoms) lits
+read_within atoms lits clause reads k d below =
+    let there = (read-atom atoms (slice_index_or lits k d) (slice_index_or clause k (yes (First 0))) (read-at atoms lits clause k d (yes (First 0)) reads below)).0 in
+    slice_get_within atoms (slice_index_or lits k d).var _ there
+
+-- so are those of all clauses of a problem that fits
+pub fits_within : (s : Sought) (p : Problem) → Fits s p → All (All (λ l. l.var < length p.atoms)) p.db
+fits_within s p fits = All-from_get_or (All (λ (l : Lit). l.var < length p.atoms)) p.db [] (λ c below.
+    let d : Rule = record { number = 0; args = [] } in
+    let own = fits.clauses c (get_or p.rules c d) (slice_get-get_or p.rules c d (omega (arith, below, fits.count))) in
+    read_within p.atoms (clause_at p.db c) own.clause own.read)
+
+-- the edges of an order are within the limits of a system
+yes_edge : (nodes e f : ℕ) (c : ℤ) → IsOrderAmong nodes (Order e f c) → system.IsEdge nodes (record { from = e + 1; to = f + 1; bound = c })
+yes_edge nodes e f c order = record {
+  from = omega (arith, order.smaller_first, order.second);
+  to = order.second;
+  bound = record { low = omega (arith, ints, order.bound.low); high = omega (arith, ints, order.bound.high) };
+}
+
+no_edge : (nodes e f : ℕ) (c : ℤ) → IsOrderAmong nodes (Order e f c) → system.IsEdge nodes (record { from = f + 1; to = e + 1; bound = neg_ℤ c -ℤ pos 1 })
+no_edge nodes e f c order = record {
+  from = order.second;
+  to = omega (arith, order.smaller_first, order.second);
+  bound = record { low = omega (arith, ints, order.negated.low); high = omega (arith, ints, order.negated.high) };
+}
+
+edges_fit : (nodes : ℕ) (a : Atom) (b : Bool) → IsOrderAmong nodes a → IfSome (sensed_edge (order_edges a) b) (system.IsEdge nodes)
+edges_fit nodes (Order e f c) true order = yes_edge nodes e f c order
+edges_fit nodes (Order e f c) false order = no_edge nodes e f c order
+edges_fit nodes (Node k e) b order = tt
+edges_fit nodes (First e) b order = tt
+edges_fit nodes (Wit k i j) b order = tt
+edges_fit nodes (Span k i j) b order = tt
+edges_fit nodes (Gap k i m) b order = tt
+
+-- so the links of order atoms fit a trail and a graph
+pub links_fit : (t : Assigned) (g : Constraints) (atoms : List Atom) (links : List (Option (Edge × Edge))) → t.vars ≡ length atoms → All (IsOrderAmong g.nodes) atoms → AreLinks atoms links → IsLinked t links g
+links_fit t g atoms links vars orders linked = record {
+  variables = let count = linked.count in omega (arith, count, vars);
+  edges = λ l. elim (cases_lt l.var (length atoms)) [
+    | inl within ↦
+        let at = linked.each l.var (atom_at atoms l.var) (atom_there atoms l.var within) in
+        rw at (edges_fit g.nodes (atom_at atoms l.var) l.positive (orders l.var (First 0) within))
+    | inr past ↦ rw (get_or_past links l.var None (let count = linked.count in omega (arith, count, past))) tt
+  ];
+}
+
+module _ (cores : CoresAreCores) (nodes_law : NodesAreSubtrees) (p : Problem) (posed : IsPosed p) where
+  -- the order atoms are differences of nodes within the limits
+  pub posed_orders : All (IsOrderAmong p.nodes) p.atoms
+  posed_orders = orders-among cores nodes_law posed.log posed.form posed.value p posed.fits posed.formula
+
+  of_log : (log : Logged) (f : Form) (v : Bool) → IsLog log → Fits (sought_of log f v) p → AreOfLog (sought_of log f v) p.atoms
+  of_log log f v valid fits = record {
+    valid = valid;
+    in_range = atoms-in-range cores nodes_law log f v p fits;
+    orders = subst (λ n. All (IsOrderAmong n) p.atoms) fits.nodes posed_orders;
+  }
+
+  -- what is recorded before the first line
+  recorded : All IsRuleInRange p.rules → (log : Logged) (f : Form) (v : Bool) → IsLog log → Fits (sought_of log f v) p → IsRecord log f v p.atoms p.db (map hint.Rule p.rules) []
+  recorded ranges log f v valid fits = begun log f v p (of_log log f v valid fits) fits (rules_spelled (sought_of log f v) p fits ranges)
+
+  -- the search before the first conflict
+  pub started : NewTrailIsInStep → (vars : ℕ) (links : List (Option (Edge × Edge))) (t : Assigned) (g : Constraints) (d : Derived) → vars ≡ length p.atoms → t.vars ≡ vars → t.entries ≡ [] → t.levels ≡ [] → IsTrail t
+      → g.nodes ≡ p.nodes → g.capacity ≡ length p.edges + vars → g.edges ≡ p.edges → AreLinks p.atoms links → d.db ≡ p.db → d.cites.items ≡ map hint.Rule p.rules → d.lines ≡ [] → All IsRuleInRange p.rules
+      → IsSearch p vars links t g d 0
+  started law vars links t g d count assigned none flat trail same room held linked own cites lines ranges = record {
+    count = count;
+    assigned = assigned;
+    nodes = same;
+    room = omega (arith, room);
+    links_are = linked;
+    run = record {
+      trail = trail;
+      step = law t d.db links p.edges g none flat (subst (λ (n : ℕ). All (All (λ (l : Lit). l.var < n)) d.db) (sym (assigned ∙ count)) (rw own (fits_within (sought_of posed.log posed.form posed.value) p posed.fits)))
+          (links_fit t g p.atoms links (assigned ∙ count) (rw same posed_orders) linked) held;
+      closed = λ m deep. absurd (let levels : length t.levels ≡ 0 = ap length flat in omega (arith, deep, levels));
+    };
+    clauses = ([], own ∙ sym (append-nil p.db));
+    few_clauses = let size : length d.db ≡ length p.db = ap length own in omega (arith, size);
+    few_lines = let size : length d.lines ≡ 0 = ap length lines in omega (arith, size);
+    lesson_count = rw lines refl;
+    derives = λ log f v valid fits. rw (own, cites, lines) (recorded ranges log f v valid fits);
+  }

@@ -1,0 +1,15 @@
+use Rattle.std.proofs.Common.{◌-◌, List, length}
+use Rattle.neg_cycle.specs.declared.system.Edge.{Edge}
+use Rattle.difference_graph.specs.Graphs.{HasSameLimits}
+use Rattle.cdcl_core.specs.Running.{IsRun, IsRunning}
+use Rattle.cdcl_core.proofs.descent.descend.Given as goal
+
+abbrev pub invariant-decisions : goal.invariant-decisions
+invariant-decisions l = record {
+  running : IsRunning l.vars l.db l.links l.trail l.graph;
+  limits : HasSameLimits l.fn.graph l.graph;
+  run : (base : List Edge) → IsRun l.db l.links base l.fn.trail l.fn.graph → IsRun l.db l.links base l.trail l.graph;
+}
+
+abbrev pub decreases-decisions : goal.decreases-decisions
+decreases-decisions l = l.trail.vars - length l.trail.entries

@@ -1,0 +1,56 @@
+-- What a search keeps.
+use Rattle.std.specs.Prelude.{◌≡◌, ◌⊎◌, ℕ, ◌+◌, ◌<◌, ◌≤◌, List, length, Option}
+use Rattle.neg_cycle.specs.declared.system.Edge.{Edge}
+use Rattle.difference_graph.specs.Graphs.{Constraints}
+use Rattle.clause_db.specs.declared.lit.Lit.{Lit}
+use Rattle.clause_db.specs.Clauses.{clause_at}
+use Rattle.propagate.specs.Trails.{Assigned, IsTrail, IsUnassigned}
+use Rattle.propagate.specs.Clauses.{AreSettled}
+use Rattle.propagate.specs.Steps.{InStep, IsRefused, LacksLast}
+use Rattle.propagate.specs.Reach.{IsConflict, IsLast}
+use Rattle.propagate.specs.Closed.{Closed, ClosedAt}
+use Rattle.analyze.specs.Asserting.{HasHere, HasTwoAbove}
+use Rattle.cdcl_core.specs.declared.descent.Descent.{Descent}
+use Rattle.cdcl_core.specs.declared.descent.Descent.TheVariants as descent
+
+-- trail, clauses, links and graph are in step, and nothing is left to propagate below the present level
+pub record IsRun (db : List (List Lit)) (links : List (Option (Edge × Edge))) (base : List Edge) (t : Assigned) (g : Constraints) : Type 0 where
+  pub trail : IsTrail t
+  pub step : InStep t db links base g
+  pub closed : Closed t db
+
+-- the edge of the last literal is missing, since it closes a walk of negative sum
+pub record IsStuck (db : List (List Lit)) (links : List (Option (Edge × Edge))) (base : List Edge) (t : Assigned) (g : Constraints) (l : Lit) : Type 0 where
+  pub trail : IsTrail t
+  pub last : IsLast t l
+  pub refused : IsRefused links l g
+  pub step : LacksLast t db links base g
+  pub closed : Closed t db
+
+-- a run over so many variables and some base, with room for an edge of each variable
+pub record IsRunning (many : ℕ) (db : List (List Lit)) (links : List (Option (Edge × Edge))) (t : Assigned) (g : Constraints) : Type 0 where
+  pub base : List Edge
+  pub vars : t.vars ≡ many
+  pub room : length base + many ≤ g.capacity
+  pub run : IsRun db links base t g
+
+-- a run over a base of so many edges that is stuck
+pub record IsStuckOver (edges : ℕ) (db : List (List Lit)) (links : List (Option (Edge × Edge))) (t : Assigned) (g : Constraints) : Type 0 where
+  pub base : List Edge
+  pub literal : Lit
+  pub count : length base ≡ edges
+  pub stuck : IsStuck db links base t g literal
+
+-- where a descent ended
+abbrev pub IsDescended : List (List Lit) → List (Option (Edge × Edge)) → List Edge → Assigned → Constraints → Descent → Type 0
+IsDescended db links base t g descent.Whole = IsRun db links base t g × AreSettled t.entries db × ((v : ℕ) → v < t.vars → IsUnassigned t.entries v → ⊥)
+IsDescended db links base t g (descent.False c) = IsRun db links base t g × IsConflict t db c
+IsDescended db links base t g (descent.Refused l) = IsStuck db links base t g l
+
+-- a clause is false, as `learn` and `refute` ask; a level below that leaves two of its literals open is closed
+pub record IsConflicted (db : List (List Lit)) (links : List (Option (Edge × Edge))) (base : List Edge) (t : Assigned) (g : Constraints) (c : ℕ) : Type 0 where
+  pub trail : IsTrail t
+  pub step : InStep t db links base g ⊎ LacksLast t db links base g
+  pub conflict : IsConflict t db c
+  pub here : 0 < length t.levels → HasHere t (clause_at db c)
+  pub closed : (m : ℕ) → m < length t.levels → HasTwoAbove t.entries m (clause_at db c) → ClosedAt t db m

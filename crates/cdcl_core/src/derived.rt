@@ -1,0 +1,103 @@
+//! What a search has derived: clauses, the hint that cites each, and the lines.
+
+ghost use Rattle.std.specs.Prelude.{◌≡◌, ◌+◌, ◌-◌, ◌^◌, ◌<◌, [], ◌∷◌, ◌++◌, length, map, All, IfOk, OnOk};
+ghost use Rattle.proof_log.specs.declared.line.Hint.TheVariants as hint;
+ghost use Rattle.proof_log.specs.Spelled.{IsNumber};
+ghost use Rattle.clause_db.specs.Literals.{HasVarsOnce};
+ghost use Rattle.cdcl_core.specs.Orders.{read_lit};
+ghost use Rattle.cdcl_core.specs.Recording.{HasNumbers, IsRuleInRange, cite_at};
+
+use crate::walk::literal_of;
+use axiom_rules::{Atom, AtomTable, Rule};
+use clause_db::{ClauseRef, Db, Lit};
+use proof_log::{Hint, Hints, Line, Lines, Lits};
+use std::alloc::{AllocError, Global};
+
+/// The clauses, the hint by which a line cites each of them, and the lines that were derived.
+#[derive(Drop)]
+pub struct Derived {
+    pub db: Db,
+    pub cites: Vec<Hint>,
+    pub lines: Lines,
+}
+
+// The number and the arguments of a rule are in range by their types.
+fn rule_fits(number: u8, args: &[u32])
+    ensures number { number < 2 ^ 8 }
+    ensures arguments { All IsNumber args.now }
+{}
+
+// The hint that cites the clause of a rule.
+fn rule_hint(rule: &Rule) -> Hint
+    ensures hint { result ≡ hint.Rule rule.now }
+    ensures in_range { IsRuleInRange rule.now }
+{
+    rule_fits(rule.number, &rule.args);
+    Hint::Rule(*rule)
+}
+
+/// Hints that cite the clauses of rules.
+pub fn cites_of(alloc: Global, rules: &[Rule]) -> Result<Vec<Hint>, AllocError>
+    ensures cites { IfOk result (λ v. v.items ≡ map hint.Rule rules.now) }
+    ensures in_range { OnOk result (All IsRuleInRange rules.now) }
+{
+    let mut cites = Vec::new(alloc);
+    for rule in rules {
+        cites.push(rule_hint(rule))?;
+    }
+    Ok(cites)
+}
+
+// The numbers in an atom are in range by their types.
+fn numbers_fit(atom: Atom)
+    ensures numbers { HasNumbers atom }
+{
+    match atom {
+        Atom::Order { .. } | Atom::Node { .. } | Atom::First { .. } => {}
+        Atom::Wit { .. } | Atom::Span { .. } | Atom::Gap { .. } => {}
+    }
+}
+
+/// The literals of atoms that literals of their variables stand for.
+pub fn read_lits(alloc: Global, atoms: &AtomTable, lits: &[Lit]) -> Result<Lits, AllocError>
+    requires within { All (λ l. l.var < length atoms.now) lits.now }
+    ensures literals { IfOk result (λ read. read ≡ map (read_lit atoms.now) lits.now) }
+    ensures numbers { IfOk result (λ read. All (λ l. HasNumbers l.atom) read) }
+{
+    let mut read = Lits::new(alloc);
+    for lit in lits {
+        let literal = literal_of(atoms, *lit);
+        numbers_fit(literal.atom);
+        read.push(literal)?;
+    }
+    Ok(read)
+}
+
+/// The hints that cite these clauses.
+pub fn read_hints(alloc: Global, cites: &[Hint], refs: &[ClauseRef]) -> Result<Hints, AllocError>
+    requires within { All (λ c. c < length cites.now) refs.now }
+    ensures hints { IfOk result (λ hints. hints ≡ map (cite_at cites.now) refs.now) }
+{
+    let mut hints = Hints::new(alloc);
+    for clause in refs {
+        hints.push(cites[clause.get() as usize])?;
+    }
+    Ok(hints)
+}
+
+impl Derived {
+    /// Adds a line and its clause, which later lines cite by the line's number.
+    pub fn add(&mut self, lits: &[Lit], line: Line) -> Result<ClauseRef, AllocError>
+        requires once { HasVarsOnce lits.now }
+        requires clause_room { length self.old.db < 2 ^ 32 - 1 }
+        requires line_room { length self.old.lines < 2 ^ 32 - 1 }
+        ensures place { IfOk result (λ c. c ≡ length self.old.db) }
+        ensures clause { OnOk result (self.new.db ≡ self.old.db ++ lits.now ∷ []) }
+        ensures cite { OnOk result (self.new.cites.items ≡ self.old.cites.items ++ hint.Line (length self.old.lines + 1) ∷ []) }
+        ensures line { OnOk result (self.new.lines ≡ self.old.lines ++ line ∷ []) }
+    {
+        self.lines.push(line)?;
+        self.cites.push(Hint::Line(self.lines.len() as u32))?;
+        self.db.add(lits)
+    }
+}

@@ -1,0 +1,93 @@
+//! Order atoms as difference constraints.
+
+ghost use Rattle.std.specs.Prelude.{◌≡◌, ◌+◌, ◌≤◌, ◌<◌, length, All, IfOk};
+ghost use Rattle.neg_cycle.specs.declared.system.TheConstants.{MAX_EDGES, MAX_NODES};
+ghost use Rattle.neg_cycle.specs.Systems.{IsSystem};
+ghost use Rattle.difference_graph.specs.Graphs.{HasSolution};
+ghost use Rattle.cdcl_core.specs.Orders.{AreLinks, IsOrderAmong, order_edges as edges_of_order, order_step as step_of_order};
+
+use axiom_rules::{Atom, AtomTable, Literal};
+use clause_db::Var;
+use difference_graph::{Graph, Push};
+use mt_model::Step;
+use neg_cycle::Edge;
+use propagate::Links;
+use std::alloc::{AllocError, Global};
+
+/// The edges of an order atom: that it holds, and that it doesn't. No other atom has edges.
+pub fn order_edges(atom: Atom) -> Option<(Edge, Edge)>
+    requires order { IsOrderAmong MAX_NODES atom }
+    ensures edges { result ≡ edges_of_order atom }
+{
+    match atom {
+        Atom::Order { e, f, c } => Some((
+            Edge {
+                from: e + 1,
+                to: f + 1,
+                bound: c,
+            },
+            Edge {
+                from: f + 1,
+                to: e + 1,
+                bound: -c - 1,
+            },
+        )),
+        Atom::Node { .. } | Atom::First { .. } => None,
+        Atom::Wit { .. } | Atom::Span { .. } | Atom::Gap { .. } => None,
+    }
+}
+
+/// An order literal as a step of a walk. No other literal is one.
+pub fn order_step(literal: Literal) -> Option<Step>
+    requires order { IsOrderAmong MAX_NODES literal.atom }
+    ensures step { result ≡ step_of_order literal }
+{
+    match literal.atom {
+        Atom::Order { e, f, c } => Some(if literal.positive {
+            Step::Order { e, f, c }
+        } else {
+            Step::Order {
+                e: f,
+                f: e,
+                c: -c - 1,
+            }
+        }),
+        Atom::Node { .. } | Atom::First { .. } => None,
+        Atom::Wit { .. } | Atom::Span { .. } | Atom::Gap { .. } => None,
+    }
+}
+
+/// The edges of the atoms, by their variables.
+pub fn links_of(alloc: Global, atoms: &AtomTable) -> Result<Links, AllocError>
+    requires orders { All (IsOrderAmong MAX_NODES) atoms.now }
+    ensures links { IfOk result (AreLinks atoms.now) }
+{
+    let mut links = Links::new(alloc, atoms.len())?;
+    for v in 0..atoms.len() {
+        let var = Var::new(v);
+        if let Some((yes, no)) = order_edges(atoms.atom(var)) {
+            links.set(var, yes, no);
+        }
+    }
+    Ok(links)
+}
+
+/// A graph that holds these edges, which have a solution, with room for as many more as there are variables.
+pub fn graph_of(alloc: Global, nodes: u32, edges: &[Edge], vars: u32) -> Result<Graph, AllocError>
+    requires some { 0 < nodes }
+    requires system { IsSystem nodes edges.now }
+    requires room { length edges.now + vars ≤ MAX_EDGES }
+    requires solvable { HasSolution nodes edges.now }
+    ensures nodes { IfOk result (λ g. g.nodes ≡ nodes) }
+    ensures capacity { IfOk result (λ g. g.capacity ≡ length edges.now + vars) }
+    ensures edges { IfOk result (λ g. g.edges ≡ edges.now) }
+{
+    let mut graph = Graph::new(alloc, nodes, edges.len() as u32 + vars)?;
+    for edge in edges {
+        match graph.push(*edge) {
+            Push::Kept => {}
+            Push::Cycle => unreachable!(),
+        }
+    }
+    Ok(graph)
+}

@@ -1,0 +1,17 @@
+//! The search for what satisfies a problem: a model, lines that refute it, or lines that derive, as many as
+//! a budget of conflicts.
+#![tactic(auto)]
+
+mod assignment;
+mod conflict;
+mod derived;
+mod descent;
+mod difference;
+mod found;
+mod lines;
+mod linked;
+mod main_loop;
+mod walk;
+
+pub use found::Found;
+pub use main_loop::search;

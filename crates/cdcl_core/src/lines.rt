@@ -1,0 +1,77 @@
+//! Lines with their clauses.
+
+ghost use Rattle.std.specs.Prelude.{◌≡◌, ◌+◌, ◌-◌, ◌^◌, ◌<◌, Bool, List, length, map, All, IfOk, OnOk};
+ghost use Rattle.mt_model.specs.Form.{Form};
+ghost use Rattle.mt_model.specs.Log.{Logged};
+ghost use Rattle.neg_cycle.specs.declared.system.Edge.{Edge};
+ghost use Rattle.neg_cycle.specs.declared.system.TheConstants.{MAX_NODES};
+ghost use Rattle.clause_db.specs.declared.lit.Lit.{Lit};
+ghost use Rattle.skew_bounds.specs.Edges.{AreEdges};
+ghost use Rattle.cdcl_core.specs.Founds.{lessons};
+ghost use Rattle.cdcl_core.specs.Orders.{AreLinks, IsOrderAmong};
+ghost use Rattle.cdcl_core.specs.Recording.{IsLearnLine, IsRecord, cite_at, read_clause};
+ghost use Rattle.cdcl_core.specs.Running.{IsConflicted, IsStuck, IsStuckOver};
+ghost use Rattle.cdcl_core.specs.Searching.{Extends};
+
+use crate::derived::{Derived, read_hints, read_lits};
+use crate::linked::linked_lits;
+use crate::walk::{denied, steps_of};
+use axiom_rules::AtomTable;
+use clause_db::{ClauseRef, Lit};
+use difference_graph::{Graph, graphs_are_solved};
+use mt_model::Bound;
+use proof_log::Line;
+use propagate::{Links, Trail};
+use std::alloc::{AllocError, Global};
+
+// The line and the clause of the walk that a refused edge closes.
+pub fn add_cycle(
+    alloc: Global,
+    trail: &Trail,
+    links: &Links,
+    graph: &Graph,
+    bounds: &[Bound],
+    atoms: &AtomTable,
+    derived: &mut Derived,
+) -> Result<ClauseRef, AllocError>
+    requires orders { All (IsOrderAmong MAX_NODES) atoms.now }
+    requires links { AreLinks atoms.now links.now }
+    requires vars { trail.now.vars ≡ length atoms.now }
+    requires stuck { IsStuckOver (length bounds.now) derived.old.db links.now trail.now graph.now }
+    requires clause_room { length derived.old.db < 2 ^ 32 - 1 }
+    requires line_room { length derived.old.lines < 2 ^ 32 - 1 }
+    ensures clauses { OnOk result (length derived.new.db ≡ length derived.old.db + 1) }
+    ensures kept { OnOk result (Extends derived.old.db derived.new.db) }
+    ensures lines { OnOk result (length derived.new.lines ≡ length derived.old.lines + 1) }
+    ensures lessons { OnOk result (lessons derived.new.lines ≡ lessons derived.old.lines) }
+    ensures conflicted { IfOk result (λ c. (base : List Edge) (l : Lit) → length base ≡ length bounds.now → IsStuck derived.old.db links.now base trail.now graph.now l
+        → IsConflicted derived.new.db links.now base trail.now graph.now c) }
+    ensures derives { OnOk result ((log : Logged) (f : Form) (v : Bool) (base : List Edge) (l : Lit) → AreEdges log bounds.now base → IsStuck derived.old.db links.now base trail.now graph.now l
+        → IsRecord log f v atoms.now derived.old.db derived.old.cites.items derived.old.lines → IsRecord log f v atoms.now derived.new.db derived.new.cites.items derived.new.lines) }
+{
+    // The held edges have a solution, and each atom has one variable.
+    graphs_are_solved(graph);
+    let _ = atoms.len();
+    let orders = linked_lits(alloc, trail, links)?;
+    let steps = steps_of(alloc, bounds, &orders, atoms, graph.cycle())?;
+    let lits = denied(alloc, bounds.len(), &orders, graph.cycle())?;
+    derived.add(&lits, Line::Cycle(steps))
+}
+
+// The line of a clause that held clauses refute the negations of.
+pub fn learnt(
+    alloc: Global,
+    atoms: &AtomTable,
+    derived: &Derived,
+    lits: &[Lit],
+    refs: &[ClauseRef],
+) -> Result<Line, AllocError>
+    requires lits { All (λ l. l.var < length atoms.now) lits.now }
+    requires refs { All (λ c. c < length derived.now.cites.items) refs.now }
+    ensures line { IfOk result (IsLearnLine (read_clause atoms.now lits.now) (map (cite_at derived.now.cites.items) refs.now)) }
+{
+    Ok(Line::Learn {
+        lits: read_lits(alloc, atoms, lits)?,
+        hints: read_hints(alloc, &derived.cites, refs)?,
+    })
+}
