@@ -1,0 +1,68 @@
+//! The search for a value of a formula.
+
+ghost use Rattle.std.specs.Prelude.{◌≡◌, ◌≤◌, ◌+◌, length};
+ghost use Rattle.mt_model.specs.Form.{form_of};
+ghost use Rattle.mt_model.specs.Timing.{Admissible};
+ghost use Rattle.formula_arena.specs.Nodes.{nodes_of};
+ghost use Rattle.mtl_encode.specs.Size.{size};
+
+use cdcl_core::{Found, search};
+use formula_arena::Arena;
+use mt_model::{Formula, Log, NodeId, bounds_are_admissible};
+use mtl_encode::{MAX_SIZE, encode, size_of};
+use std::alloc::{AllocError, Global};
+
+/// What is searched for: a value, with so many conflicts at most.
+#[derive(Clone, Copy)]
+pub struct Asked {
+    pub value: bool,
+    pub budget: u32,
+}
+
+// What a search finds of the nodes of a formula, of which the root is the last.
+fn searched_nodes(
+    alloc: Global,
+    log: &Log,
+    f: &Formula,
+    arena: &Arena,
+    root: NodeId,
+    times: &[i128],
+    asked: Asked,
+) -> Result<Found, AllocError>
+    requires some { 1 ≤ asked.budget }
+    requires most { asked.budget ≤ 1000000 }
+    requires admissible { Admissible log.now times.now }
+    requires nodes { arena.now ≡ nodes_of (form_of f.now) }
+    requires last { root + 1 ≡ length arena.now }
+    requires small { size log.now arena.now ≤ MAX_SIZE }
+{
+    bounds_are_admissible();
+    // What a log and a formula are, their parts are known with.
+    let _ = log.rows();
+    let _ = f.tree();
+    let problem = encode(alloc, log, arena, root, asked.value)?;
+    search(alloc, problem, asked.budget)
+}
+
+/// What a search finds, where the problem isn't too large and there is memory. The log admits the times.
+pub fn searched(
+    alloc: Global,
+    log: &Log,
+    f: &Formula,
+    times: &[i128],
+    asked: Asked,
+) -> Option<Found>
+    requires some { 1 ≤ asked.budget }
+    requires most { asked.budget ≤ 1000000 }
+    requires admissible { Admissible log.now times.now }
+{
+    let mut arena = Arena::new(alloc);
+    let Ok(root) = arena.intern(f) else {
+        return None;
+    };
+    if size_of(log, &arena) <= MAX_SIZE {
+        searched_nodes(alloc, log, f, &arena, root, times, asked).ok()
+    } else {
+        None
+    }
+}
