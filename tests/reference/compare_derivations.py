@@ -8,7 +8,6 @@ are broken by an edit. The first difference is printed as a table of its own,
 ready to copy, and the end is 1.
 """
 
-import argparse
 import os
 import random
 import subprocess
@@ -21,6 +20,7 @@ import derivation_cases
 import derivations
 import edits
 import invent
+from tables import print_table, read_arguments
 
 PATIENCE = 120  # seconds that one run of the program may take
 TABLE_MOST = 250_000  # bytes of one table, well below what the program takes
@@ -118,24 +118,12 @@ def compare_all(program, questions):
 def print_difference(question, answer):
     """Prints a question as a table of its own, with both answers."""
     print(f"difference: {question.title}: {question.answer} is expected, and {answer} came")
-    print("table = (")
-    for line in (question.head + question.table()).splitlines(keepends=True):
-        print(f"    {line!r}")
-    print(")", flush=True)
-
-
-def read_arguments():
-    """The program and the options of the command line."""
-    parser = argparse.ArgumentParser(description="compare check_table with the second checker")
-    parser.add_argument("program")
-    parser.add_argument("--cases", type=int, default=4000, help="number of random derivations")
-    parser.add_argument("--seed", type=int, default=1)
-    return parser.parse_args()
+    print_table(question.head + question.table())
 
 
 def main():
     """Compares, and ends with 0 where there is no difference and with 1 where there is one."""
-    arguments = read_arguments()
+    arguments = read_arguments("compare check_table with the second checker", 4000, "random derivations")
     program = os.path.abspath(arguments.program)
     questions = [*fixed_questions(), *random_questions(arguments.seed, arguments.cases)]
     count = compare_all(program, questions)

@@ -10,7 +10,6 @@ the formula the value. The first difference is printed as a table of its own,
 ready to copy, and the end is 1.
 """
 
-import argparse
 import itertools
 import os
 import random
@@ -29,6 +28,7 @@ import reference
 from compare_derivations import head_of
 from derivations import Literal, Problem, Rule, RuleFault
 from generate import chance
+from tables import print_table, read_arguments
 
 PATIENCE = 120  # seconds that one run of the program may take
 PROBLEMS_A_TABLE = 20
@@ -373,24 +373,12 @@ def compare_all(program, asked):
 def print_difference(question, found):
     """Prints a question as a table of its own, with what is wrong."""
     print(f"difference: {question.title}: {found}")
-    print("table = (")
-    for line in question.table().splitlines(keepends=True):
-        print(f"    {line!r}")
-    print(")", flush=True)
-
-
-def read_arguments():
-    """The program and the options of the command line."""
-    parser = argparse.ArgumentParser(description="compare encode_table with a plain listing")
-    parser.add_argument("program")
-    parser.add_argument("--cases", type=int, default=400, help="number of problems")
-    parser.add_argument("--seed", type=int, default=1)
-    return parser.parse_args()
+    print_table(question.table())
 
 
 def main():
     """Compares, and ends with 0 where there is no difference and with 1 where there is one."""
-    arguments = read_arguments()
+    arguments = read_arguments("compare encode_table with a plain listing", 400, "problems")
     program = os.path.abspath(arguments.program)
     count = compare_all(program, questions(arguments.seed, arguments.cases))
     if count is None:

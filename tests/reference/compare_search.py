@@ -10,7 +10,6 @@ conflicts, which they may spend. The first difference is printed as a table of
 its own, ready to copy, and the end is 1.
 """
 
-import argparse
 import itertools
 import os
 import random
@@ -27,6 +26,7 @@ import reference
 from compare_derivations import head_of
 from compare_problems import answers_of
 from generate import chance
+from tables import print_table, read_arguments
 
 SEARCHES_A_TABLE = 20
 SHARE_OPEN = 0.6  # of the formulas, at least, have both values in timings of their log
@@ -107,24 +107,12 @@ def compare_all(program, asked):
 def print_difference(question, answer):
     """Prints a question as a table of its own, with the answer that came."""
     print(f"difference: {question.title}: {answer}, not {' or '.join(question.allowed())}")
-    print("table = (")
-    for line in question.table().splitlines(keepends=True):
-        print(f"    {line!r}")
-    print(")", flush=True)
-
-
-def read_arguments():
-    """The program and the options of the command line."""
-    parser = argparse.ArgumentParser(description="compare search_table with all timings")
-    parser.add_argument("program")
-    parser.add_argument("--cases", type=int, default=400, help="number of searches")
-    parser.add_argument("--seed", type=int, default=1)
-    return parser.parse_args()
+    print_table(question.table())
 
 
 def main():
     """Compares, and ends with 0 where there is no difference and with 1 where there is one."""
-    arguments = read_arguments()
+    arguments = read_arguments("compare search_table with all timings", 400, "searches")
     program = os.path.abspath(arguments.program)
     count = compare_all(program, questions(arguments.seed, arguments.cases))
     if count is None:
