@@ -1,5 +1,6 @@
 pub mod Pairs
 pub mod LineGrowth
+pub mod Lessons
 pub mod Reading
 pub mod Counts
 pub mod Spelling
@@ -17,9 +18,14 @@ pub mod SoughtNodes
 pub mod ProblemAtoms
 pub mod Records
 pub mod Learning
+pub mod FreshClauses
+pub mod Spending
+pub mod FreshLearned
 pub mod CycleLines
 pub mod Models
 pub mod Starts
 pub mod Learned
 pub mod Progress
 pub mod Endings
+pub mod Posing
+pub mod KeptLists

@@ -31,11 +31,11 @@ got_last [] x = refl
 got_last (y ∷ xs) x = got_last xs x
 
 -- a line stays where it is
-line_kept : (lines more : List Line) (n : ℕ) (d : Line) → line_at lines n ≡ Some d → line_at (lines ++ more) n ≡ Some d
+pub line_kept : (lines more : List Line) (n : ℕ) (d : Line) → line_at lines n ≡ Some d → line_at (lines ++ more) n ≡ Some d
 line_kept lines more zero d at = absurd (cc)
 line_kept lines more (suc n) d at = got_kept lines more n d at
 
-line_same : (lines more : List Line) (n : ℕ) → n ≤ length lines → line_at (lines ++ more) n ≡ line_at lines n
+pub line_same : (lines more : List Line) (n : ℕ) → n ≤ length lines → line_at (lines ++ more) n ≡ line_at lines n
 line_same lines more zero low = refl
 line_same lines more (suc n) low = got_same lines more n (omega arith)
 
@@ -61,7 +61,7 @@ hint_kept s lines more n m (hint.Line k) c le is =
     let (before, there) = cited_line (nat_lt k n) lines k c is in
     rw (lt-ltb k m (omega (arith, ltb-true k n before, le)), line_kept lines more k there.0 there.1) (ap Some there.2)
 
-hints_kept : (s : Sought) (lines more : List Line) (n : ℕ) (hints : List Hint) (clauses : List (List Literal)) → HasClauses s lines n hints clauses
+pub hints_kept : (s : Sought) (lines more : List Line) (n : ℕ) (hints : List Hint) (clauses : List (List Literal)) → HasClauses s lines n hints clauses
     → HasClauses s (lines ++ more) n hints clauses
 hints_kept s lines more n [] clauses has = has
 hints_kept s lines more n (h ∷ hs) [] has = absurd (cc)

@@ -7,17 +7,22 @@ use Rattle.difference_graph.specs.Graphs.{Constraints, HasSameLimits}
 use Rattle.clause_db.specs.declared.lit.Lit.{Lit}
 use Rattle.propagate.specs.Trails.{Assigned}
 use Rattle.propagate.specs.Clauses.{HasReasons}
+use Rattle.propagate.specs.Closed.{Closed}
 use Rattle.skew_bounds.specs.Edges.{AreEdges}
+use Rattle.axiom_rules.specs.declared.rule.Rule.{Rule}
 use Rattle.axiom_rules.specs.Sought.{sought_of}
 use Rattle.mtl_encode.specs.declared.problem.Problem.{Problem}
 use Rattle.mtl_encode.specs.Problems.{Fits}
 use Rattle.cdcl_core.specs.declared.derived.Derived.{Derived}
 use Rattle.cdcl_core.specs.declared.descent.Descent.{Descent}
+use Rattle.cdcl_core.specs.declared.descent.Descent.TheVariants as descent
 use Rattle.cdcl_core.specs.Founds.{IsPosed, lessons}
 use Rattle.cdcl_core.specs.Orders.{AreLinks}
 use Rattle.cdcl_core.specs.Recording.{IsRecord}
 use Rattle.cdcl_core.specs.Running.{IsConflicted, IsDescended, IsRun, IsRunning}
-use Rattle.cdcl_core.specs.Searching.{Extends, HasEnded, IsDecided, IsSearch, IsWiderBy}
+use Rattle.cdcl_core.specs.Extending.{Extends}
+use Rattle.cdcl_core.specs.Searching.{HasEnded, IsDecided, IsSearch, IsWiderBy}
+use Rattle.cdcl_core.specs.Spending.{IsQuietBelow, IsSpending}
 use Rattle.cdcl_core.proofs.ProblemAtoms.{edge-count}
 
 pub extends_same : (db : List (List Lit)) → Extends db db
@@ -30,7 +35,14 @@ extends_more old mid new first second = (first.0 ++ second.0, second.1 ∙ ap (�
 pub conflict_reasons : (db : List (List Lit)) (links : List (Option (Edge × Edge))) (base : List Edge) (t : Assigned) (g : Constraints) (c : ℕ) → IsConflicted db links base t g c → HasReasons t db
 conflict_reasons db links base t g c conflicted = elim conflicted.step [ inl step ↦ step.reasons | inr lacks ↦ lacks.step.reasons ]
 
--- a search after so many conflicts whose descent has ended, with at most one clause and one line more
+-- nothing is left to propagate below the present level where a descent has ended
+pub descended_closed : (db : List (List Lit)) (links : List (Option (Edge × Edge))) (base : List Edge) (t : Assigned) (g : Constraints) (e : Descent) → IsDescended db links base t g e → Closed t db
+descended_closed db links base t g descent.Whole ended = ended.0.closed
+descended_closed db links base t g (descent.False c) ended = ended.0.closed
+descended_closed db links base t g (descent.Refused l) ended = ended.closed
+
+-- a search after so many conflicts whose descent has ended, with at most one clause and one line more than what the levels below
+-- the present one leave closed
 pub record IsMidway (p : Problem) (vars : ℕ) (links : List (Option (Edge × Edge))) (t : Assigned) (g : Constraints) (d : Derived) (conflicts : ℕ) (o : Option ℕ) : Type 0 where
   pub count : vars ≡ length p.atoms
   pub assigned : t.vars ≡ vars
@@ -43,6 +55,9 @@ pub record IsMidway (p : Problem) (vars : ℕ) (links : List (Option (Edge × Ed
   pub few_lines : length d.lines ≤ 2 * conflicts + 1
   pub lesson_count : lessons d.lines ≡ conflicts
   pub derives : (log : Logged) (f : Form) (v : Bool) → IsLog log → Fits (sought_of log f v) p → IsRecord log f v p.atoms d.db d.cites.items d.lines
+  pub known : List (List Lit)
+  pub quiet : IsQuietBelow known d.db t
+  pub spending : (log : Logged) (f : Form) (v : Bool) → IsLog log → Fits (sought_of log f v) p → IsSpending log f v p.rules p.atoms known d.cites.items d.lines
 
 module _ (p : Problem) (posed : IsPosed p) (vars : ℕ) (links : List (Option (Edge × Edge))) where
   edges_count : length p.edges ≡ length p.bounds
@@ -73,6 +88,12 @@ module _ (p : Problem) (posed : IsPosed p) (vars : ℕ) (links : List (Option (E
       few_lines = let old = search.few_lines in let more = wider.few_lines in omega (arith, old, more);
       lesson_count = wider.lesson_count ∙ search.lesson_count;
       derives = λ log f v valid fits. derives log f v p.edges fits.edges (descended p.edges search.run) (search.derives log f v valid fits);
+      known = d.db;
+      quiet = record {
+        clauses = wider.clauses;
+        closed = λ some. descended_closed d.db links p.edges u h e (descended p.edges search.run) (length u.levels - 1) (omega (arith, some));
+      };
+      spending = λ log f v valid fits. wider.spending log f v p.rules p.atoms d.db (search.spending log f v valid fits);
     }
 
   module _ (t : Assigned) (g : Constraints) (d : Derived) (n : ℕ) where
@@ -95,8 +116,10 @@ module _ (p : Problem) (posed : IsPosed p) (vars : ℕ) (links : List (Option (E
     pub learned : (u : Assigned) (h : Constraints) (k : Derived) (c : ℕ) → IsMidway p vars links t g d n (Some c) → u.vars ≡ t.vars → HasSameLimits g h
         → ((ls : List (Option (Edge × Edge))) (base : List Edge) → IsConflicted d.db ls base t g c → IsRun k.db ls base u h) → Extends d.db k.db → length k.db ≡ length d.db + 1 → length k.lines ≡ length d.lines + 1
         → lessons k.lines ≡ lessons d.lines + 1
-        → ((log : Logged) (f : Form) (v : Bool) → IsRecord log f v p.atoms d.db d.cites.items d.lines → IsRecord log f v p.atoms k.db k.cites.items k.lines) → IsSearch p vars links u h k (n + 1)
-    learned u h k c mid same limits run kept clauses lines count derives = record {
+        → ((log : Logged) (f : Form) (v : Bool) → IsRecord log f v p.atoms d.db d.cites.items d.lines → IsRecord log f v p.atoms k.db k.cites.items k.lines)
+        → ((log : Logged) (f : Form) (v : Bool) (rules : List Rule) (known : List (List Lit)) → IsQuietBelow known d.db t → IsRecord log f v p.atoms d.db d.cites.items d.lines
+        → IsSpending log f v rules p.atoms known d.cites.items d.lines → IsSpending log f v rules p.atoms k.db k.cites.items k.lines) → IsSearch p vars links u h k (n + 1)
+    learned u h k c mid same limits run kept clauses lines count derives spending = record {
       count = mid.count;
       assigned = same ∙ mid.assigned;
       nodes = limits.nodes ∙ mid.nodes;
@@ -108,4 +131,5 @@ module _ (p : Problem) (posed : IsPosed p) (vars : ℕ) (links : List (Option (E
       few_lines = let old = mid.few_lines in omega (arith, old, lines);
       lesson_count = let old = mid.lesson_count in omega (arith, old, count);
       derives = λ log f v valid fits. derives log f v (mid.derives log f v valid fits);
+      spending = λ log f v valid fits. spending log f v p.rules mid.known mid.quiet (mid.derives log f v valid fits) (mid.spending log f v valid fits);
     }

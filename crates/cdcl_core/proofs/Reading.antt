@@ -3,13 +3,14 @@ use Rattle.std.proofs.Common.{◌≡◌, ◌∙◌, ap, refl, subst, ℕ, ◌+�
 use Rattle.std.specs.Prelude.{IsTrue, nat_lt, All}
 use Rattle.std.proofs.lemmas.Bool.{lt-ltb, ltb-true}
 use Rattle.std.proofs.lemmas.List.Elements.{All-nil, All-cons, All-head, All-tail, All-weaker}
-use Rattle.hint_refutation.specs.Hints.{Refutes}
+use Rattle.hint_refutation.specs.Hints.{Refutes, Used as HintsUsed}
 use Rattle.hint_refutation.specs.Maps.{AreAmong, Carrier}
+use Rattle.hint_refutation.specs.Propagation.{Misses}
 use Rattle.hint_refutation.proofs.Carried.{words-carried}
 use Rattle.clause_db.specs.declared.lit.Lit.{Lit}
 use Rattle.clause_db.specs.Literals.{negation}
 use Rattle.clause_db.specs.Clauses.{AreHeld, clause_at, clauses_at}
-use Rattle.clause_db.specs.Hinted.{HintsRefute}
+use Rattle.clause_db.specs.Hinted.{HintsAreUsed, HintsRefute}
 use Rattle.axiom_rules.specs.declared.literal.Atom.{Atom}
 use Rattle.axiom_rules.specs.declared.literal.Literal.{Literal}
 use Rattle.axiom_rules.specs.Atoms.{AreOnce, IsVar}
@@ -70,6 +71,21 @@ module _ (atoms : List Atom) (once : AreOnce atoms) where
   refutes_read db lits refs within low hints =
       let carried = ((words-carried Lit Literal).refutes reader (map negation lits) (clauses_at db refs) (among_of (map negation lits) (negated_within lits low)) (held_among db refs within hints.held)).0 hints.refutes in
       subst (λ ms. Refutes negated ms (map (read_clause atoms) (clauses_at db refs))) (negated_read lits) carried
+
+  -- what is their resolvent is so too
+  pub used_read : (db : List (List Lit)) (lits : List Lit) (refs : List ℕ) → All (All (λ l. l.var < length atoms)) db → All (λ l. l.var < length atoms) lits
+      → HintsAreUsed db lits refs → HintsUsed negated (read_clause atoms lits) (map (read_clause atoms) (clauses_at db refs))
+  used_read db lits refs within low used = ((words-carried Lit Literal).used reader lits (clauses_at db refs) (among_of lits low) (held_among db refs within used.held)).0 used.used
+
+  -- and what they miss, they miss
+  pub misses_read : (db : List (List Lit)) (first : Lit) (others : List Lit) → All (All (λ l. l.var < length atoms)) db → All (λ l. l.var < length atoms) (first ∷ others)
+      → Misses negation db (map negation others) first → Misses negated (map (read_clause atoms) db) (map negated (read_clause atoms others)) (read_lit atoms first)
+  misses_read db first others within low missed =
+      let low_first = All-head (λ (k : Lit). k.var < length atoms) first others low in
+      let low_others = All-tail (λ (k : Lit). k.var < length atoms) first others low in
+      let carried = (words-carried Lit Literal).missed reader db (map negation others) first (All-weaker (All (λ (k : Lit). k.var < length atoms)) (AreAmong reader) among_of db within)
+      (among_of (map negation others) (negated_within others low_others)) (lt-ltb first.var (length atoms) low_first) missed in
+      subst (λ ms. Misses negated (map (read_clause atoms) db) ms (read_lit atoms first)) (negated_read others) carried
 
 -- the hints that cite clauses have these clauses
 pub cites_have : (s : Sought) (atoms : List Atom) (db : List (List Lit)) (cites : List Hint) (lines : List Line) (refs : List ℕ) → AreCited s atoms db cites lines → AreHeld db refs

@@ -61,7 +61,7 @@ module _ (log : Logged) (f : Form) (v : Bool) (atoms : List Atom) (db : List (Li
     not_empty (l ∷ ls) more is = absurd (cc)
 
 -- the clauses of rules, read through the atoms
-read_same : (atoms : List Atom) (lits : List Lit) (clause : List Literal) → ReadsAs atoms lits clause → read_clause atoms lits ≡ clause
+pub read_same : (atoms : List Atom) (lits : List Lit) (clause : List Literal) → ReadsAs atoms lits clause → read_clause atoms lits ≡ clause
 read_same atoms [] [] reads = refl
 read_same atoms [] (x ∷ xs) reads = absurd (cc)
 read_same atoms (l ∷ ls) [] reads = absurd (cc)

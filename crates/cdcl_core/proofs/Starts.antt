@@ -36,6 +36,7 @@ use Rattle.cdcl_core.specs.Searching.{IsSearch}
 use Rattle.cdcl_core.proofs.Pairs.{atom_there}
 use Rattle.cdcl_core.proofs.ProblemAtoms.{atoms-in-range, orders-among}
 use Rattle.cdcl_core.proofs.Records.{begun, rules_spelled}
+use Rattle.cdcl_core.proofs.Spending.{spending_begun}
 
 -- the variables of a clause that is read through atoms are in range
 read_within : (atoms : List Atom) (lits : List Lit) (clause : List Literal) → ReadsAs atoms lits clause → All (λ l. l.var < length atoms) lits
@@ -123,4 +124,5 @@ module _ (cores : CoresAreCores) (nodes_law : NodesAreSubtrees) (p : Problem) (p
     few_lines = let size : length d.lines ≡ 0 = ap length lines in omega (arith, size);
     lesson_count = rw lines refl;
     derives = λ log f v valid fits. rw (own, cites, lines) (recorded ranges log f v valid fits);
+    spending = λ log f v valid fits. rw (own, cites, lines) (spending_begun log f v p fits);
   }

@@ -1,5 +1,5 @@
 -- What is searched, and what is found.
-use Rattle.std.specs.Prelude.{◌≡◌, ℕ, ◌*◌, ◌<◌, ◌≤◌, List, [], ◌∷◌, length, Bool, true, false, count_by}
+use Rattle.std.specs.Prelude.{ℕ, ◌*◌, ◌<◌, ◌≤◌, List, [], ◌∷◌, length, Bool, true, false, count_by}
 use Rattle.mt_model.specs.Form.{Form, IsFormula}
 use Rattle.mt_model.specs.Log.{Logged, IsLog}
 use Rattle.difference_graph.specs.Graphs.{HasSolution}
@@ -7,7 +7,8 @@ use Rattle.axiom_rules.specs.declared.literal.Literal.{Literal}
 use Rattle.axiom_rules.specs.Sought.{sought_of}
 use Rattle.proof_log.specs.declared.line.Line.{Line}
 use Rattle.proof_log.specs.declared.line.Line.TheVariants as line
-use Rattle.proof_log.specs.Derivations.{Derives, Refutes}
+use Rattle.proof_log.specs.Derivations.{Refutes}
+use Rattle.proof_log.specs.Freshness.{Spends}
 use Rattle.mtl_encode.specs.declared.problem.Problem.{Problem}
 use Rattle.mtl_encode.specs.Models.{IsModel}
 use Rattle.mtl_encode.specs.Problems.{Fits}
@@ -37,9 +38,15 @@ is_lesson (line.Learn lits hints) = has_some lits
 abbrev pub lessons : List Line → ℕ
 lessons lines = count_by is_lesson lines
 
--- a model; or lines that refute, with fewer lessons than the budget; or lines that derive, with as many; of lines there are at
--- most twice as many as the budget
+-- a model; or lines that refute, with fewer lessons than the budget; or lines that spend the budget over the problem's rules; of
+-- lines there are at most twice as many as the budget
 abbrev pub IsFound : Problem → ℕ → Logged → Form → Bool → Found → Type 0
 IsFound p budget log f v (found.Model values potentials) = IsModel p values potentials
 IsFound p budget log f v (found.Refuted lines) = Refutes log f v lines × (lessons lines < budget) × (length lines ≤ 2 * budget)
-IsFound p budget log f v (found.Spent lines) = Derives log f v lines × (lessons lines ≡ budget) × (length lines ≤ 2 * budget)
+IsFound p budget log f v (found.Spent lines) = Spends log f v p.rules budget lines × (length lines ≤ 2 * budget)
+
+-- the fact holds, where the budget was spent
+abbrev pub IfSpent : Found → Type 0 → Type 0
+IfSpent (found.Model values potentials) P = Unit {0}
+IfSpent (found.Refuted lines) P = Unit {0}
+IfSpent (found.Spent lines) P = P

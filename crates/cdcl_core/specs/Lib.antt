@@ -4,4 +4,6 @@ pub mod Assignments
 pub mod Recording
 pub mod Founds
 pub mod Running
+pub mod Extending
+pub mod Spending
 pub mod Searching

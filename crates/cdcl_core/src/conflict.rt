@@ -7,14 +7,18 @@ ghost use Rattle.neg_cycle.specs.declared.system.Edge.{Edge};
 ghost use Rattle.neg_cycle.specs.declared.system.TheConstants.{MAX_NODES};
 ghost use Rattle.skew_bounds.specs.Edges.{AreEdges};
 ghost use Rattle.difference_graph.specs.Graphs.{HasSameLimits};
+ghost use Rattle.clause_db.specs.declared.lit.Lit.{Lit};
 ghost use Rattle.clause_db.specs.Clauses.{clause_at};
 ghost use Rattle.propagate.specs.Clauses.{HasReasons, IsFalsified};
+ghost use Rattle.axiom_rules.specs.declared.rule.Rule.{Rule};
 ghost use Rattle.proof_log.specs.Derivations.{Refutes};
 ghost use Rattle.cdcl_core.specs.Founds.{lessons};
 ghost use Rattle.cdcl_core.specs.Orders.{AreLinks, IsOrderAmong};
 ghost use Rattle.cdcl_core.specs.Recording.{IsRecord};
 ghost use Rattle.cdcl_core.specs.Running.{IsConflicted, IsDescended, IsRun};
-ghost use Rattle.cdcl_core.specs.Searching.{Extends, HasEnded, IsDecided, IsInConflict, IsWiderBy};
+ghost use Rattle.cdcl_core.specs.Extending.{Extends};
+ghost use Rattle.cdcl_core.specs.Searching.{HasEnded, IsDecided, IsInConflict, IsWiderBy};
+ghost use Rattle.cdcl_core.specs.Spending.{IsQuietBelow, IsSpending};
 
 use crate::derived::Derived;
 use crate::descent::Descent;
@@ -102,6 +106,11 @@ pub fn learn_clause(
     ensures lessons { OnOk result (lessons derived.new.lines ≡ lessons derived.old.lines + 1) }
     ensures derives { OnOk result ((log : Logged) (f : Form) (v : Bool) → IsRecord log f v atoms.now derived.old.db derived.old.cites.items derived.old.lines
         → IsRecord log f v atoms.now derived.new.db derived.new.cites.items derived.new.lines) }
+
+    // The line is new to clauses of which the lower levels leave nothing to propagate.
+    ensures spending { OnOk result ((log : Logged) (f : Form) (v : Bool) (rules : List Rule) (known : List (List Lit)) → IsQuietBelow known derived.old.db trail.old
+        → IsRecord log f v atoms.now derived.old.db derived.old.cites.items derived.old.lines → IsSpending log f v rules atoms.now known derived.old.cites.items derived.old.lines
+        → IsSpending log f v rules atoms.now derived.new.db derived.new.cites.items derived.new.lines) }
 {
     // Each atom has one variable.
     let _ = atoms.len();

@@ -7,11 +7,14 @@ ghost use Rattle.neg_cycle.specs.declared.system.Edge.{Edge};
 ghost use Rattle.neg_cycle.specs.declared.system.TheConstants.{MAX_NODES};
 ghost use Rattle.clause_db.specs.declared.lit.Lit.{Lit};
 ghost use Rattle.skew_bounds.specs.Edges.{AreEdges};
+ghost use Rattle.axiom_rules.specs.declared.literal.Atom.{Atom};
+ghost use Rattle.axiom_rules.specs.declared.rule.Rule.{Rule};
 ghost use Rattle.cdcl_core.specs.Founds.{lessons};
 ghost use Rattle.cdcl_core.specs.Orders.{AreLinks, IsOrderAmong};
 ghost use Rattle.cdcl_core.specs.Recording.{IsLearnLine, IsRecord, cite_at, read_clause};
 ghost use Rattle.cdcl_core.specs.Running.{IsConflicted, IsStuck, IsStuckOver};
-ghost use Rattle.cdcl_core.specs.Searching.{Extends};
+ghost use Rattle.cdcl_core.specs.Extending.{Extends};
+ghost use Rattle.cdcl_core.specs.Spending.{IsSpending};
 
 use crate::derived::{Derived, read_hints, read_lits};
 use crate::linked::linked_lits;
@@ -48,6 +51,8 @@ pub fn add_cycle(
         → IsConflicted derived.new.db links.now base trail.now graph.now c) }
     ensures derives { OnOk result ((log : Logged) (f : Form) (v : Bool) (base : List Edge) (l : Lit) → AreEdges log bounds.now base → IsStuck derived.old.db links.now base trail.now graph.now l
         → IsRecord log f v atoms.now derived.old.db derived.old.cites.items derived.old.lines → IsRecord log f v atoms.now derived.new.db derived.new.cites.items derived.new.lines) }
+    ensures spending { OnOk result ((log : Logged) (f : Form) (v : Bool) (rules : List Rule) (table : List Atom) (known : List (List Lit)) → IsSpending log f v rules table known derived.old.cites.items derived.old.lines
+        → IsSpending log f v rules table known derived.new.cites.items derived.new.lines) }
 {
     // The held edges have a solution, and each atom has one variable.
     graphs_are_solved(graph);

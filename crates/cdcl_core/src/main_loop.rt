@@ -1,11 +1,12 @@
 //! The search.
 
-ghost use Rattle.std.specs.Prelude.{ℕ, ◌≤◌, Bool, IfOk};
+ghost use Rattle.std.specs.Prelude.{◌^◌, ◌<◌, ◌≤◌, Bool, length, IfOk};
 ghost use Rattle.mt_model.specs.Form.{Form};
 ghost use Rattle.mt_model.specs.Log.{Logged, IsLog};
 ghost use Rattle.axiom_rules.specs.Sought.{sought_of};
+ghost use Rattle.proof_log.specs.FreshLaws.{IsRefutedByRules};
 ghost use Rattle.mtl_encode.specs.Problems.{Fits};
-ghost use Rattle.cdcl_core.specs.Founds.{IsFound, IsPosed};
+ghost use Rattle.cdcl_core.specs.Founds.{IfSpent, IsFound, IsPosed};
 
 use crate::Found;
 use crate::assignment::{potentials_of, values_of};
@@ -29,6 +30,11 @@ pub fn search(alloc: Global, problem: Problem, budget: u32) -> Result<Found, All
     requires most { budget ≤ 1000000 }
     requires posed { IsPosed problem }
     ensures found { IfOk result (λ found. (log : Logged) (f : Form) (v : Bool) → IsLog log → Fits (sought_of log f v) problem → IsFound problem budget log f v found) }
+
+    // The budget isn't spent where it is three to the number of atoms, or more; nor where unit
+    // propagation over the rules alone refutes the value.
+    ensures bounded { IfOk result (λ found. IfSpent found (budget < 3 ^ length problem.atoms)) }
+    ensures refuted_by_rules { IfOk result (λ found. IfSpent found ((log : Logged) (f : Form) (v : Bool) → IsLog log → Fits (sought_of log f v) problem → IsRefutedByRules (sought_of log f v) problem.rules → ⊥)) }
 {
     // The nodes of a formula name each other, so the atoms of the rules are in range.
     cores_are_cores();

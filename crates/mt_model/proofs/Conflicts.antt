@@ -16,11 +16,13 @@ use Rattle.mt_model.specs.Laws.{IsBound, ConflictExcludesTimings}
 abbrev pub Holds : List ℤ → Edge → Type 0
 Holds t x = node_time t x.from ≤ℤ (node_time t x.to +ℤ x.bound)
 
-mapped_some : {A B : Type 0} (f : A → B) (o : Option A) (y : B) → option_map f o ≡ Some y → (x : A) × (o ≡ Some x) × (f x ≡ y)
+-- a value that is there after a map was there before
+pub mapped_some : {A B : Type 0} (f : A → B) (o : Option A) (y : B) → option_map f o ≡ Some y → (x : A) × (o ≡ Some x) × (f x ≡ y)
 mapped_some f None y is = absurd (cc)
 mapped_some f (Some x) y is = (x, refl, cc)
 
-guarded_some : {A : Type 0} (b : Bool) (o : Option A) (y : A) → (if b then o else None) ≡ Some y → (b ≡ true) × (o ≡ Some y)
+-- a guarded value that is there passed its guard
+pub guarded_some : {A : Type 0} (b : Bool) (o : Option A) (y : A) → (if b then o else None) ≡ Some y → (b ≡ true) × (o ≡ Some y)
 guarded_some false o y is = absurd (cc)
 guarded_some true o y is = (refl, is)
 

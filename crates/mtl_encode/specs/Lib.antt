@@ -1,5 +1,6 @@
 pub mod Size
 pub mod Listing
+pub mod Kept
 pub mod Problems
 pub mod Models
 pub mod Exact

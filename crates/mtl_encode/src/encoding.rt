@@ -4,7 +4,7 @@ ghost use Rattle.mt_model.specs.Timing.{Admissible};
 ghost use Rattle.mt_model.specs.Truth.{truth};
 ghost use Rattle.formula_arena.specs.Nodes.{nodes_of};
 ghost use Rattle.axiom_rules.specs.Sought.{sought_of};
-ghost use Rattle.mtl_encode.specs.Listing.{ListsRules};
+ghost use Rattle.mtl_encode.specs.Kept.{Kept};
 ghost use Rattle.mtl_encode.specs.Models.{IsModel, times_of};
 ghost use Rattle.mtl_encode.specs.Problems.{Fits};
 ghost use Rattle.mtl_encode.specs.Size.{size};
@@ -31,7 +31,7 @@ pub fn encode(
 
     // Where the nodes are those of a formula, the root being the last.
     ensures fits { IfOk result (λ p. (f : Form) → arena.now ≡ nodes_of f → root + 1 ≡ length arena.now → Fits (sought_of log.now f value) p) }
-    ensures complete { IfOk result (λ p. (f : Form) → arena.now ≡ nodes_of f → root + 1 ≡ length arena.now → ListsRules (sought_of log.now f value) p.rules) }
+    ensures kept { IfOk result (λ p. (f : Form) → arena.now ≡ nodes_of f → root + 1 ≡ length arena.now → Kept log.now f value p.rules) }
 
     // What satisfies the problem gives an admissible timing in which the formula has the value.
     ensures exact { IfOk result (λ p. (f : Form) → arena.now ≡ nodes_of f → root + 1 ≡ length arena.now → (values : List Bool) (numbers : List ℤ) → IsModel p values numbers

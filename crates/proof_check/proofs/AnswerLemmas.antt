@@ -61,13 +61,13 @@ module _ (log : Logged) (f : Form) (v : Bool) (lines : List Line) where
         first = λ m least below. good m least (omega (arith, below));
       }
 
-  not_good : (n : ℕ) → FirstWrong log f v lines n → IsGood log f v lines n → ⊥
+  pub not_good : (n : ℕ) → FirstWrong log f v lines n → IsGood log f v lines n → ⊥
   not_good n first good = elim first.wrong [ inl bad ↦ bad good.right | inr empty ↦ good.open_before empty ]
 
-  no_first : NoneWrong log f v lines → (n : ℕ) → FirstWrong log f v lines n → ⊥
+  pub no_first : NoneWrong log f v lines → (n : ℕ) → FirstWrong log f v lines n → ⊥
   no_first none n first = not_good n first (none n first.some first.within)
 
-  same_first : (m n : ℕ) → FirstWrong log f v lines m → FirstWrong log f v lines n → m ≡ n
+  pub same_first : (m n : ℕ) → FirstWrong log f v lines m → FirstWrong log f v lines n → m ≡ n
   same_first m n one other = elim (cases_lt m n) [
     | inl before ↦ absurd (not_good m one (other.first m one.some before))
     | inr from ↦ elim (cases_lt n m) [

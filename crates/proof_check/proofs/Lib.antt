@@ -3,7 +3,7 @@ mod TakeLemmas
 pub mod StepLemmas
 mod KeptLemmas
 mod HintLemmas
-mod AnswerLemmas
+pub mod AnswerLemmas
 mod WalksHold
 mod LinesHold
 mod WalkLemmas

@@ -10,4 +10,8 @@ pub mod LineReading
 pub mod ReadingLines
 pub mod Texts
 pub mod AtomsApart
+pub mod LiteralSets
+pub mod LearnLines
+pub mod FreshLines
 mod WorkedCases
+mod FreshCases

@@ -26,7 +26,7 @@ use Rattle.proof_log.specs.Spelled.{IsNumber, IsSpelled, IsSpelledHint, IsSpelle
 
 -- One host with an exact clock and one row, at 10; the formula is `true`, and no timing makes it false.
 
-abbrev single : Logged
+abbrev pub single : Logged
 single = record {
   hosts = record { name = codes "a"; skew = pos 0; gap = pos 0 } ∷ [];
   rows = record { host = 0; local = pos 10; act = act.Note (codes "n") } ∷ [];
@@ -37,7 +37,7 @@ abbrev rule : ℕ → List ℕ → Hint
 rule number args = hint.Rule (record { number = number; args = args })
 
 -- `true` is true at event 0; some event is first, and here it is event 0; there the formula is false
-abbrev is_true : Hint
+abbrev pub is_true : Hint
 is_true = rule 3 (0 ∷ 0 ∷ 0 ∷ 0 ∷ [])
 
 abbrev is_first : Hint
@@ -46,10 +46,10 @@ is_first = rule 11 (0 ∷ 0 ∷ 0 ∷ 0 ∷ [])
 abbrev is_sought : Hint
 is_sought = rule 24 (0 ∷ 0 ∷ 0 ∷ 0 ∷ [])
 
-abbrev node : Literal
+abbrev pub node : Literal
 node = yes (atom.Node 0 0)
 
-abbrev first : Literal
+abbrev pub first : Literal
 first = yes (atom.First 0)
 
 abbrev refuting : Line
@@ -58,7 +58,7 @@ refuting = line.Learn [] (is_true ∷ is_first ∷ is_sought ∷ [])
 abbrev too_short : Line
 too_short = line.Learn [] (is_true ∷ is_first ∷ [])
 
-abbrev stating : Line
+abbrev pub stating : Line
 stating = line.Learn (node ∷ []) (is_true ∷ [])
 
 abbrev concluding : Line
@@ -187,10 +187,10 @@ spelled_concluding = record {
 abbrev clauses : List (List Literal)
 clauses = (node ∷ []) ∷ (first ∷ []) ∷ (negated first ∷ negated node ∷ []) ∷ []
 
-alone : (l : Literal) → All (λ m. (m ≡ l) ⊎ Contains [] (negated m)) (l ∷ [])
+pub alone : (l : Literal) → All (λ m. (m ≡ l) ⊎ Contains [] (negated m)) (l ∷ [])
 alone l = All-from_recursion (λ m. (m ≡ l) ⊎ Contains [] (negated m)) (l ∷ []) (inl refl, tt)
 
-not_among : (a x : Literal) → (a ≡ x → ⊥) → Contains (a ∷ []) x → ⊥
+pub not_among : (a x : Literal) → (a ≡ x → ⊥) → Contains (a ∷ []) x → ⊥
 not_among a x other has = elim (contains_cases a x [] has) [ inl same ↦ other same | inr later ↦ contains_none x later ]
 
 node_given : Gives negated [] (node ∷ []) node
@@ -302,7 +302,7 @@ two_lines = record {
 
 -- Wrong lines.
 
-found_same : {X : Type 0} (xs ys : List X) → map Some xs ≡ map Some ys → xs ≡ ys
+pub found_same : {X : Type 0} (xs ys : List X) → map Some xs ≡ map Some ys → xs ≡ ys
 found_same [] [] same = refl
 found_same [] (y ∷ ys) same = cc
 found_same (x ∷ xs) [] same = cc

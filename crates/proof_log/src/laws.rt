@@ -1,3 +1,4 @@
+ghost use Rattle.proof_log.specs.FreshLaws.{FreshLinesDiffer, RefutedByRulesIsNotSpent, SpentIsBounded};
 ghost use Rattle.proof_log.specs.Laws.{BytesAreUnambiguous, StepsReadAlike, TextsReadBack, TextsTellApart};
 
 /// Bytes are at most one list of lines, or have at most one first faulty line.
@@ -18,4 +19,19 @@ pub fn texts_tell_apart()
 /// A step in a line reads as it does where it is displayed.
 pub fn steps_read_alike()
     ensures { StepsReadAlike }
+{}
+
+/// A fresh line hasn't the literals of an earlier Learn line.
+pub fn fresh_lines_differ()
+    ensures { FreshLinesDiffer }
+{}
+
+/// Fewer conflicts are spent than three to the number of atoms.
+pub fn spent_is_bounded()
+    ensures { SpentIsBounded }
+{}
+
+/// Where unit propagation over the clauses of the rules alone reaches a false one, no line is fresh.
+pub fn refuted_by_rules_is_not_spent()
+    ensures { RefutedByRulesIsNotSpent }
 {}

@@ -14,7 +14,10 @@ mod word;
 
 pub use atoms::has_atoms_once;
 pub use fault::LineFault;
-pub use laws::{bytes_are_unambiguous, steps_read_alike, texts_read_back, texts_tell_apart};
+pub use laws::{
+    bytes_are_unambiguous, fresh_lines_differ, refuted_by_rules_is_not_spent, spent_is_bounded,
+    steps_read_alike, texts_read_back, texts_tell_apart,
+};
 pub use line::{Hint, Hints, Line, Lines, Lits};
 pub use printer::{print_lines, push_line};
 pub use reader::{read_line, read_lines};

@@ -5,6 +5,7 @@ use Rattle.clause_db.specs.declared.lit.Lit.{Lit}
 use Rattle.cdcl_core.specs.Orders.{read_lit}
 use Rattle.cdcl_core.specs.Recording.{cite_at, read_clause}
 use Rattle.cdcl_core.proofs.Conflicts.{jump_below}
+use Rattle.cdcl_core.proofs.FreshLearned.{spending_learned}
 use Rattle.cdcl_core.proofs.Learned.{asserting_some, back_run, marks_held}
 use Rattle.cdcl_core.proofs.Learning.{one_lesson, record_learned}
 use Rattle.cdcl_core.proofs.Progress.{conflict_reasons}
@@ -61,3 +62,13 @@ returns-clause-derives c = λ log f v old.
     (subst (λ n. All (All (λ (l : Lit). l.var < n)) c.args.derived.now.db) c.requires.vars reasons.variables)
     c.as_slice-lits.result.now c.as_slice.result.now c.in_ok-line.line (rw (c.as_slice-lits.ensures.items, ← c.requires.vars) c.in_ok-learned.ensures.variables) (rw c.as_slice-lits.ensures.items c.in_ok-learned.ensures.once) some
     (rw (c.as_slice-lits.ensures.items, c.as_slice.ensures.items) c.in_ok-learned.ensures.refute) c.in_ok-line.ensures.line (omega (arith, c.requires.line_room)))
+
+pub returns-clause-spending : goal.returns-clause-spending
+returns-clause-spending c = λ log f v rules known quiet record_ old.
+    let over = c.requires.conflicted in
+    let reasons = conflict_reasons c.args.derived.now.db over.links over.base c.args.trail.now c.args.graph.now c.args.conflict over.conflicted in
+    rw (c.in_ok-add.ensures.clause, c.in_ok-add.ensures.cite, c.in_ok-add.ensures.line)
+    (spending_learned log f v rules c.args.atoms.now known c.args.derived.now.db c.args.derived.now.cites.items c.args.derived.now.lines c.args.trail.now old record_ quiet over.conflicted.trail c.requires.level c.len.ensures.once
+    (subst (λ n. All (All (λ (l : Lit). l.var < n)) c.args.derived.now.db) c.requires.vars reasons.variables)
+    c.as_slice-lits.result.now c.as_slice.result.now c.in_ok-line.line (rw (c.as_slice-lits.ensures.items, ← c.requires.vars) c.in_ok-learned.ensures.variables) (rw c.as_slice-lits.ensures.items c.in_ok-learned.ensures.below)
+    (rw (c.as_slice-lits.ensures.items, c.as_slice.ensures.items) c.in_ok-learned.ensures.used) c.in_ok-line.ensures.line)

@@ -1,4 +1,4 @@
-use Rattle.std.proofs.Common.{◌≡◌, ◌∙◌, ℕ, List, [], ◌∷◌, ◌++◌, length, Result, Ok, Err, arith}
+use Rattle.std.proofs.Common.{◌≡◌, ◌∙◌, ℕ, ◌+◌, List, [], ◌∷◌, ◌++◌, length, Result, Ok, Err, arith}
 use Rattle.std.specs.Prelude.{IfOk, OnOk}
 use Rattle.neg_cycle.specs.declared.system.Edge.{Edge}
 use Rattle.clause_db.specs.declared.lit.Lit.{Lit}
@@ -7,6 +7,7 @@ use Rattle.cdcl_core.specs.Orders.{linked}
 use Rattle.cdcl_core.specs.Running.{IsConflicted, IsStuck}
 use Rattle.cdcl_core.specs.Walking.{denied_in}
 use Rattle.cdcl_core.proofs.CycleLines.{cycle_recorded}
+use Rattle.cdcl_core.proofs.Spending.{cycle_spent}
 use Rattle.cdcl_core.proofs.Refusals.{are_orders, clause_conflicted, clause_once, walk_within}
 use Rattle.cdcl_core.proofs.lines.add_cycle.Goals as goal
 
@@ -66,4 +67,12 @@ returns-clause-derives c =
     cycle_recorded log f v c.args.atoms.now c.args.derived.now.db c.args.derived.now.cites.items c.args.derived.now.lines c.args.bounds.now c.args.links.now base c.args.trail.now c.args.graph.now l c.in_ok-steps.steps
     old c.len.ensures.once c.requires.links c.requires.vars c.graphs_are_solved.ensures.solution are stuck same
     c.deref-3.result.now c.add.new.self.db c.add.new.self.cites.items c.add.new.self.lines (omega (arith, c.requires.line_room)) own clause cite line)
+    c.add.ensures.clause c.add.ensures.cite c.add.ensures.line
+
+pub returns-clause-spending : goal.returns-clause-spending
+returns-clause-spending c =
+    let lines = c.args.derived.now.lines in
+    let cites = c.args.derived.now.cites.items in
+    of_three _ _ _ _ c.add.result (λ clause cite line log f v rules table known old.
+    cycle_spent log f v rules table known cites lines c.in_ok-steps.steps (length lines + 1) c.add.new.self.cites.items c.add.new.self.lines cite line old)
     c.add.ensures.clause c.add.ensures.cite c.add.ensures.line

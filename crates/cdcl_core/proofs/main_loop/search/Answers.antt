@@ -1,8 +1,8 @@
 -- The invariant at the start and after a conflict, and what the three answers say.
-use Rattle.std.proofs.Common.{◌∙◌, refl, Some, arith}
+use Rattle.std.proofs.Common.{◌≡◌, ◌∙◌, refl, Some, arith}
 use Rattle.neg_cycle.specs.declared.system.TheConstants.{MAX_NODES}
 use Rattle.axiom_rules.specs.Sought.{sought_of}
-use Rattle.cdcl_core.proofs.Endings.{model_found, refuted_found, spent_found}
+use Rattle.cdcl_core.proofs.Endings.{model_found, refuted_found, spent_bounded, spent_found, spent_unrefuted}
 use Rattle.cdcl_core.proofs.ProblemAtoms.{edges-room, orders-more}
 use Rattle.cdcl_core.proofs.Progress.{cites_count, conflict_reasons, learned, midway, search_ended}
 use Rattle.cdcl_core.proofs.Starts.{posed_orders, started}
@@ -37,7 +37,7 @@ pub returns-in-None : goal.returns-in-None
 returns-in-None c =
     let mid = rw c.in-None.is at (midway c.args.problem c.requires.posed c.len-vars.result c.in_ok-links.links c.conflicts.trail c.descend.new.trail c.conflicts.graph c.descend.new.graph c.conflicts.derived c.conflicts._conflict c.in_ok-descent.descent c.conflicts.invariant.search
     c.in_ok-descent.ensures.vars c.in_ok-descent.ensures.limits c.in_ok-descent.ensures.descended c.in_ok-decided.decided c.conflict.new.derived c.in_ok-decided.ensures.decided c.in_ok-decided.ensures.wider c.in_ok-decided.ensures.derives) in
-    record { found = λ log f v valid fits. model_found c.args.problem c.len-vars.result c.in_ok-links.links c.descend.new.trail c.descend.new.graph c.conflict.new.derived c.conflicts._conflict c.in_ok-values-in-None.values c.in_ok-potentials-in-None.potentials mid c.graphs_are_solved.ensures.solution c.in_ok-values-in-None.ensures.values c.in_ok-potentials-in-None.ensures.potentials }
+    record { found = λ log f v valid fits. model_found c.args.problem c.len-vars.result c.in_ok-links.links c.descend.new.trail c.descend.new.graph c.conflict.new.derived c.conflicts._conflict c.in_ok-values-in-None.values c.in_ok-potentials-in-None.potentials mid c.graphs_are_solved.ensures.solution c.in_ok-values-in-None.ensures.values c.in_ok-potentials-in-None.ensures.potentials; bounded = tt; refuted_by_rules = tt }
 
 pub refuted-requires-clause-reasons : goal.refuted-requires-clause-reasons
 refuted-requires-clause-reasons c =
@@ -67,7 +67,7 @@ pub returns-then-level-eq0 : goal.returns-then-level-eq0
 returns-then-level-eq0 c =
     let mid = rw c.in-Some.is at (midway c.args.problem c.requires.posed c.len-vars.result c.in_ok-links.links c.conflicts.trail c.descend.new.trail c.conflicts.graph c.descend.new.graph c.conflicts.derived c.conflicts._conflict c.in_ok-descent.descent c.conflicts.invariant.search
     c.in_ok-descent.ensures.vars c.in_ok-descent.ensures.limits c.in_ok-descent.ensures.descended c.in_ok-decided.decided c.conflict.new.derived c.in_ok-decided.ensures.decided c.in_ok-decided.ensures.wider c.in_ok-decided.ensures.derives) in
-    record { found = refuted_found c.args.problem c.len-vars.result c.in_ok-links.links c.descend.new.trail c.descend.new.graph c.conflict.new.derived c.conflicts._conflict c.args.budget c.in-Some.clause c.in_ok-lines-in-Some.lines c.conflicts-test.true mid c.in_ok-lines-in-Some.ensures.lines c.in_ok-lines-in-Some.ensures.lessons c.in_ok-lines-in-Some.ensures.refutes }
+    record { found = refuted_found c.args.problem c.len-vars.result c.in_ok-links.links c.descend.new.trail c.descend.new.graph c.conflict.new.derived c.conflicts._conflict c.args.budget c.in-Some.clause c.in_ok-lines-in-Some.lines c.conflicts-test.true mid c.in_ok-lines-in-Some.ensures.lines c.in_ok-lines-in-Some.ensures.lessons c.in_ok-lines-in-Some.ensures.refutes; bounded = tt; refuted_by_rules = tt }
 
 pub learn_clause-requires-clause-conflicted : goal.learn_clause-requires-clause-conflicted
 learn_clause-requires-clause-conflicted c =
@@ -87,9 +87,15 @@ conflicts-preserved c =
     c.in_ok-descent.ensures.vars c.in_ok-descent.ensures.limits c.in_ok-descent.ensures.descended c.in_ok-decided.decided c.conflict.new.derived c.in_ok-decided.ensures.decided c.in_ok-decided.ensures.wider c.in_ok-decided.ensures.derives) in
     record {
       search = learned c.args.problem c.requires.posed c.len-vars.result c.in_ok-links.links c.descend.new.trail c.descend.new.graph c.conflict.new.derived c.conflicts._conflict c.learn_clause.new.trail c.learn_clause.new.graph c.learn_clause.new.derived c.in-Some.clause mid c.in_ok-learn_clause-in-Some.ensures.vars c.in_ok-learn_clause-in-Some.ensures.limits c.in_ok-learn_clause-in-Some.ensures.run
-          c.in_ok-learn_clause-in-Some.ensures.kept c.in_ok-learn_clause-in-Some.ensures.clauses c.in_ok-learn_clause-in-Some.ensures.lines c.in_ok-learn_clause-in-Some.ensures.lessons c.in_ok-learn_clause-in-Some.ensures.derives;
+          c.in_ok-learn_clause-in-Some.ensures.kept c.in_ok-learn_clause-in-Some.ensures.clauses c.in_ok-learn_clause-in-Some.ensures.lines c.in_ok-learn_clause-in-Some.ensures.lessons c.in_ok-learn_clause-in-Some.ensures.derives
+          c.in_ok-learn_clause-in-Some.ensures.spending;
     }
 
 pub returns : goal.returns
 returns c =
-    record { found = spent_found c.args.problem c.len-vars.result c.in_ok-links.links c.conflicts.trail c.conflicts.graph c.conflicts.derived c.conflicts._conflict c.args.budget (omega (arith, c.conflicts.auto._conflict-end, c.conflicts-test.false)) c.conflicts.invariant.search }
+    let all : c.conflicts._conflict ≡ c.args.budget = omega (arith, c.conflicts.auto._conflict-end, c.conflicts-test.false) in
+    record {
+      found = spent_found c.args.problem c.len-vars.result c.in_ok-links.links c.conflicts.trail c.conflicts.graph c.conflicts.derived c.conflicts._conflict c.args.budget all c.conflicts.invariant.search;
+      bounded = spent_bounded c.args.problem c.len-vars.result c.in_ok-links.links c.conflicts.trail c.conflicts.graph c.conflicts.derived c.conflicts._conflict c.args.budget all c.conflicts.invariant.search c.requires.posed;
+      refuted_by_rules = spent_unrefuted c.args.problem c.len-vars.result c.in_ok-links.links c.conflicts.trail c.conflicts.graph c.conflicts.derived c.conflicts._conflict c.args.budget c.requires.some all c.conflicts.invariant.search;
+    }

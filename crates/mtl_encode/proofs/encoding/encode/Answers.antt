@@ -25,10 +25,10 @@ returns-clause-fits c = λ f nodes last.
     (room-of c.in_ok-sought.sought _ c.in_ok-sought.ensures.rules c.rows.ensures.valid c.len-nodes.ensures.arena c.requires.size)
     c.rows.ensures.valid c.in_ok-bounds.ensures.list (rw c.as_slice.ensures.items at c.in_ok-edges.ensures.edges) c.in_ok-edges.ensures.within (ap (λ rows. length rows + 1) c.rows.ensures.same)
 
-pub returns-clause-complete : goal.returns-clause-complete
-returns-clause-complete c = λ f nodes last. lists-of c.in_ok-sought.sought (sought_of c.args.log.now f c.args.value) c.in_ok-ordered.ordered.rules (c.in_ok-sought.ensures.formula f nodes last)
+pub returns-clause-kept : goal.returns-clause-kept
+returns-clause-kept c = λ f nodes last. lists-of c.in_ok-sought.sought (sought_of c.args.log.now f c.args.value) c.in_ok-ordered.ordered.rules (c.in_ok-sought.ensures.formula f nodes last)
     (all-listed c.in_ok-sought.sought c.new-clauses.result c.add_all.new.self c.in_ok-ordered.ordered.rules c.new-clauses.ensures.rules c.in_ok-add_all.ensures c.in_ok-ordered.ensures.rules)
 
 pub returns-clause-exact : goal.returns-clause-exact
 returns-clause-exact c = λ f nodes last values numbers model. model-exact c.rules_are_exact.ensures c.bounds_are_admissible.ensures c.args.log.now f c.args.value _ values numbers c.rows.ensures.valid
-    (returns-clause-fits c f nodes last) (returns-clause-complete c f nodes last) c.len.ensures.once model
+    (returns-clause-fits c f nodes last) (returns-clause-kept c f nodes last) c.len.ensures.once model

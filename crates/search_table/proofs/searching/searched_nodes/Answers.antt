@@ -1,5 +1,5 @@
 use Rattle.mt_model.specs.Form.{form_of}
-use Rattle.search_table.proofs.Posing.{posed}
+use Rattle.cdcl_core.proofs.Posing.{posed}
 use Rattle.search_table.proofs.searching.searched_nodes.Goals as goal
 
 pub search-requires-clause-posed : goal.search-requires-clause-posed

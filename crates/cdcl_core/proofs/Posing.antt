@@ -1,9 +1,9 @@
 -- A problem that fits a log which admits times is posed.
-use Rattle.std.proofs.Common.{◌≡◌, ◌∙◌, sym, ap, refl, arith, ℕ, zero, suc, ◌+◌, ◌<◌, List, [], ◌∷◌, length, map, Option, Some, All, ℤ, pos}
+use Rattle.std.proofs.Common.{◌≡◌, refl, arith, ℕ, zero, suc, List, [], ◌∷◌, Some, All, ℤ, pos}
 use Rattle.std.specs.Prelude.{Bool, IfSome}
 use Rattle.std.proofs.lemmas.List.Elements.{All-nil, All-cons, All-head, All-tail}
 use Rattle.mt_model.specs.declared.bound.Bound.{Bound}
-use Rattle.mt_model.specs.Bounds.{BoundsAreAdmissible, bounds_of, step_of}
+use Rattle.mt_model.specs.Bounds.{BoundsAreAdmissible, step_of}
 use Rattle.mt_model.specs.Form.{Form, IsFormula}
 use Rattle.mt_model.specs.Log.{Logged, IsLog}
 use Rattle.mt_model.specs.Timing.{Admissible}
