@@ -1,0 +1,10 @@
+pub mod Places
+pub mod Witnesses
+pub mod Claiming
+pub mod ShortWalks
+pub mod Spelling
+pub mod Reporting
+pub mod Searching
+pub mod Audits
+pub mod NotJudged
+pub mod Checking

@@ -1,0 +1,12 @@
+use Rattle.mt_model.specs.Form.{form_of}
+use Rattle.verdict.proofs.Spelling.{times_near}
+use Rattle.verdict.proofs.deciding.value_in.Goals as goal
+
+pub truth-requires : goal.truth-requires
+truth-requires c = record {
+  count = rw c.in_ok-judge.ensures.log c.requires.admissible.count;
+  range = times_near c.args.log.now c.args.times.now c.rows.ensures.valid c.requires.admissible;
+}
+
+pub returns : goal.returns
+returns c = record { value = rw c.in_ok-judge.ensures.log at (c.truth.ensures.value (form_of c.args.f.now) (rw c.in_ok-judge.ensures.core)) }

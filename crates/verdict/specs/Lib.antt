@@ -1,0 +1,6 @@
+pub mod Faults
+pub mod Right
+pub mod Claims
+pub mod AuditPlace
+pub mod Unknown
+pub mod Laws

@@ -1,0 +1,205 @@
+//! The audit of reports.
+
+ghost use Rattle.std.specs.Prelude.{◌≡◌, ◌↔◌, ◌<◌, ◌^◌, ℕ, length, IfErr, IfOk, IfSome, IsTrue, OnOk, None};
+ghost use Rattle.mt_model.specs.Form.{Form, form_of};
+ghost use Rattle.proof_log.specs.Derivations.{Derives, FirstWrong, Refutes};
+ghost use Rattle.proof_log.specs.Freshness.{learn_lines as learn_lines_of};
+ghost use Rattle.report_text.specs.ReportText.{events_of as events_of_report};
+ghost use Rattle.report_text.specs.Spelled.{AreSpelledLines, IsSpelled, IsSpelledSection, IsSpelledWitness};
+ghost use Rattle.verdict.specs.AuditPlace.{AuditPlace, FailsAt, IsAccepted, IsAudit, Shows};
+ghost use Rattle.verdict.specs.Claims.{Claims};
+ghost use Rattle.verdict.specs.Faults.{HasFewNodes, IsFault, IsJudged};
+ghost use Rattle.verdict.specs.Right.{IsRight, IsWitness};
+
+use crate::judges::{checker, replayer};
+use crate::laws::{accepted_reports_are_true, audits_are_exact, right_reports_are_accepted};
+use crate::nodes::nodes_of;
+use crate::{Audit, Part, VerdictFault};
+use mt_model::{Formula, Log, Step};
+use proof_check::{Check, check_cycle};
+use proof_log::Line;
+use report_text::{Report, Section};
+use std::alloc::{AllocError, Global};
+
+// Whether the log admits times and the formula has the value in them.
+fn is_witness(
+    alloc: Global,
+    log: &Log,
+    f: &Formula,
+    value: bool,
+    times: &[i128],
+) -> Result<bool, AllocError>
+    requires few { HasFewNodes log.now (form_of f.now) }
+    requires spelled { IsSpelledWitness (length log.now.rows) times.now }
+    ensures witness { IfOk result (λ b. IsTrue b ↔ IsWitness log.now (form_of f.now) value times.now) }
+{
+    let mut judge = replayer(alloc, log, f)?;
+    let admits = judge.admits(times);
+    let truth = judge.truth(times);
+    Ok(admits && truth == value)
+}
+
+// What lines are.
+fn checked(
+    alloc: Global,
+    log: &Log,
+    f: &Formula,
+    value: bool,
+    lines: &[Line],
+) -> Result<Check, AllocError>
+    requires few { HasFewNodes log.now (form_of f.now) }
+    requires spelled { AreSpelledLines lines.now }
+    ensures refutes { IfOk result (λ c. (c ≡ Check.Refutes) ↔ Refutes log.now (form_of f.now) value lines.now) }
+    ensures derives { IfOk result (λ c. (c ≡ Check.Derives) ↔ Derives log.now (form_of f.now) value lines.now) }
+    ensures wrong { IfOk result (λ c. (n : ℕ) → (c ≡ Check.Wrong n) ↔ FirstWrong log.now (form_of f.now) value lines.now n) }
+{
+    let mut judge = checker(alloc, log, f, value)?;
+    judge.check(lines)
+}
+
+// The number of events that a report is about.
+fn events_of(report: &Report) -> u32
+    ensures { result ≡ events_of_report report.now }
+{
+    match report {
+        Report::Inconsistent { events, .. } | Report::Verdicts { events, .. } => *events,
+    }
+}
+
+fn learn_lines(lines: &[Line]) -> usize
+    ensures { result ≡ learn_lines_of lines.now }
+{
+    lines
+        .iter()
+        .filter(|line| matches!(line, Line::Learn { .. }))
+        .count()
+}
+
+// The line at which a section fails, and None where it shows what it says.
+fn failing_line(
+    alloc: Global,
+    log: &Log,
+    f: &Formula,
+    budget: u32,
+    value: bool,
+    section: &Section,
+) -> Result<Option<u32>, AllocError>
+    requires few { HasFewNodes log.now (form_of f.now) }
+    requires spelled { IsSpelledSection (length log.now.rows) section.now }
+    ensures shows { IfOk result (λ line. line ≡ None → Shows log.now (form_of f.now) budget value section.now) }
+    ensures fails { IfOk result (λ line. IfSome line (FailsAt log.now (form_of f.now) budget value section.now)) }
+{
+    match section {
+        Section::Witness(times) => {
+            let shows = is_witness(alloc, log, f, value, times.as_slice())?;
+            Ok(if shows { None } else { Some(0) })
+        }
+        Section::Refuted(lines) => match checked(alloc, log, f, value, lines.as_slice())? {
+            Check::Refutes => Ok(None),
+            Check::Derives => Ok(Some(0)),
+            Check::Wrong(line) => Ok(Some(line)),
+        },
+        Section::Unknown(lines) => match checked(alloc, log, f, value, lines.as_slice())? {
+            Check::Derives if learn_lines(lines.as_slice()) == budget as usize => Ok(None),
+            Check::Refutes | Check::Derives => Ok(Some(0)),
+            Check::Wrong(line) => Ok(Some(line)),
+        },
+    }
+}
+
+// What an audit says of verdicts on as many events as the log has rows.
+fn audit_of_verdicts(
+    alloc: Global,
+    log: &Log,
+    f: &Formula,
+    budget: u32,
+    on_true: &Section,
+    on_false: &Section,
+) -> Result<Audit, AllocError>
+    requires few { HasFewNodes log.now (form_of f.now) }
+    requires true_spelled { IsSpelledSection (length log.now.rows) on_true.now }
+    requires false_spelled { IsSpelledSection (length log.now.rows) on_false.now }
+    ensures audit { IfOk result (λ a. (events : ℕ) → events ≡ length log.now.rows → IsAudit log.now (form_of f.now) budget (Report.Verdicts events on_true.now on_false.now) a) }
+{
+    if let Some(line) = failing_line(alloc, log, f, budget, true, on_true)? {
+        let part = Part::OnTrue;
+        return Ok(Audit::Refused { part, line });
+    }
+    if let Some(line) = failing_line(alloc, log, f, budget, false, on_false)? {
+        let part = Part::OnFalse;
+        return Ok(Audit::Refused { part, line });
+    }
+    Ok(Audit::Accepted)
+}
+
+// What an audit says of a walk of a report on as many events as the log has rows.
+fn audit_of_walk(log: &Log, steps: &[Step]) -> Audit
+    requires few { length steps.now < 2 ^ 32 }
+    ensures audit { (f : Form) (budget events : ℕ) → events ≡ length log.now.rows → IsAudit log.now f budget (Report.Inconsistent events steps.now) result }
+{
+    match check_cycle(log, steps) {
+        None => Audit::Accepted,
+        Some(line) => Audit::Refused {
+            part: Part::Inconsistent,
+            line,
+        },
+    }
+}
+
+// What an audit says of a report on a formula with few enough nodes.
+fn audit_of(
+    alloc: Global,
+    log: &Log,
+    f: &Formula,
+    budget: u32,
+    report: &Report,
+) -> Result<Audit, AllocError>
+    requires few { HasFewNodes log.now (form_of f.now) }
+    requires spelled { IsSpelled report.now }
+    ensures audit { IfOk result (IsAudit log.now (form_of f.now) budget report.now) }
+{
+    let events = events_of(report) as usize;
+    if events != log.rows().len() {
+        let part = Part::Events;
+        return Ok(Audit::Refused { part, line: 0 });
+    }
+    match report {
+        Report::Inconsistent { steps, .. } => Ok(audit_of_walk(log, steps.as_slice())),
+        Report::Verdicts {
+            on_true,
+            on_false,
+            ..
+        } => audit_of_verdicts(alloc, log, f, budget, on_true, on_false),
+    }
+}
+
+/// Whether a report shows what it claims of a formula over all timings that a log admits, and else the first part that
+/// doesn't. What an accepted report claims is so, whoever wrote it. The report has a spelling; its unknown sections are to
+/// have as many Learn lines as the budget.
+///
+/// Whether the lines of an unknown section are fresh isn't asked. The faults are those of `decide`.
+pub fn audit(
+    alloc: Global,
+    log: &Log,
+    f: &Formula,
+    budget: u32,
+    report: &Report,
+) -> Result<Audit, VerdictFault>
+    requires spelled { IsSpelled report.now }
+    ensures accepted { IfOk result (λ a. (a ≡ Audit.Accepted) ↔ IsAccepted log.now (form_of f.now) budget report.now) }
+    ensures refused { IfOk result (λ a. (part : Part) (line : ℕ) → (a ≡ Audit.Refused part line) ↔ AuditPlace log.now (form_of f.now) budget report.now part line) }
+    ensures claims { IfOk result (λ a. a ≡ Audit.Accepted → Claims log.now (form_of f.now) report.now) }
+
+    // What `decide` gives for the same budget is accepted.
+    ensures right { IfOk result (λ a. IsRight log.now (form_of f.now) budget report.now → a ≡ Audit.Accepted) }
+
+    ensures judged { OnOk result (IsJudged log.now (form_of f.now)) }
+    ensures fault { IfErr result (IsFault log.now (form_of f.now)) }
+{
+    accepted_reports_are_true();
+    audits_are_exact();
+    right_reports_are_accepted();
+    let _ = log.rows();
+    nodes_of(alloc, log, f)?;
+    Ok(audit_of(alloc, log, f, budget, report)?)
+}

@@ -1,0 +1,158 @@
+//! Reports of the values that a formula can have.
+
+ghost use Rattle.std.specs.Prelude.{◌≡◌, ◌<◌, ◌≤◌, ◌+◌, drop, length, map, All, IfErr, IfOk, OnOk, ◌-ℤ◌};
+ghost use Rattle.mt_model.specs.Form.{form_of};
+ghost use Rattle.mt_model.specs.Log.{IsWithin};
+ghost use Rattle.mt_model.specs.Timing.{Admissible};
+ghost use Rattle.mt_model.specs.Truth.{truth};
+ghost use Rattle.mt_model.specs.declared.limits.TheConstants.{MAX_TIME};
+ghost use Rattle.neg_cycle.specs.Systems.{number_of};
+ghost use Rattle.formula_arena.specs.Nodes.{nodes_of as nodes_of_form};
+ghost use Rattle.mtl_encode.specs.Models.{times_of as times_of_numbers};
+ghost use Rattle.skew_bounds.specs.Tight.{IsConsistent};
+ghost use Rattle.report_text.specs.Spelled.{IsSpelledSection};
+ghost use Rattle.verdict.specs.Claims.{Claims};
+ghost use Rattle.verdict.specs.Faults.{IsFault, IsJudged};
+ghost use Rattle.verdict.specs.Right.{IsRight, IsRightSection};
+
+use crate::VerdictFault;
+use crate::judges::replayer;
+use crate::laws::right_reports_are_true;
+use crate::nodes::{Nodes, nodes_of};
+use cdcl_core::{Found, search};
+use mt_model::{Formula, Log, Times, bounds_are_admissible};
+use mtl_encode::encode;
+use report_text::{Report, Section};
+use skew_bounds::{Consistency, settle};
+use std::alloc::{AllocError, Global};
+
+fn difference(number: i128, zero: i128) -> i128
+    requires { IsWithin MAX_TIME (number -ℤ zero) }
+    ensures { result ≡ number -ℤ zero }
+{
+    number - zero
+}
+
+// The numbers of the rows, relative to that of the zero moment.
+fn relative(alloc: Global, zero: i128, numbers: &[i128]) -> Result<Times, AllocError>
+    requires { All (λ x. IsWithin MAX_TIME (x -ℤ zero)) numbers.now }
+    ensures { IfOk result (λ t. t ≡ map (λ x. x -ℤ zero) numbers.now) }
+{
+    let mut times = Times::new(alloc);
+    for number in numbers {
+        times.push(difference(*number, zero))?;
+    }
+    Ok(times)
+}
+
+// The times of the rows, where these are the numbers of the nodes.
+fn times_of(alloc: Global, numbers: &[i128]) -> Result<Times, AllocError>
+    requires some { 0 < length numbers.now }
+    requires range { All (λ x. IsWithin MAX_TIME (x -ℤ number_of numbers.now 0)) (drop 1 numbers.now) }
+    ensures { IfOk result (λ t. t ≡ times_of_numbers numbers.now) }
+{
+    relative(alloc, numbers[0], &numbers[1..])
+}
+
+// What a search finds of a value, with so many conflicts at most.
+fn searched(
+    alloc: Global,
+    log: &Log,
+    f: &Formula,
+    nodes: &Nodes,
+    value: bool,
+    budget: u32,
+) -> Result<Section, AllocError>
+    requires some { 1 ≤ budget }
+    requires most { budget ≤ 1000000 }
+    requires consistent { IsConsistent log.now }
+    requires judged { IsJudged log.now (form_of f.now) }
+    requires nodes { nodes.now.arena ≡ nodes_of_form (form_of f.now) }
+    requires root { nodes.now.root + 1 ≡ length nodes.now.arena }
+    ensures right { IfOk result (IsRightSection log.now (form_of f.now) budget value) }
+    ensures spelled { IfOk result (IsSpelledSection (length log.now.rows)) }
+{
+    bounds_are_admissible();
+    // What a log and a formula are, their parts are known with.
+    let _ = log.rows();
+    let _ = f.tree();
+    let problem = encode(alloc, log, &nodes.arena, nodes.root, value)?;
+    match search(alloc, problem, budget)? {
+        Found::Model {
+            values: _,
+            potentials,
+        } => Ok(Section::Witness(times_of(alloc, potentials.as_slice())?)),
+        Found::Refuted(lines) => Ok(Section::Refuted(lines)),
+        Found::Spent(lines) => Ok(Section::Unknown(lines)),
+    }
+}
+
+// The value that the formula has in an admissible timing.
+fn value_in(alloc: Global, log: &Log, f: &Formula, times: &[i128]) -> Result<bool, AllocError>
+    requires judged { IsJudged log.now (form_of f.now) }
+    requires admissible { Admissible log.now times.now }
+    ensures value { IfOk result (λ v. v ≡ truth log.now times.now 0 (form_of f.now)) }
+{
+    let _ = log.rows();
+    let mut judge = replayer(alloc, log, f)?;
+    Ok(judge.truth(times))
+}
+
+// The timing is a witness of the value that the formula has in it, and the other value is searched for.
+fn verdicts(
+    alloc: Global,
+    log: &Log,
+    f: &Formula,
+    nodes: &Nodes,
+    times: Times,
+    budget: u32,
+) -> Result<Report, AllocError>
+    requires some { 1 ≤ budget }
+    requires most { budget ≤ 1000000 }
+    requires judged { IsJudged log.now (form_of f.now) }
+    requires nodes { nodes.now.arena ≡ nodes_of_form (form_of f.now) }
+    requires root { nodes.now.root + 1 ≡ length nodes.now.arena }
+    requires admissible { Admissible log.now times }
+    ensures right { IfOk result (IsRight log.now (form_of f.now) budget) }
+{
+    let value = value_in(alloc, log, f, times.as_slice())?;
+    let other = searched(alloc, log, f, nodes, !value, budget)?;
+    let events = log.rows().len() as u32;
+    let witness = Section::Witness(times);
+    if value {
+        Ok(Report::Verdicts {
+            events,
+            on_true: witness,
+            on_false: other,
+        })
+    } else {
+        Ok(Report::Verdicts {
+            events,
+            on_true: other,
+            on_false: witness,
+        })
+    }
+}
+
+/// A report of the values that a formula can have, over all timings that a log admits: a negative cycle where it
+/// admits none, and else for each value a timing in which the formula has it, lines that refute it, or, of one value
+/// alone, lines with as many fresh clauses learnt as the budget. The budget is from 1 to 1,000,000, for each value.
+///
+/// The faults other than want of memory come exactly where the formula isn't judged of the log, and say why: a host
+/// that isn't in the log, then too many nodes, then a problem that is too large.
+pub fn decide(alloc: Global, log: &Log, f: &Formula, budget: u32) -> Result<Report, VerdictFault>
+    requires some { 1 ≤ budget }
+    requires most { budget ≤ 1000000 }
+    ensures right { IfOk result (IsRight log.now (form_of f.now) budget) }
+    ensures claims { IfOk result (Claims log.now (form_of f.now)) }
+    ensures judged { OnOk result (IsJudged log.now (form_of f.now)) }
+    ensures fault { IfErr result (IsFault log.now (form_of f.now)) }
+{
+    right_reports_are_true();
+    let events = log.rows().len() as u32;
+    let nodes = nodes_of(alloc, log, f)?;
+    match settle(alloc, log)? {
+        Consistency::Conflict(steps) => Ok(Report::Inconsistent { events, steps }),
+        Consistency::Timing(times) => Ok(verdicts(alloc, log, f, &nodes, times, budget)?),
+    }
+}
