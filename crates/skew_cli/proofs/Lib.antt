@@ -1,3 +1,12 @@
 mod Steps
 mod OperandLemmas
+mod Holding
+mod Judging
 mod Outcomes
+mod StatusValues
+mod Reaching
+mod Passing
+mod Witnesses
+mod LeftUnknown
+mod ChecksExact
+mod AcceptedAgain

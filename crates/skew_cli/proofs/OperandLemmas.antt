@@ -3,7 +3,11 @@ use Rattle.std.proofs.Common.{◌≡◌, ◌∙◌, sym, ap, refl, ℕ, ◌+◌,
 use Rattle.std.specs.Prelude.{option_map, bytes_eq, codes}
 use Rattle.std.proofs.lemmas.List.{length-drop, map-append}
 use Rattle.std.proofs.Math.Seq.{drop-length, take-length, take-suc}
-use Rattle.skew_cli.specs.Words.{Word, is_option, operands_of}
+use Rattle.skew_cli.specs.Words.{Given, Word, given_by, given_of, is_option, operands_of, plain, with_front}
+
+-- what is left of a list behind a place, as the code cuts it
+pub cut-rest : {X : Type 0} (xs : List X) (i : ℕ) → take (length xs - (i + 1)) (drop (i + 1) xs) ≡ drop (i + 1) xs
+cut-rest xs i = ap (λ n. take n (drop (i + 1) xs)) (sym (length-drop (i + 1) xs)) ∙ take-length (drop (i + 1) xs)
 
 -- the words up to here are operands, and those from here on are still to be read
 abbrev pub ReadUpTo : {X : Type 0} → (X → Word) → List X → ℕ → Type 0
@@ -31,7 +35,7 @@ module _ {X : Type 0} (f : X → Word) (xs : List X) where
     pub read-option : bytes_eq (f x) (codes "--") ≡ false → is_option (f x) ≡ true → operands_of (map f xs) ≡ None
     read-option word dashed = so_far ∙ rw (rest-is, word, dashed) refl
 
-    front-is : map f (take i xs) ++ f x ∷ [] ≡ map f (take (i + 1) xs)
+    pub front-is : map f (take i xs) ++ f x ∷ [] ≡ map f (take (i + 1) xs)
     front-is =
         let more : take (i + 1) xs ≡ take i xs ++ x ∷ [] = rw add-one (take-suc xs i x within ∙ rw is refl) in
         rw more (sym (map-append f (take i xs) (x ∷ [])))
@@ -42,6 +46,57 @@ module _ {X : Type 0} (f : X → Word) (xs : List X) where
   pub read-all : ReadUpTo f xs (length xs) → operands_of (map f xs) ≡ Some (map f (xs ++ []))
   read-all so_far = so_far ∙ rw (drop-length xs, take-length xs, map-append f xs []) refl
 
--- the words before a mark and those behind it, as the code cuts them
-pub cut-words : {X : Type 0} (f : X → Word) (xs : List X) (i : ℕ) → map f (take i xs ++ take (length xs - (i + 1)) (drop (i + 1) xs)) ≡ map f (take i xs ++ drop (i + 1) xs)
-cut-words f xs i = ap (λ ys. map f (take i xs ++ ys)) (ap (λ n. take n (drop (i + 1) xs)) (sym (length-drop (i + 1) xs)) ∙ take-length (drop (i + 1) xs))
+-- the words before a mark and those behind it, as the code cuts them, after a front
+pub cut-words : {X : Type 0} (f : X → Word) (front xs : List X) (i : ℕ) → map f (front ++ take i xs ++ take (length xs - (i + 1)) (drop (i + 1) xs)) ≡ map f front ++ map f (take i xs ++ drop (i + 1) xs)
+cut-words f front xs i =
+    ap (λ ys. map f (front ++ take i xs ++ ys)) (cut-rest xs i) ∙ ap (map f) (append_assoc front (take i xs) (drop (i + 1) xs)) ∙ map-append f front (take i xs ++ drop (i + 1) xs)
+
+-- all words after a front
+pub uncut-words : {X : Type 0} (f : X → Word) (front xs : List X) → map f (front ++ xs ++ []) ≡ map f front ++ map f (xs ++ [])
+uncut-words f front xs = ap (map f) (append_assoc front xs []) ∙ map-append f front (xs ++ [])
+
+-- the words up to here are operands, and those from here on are still to be read, by a command that takes the option and by one that does not
+pub record GivenUpTo {X : Type 0} (f : X → Word) (xs : List X) (i : ℕ) : Type 0 where
+  pub given : given_of (map f xs) ≡ option_map (with_front (map f (take i xs))) (given_of (map f (drop i xs)))
+  pub operands : ReadUpTo f xs i
+
+with_no_front : (o : Option Given) → option_map (with_front []) o ≡ o
+with_no_front None = refl
+with_no_front (Some g) = refl
+
+front-twice : (front : List Word) (w : Word) (o : Option Given) → option_map (with_front front) (option_map (with_front (w ∷ [])) o) ≡ option_map (with_front (front ++ w ∷ [])) o
+front-twice front w None = refl
+front-twice front w (Some g) = ap (λ ws. Some (record { operands = ws; conflicts = g.conflicts })) (sym (append_assoc front (w ∷ []) g.operands))
+
+module _ {X : Type 0} (f : X → Word) (xs : List X) where
+  pub given-none : GivenUpTo f xs 0
+  given-none = record { given = sym (with_no_front (given_of (map f xs))); operands = read-none f xs }
+
+  module _ (i : ℕ) (x : X) (is : get_or xs i x ≡ x) (within : i < length xs) (so_far : GivenUpTo f xs i) where
+    rest-starts : drop i xs ≡ x ∷ drop (i + 1) xs
+    rest-starts = drop-cons xs i x within ∙ rw (is, add-one) refl
+
+    pub given-mark : bytes_eq (f x) (codes "--") ≡ true → given_of (map f xs) ≡ option_map plain (operands_of (map f xs))
+    given-mark mark =
+        let front = map f (take i xs) in
+        let rest = map f (drop (i + 1) xs) in
+        let given : given_of (map f xs) ≡ Some (plain (front ++ rest)) = so_far.given ∙ rw (rest-starts, mark) refl in
+        let operands : operands_of (map f xs) ≡ Some (front ++ rest) = so_far.operands ∙ rw (rest-starts, mark) refl in
+        given ∙ sym (ap (option_map plain) operands)
+
+    pub given-option : bytes_eq (f x) (codes "--") ≡ false → is_option (f x) ≡ true → given_of (map f xs) ≡ option_map (with_front (map f (take i xs))) (given_by (f x) (map f (take (length xs - (i + 1)) (drop (i + 1) xs))))
+    given-option word dashed =
+        let given : given_of (map f xs) ≡ option_map (with_front (map f (take i xs))) (given_by (f x) (map f (drop (i + 1) xs))) = so_far.given ∙ rw (rest-starts, word, dashed) refl in
+        given ∙ ap (λ ys. option_map (with_front (map f (take i xs))) (given_by (f x) (map f ys))) (sym (cut-rest xs i))
+
+    pub given-more : bytes_eq (f x) (codes "--") ≡ false → is_option (f x) ≡ false → GivenUpTo f xs (i + 1)
+    given-more word dashed = record {
+      given = so_far.given ∙ rw (rest-starts, word, dashed) (front-twice (map f (take i xs)) (f x) (given_of (map f (drop (i + 1) xs))) ∙ ap (λ ys. option_map (with_front ys) (given_of (map f (drop (i + 1) xs)))) (front-is f xs i x is within so_far.operands));
+      operands = read-more f xs i x is within so_far.operands word dashed;
+    }
+
+  pub given-all : GivenUpTo f xs (length xs) → given_of (map f xs) ≡ option_map plain (operands_of (map f xs))
+  given-all so_far =
+      let given : given_of (map f xs) ≡ Some (plain (map f xs ++ [])) = so_far.given ∙ rw (drop-length xs, take-length xs) refl in
+      let operands : operands_of (map f xs) ≡ Some (map f xs ++ []) = so_far.operands ∙ rw (drop-length xs, take-length xs) refl in
+      given ∙ sym (ap (option_map plain) operands)

@@ -10,18 +10,24 @@ use Rattle.log_read.specs.LogOf.{log_of}
 use Rattle.formula_arena.specs.Nodes.{nodes_of}
 use Rattle.formula_arena.specs.declared.arena.TheConstants.{MAX_NODES}
 use Rattle.mtl_parse.specs.Places.{host_byte}
-use Rattle.skew_cli.specs.declared.limits.TheConstants.{FORMULA_LIMIT, LOG_LIMIT, TIMES_LIMIT}
+use Rattle.skew_cli.specs.declared.limits.TheConstants.{FORMULA_LIMIT, LOG_LIMIT, REPORT_LIMIT, TIMES_LIMIT}
 use Rattle.skew_cli.specs.declared.refusal.Named.{Named}
 use Rattle.skew_cli.specs.declared.refusal.Named.TheVariants as named
+use Rattle.skew_cli.specs.declared.refusal.Refusal.{Refusal}
 use Rattle.skew_cli.specs.declared.refusal.Refusal.TheVariants as refusal
 use Rattle.skew_cli.specs.declared.status.Status.{Status}
 use Rattle.skew_cli.specs.Outcome.{Agree, CommandOutcome, Ends, Outcome}
-use Rattle.skew_cli.specs.Refusals.{Refuses}
-use Rattle.skew_cli.specs.ReplayOutcome.{ReplayOfFormula, ReplayOfLog, ReplayOfTimes, ReplayOutcome}
-use Rattle.skew_cli.specs.Tests.{OnFile, OnFormula, OnLog, OnNodes, OnTimes}
+use Rattle.skew_cli.specs.Refusals.{Refuses, status_of, text_of}
+use Rattle.skew_cli.specs.Stops.{NoAnswer}
+use Rattle.skew_cli.specs.Texts.{line}
+use Rattle.skew_cli.specs.AuditOutcome.{AuditOfLog, AuditOfReport, AuditOutcome}
+use Rattle.skew_cli.specs.CheckOutcome.{CheckOfLog, CheckOutcome}
+use Rattle.skew_cli.specs.ReplayOutcome.{ReplayOfLog, ReplayOfTimes, ReplayOutcome}
+use Rattle.skew_cli.specs.Tests.{OnFile, OnFormula, OnHosts, OnLog, OnNodes, OnQuestion, OnReport, OnSize, OnTimes}
 use Rattle.skew_cli.specs.TimesOutcome.{TimesOfLog, TimesOutcome}
 use Rattle.skew_cli.specs.OrderOutcome.{OrderOfLog, OrderOutcome}
-use Rattle.skew_cli.specs.Words.{Command, Order, Replay, Times, Word, command_of}
+use Rattle.skew_cli.specs.Words.{Audit, Check, Command, Order, Replay, Times, Word, command_of}
+use Rattle.skew_cli.proofs.Steps.{At}
 
 -- what is due may be said in a weaker way
 pub Ends-weaker : (D E : List ℕ → Status → Type 0) (old now : List ℕ) (s : Status) → ((b : List ℕ) (t : Status) → D b t → E b t) → Ends D old now s → Ends E old now s
@@ -59,28 +65,49 @@ module _ (held files : Files) (agree : Agree held files) (out : List ℕ) (s : S
   same-order : (log : Word) → OrderOutcome held log out s → OrderOutcome files log out s
   same-order log = same-file log LOG_LIMIT named.Log (λ file. OnLog file OrderOfLog) (λ file. OnLog file OrderOfLog) (λ file h. h)
 
-  same-of_log : (times : Word) (text : List ℕ) (f : Form) (l : Logged) → ReplayOfLog held times text f l out s → ReplayOfLog files times text f l out s
-  same-of_log times text f l =
-      let due = λ (among : Files). OnFile among times TIMES_LIMIT named.Times (λ file. OnTimes file l (ReplayOfTimes l f)) in
+  -- a question that is held is the same among the others
+  same-question : (formula log : Word) (next next' : List ℕ → Form → Logged → List ℕ → Status → Type 0) → ((text : List ℕ) (f : Form) (l : Logged) → next text f l out s → next' text f l out s) → OnQuestion held formula log next out s → OnQuestion files formula log next' out s
+  same-question formula log next next' more =
+      same-file formula FORMULA_LIMIT named.Formula (λ text. OnFormula text (λ f. OnFile held log LOG_LIMIT named.Log (λ file. OnLog file (next text f)))) (λ text. OnFormula text (λ f. OnFile files log LOG_LIMIT named.Log (λ file. OnLog file (next' text f))))
+      (λ text h. (
+        h.0,
+        h.1,
+        more-result h.0 (λ f. OnFile held log LOG_LIMIT named.Log (λ file. OnLog file (next text f)) out s) (λ f. OnFile files log LOG_LIMIT named.Log (λ file. OnLog file (next' text f)) out s) (λ fault. Refuses (refusal.Formula fault) out s)
+            (λ f. same-file log LOG_LIMIT named.Log (λ file. OnLog file (next text f)) (λ file. OnLog file (next' text f))
+            (λ file. more-result (log_of file) (λ l. next text f l out s) (λ l. next' text f l out s) (λ fault. Refuses (refusal.Log fault) out s) (more text f))) h.2,
+      ))
+
+  -- a third file that is held is the same among the others
+  same-third : (third : Word) (limit : ℕ) (n : Named) (next : Form → Logged → List ℕ → List ℕ → Status → Type 0) (text : List ℕ) (f : Form) (l : Logged)
+      → OnHosts text f l (OnNodes f (OnFile held third limit n (next f l))) out s → OnHosts text f l (OnNodes f (OnFile files third limit n (next f l))) out s
+  same-third third limit n next text f l =
+      let due = λ (among : Files). OnFile among third limit n (next f l) in
       more-none (unknown_host l f) (OnNodes f (due held) out s) (OnNodes f (due files) out s)
       (λ number. IsSomeAnd (host_byte text number) (λ byte. Refuses (refusal.UnknownHost byte) out s))
       (more-bool (nat_lt MAX_NODES (length (nodes_of f))) (Refuses refusal.Nodes out s) (due held out s) (due files out s)
-      (same-file times TIMES_LIMIT named.Times (λ file. OnTimes file l (ReplayOfTimes l f)) (λ file. OnTimes file l (ReplayOfTimes l f)) (λ file h. h)))
-
-  same-of_formula : (log times : Word) (text : List ℕ) (f : Form) → ReplayOfFormula held log times text f out s → ReplayOfFormula files log times text f out s
-  same-of_formula log times text f =
-      same-file log LOG_LIMIT named.Log (λ file. OnLog file (ReplayOfLog held times text f)) (λ file. OnLog file (ReplayOfLog files times text f))
-      (λ file. more-result (log_of file) (λ l. ReplayOfLog held times text f l out s) (λ l. ReplayOfLog files times text f l out s) (λ fault. Refuses (refusal.Log fault) out s) (same-of_log times text f))
+      (same-file third limit n (next f l) (next f l) (λ file h. h)))
 
   same-replay : (formula log times : Word) → ReplayOutcome held formula log times out s → ReplayOutcome files formula log times out s
-  same-replay formula log times =
-      same-file formula FORMULA_LIMIT named.Formula (λ text. OnFormula text (ReplayOfFormula held log times text)) (λ text. OnFormula text (ReplayOfFormula files log times text))
-      (λ text h. (h.0, h.1, more-result h.0 (λ f. ReplayOfFormula held log times text f out s) (λ f. ReplayOfFormula files log times text f out s) (λ fault. Refuses (refusal.Formula fault) out s) (same-of_formula log times text) h.2))
+  same-replay formula log times = same-question formula log (ReplayOfLog held times) (ReplayOfLog files times) (same-third times TIMES_LIMIT named.Times (λ f l file. OnTimes file l (ReplayOfTimes l f)))
+
+  same-check : (conflicts : ℕ) (formula log : Word) → CheckOutcome held conflicts formula log out s → CheckOutcome files conflicts formula log out s
+  same-check conflicts formula log = same-question formula log (CheckOfLog conflicts) (CheckOfLog conflicts) (λ text f l h. h)
+
+  same-audit : (conflicts : ℕ) (formula log report : Word) → AuditOutcome held conflicts formula log report out s → AuditOutcome files conflicts formula log report out s
+  same-audit conflicts formula log report =
+      same-question formula log (AuditOfLog held conflicts report) (AuditOfLog files conflicts report)
+      (same-third report REPORT_LIMIT named.Report (λ f l bytes. OnReport bytes (λ r. OnSize f l (AuditOfReport conflicts f l r))))
 
   same-command : (c : Command) → CommandOutcome c held out s → CommandOutcome c files out s
   same-command (Times log) = same-times log
   same-command (Replay formula log times) = same-replay formula log times
   same-command (Order log) = same-order log
+  same-command (Check conflicts formula log) = same-check conflicts formula log
+  same-command (Audit conflicts formula log report) = same-audit conflicts formula log report
+
+-- a refusal before a formula and a log are read is one, whatever comes after them
+pub question-refused : (files : Files) (formula log : Word) (next : List ℕ → Form → Logged → List ℕ → Status → Type 0) (r : Refusal) → At (OnQuestion files formula log NoAnswer) r → At (OnQuestion files formula log next) r
+question-refused files formula log next r = same-question files files (λ name is. refl) (line (text_of r)) (status_of r) formula log NoAnswer next (λ text f l h. absurd h)
 
 -- the outcome of a command, for files that agree with those that are held
 pub Outcome-command : (words : List Word) (c : Command) (held files : Files) (out : List ℕ) (s : Status) → command_of words ≡ Some c → Agree held files → CommandOutcome c held out s → Outcome words files out s

@@ -1,7 +1,7 @@
 -- From what a command found to what its files ask for.
-use Rattle.std.proofs.Common.{◌≡◌, sym, subst, refl, ℕ, ◌+◌, ◌<◌, ◌≤◌, Bool, true, false, cond, List, [], ◌∷◌, length, Option, Some, None, Ok, Err, arith, ℤ}
+use Rattle.std.proofs.Common.{◌≡◌, sym, refl, ℕ, ◌+◌, ◌<◌, ◌≤◌, Bool, true, false, cond, List, [], ◌∷◌, length, Option, Some, None, Ok, Err, inl, inr, arith, ℤ}
 use Rattle.std.specs.List.{position_from}
-use Rattle.std.specs.Prelude.{IsSomeAnd, Result, nat_lt, string_bytes}
+use Rattle.std.specs.Prelude.{IsSomeAnd, Result, nat_lt}
 use Rattle.std.specs.Bool.{MatchBool}
 use Rattle.std.proofs.lemmas.Bool.Decides.{nat_tests}
 use Rattle.mt_model.specs.Form.{Form, propositions_of}
@@ -17,7 +17,12 @@ use Rattle.mtl_parse.specs.FormulaOf.{FormulaOf}
 use Rattle.times_read.specs.declared.fault.TimesFault.{TimesFault}
 use Rattle.times_read.specs.declared.fault.TimesFault.TheVariants as times
 use Rattle.times_read.specs.TimesOf.{times_of}
-use Rattle.skew_cli.specs.declared.limits.TheConstants.{LOG_LIMIT, TIMES_LIMIT}
+use Rattle.mtl_encode.specs.Size.{size}
+use Rattle.mtl_encode.specs.declared.size.TheConstants.{MAX_SIZE}
+use Rattle.report_text.specs.declared.fault.ReportFault.TheVariants as report
+use Rattle.report_text.specs.declared.report.Report.{Report}
+use Rattle.report_text.specs.ReportOf.{ReportOf}
+use Rattle.skew_cli.specs.declared.limits.TheConstants.{FORMULA_LIMIT, LOG_LIMIT}
 use Rattle.skew_cli.specs.declared.refusal.Named.{Named}
 use Rattle.skew_cli.specs.declared.refusal.Named.TheVariants as named
 use Rattle.skew_cli.specs.declared.refusal.Refusal.{Refusal}
@@ -27,9 +32,9 @@ use Rattle.skew_cli.specs.declared.reply.Stop.{Stop}
 use Rattle.skew_cli.specs.declared.reply.Stop.TheVariants as stop
 use Rattle.skew_cli.specs.declared.status.Status.{Status}
 use Rattle.skew_cli.specs.Refusals.{Refuses, status_of, text_of}
-use Rattle.skew_cli.specs.ReplayOutcome.{ReplayOfLog, ReplayOfTimes}
-use Rattle.skew_cli.specs.Stops.{Gives, HasReason, NamesHost, TellsFault, TellsFormulaFault, TellsLogFault}
-use Rattle.skew_cli.specs.Tests.{OnFile, OnFormula, OnHosts, OnLog, OnNodes, OnTimes}
+use Rattle.skew_cli.specs.Reads.{IsQuestion}
+use Rattle.skew_cli.specs.Stops.{Gives, HasReason, NamesHost, TellsFault, TellsFaultyLine, TellsFormulaFault, TellsLarge, TellsLogFault}
+use Rattle.skew_cli.specs.Tests.{OnFile, OnFormula, OnHosts, OnLog, OnNodes, OnQuestion, OnReport, OnSize, OnTimes}
 use Rattle.skew_cli.specs.Texts.{line}
 use Rattle.skew_cli.specs.Words.{Word}
 
@@ -106,25 +111,36 @@ module _ (file : List ℕ) (log : Logged) (next : List ℤ → List ℕ → Stat
   pub times-read : (t : List ℤ) (out : List ℕ) (s : Status) → times_of (length log.rows) file ≡ Ok t → next t out s → OnTimes file log next out s
   times-read t out s is h = rw is h
 
--- the file of times, which is read where the formula's hosts are known and its nodes are few
-module _ (held : Files) (times : Word) (text : List ℕ) (f : Form) (log : Logged) (known : unknown_host log f ≡ None) (few : length (nodes_of f) ≤ MAX_NODES) where
-  times-reached : (out : List ℕ) (s : Status) → OnFile held times TIMES_LIMIT named.Times (λ file. OnTimes file log (ReplayOfTimes log f)) out s → ReplayOfLog held times text f log out s
-  times-reached out s h =
-      let next = OnFile held times TIMES_LIMIT named.Times (λ file. OnTimes file log (ReplayOfTimes log f)) in
-      hosts-known text f log (OnNodes f next) out s known (nodes-few f next out s few h)
+module _ (bytes : List ℕ) (next : Report → List ℕ → Status → Type 0) where
+  pub report-refused : (r : Refusal) → TellsFaultyLine bytes r → At (OnReport bytes next) r
+  report-refused r h = (Err (report.Syntax h.number), h.faulty, rw h.told (refl, refl))
 
-  pub times-too_long : (r : Refusal) → (r ≡ refusal.Length named.Times) × IsLonger (file_of held times) TIMES_LIMIT → At (ReplayOfLog held times text f log) r
-  times-too_long r why = times-reached (line (text_of r)) (status_of r) (file-refused held times TIMES_LIMIT named.Times (λ file. OnTimes file log (ReplayOfTimes log f)) r why)
+  pub report-read : (r : Report) (out : List ℕ) (s : Status) → ReportOf bytes (Ok r) → next r out s → OnReport bytes next out s
+  report-read r out s is h = (Ok r, is, h)
 
-  pub times-faulty : (file bytes : List ℕ) → bytes ≡ file → file_of held times ≡ Some file → length file ≤ TIMES_LIMIT → (r : Refusal) → TellsFault (times_of (length log.rows) bytes) r → At (ReplayOfLog held times text f log) r
-  times-faulty file bytes same is within r told =
-      let told-of_file : TellsFault (times_of (length log.rows) file) r = subst (λ b. TellsFault (times_of (length log.rows) b) r) same told in
-      times-reached (line (text_of r)) (status_of r) (file-read held times TIMES_LIMIT named.Times (λ file. OnTimes file log (ReplayOfTimes log f)) file (line (text_of r)) (status_of r) is within (times-refused file log (ReplayOfTimes log f) r told-of_file))
+module _ (f : Form) (log : Logged) (next : List ℕ → Status → Type 0) where
+  pub size-refused : (r : Refusal) → r ≡ refusal.Size (size log (nodes_of f)) → MAX_SIZE < size log (nodes_of f) → At (OnSize f log next) r
+  size-refused r told large = let more : nat_lt MAX_SIZE (size log (nodes_of f)) ≡ true = grind (arith, nat_tests) in rw (more, told) (refl, refl)
 
-  pub times-given : (file bytes : List ℕ) (t : List ℤ) (out : List ℕ) (s : Status) → bytes ≡ file → file_of held times ≡ Some file → length file ≤ TIMES_LIMIT → times_of (length log.rows) bytes ≡ Ok t → ReplayOfTimes log f t out s → ReplayOfLog held times text f log out s
-  times-given file bytes t out s same is within reads h =
-      let reads-file : times_of (length log.rows) file ≡ Ok t = subst (λ b. times_of (length log.rows) b ≡ Ok t) same reads in
-      times-reached out s (file-read held times TIMES_LIMIT named.Times (λ file. OnTimes file log (ReplayOfTimes log f)) file out s is within (times-read file log (ReplayOfTimes log f) t out s reads-file h))
+  pub size-small : (out : List ℕ) (s : Status) → size log (nodes_of f) ≤ MAX_SIZE → next out s → OnSize f log next out s
+  size-small out s small h = let less : nat_lt MAX_SIZE (size log (nodes_of f)) ≡ false = grind (arith, nat_tests) in rw less h
+
+  pub large-refused : (r : Refusal) → TellsLarge f log r → At (OnNodes f (OnSize f log next)) r
+  large-refused r (inl h) = nodes-refused f (OnSize f log next) r h
+  large-refused r (inr h) = nodes-few f (OnSize f log next) (line (text_of r)) (status_of r) h.0 (size-refused r h.1 h.2)
+
+-- a third file, which is read where the formula's hosts are known and its nodes are few
+module _ (held : Files) (name : Word) (limit : ℕ) (named : Named) (text : List ℕ) (f : Form) (log : Logged) (next : List ℕ → List ℕ → Status → Type 0) (known : unknown_host log f ≡ None) (few : length (nodes_of f) ≤ MAX_NODES) where
+  third-reached : (out : List ℕ) (s : Status) → OnFile held name limit named next out s → OnHosts text f log (OnNodes f (OnFile held name limit named next)) out s
+  third-reached out s h =
+      let file = OnFile held name limit named next in
+      hosts-known text f log (OnNodes f file) out s known (nodes-few f file out s few h)
+
+  pub third-too_long : (r : Refusal) → (r ≡ refusal.Length named) × IsLonger (file_of held name) limit → At (OnHosts text f log (OnNodes f (OnFile held name limit named next))) r
+  third-too_long r why = third-reached (line (text_of r)) (status_of r) (file-refused held name limit named next r why)
+
+  pub third-read : (file : List ℕ) (out : List ℕ) (s : Status) → file_of held name ≡ Some file → length file ≤ limit → next file out s → OnHosts text f log (OnNodes f (OnFile held name limit named next)) out s
+  third-read file out s is within h = third-reached out s (file-read held name limit named next file out s is within h)
 
 -- a place that is found is in the list
 position_from-below : {X : Type 0} (test : X → Bool) (xs : List X) (i k : ℕ) → position_from test i xs ≡ Some k → k < i + length xs
@@ -141,5 +157,36 @@ unknown-below log f number is = let below = position_from-below _ (propositions_
 
 -- what was given may be said in a weaker way
 pub gives-weaker : (result : Result Reply Stop) (P Q : List ℕ → Status → Type 0) → ((out : List ℕ) (s : Status) → P out s → Q out s) → Gives P result → Gives Q result
-gives-weaker (Ok reply) P Q weaker h = weaker (string_bytes reply.text) reply.status h
+gives-weaker (Ok reply) P Q weaker h = weaker reply.text.items reply.status h
 gives-weaker (Err s) P Q weaker h = reason-weaker s (At P) (At Q) (λ r. weaker (line (text_of r)) (status_of r)) h
+
+-- what a formula and a log come to, and what is answered before that
+module _ (files : Files) (formula log : Word) (next : List ℕ → Form → Logged → List ℕ → Status → Type 0) where
+  with-text : (text out : List ℕ) (s : Status) → file_of files formula ≡ Some text → length text ≤ FORMULA_LIMIT → OnFormula text (λ f. OnFile files log LOG_LIMIT named.Log (λ file. OnLog file (next text f))) out s → OnQuestion files formula log next out s
+  with-text text out s = file-read files formula FORMULA_LIMIT named.Formula (λ text. OnFormula text (λ f. OnFile files log LOG_LIMIT named.Log (λ file. OnLog file (next text f)))) text out s
+
+  pub question-read : (text : List ℕ) (f : Form) (l : Logged) (out : List ℕ) (s : Status) → IsQuestion files formula log text f l → next text f l out s → OnQuestion files formula log next out s
+  question-read text f l out s q h =
+      with-text text out s q.text_held q.text_within (formula-read text (λ f. OnFile files log LOG_LIMIT named.Log (λ file. OnLog file (next text f))) f out s q.formula_read
+      (file-read files log LOG_LIMIT named.Log (λ file. OnLog file (next text f)) q.file out s q.file_held q.file_within (log-read q.file (next text f) l out s q.log_read h)))
+
+  module _ (text : List ℕ) (held : file_of files formula ≡ Some text) (within : length text ≤ FORMULA_LIMIT) where
+    pub question-formula_faulty : (s : Stop) → HasReason s (TellsFormulaFault text) → HasReason s (At (OnQuestion files formula log next))
+    question-formula_faulty s =
+        reason-weaker s (TellsFormulaFault text) (At (OnQuestion files formula log next))
+        (λ r told. with-text text (line (text_of r)) (status_of r) held within (formula-refused text (λ f. OnFile files log LOG_LIMIT named.Log (λ file. OnLog file (next text f))) r told))
+
+    module _ (f : Form) (reads : FormulaOf text (Ok f)) where
+      with-formula : (out : List ℕ) (s : Status) → OnFile files log LOG_LIMIT named.Log (λ file. OnLog file (next text f)) out s → OnQuestion files formula log next out s
+      with-formula out s h = with-text text out s held within (formula-read text (λ f. OnFile files log LOG_LIMIT named.Log (λ file. OnLog file (next text f))) f out s reads h)
+
+      pub question-log_long : (s : Stop) → HasReason s (λ r. (r ≡ refusal.Length named.Log) × IsLonger (file_of files log) LOG_LIMIT) → HasReason s (At (OnQuestion files formula log next))
+      question-log_long s =
+          reason-weaker s (λ r. (r ≡ refusal.Length named.Log) × IsLonger (file_of files log) LOG_LIMIT) (At (OnQuestion files formula log next))
+          (λ r why. with-formula (line (text_of r)) (status_of r) (file-refused files log LOG_LIMIT named.Log (λ file. OnLog file (next text f)) r why))
+
+      pub question-log_faulty : (file : List ℕ) (s : Stop) → file_of files log ≡ Some file → length file ≤ LOG_LIMIT → HasReason s (TellsLogFault (log_of file)) → HasReason s (At (OnQuestion files formula log next))
+      question-log_faulty file s is fits h =
+          reason-weaker s (At (OnFile files log LOG_LIMIT named.Log (λ bytes. OnLog bytes (next text f)))) (At (OnQuestion files formula log next))
+          (λ r. with-formula (line (text_of r)) (status_of r))
+          (log-stopped files log (next text f) file s is fits h)

@@ -8,8 +8,11 @@ pub mod Tests
 pub mod TimesOutcome
 pub mod ReplayOutcome
 pub mod OrderOutcome
+pub mod CheckOutcome
+pub mod AuditOutcome
 pub mod Reads
 pub mod Outcome
+pub mod Laws
 pub use Rattle.mt_port.specs.Port
 pub use Rattle.mt_port.specs.Whole
 pub use Rattle.mt_model.specs.Bounds
@@ -22,6 +25,12 @@ pub use Rattle.log_read.specs.LogOf
 pub use Rattle.mtl_parse.specs.FormulaOf
 pub use Rattle.mtl_parse.specs.Places
 pub use Rattle.times_read.specs.TimesOf
+pub use Rattle.mtl_encode.specs.Size
+pub use Rattle.report_text.specs.ReportText
+pub use Rattle.report_text.specs.ReportOf
+pub use Rattle.verdict.specs.Right
+pub use Rattle.verdict.specs.AuditPlace
+pub use Rattle.verdict.specs.Claims
 pub use Rattle.skew_bounds.specs.Consistency
 pub use Rattle.happened_before.specs.Order
 pub use Rattle.mt_model.specs.Before

@@ -4,13 +4,15 @@ use Rattle.mt_port.specs.Port.{Files, file_of}
 use Rattle.mt_port.specs.Whole.{WrotePrefix}
 use Rattle.skew_cli.specs.declared.status.Status.{Status}
 use Rattle.skew_cli.specs.declared.status.Status.TheVariants as status
-use Rattle.skew_cli.specs.Reads.{HoldsFormula}
+use Rattle.skew_cli.specs.Reads.{HoldsQuestion, HoldsThird, NoThird}
 use Rattle.skew_cli.specs.Statuses.{IsAnswer}
 use Rattle.skew_cli.specs.Texts.{line}
 use Rattle.skew_cli.specs.TimesOutcome.{TimesOutcome}
 use Rattle.skew_cli.specs.ReplayOutcome.{ReplayOutcome}
 use Rattle.skew_cli.specs.OrderOutcome.{OrderOutcome}
-use Rattle.skew_cli.specs.Words.{Command, Order, Replay, Times, Word, command_of}
+use Rattle.skew_cli.specs.CheckOutcome.{CheckOutcome}
+use Rattle.skew_cli.specs.AuditOutcome.{AuditOutcome}
+use Rattle.skew_cli.specs.Words.{Audit, Check, Command, Order, Replay, Times, Word, command_of}
 
 -- one line, with its status
 abbrev pub Says : List ℕ → Status → List ℕ → Status → Type 0
@@ -21,6 +23,8 @@ abbrev pub CommandOutcome : Command → Files → List ℕ → Status → Type 0
 CommandOutcome (Times log) files = TimesOutcome files log
 CommandOutcome (Replay formula log times) files = ReplayOutcome files formula log times
 CommandOutcome (Order log) files = OrderOutcome files log
+CommandOutcome (Check conflicts formula log) files = CheckOutcome files conflicts formula log
+CommandOutcome (Audit conflicts formula log report) files = AuditOutcome files conflicts formula log report
 
 -- what words give: the command's outcome, and a refusal where they are no command
 abbrev pub Outcome : List Word → Files → List ℕ → Status → Type 0
@@ -29,8 +33,10 @@ Outcome words files out s = MatchOption (command_of words) (Says (codes "refused
 -- the files that a command comes to read are held
 abbrev pub HoldsFiles : Files → Command → Type 0
 HoldsFiles files (Times log) = IsSome (file_of files log)
-HoldsFiles files (Replay formula log times) = HoldsFormula files formula log times
+HoldsFiles files (Replay formula log times) = HoldsQuestion files formula log (HoldsThird files times)
 HoldsFiles files (Order log) = IsSome (file_of files log)
+HoldsFiles files (Check conflicts formula log) = HoldsQuestion files formula log NoThird
+HoldsFiles files (Audit conflicts formula log report) = HoldsQuestion files formula log (HoldsThird files report)
 
 -- the files that the command of words comes to read are held
 abbrev pub HoldsNamed : List Word → Files → Type 0

@@ -3,6 +3,8 @@ use Rattle.std.specs.Prelude.{◌≡◌, ℕ, List, [], ◌++◌, codes, Option,
 use Rattle.std.specs.Fmt.{decimal}
 use Rattle.log_read.specs.Faults.{number_of, record_of}
 use Rattle.mtl_parse.specs.Faults.{byte_of, number_of as formula_number_of}
+use Rattle.verdict.specs.declared.answer.Part.{Part}
+use Rattle.verdict.specs.declared.answer.Part.TheVariants as part
 use Rattle.skew_cli.specs.declared.refusal.Named.{Named}
 use Rattle.skew_cli.specs.declared.refusal.Named.TheVariants as named
 use Rattle.skew_cli.specs.declared.refusal.Refusal.{Refusal}
@@ -16,6 +18,14 @@ abbrev pub word_of : Named → List ℕ
 word_of named.Formula = codes "formula"
 word_of named.Log = codes "log"
 word_of named.Times = codes "times"
+word_of named.Report = codes "report"
+
+-- a part of a report, as a refusal names it
+abbrev pub part_word : Part → List ℕ
+part_word part.Events = codes "events"
+part_word part.Inconsistent = codes "inconsistent"
+part_word part.OnTrue = codes "true"
+part_word part.OnFalse = codes "false"
 
 -- where a log has a fault: at a record, unless it is of none
 abbrev pub record_text : Option ℕ → List ℕ
@@ -36,6 +46,9 @@ text_of (refusal.Log fault) = codes "refused log " ++ decimal (number_of fault) 
 text_of refusal.Nodes = codes "refused nodes above 512"
 text_of (refusal.TimesNumber number) = codes "refused times 1 at line " ++ decimal number
 text_of (refusal.TimesCount number) = codes "refused times 2 at line " ++ decimal number
+text_of (refusal.Size n) = codes "refused size " ++ decimal n
+text_of (refusal.Report number) = codes "refused report at line " ++ decimal number
+text_of (refusal.Part p number) = codes "refused " ++ part_word p ++ codes " at line " ++ decimal number
 
 -- the status of a refusal
 abbrev pub status_of : Refusal → Status
@@ -46,6 +59,9 @@ status_of (refusal.Log fault) = status.LogRefused
 status_of refusal.Nodes = status.TooLarge
 status_of (refusal.TimesNumber number) = status.TimesRefused
 status_of (refusal.TimesCount number) = status.TimesRefused
+status_of (refusal.Size n) = status.TooLarge
+status_of (refusal.Report number) = status.Rejected
+status_of (refusal.Part p number) = status.Rejected
 
 -- the bytes are the one line of some refusal of this status
 abbrev pub IsRefusalOf : Status → List ℕ → Type 0

@@ -8,12 +8,12 @@ use Rattle.mt_model.specs.Texts.{step_text}
 use Rattle.mt_model.specs.Timing.{Admissible}
 use Rattle.mt_model.specs.Truth.{truth}
 use Rattle.mt_port.specs.Port.{Files}
-use Rattle.skew_cli.specs.declared.limits.TheConstants.{FORMULA_LIMIT, LOG_LIMIT, TIMES_LIMIT}
+use Rattle.skew_cli.specs.declared.limits.TheConstants.{TIMES_LIMIT}
 use Rattle.skew_cli.specs.declared.refusal.Named.TheVariants as named
 use Rattle.skew_cli.specs.declared.status.Status.{Status}
 use Rattle.skew_cli.specs.declared.status.Status.TheVariants as status
 use Rattle.skew_cli.specs.Texts.{line}
-use Rattle.skew_cli.specs.Tests.{OnFile, OnFormula, OnHosts, OnLog, OnNodes, OnTimes}
+use Rattle.skew_cli.specs.Tests.{OnFile, OnHosts, OnNodes, OnQuestion, OnTimes}
 use Rattle.skew_cli.specs.Words.{Word}
 
 -- the word of a truth value, and its status
@@ -47,10 +47,6 @@ ReplayOfTimes log f t out s = Valued log f t out s ⊎ Broken log t out s
 abbrev pub ReplayOfLog : Files → Word → List ℕ → Form → Logged → List ℕ → Status → Type 0
 ReplayOfLog files times text f log = OnHosts text f log (OnNodes f (OnFile files times TIMES_LIMIT named.Times (λ file. OnTimes file log (ReplayOfTimes log f))))
 
--- with the formula read: the log
-abbrev pub ReplayOfFormula : Files → Word → Word → List ℕ → Form → List ℕ → Status → Type 0
-ReplayOfFormula files log times text f = OnFile files log LOG_LIMIT named.Log (λ file. OnLog file (ReplayOfLog files times text f))
-
 -- what `replay` gives
 abbrev pub ReplayOutcome : Files → Word → Word → Word → List ℕ → Status → Type 0
-ReplayOutcome files formula log times = OnFile files formula FORMULA_LIMIT named.Formula (λ text. OnFormula text (ReplayOfFormula files log times text))
+ReplayOutcome files formula log times = OnQuestion files formula log (ReplayOfLog files times)

@@ -1,11 +1,17 @@
 -- What it means that the work of a command ended early, and that it ended.
-use Rattle.std.specs.Prelude.{◌≡◌, ℕ, List, Option, Some, Result, Ok, Err, string_bytes, ℤ}
+use Rattle.std.specs.Prelude.{◌≡◌, ◌⊎◌, ◌<◌, ◌≤◌, length, ℕ, List, Option, Some, Result, Ok, Err, ℤ}
 use Rattle.mt_model.specs.Log.{Logged}
 use Rattle.log_read.specs.declared.fault.LogFault.{LogFault}
 use Rattle.mt_model.specs.Form.{Form}
 use Rattle.mtl_parse.specs.declared.fault.FormulaFault.{FormulaFault}
 use Rattle.mtl_parse.specs.FormulaOf.{FormulaOf}
 use Rattle.mtl_parse.specs.Places.{host_byte}
+use Rattle.formula_arena.specs.Nodes.{nodes_of}
+use Rattle.formula_arena.specs.declared.arena.TheConstants.{MAX_NODES}
+use Rattle.mtl_encode.specs.Size.{size}
+use Rattle.mtl_encode.specs.declared.size.TheConstants.{MAX_SIZE}
+use Rattle.report_text.specs.declared.fault.ReportFault.TheVariants as report
+use Rattle.report_text.specs.ReportOf.{ReportOf}
 use Rattle.times_read.specs.declared.fault.TimesFault.{TimesFault}
 use Rattle.times_read.specs.declared.fault.TimesFault.TheVariants as times
 use Rattle.skew_cli.specs.declared.refusal.Refusal.{Refusal}
@@ -30,7 +36,7 @@ RefusesFor (Err s) Reason = HasReason s Reason
 
 -- the work of a command gave what is due, in a reply or in a refusal
 abbrev pub Gives : (List ℕ → Status → Type 0) → Result Reply Stop → Type 0
-Gives Due (Ok reply) = Due (string_bytes reply.text) reply.status
+Gives Due (Ok reply) = Due reply.text.items reply.status
 Gives Due (Err s) = HasReason s (λ r. Due (line (text_of r)) (status_of r))
 
 -- the refusal tells the fault that a log file has
@@ -58,3 +64,19 @@ TellsFault (Ok t) r = ⊥
 TellsFault (Err (times.Number number)) r = r ≡ refusal.TimesNumber number
 TellsFault (Err (times.Count number)) r = r ≡ refusal.TimesCount number
 TellsFault (Err times.Memory) r = ⊥
+
+-- the refusal tells the first faulty line of a report file
+pub record TellsFaultyLine (bytes : List ℕ) (r : Refusal) : Type 0 where
+  pub number : ℕ
+  pub faulty : ReportOf bytes (Err (report.Syntax number))
+  pub told : r ≡ refusal.Report number
+
+-- the refusal tells that a formula has too many nodes, or, where they are few, that the size of its problem is too large
+abbrev pub TellsLarge : Form → Logged → Refusal → Type 0
+TellsLarge f log r =
+    ((r ≡ refusal.Nodes) × (MAX_NODES < length (nodes_of f)))
+    ⊎ ((length (nodes_of f) ≤ MAX_NODES) × (r ≡ refusal.Size (size log (nodes_of f))) × (MAX_SIZE < size log (nodes_of f)))
+
+-- nothing is answered but a refusal
+abbrev pub NoAnswer : List ℕ → Form → Logged → List ℕ → Status → Type 0
+NoAnswer text f log out s = ⊥

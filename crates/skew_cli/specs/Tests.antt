@@ -11,10 +11,18 @@ use Rattle.log_read.specs.LogOf.{log_of}
 use Rattle.mtl_parse.specs.declared.fault.FormulaFault.{FormulaFault}
 use Rattle.mtl_parse.specs.FormulaOf.{FormulaOf}
 use Rattle.mtl_parse.specs.Places.{host_byte}
+use Rattle.mtl_encode.specs.Size.{size}
+use Rattle.mtl_encode.specs.declared.size.TheConstants.{MAX_SIZE}
+use Rattle.report_text.specs.declared.fault.ReportFault.{ReportFault}
+use Rattle.report_text.specs.declared.fault.ReportFault.TheVariants as report
+use Rattle.report_text.specs.declared.report.Report.{Report}
+use Rattle.report_text.specs.ReportOf.{ReportOf}
 use Rattle.times_read.specs.declared.fault.TimesFault.{TimesFault}
 use Rattle.times_read.specs.declared.fault.TimesFault.TheVariants as times
 use Rattle.times_read.specs.TimesOf.{times_of}
+use Rattle.skew_cli.specs.declared.limits.TheConstants.{FORMULA_LIMIT, LOG_LIMIT}
 use Rattle.skew_cli.specs.declared.refusal.Named.{Named}
+use Rattle.skew_cli.specs.declared.refusal.Named.TheVariants as named
 use Rattle.skew_cli.specs.declared.refusal.Refusal.TheVariants as refusal
 use Rattle.skew_cli.specs.declared.status.Status.{Status}
 use Rattle.skew_cli.specs.Refusals.{Refuses}
@@ -51,3 +59,21 @@ RefusesTimes times.Memory = λ out s. ⊥
 -- a file of times for the rows of a log: refused at its fault
 abbrev pub OnTimes : List ℕ → Logged → (List ℤ → List ℕ → Status → Type 0) → List ℕ → Status → Type 0
 OnTimes file log next out s = MatchResult (times_of (length log.rows) file) (λ t. next t out s) (λ fault. RefusesTimes fault out s)
+
+-- a formula and a log: the file and the text of the formula, and then those of the log
+abbrev pub OnQuestion : Files → Word → Word → (List ℕ → Form → Logged → List ℕ → Status → Type 0) → List ℕ → Status → Type 0
+OnQuestion files formula log next =
+    OnFile files formula FORMULA_LIMIT named.Formula (λ text. OnFormula text (λ f. OnFile files log LOG_LIMIT named.Log (λ file. OnLog file (next text f))))
+
+-- the size of the problem of a formula and a log: refused where it is above the limit
+abbrev pub OnSize : Form → Logged → (List ℕ → Status → Type 0) → List ℕ → Status → Type 0
+OnSize f log next out s = MatchBool (nat_lt MAX_SIZE (size log (nodes_of f))) (Refuses (refusal.Size (size log (nodes_of f))) out s) (next out s)
+
+-- the refusal of a fault of a report file
+abbrev pub RefusesReport : ReportFault → List ℕ → Status → Type 0
+RefusesReport (report.Syntax number) = Refuses (refusal.Report number)
+RefusesReport report.Memory = λ out s. ⊥
+
+-- a report's file: refused at its first faulty line
+abbrev pub OnReport : List ℕ → (Report → List ℕ → Status → Type 0) → List ℕ → Status → Type 0
+OnReport bytes next out s = (reading : Result Report ReportFault) × ReportOf bytes reading × MatchResult reading (λ r. next r out s) (λ fault. RefusesReport fault out s)

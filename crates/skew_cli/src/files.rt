@@ -1,6 +1,6 @@
 //! The tests that a command makes of its files, in their order.
 
-ghost use Rattle.std.specs.Prelude.{◌≡◌, ◌^◌, ◌<◌, ◌≤◌, ◌↔◌, true, None, Some, All, length, IfOk, OnOk, IsErrOf, IsSome, Ok};
+ghost use Rattle.std.specs.Prelude.{◌≡◌, ◌^◌, ◌<◌, ◌≤◌, true, None, Some, All, length, IfOk, OnOk, IsErrOf, IsSome, Ok};
 ghost use Rattle.mt_model.specs.Form.{form_of};
 ghost use Rattle.formula_arena.specs.Cores.{core_of};
 ghost use Rattle.formula_arena.specs.Nodes.{nodes_of};
@@ -11,18 +11,20 @@ ghost use Rattle.mt_model.specs.declared.limits.TheConstants.{MAX_TIME};
 ghost use Rattle.mt_port.specs.Port.{Rose, file_of};
 ghost use Rattle.mt_port.specs.Whole.{IsLonger};
 ghost use Rattle.mtl_parse.specs.FormulaOf.{FormulaOf};
-ghost use Rattle.mtl_parse.specs.Places.{host_byte};
 ghost use Rattle.times_read.specs.TimesOf.{times_of};
 ghost use Rattle.log_read.specs.LogOf.{log_of};
-ghost use Rattle.skew_cli.specs.Stops.{NamesHost, RefusesFor, TellsFault, TellsFormulaFault, TellsLogFault};
+ghost use Rattle.report_text.specs.ReportOf.{ReportOf};
+ghost use Rattle.report_text.specs.Spelled.{IsSpelled};
+ghost use Rattle.skew_cli.specs.Stops.{NamesHost, RefusesFor, TellsFault, TellsFaultyLine, TellsFormulaFault, TellsLogFault};
 
 use crate::refusal::{Named, Refusal};
 use crate::reply::Stop;
-use formula_arena::ArenaFault;
+use formula_arena::{Arena, ArenaFault};
 use log_read::{LogFault, read_log};
 use mt_model::{Formula, Log, Times};
 use mt_port::{ReadFault, Shelf, read_all};
 use mtl_parse::{FormulaFault, parse_formula, place_of};
+use report_text::{Report, ReportFault, read_report};
 use std::alloc::Global;
 use times_read::{TimesFault, read_times};
 use witness_replay::Replayer;
@@ -128,5 +130,34 @@ pub fn timing(alloc: Global, file: &[u8], log: &Log) -> Result<Times, Stop>
         Err(TimesFault::Number { line }) => Err(Stop::Refused(Refusal::TimesNumber { line })),
         Err(TimesFault::Count { line }) => Err(Stop::Refused(Refusal::TimesCount { line })),
         Err(TimesFault::Memory) => Err(Stop::NoMemory),
+    }
+}
+
+/// That the distinct nodes of a formula are few enough.
+pub fn few_nodes(alloc: Global, formula: &Formula) -> Result<(), Stop>
+    ensures few { OnOk result (length (nodes_of (form_of formula.now)) ≤ MAX_NODES) }
+    ensures read { IsErrOf result Stop.ReadFailed → ⊥ }
+    ensures refused { RefusesFor result (λ r. (r ≡ Refusal.Nodes) × (MAX_NODES < length (nodes_of (form_of formula.now)))) }
+{
+    let mut arena = Arena::new(alloc);
+    match arena.intern(formula) {
+        Ok(_) => Ok(()),
+        Err(ArenaFault::TooManyNodes) => Err(Stop::Refused(Refusal::Nodes)),
+        Err(ArenaFault::Memory) => Err(Stop::NoMemory),
+    }
+}
+
+/// The report that a file is.
+pub fn report(alloc: Global, file: &[u8]) -> Result<Report, Stop>
+    requires { length file.now < 2 ^ 31 }
+    ensures report { IfOk result (λ r. ReportOf file.now (Ok r)) }
+    ensures spelled { IfOk result IsSpelled }
+    ensures read { IsErrOf result Stop.ReadFailed → ⊥ }
+    ensures refused { RefusesFor result (TellsFaultyLine file.now) }
+{
+    match read_report(alloc, file) {
+        Ok(report) => Ok(report),
+        Err(ReportFault::Syntax { line }) => Err(Stop::Refused(Refusal::Report { line })),
+        Err(ReportFault::Memory) => Err(Stop::NoMemory),
     }
 }

@@ -1,11 +1,16 @@
 //! What the program does: its words, its files, and what it writes.
 #![tactic(auto)]
 
+mod audit;
+mod check;
 mod files;
+mod given;
+mod laws;
 mod limits;
 mod operands;
 mod order;
 mod program;
+mod question;
 mod refusal;
 mod replay;
 mod reply;
@@ -14,6 +19,12 @@ mod texts;
 mod times;
 mod words;
 
-pub use limits::{FORMULA_LIMIT, LOG_LIMIT, TIMES_LIMIT, limits_are_numbers};
+pub use laws::{
+    accepted_files_are_true, checks_are_accepted, checks_are_exact, unknown_is_bounded,
+};
+pub use limits::{
+    DEFAULT_CONFLICTS, FORMULA_LIMIT, LOG_LIMIT, MAX_CONFLICTS, REPORT_LIMIT, TIMES_LIMIT,
+    limits_are_numbers,
+};
 pub use program::run;
 pub use status::Status;

@@ -11,9 +11,21 @@ pub const LOG_LIMIT: usize = 1_048_576;
 /// The most bytes of a file of times.
 pub const TIMES_LIMIT: usize = 65_536;
 
-/// The numbers that limit files.
+/// The most bytes of a report file.
+pub const REPORT_LIMIT: usize = 1_073_741_824;
+
+/// The number of conflicts in each section of a report, where none is given.
+pub const DEFAULT_CONFLICTS: u32 = 200_000;
+
+/// The greatest number of conflicts that can be given.
+pub const MAX_CONFLICTS: u32 = 1_000_000;
+
+/// The numbers that limit files and conflicts.
 pub fn limits_are_numbers()
     ensures formula { FORMULA_LIMIT ≡ 65536 }
     ensures log { LOG_LIMIT ≡ 1048576 }
     ensures times { TIMES_LIMIT ≡ 65536 }
+    ensures report { REPORT_LIMIT ≡ 1073741824 }
+    ensures default { DEFAULT_CONFLICTS ≡ 200000 }
+    ensures conflicts { MAX_CONFLICTS ≡ 1000000 }
 {}

@@ -1,4 +1,4 @@
-ghost use Rattle.std.specs.Prelude.{◌≡◌, ◌≤◌, true, IfOk, IsErrOf, IsSome, string_bytes};
+ghost use Rattle.std.specs.Prelude.{◌≡◌, ◌≤◌, true, IfOk, IsErrOf, IsSome};
 ghost use Rattle.mt_port.specs.Port.{Rose, file_of};
 ghost use Rattle.skew_cli.specs.OrderOutcome.{OrderOfLog, OrderOutcome};
 ghost use Rattle.skew_cli.specs.Statuses.{IsVerdict};
@@ -17,16 +17,16 @@ use std::alloc::{AllocError, Global};
 
 // What `order` answers for a log.
 fn order_of_log(alloc: Global, log: &Log) -> Result<Reply, AllocError>
-    ensures outcome { IfOk result (λ r. OrderOfLog log.now (string_bytes r.text) r.status) }
+    ensures outcome { IfOk result (λ r. OrderOfLog log.now r.text.items r.status) }
     ensures verdict { IfOk result (λ r. IsVerdict r.status) }
 {
     match Order::build(alloc, log) {
         Ok(order) => Ok(Reply {
-            text: written_clocks(alloc, log, &order)?,
+            text: written_clocks(alloc, log, &order)?.into_bytes(),
             status: Status::Zero,
         }),
         Err(OrderFault::Cycle(events)) => Ok(Reply {
-            text: written_cycle(alloc, events.as_slice())?,
+            text: written_cycle(alloc, events.as_slice())?.into_bytes(),
             status: Status::Inconsistent,
         }),
         Err(OrderFault::Memory) => Err(AllocError),

@@ -1,6 +1,6 @@
 ghost use Rattle.std.specs.Prelude.{◌≡◌, ◌⊎◌, ◌++◌, ◌≤◌, ℕ, List, true, None, IfOk, IfErr, IsErrOf, codes, map, string_bytes};
 ghost use Rattle.mt_port.specs.Port.{Files, Rose};
-ghost use Rattle.skew_cli.specs.Called.{command_in};
+ghost use Rattle.skew_cli.specs.Called.{HasFewConflicts, command_in};
 ghost use Rattle.skew_cli.specs.Outcome.{Agree, CommandOutcome, Ends, HoldsFiles, HoldsNamed, Outcome};
 ghost use Rattle.skew_cli.specs.Statuses.{IsAnswer, IsRefusal, IsVerdict};
 ghost use Rattle.skew_cli.specs.Refusals.{IsRefusalOf};
@@ -9,6 +9,8 @@ ghost use Rattle.skew_cli.specs.Texts.{line};
 ghost use Rattle.skew_cli.specs.Words.{command_of};
 
 use crate::Status;
+use crate::audit::audit;
+use crate::check::check;
 use crate::order::order;
 use crate::replay::replay;
 use crate::reply::{Reply, Stop};
@@ -18,14 +20,14 @@ use mt_port::{Failed, Shelf, Sink, write_all};
 use std::alloc::Global;
 
 // Writes a text, and answers its status where that goes well.
-fn finish<K: Sink>(out: &mut K, text: &str, status: Status) -> Status
+fn finish<K: Sink>(out: &mut K, text: &[u8], status: Status) -> Status
     requires { IsAnswer status }
     ensures ends { K.tells out.old ≡ true → Ends (λ b s. (b ≡ text.now) × (s ≡ status)) (K.bytes out.old) (K.bytes out.new) result }
     ensures status { (result ≡ status) ⊎ (result ≡ Status.WriteFailed) }
     ensures failed { result ≡ Status.WriteFailed → Rose (K.faults out.old) (K.faults out.new) }
     ensures later { K.faults out.old ≤ K.faults out.new }
 {
-    match write_all(out, text.as_bytes()) {
+    match write_all(out, text) {
         Ok(()) => status,
         Err(Failed) => Status::WriteFailed,
     }
@@ -33,6 +35,7 @@ fn finish<K: Sink>(out: &mut K, text: &str, status: Status) -> Status
 
 // What a command gives, before anything is written.
 fn work<S: Shelf>(alloc: Global, shelf: &mut S, call: Call<'_>) -> Result<Reply, Stop>
+    requires { HasFewConflicts call }
     ensures outcome { S.tells shelf.old ≡ true → Gives (CommandOutcome (command_in call.entry) (S.files shelf.old)) result }
     ensures verdict { IfOk result (λ r. IsVerdict r.status) }
     ensures failed { IsErrOf result Stop.ReadFailed → Rose (S.faults shelf.old) (S.faults shelf.new) }
@@ -47,15 +50,27 @@ fn work<S: Shelf>(alloc: Global, shelf: &mut S, call: Call<'_>) -> Result<Reply,
             times,
         } => replay(alloc, shelf, formula, log, times),
         Call::Order { log } => order(alloc, shelf, log),
+        Call::Check {
+            conflicts,
+            formula,
+            log,
+        } => check(alloc, shelf, conflicts, formula, log),
+        Call::Audit {
+            conflicts,
+            formula,
+            log,
+            report,
+        } => audit(alloc, shelf, conflicts, formula, log, report),
     }
 }
 
 // The same, where a refusal is a reply too.
 fn reply<S: Shelf>(alloc: Global, shelf: &mut S, call: Call<'_>) -> Result<Reply, Stop>
-    ensures outcome { IfOk result (λ r. S.tells shelf.old ≡ true → CommandOutcome (command_in call.entry) (S.files shelf.old) (string_bytes r.text) r.status) }
+    requires { HasFewConflicts call }
+    ensures outcome { IfOk result (λ r. S.tells shelf.old ≡ true → CommandOutcome (command_in call.entry) (S.files shelf.old) r.text.items r.status) }
     ensures answer { IfOk result (λ r. IsAnswer r.status) }
     ensures command { IfOk result (λ r. r.status ≡ Status.Words → ⊥) }
-    ensures refused { IfOk result (λ r. IsRefusal r.status → IsRefusalOf r.status (string_bytes r.text)) }
+    ensures refused { IfOk result (λ r. IsRefusal r.status → IsRefusalOf r.status r.text.items) }
     ensures stop { IfErr result (λ s. HasReason s (λ r. ⊥)) }
     ensures failed { IsErrOf result Stop.ReadFailed → Rose (S.faults shelf.old) (S.faults shelf.new) }
     ensures never { S.steady shelf.old → S.tells shelf.old ≡ true → HoldsFiles (S.files shelf.old) (command_in call.entry) → IsErrOf result Stop.ReadFailed → ⊥ }
@@ -102,10 +117,10 @@ pub fn run<S: Shelf, K: Sink>(
         → (result ≡ Status.NoMemory) ⊎ IsAnswer result }
 {
     let Some(call) = call_of(words) else {
-        return finish(out, "refused words\n", Status::Words);
+        return finish(out, b"refused words\n", Status::Words);
     };
     match reply(alloc, shelf, call) {
-        Ok(reply) => finish(out, reply.text.as_str(), reply.status),
+        Ok(reply) => finish(out, &reply.text, reply.status),
         Err(Stop::Refused(_)) => unreachable!(),
         Err(Stop::NoMemory) => Status::NoMemory,
         Err(Stop::ReadFailed) => Status::ReadFailed,

@@ -1,5 +1,5 @@
-ghost use Rattle.std.specs.Prelude.{◌≡◌, IfOk, string_bytes};
-ghost use Rattle.skew_cli.specs.Refusals.{status_of, text_of};
+ghost use Rattle.std.specs.Prelude.{◌≡◌, IfOk};
+ghost use Rattle.skew_cli.specs.Refusals.{part_word as part_word_of, status_of, text_of};
 ghost use Rattle.skew_cli.specs.Statuses.{IsAnswer};
 ghost use Rattle.skew_cli.specs.Texts.{line};
 
@@ -9,6 +9,7 @@ use log_read::LogFault;
 use mtl_parse::FormulaFault;
 use std::alloc::{AllocError, Global};
 use std::fmt;
+use verdict::Part;
 
 /// A file that a command names.
 #[derive(Clone, Copy, Debug, PartialEq, Eq)]
@@ -16,9 +17,10 @@ pub enum Named {
     Formula,
     Log,
     Times,
+    Report,
 }
 
-/// Why a command is refused for what its files hold. Bytes count from 0 and lines from 1.
+/// Why a command is refused for what its files hold. Bytes count from 0, and the lines of a file from 1.
 #[derive(Clone, Copy, Debug, PartialEq, Eq)]
 pub enum Refusal {
     /// The file is longer than its limit.
@@ -35,6 +37,25 @@ pub enum Refusal {
     TimesNumber { line: u32 },
     /// The times file lacks the line, or has one too many.
     TimesCount { line: u32 },
+    /// The number of until and since nodes times the cube of the number of rows is above 262,144.
+    Size { size: u128 },
+    /// No report begins with the lines of the report file up to this one.
+    Report { line: u32 },
+    /// The part of the report doesn't show what it claims: at a line of its derivation or a step of its walk, counted
+    /// from 1, or as a whole, at 0.
+    Part { part: Part, line: u32 },
+}
+
+// The word of a part of a report.
+fn part_word(part: Part) -> &'static str
+    ensures { result.now ≡ part_word_of part }
+{
+    match part {
+        Part::Events => "events",
+        Part::Inconsistent => "inconsistent",
+        Part::OnTrue => "true",
+        Part::OnFalse => "false",
+    }
 }
 
 impl fmt::Display for Named {
@@ -48,6 +69,7 @@ impl fmt::Display for Named {
             Named::Formula => f.write_str("formula"),
             Named::Log => f.write_str("log"),
             Named::Times => f.write_str("times"),
+            Named::Report => f.write_str("report"),
         }
     }
 }
@@ -79,6 +101,12 @@ impl fmt::Display for Refusal {
             Refusal::Nodes => f.write_str("refused nodes above 512"),
             Refusal::TimesNumber { line } => write!(f, "refused times 1 at line {line}"),
             Refusal::TimesCount { line } => write!(f, "refused times 2 at line {line}"),
+            Refusal::Size { size } => write!(f, "refused size {size}"),
+            Refusal::Report { line } => write!(f, "refused report at line {line}"),
+            Refusal::Part { part, line } => {
+                let word = part_word(*part);
+                write!(f, "refused {word} at line {line}")
+            }
         }
     }
 }
@@ -91,16 +119,17 @@ impl Refusal {
         ensures command { result ≡ Status.Words → ⊥ }
     {
         match self {
-            Refusal::Length(_) | Refusal::Nodes => Status::TooLarge,
+            Refusal::Length(_) | Refusal::Nodes | Refusal::Size { .. } => Status::TooLarge,
             Refusal::Formula(_) | Refusal::UnknownHost { .. } => Status::FormulaRefused,
             Refusal::Log(_) => Status::LogRefused,
             Refusal::TimesNumber { .. } | Refusal::TimesCount { .. } => Status::TimesRefused,
+            Refusal::Report { .. } | Refusal::Part { .. } => Status::Rejected,
         }
     }
 
     /// The refusal as a reply: its one line and its status.
     pub fn reply(&self, alloc: Global) -> Result<Reply, AllocError>
-        ensures text { IfOk result (λ r. string_bytes r.text ≡ line (text_of self.now)) }
+        ensures text { IfOk result (λ r. r.text.items ≡ line (text_of self.now)) }
         ensures status { IfOk result (λ r. r.status ≡ status_of self.now) }
         ensures answer { IfOk result (λ r. IsAnswer r.status) }
         ensures command { IfOk result (λ r. r.status ≡ Status.Words → ⊥) }
@@ -108,7 +137,7 @@ impl Refusal {
         let mut text = self.to_string(alloc)?;
         text.push('\n')?;
         Ok(Reply {
-            text,
+            text: text.into_bytes(),
             status: self.status(),
         })
     }

@@ -5,7 +5,7 @@ use std::alloc::AllocError;
 /// What is written, and the status where that goes well.
 #[derive(Debug, Drop)]
 pub struct Reply {
-    pub text: String,
+    pub text: Vec<u8>,
     pub status: Status,
 }
 

@@ -1,4 +1,4 @@
-ghost use Rattle.std.specs.Prelude.{◌≡◌, ◌^◌, ◌<◌, ◌≤◌, true, length, IfOk, IsErrOf, IsSome, string_bytes};
+ghost use Rattle.std.specs.Prelude.{◌≡◌, ◌<◌, ◌≤◌, true, IfOk, IsErrOf, IsSome};
 ghost use Rattle.mt_port.specs.Port.{Rose, file_of};
 ghost use Rattle.skew_cli.specs.Statuses.{IsVerdict};
 ghost use Rattle.skew_cli.specs.Stops.{Gives};
@@ -17,7 +17,7 @@ use std::alloc::{AllocError, Global};
 
 // What `times` answers for a log.
 fn times_of_log(alloc: Global, log: &Log) -> Result<Reply, AllocError>
-    ensures outcome { IfOk result (λ r. TimesOfLog log.now (string_bytes r.text) r.status) }
+    ensures outcome { IfOk result (λ r. TimesOfLog log.now r.text.items r.status) }
     ensures verdict { IfOk result (λ r. IsVerdict r.status) }
 {
     conflict_excludes_timings();
@@ -25,14 +25,14 @@ fn times_of_log(alloc: Global, log: &Log) -> Result<Reply, AllocError>
         Consistency::Timing(times) => {
             let text = written_times(alloc, times.as_slice())?;
             Ok(Reply {
-                text,
+                text: text.into_bytes(),
                 status: Status::Zero,
             })
         }
         Consistency::Conflict(steps) => {
             let text = written_steps(alloc, steps.as_slice())?;
             Ok(Reply {
-                text,
+                text: text.into_bytes(),
                 status: Status::Inconsistent,
             })
         }

@@ -188,6 +188,7 @@ fn a_failed_write_leaves_the_beginning(rt: HostRuntime) -> Result<(), Fail> {
     Ok(())
 }
 
+mod check;
 mod replay;
 
 #[test]

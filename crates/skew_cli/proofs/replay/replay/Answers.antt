@@ -1,33 +1,43 @@
 use Rattle.std.proofs.Common.{◌∙◌}
 use Rattle.std.proofs.lemmas.Result.{err_from_is_err_and}
 use Rattle.mt_model.specs.Form.{form_of}
-use Rattle.skew_cli.specs.declared.limits.TheConstants.{FORMULA_LIMIT}
-use Rattle.skew_cli.specs.declared.refusal.Named.TheVariants as named
-use Rattle.skew_cli.specs.ReplayOutcome.{ReplayOfFormula, ReplayOutcome}
-use Rattle.skew_cli.specs.Refusals.{status_of, text_of}
-use Rattle.skew_cli.specs.Tests.{OnFormula}
-use Rattle.skew_cli.specs.Texts.{line}
-use Rattle.skew_cli.proofs.Steps.{At, file-read, formula-read, formula-refused, gives-weaker, reason-weaker}
+use Rattle.skew_cli.specs.ReplayOutcome.{ReplayOfLog, ReplayOutcome}
+use Rattle.skew_cli.specs.Reads.{HoldsThird}
+use Rattle.skew_cli.specs.Stops.{NoAnswer}
+use Rattle.skew_cli.proofs.Holding.{next-held, question-held}
+use Rattle.skew_cli.specs.Tests.{OnQuestion}
+use Rattle.skew_cli.proofs.Outcomes.{question-refused}
+use Rattle.skew_cli.proofs.Steps.{At, gives-weaker, question-read, reason-weaker}
 use Rattle.skew_cli.proofs.replay.replay.Goals as goal
 
-pub returns-in_err-formula-clause-outcome : goal.returns-in_err-formula-clause-outcome
-returns-in_err-formula-clause-outcome g c = λ tells.
-    let p = err_from_is_err_and c.from_residual-in_err-formula.result c.from_residual-in_err-formula.ensures.1 in
+pub returns-in_err-question-clause-outcome : goal.returns-in_err-question-clause-outcome
+returns-in_err-question-clause-outcome g c = λ tells.
+    let p = err_from_is_err_and c.from_residual.result c.from_residual.ensures.1 in
     let held = g.S.Shelf.files c.args.shelf.now in
-    let text = c.in_ok-text.text.items in
-    let refused = rw c.deref.ensures.value at c.in_err-formula.ensures.refused in
-    rw (p.1, p.2) (reason-weaker c.in_err-formula.field-0.0 _ (At (ReplayOutcome held c.args.formula.now c.args.log.now c.args.times.now))
-    (λ r why. file-read held c.args.formula.now FORMULA_LIMIT named.Formula (λ text. OnFormula text (ReplayOfFormula held c.args.log.now c.args.times.now text)) text (line (text_of r)) (status_of r) (c.in_ok-text.ensures.whole tells) c.in_ok-text.ensures.within
-    (formula-refused text (ReplayOfFormula held c.args.log.now c.args.times.now text) r why))
-    refused)
+    rw (p.1, p.2) (reason-weaker c.in_err-question.field-0.0 (At (OnQuestion held c.args.formula.now c.args.log.now NoAnswer)) (At (ReplayOutcome held c.args.formula.now c.args.log.now c.args.times.now))
+    (question-refused held c.args.formula.now c.args.log.now (ReplayOfLog held c.args.times.now))
+    (c.in_err-question.ensures.refused tells))
 
 pub returns-clause-outcome : goal.returns-clause-outcome
 returns-clause-outcome g c = λ tells.
     let held = g.S.Shelf.files c.args.shelf.now in
-    let text = c.in_ok-text.text.items in
-    let inner = rw (c.in_ok-text.ensures.files, c.deref-2.ensures.value) at (c.replay_of_formula.ensures.outcome (c.in_ok-text.ensures.telling ∙ tells)) in
-    let is = rw c.deref.ensures.value at c.in_ok-formula.ensures.formula in
-    gives-weaker c.replay_of_formula.result (ReplayOfFormula held c.args.log.now c.args.times.now text (form_of c.in_ok-formula.formula)) (ReplayOutcome held c.args.formula.now c.args.log.now c.args.times.now)
-    (λ out s h. file-read held c.args.formula.now FORMULA_LIMIT named.Formula (λ text. OnFormula text (ReplayOfFormula held c.args.log.now c.args.times.now text)) text out s (c.in_ok-text.ensures.whole tells) c.in_ok-text.ensures.within
-    (formula-read text (ReplayOfFormula held c.args.log.now c.args.times.now text) (form_of c.in_ok-formula.formula) out s is h))
+    let q = c.in_ok-question.question in
+    let f = form_of q.formula in
+    let inner = rw c.in_ok-question.ensures.files at (c.replay_of_question.ensures.outcome (c.in_ok-question.ensures.telling ∙ tells)) in
+    gives-weaker c.replay_of_question.result (ReplayOfLog held c.args.times.now q.text.items f q.log) (ReplayOutcome held c.args.formula.now c.args.log.now c.args.times.now)
+    (λ out s h. question-read held c.args.formula.now c.args.log.now (ReplayOfLog held c.args.times.now) q.text.items f q.log out s (c.in_ok-question.ensures.read tells) h)
     inner
+
+pub returns-in_err-question-clause-never : goal.returns-in_err-question-clause-never
+returns-in_err-question-clause-never g c = λ steady tells holds failed.
+    let p = err_from_is_err_and c.from_residual.result c.from_residual.ensures.1 in
+    let held = g.S.Shelf.files c.args.shelf.now in
+    c.in_err-question.ensures.never steady tells (question-held held c.args.formula.now c.args.log.now (HoldsThird held c.args.times.now) holds) (cc)
+
+pub returns-clause-never : goal.returns-clause-never
+returns-clause-never g c = λ steady tells holds failed.
+    let held = g.S.Shelf.files c.args.shelf.now in
+    let q = c.in_ok-question.question in
+    let f = form_of q.formula in
+    let next = next-held held c.args.formula.now c.args.log.now (HoldsThird held c.args.times.now) q.text.items f q.log (c.in_ok-question.ensures.read tells) holds in
+    c.replay_of_question.ensures.never (c.in_ok-question.ensures.steady steady) (c.in_ok-question.ensures.telling ∙ tells) (rw c.in_ok-question.ensures.files next) failed

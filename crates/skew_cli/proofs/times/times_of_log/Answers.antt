@@ -9,6 +9,6 @@ returns-in_ok-text-in-Conflict-clause-outcome c =
       steps = c.in-Conflict.steps;
       conflict = conflict;
       none = λ t admissible. c.conflict_excludes_timings.ensures c.args.log.now c.in-Conflict.steps t conflict.bounds conflict.conflict admissible;
-      written = c.in_ok-text-in-Conflict.ensures ∙ ap inconsistent_text c.as_slice-in-Conflict.ensures.items;
+      written = rw c.into_bytes-in-Conflict.ensures.value (c.in_ok-text-in-Conflict.ensures ∙ ap inconsistent_text c.as_slice-in-Conflict.ensures.items);
       inconsistent = refl;
     })

@@ -1,0 +1,45 @@
+-- What `audit` answers.
+use Rattle.std.specs.Prelude.{◌≡◌, ◌⊎◌, ℕ, List, codes}
+use Rattle.mt_model.specs.Form.{Form}
+use Rattle.mt_model.specs.Log.{Logged}
+use Rattle.mt_port.specs.Port.{Files}
+use Rattle.report_text.specs.declared.report.Report.{Report}
+use Rattle.verdict.specs.declared.answer.Part.{Part}
+use Rattle.verdict.specs.AuditPlace.{AuditPlace, IsAccepted}
+use Rattle.verdict.specs.Claims.{Claims}
+use Rattle.skew_cli.specs.declared.limits.TheConstants.{REPORT_LIMIT}
+use Rattle.skew_cli.specs.declared.refusal.Named.TheVariants as named
+use Rattle.skew_cli.specs.declared.refusal.Refusal.TheVariants as refusal
+use Rattle.skew_cli.specs.declared.status.Status.{Status}
+use Rattle.skew_cli.specs.declared.status.Status.TheVariants as status
+use Rattle.skew_cli.specs.Refusals.{Refuses}
+use Rattle.skew_cli.specs.Texts.{line}
+use Rattle.skew_cli.specs.Tests.{OnFile, OnHosts, OnNodes, OnQuestion, OnReport, OnSize}
+use Rattle.skew_cli.specs.Words.{Word}
+
+-- the report is accepted, and what it claims is so
+pub record Accepted (conflicts : ℕ) (f : Form) (log : Logged) (r : Report) (out : List ℕ) (s : Status) : Type 0 where
+  pub accepted : IsAccepted log f conflicts r
+  pub claims : Claims log f r
+  pub written : out ≡ line (codes "accepted")
+  pub zero : s ≡ status.Zero
+
+-- the report is refused at the first part and line that the audit names
+pub record Rejected (conflicts : ℕ) (f : Form) (log : Logged) (r : Report) (out : List ℕ) (s : Status) : Type 0 where
+  pub part : Part
+  pub number : ℕ
+  pub place : AuditPlace log f conflicts r part number
+  pub refused : Refuses (refusal.Part part number) out s
+
+-- with the report read and the size tested: it is accepted, or refused
+abbrev pub AuditOfReport : ℕ → Form → Logged → Report → List ℕ → Status → Type 0
+AuditOfReport conflicts f log r out s = Accepted conflicts f log r out s ⊎ Rejected conflicts f log r out s
+
+-- with the formula and the log read: the formula's hosts and its nodes, then the file of the report, and then the size
+abbrev pub AuditOfLog : Files → ℕ → Word → List ℕ → Form → Logged → List ℕ → Status → Type 0
+AuditOfLog files conflicts report text f log =
+    OnHosts text f log (OnNodes f (OnFile files report REPORT_LIMIT named.Report (λ bytes. OnReport bytes (λ r. OnSize f log (AuditOfReport conflicts f log r)))))
+
+-- what `audit` gives
+abbrev pub AuditOutcome : Files → ℕ → Word → Word → Word → List ℕ → Status → Type 0
+AuditOutcome files conflicts formula log report = OnQuestion files formula log (AuditOfLog files conflicts report)

@@ -1,0 +1,103 @@
+ghost use Rattle.std.specs.Prelude.{◌≡◌, ◌^◌, ◌<◌, ◌≤◌, length, codes, true, IfOk, IsErrOf, None, Ok};
+ghost use Rattle.formula_arena.specs.Nodes.{nodes_of};
+ghost use Rattle.formula_arena.specs.declared.arena.TheConstants.{MAX_NODES};
+ghost use Rattle.mt_model.specs.Form.{form_of};
+ghost use Rattle.mt_model.specs.State.{unknown_host};
+ghost use Rattle.mt_port.specs.Port.{Rose};
+ghost use Rattle.mtl_parse.specs.FormulaOf.{FormulaOf};
+ghost use Rattle.report_text.specs.Spelled.{IsSpelled};
+ghost use Rattle.skew_cli.specs.AuditOutcome.{AuditOfLog, AuditOfReport, AuditOutcome};
+ghost use Rattle.skew_cli.specs.Reads.{HoldsQuestion, HoldsThird};
+ghost use Rattle.skew_cli.specs.Statuses.{IsVerdict};
+ghost use Rattle.skew_cli.specs.Stops.{Gives};
+ghost use Rattle.skew_cli.specs.Tests.{OnSize};
+ghost use Rattle.skew_cli.specs.Texts.{line};
+
+use crate::files;
+use crate::limits::REPORT_LIMIT;
+use crate::question::{Question, read_question};
+use crate::refusal::{Named, Refusal};
+use crate::reply::{Reply, Stop};
+use crate::status::Status;
+use mt_port::Shelf;
+use report_text::Report;
+use std::alloc::{AllocError, Global};
+use verdict::{Audit, VerdictFault};
+
+// The reply to a report that is accepted.
+fn accepted(alloc: Global) -> Result<Reply, AllocError>
+    ensures text { IfOk result (λ r. r.text.items ≡ line (codes "accepted")) }
+    ensures zero { IfOk result (λ r. r.status ≡ Status.Zero) }
+{
+    Ok(Reply {
+        text: b"accepted\n".to_vec(alloc)?,
+        status: Status::Zero,
+    })
+}
+
+// What `audit` answers for a report on a formula and a log, where the formula's hosts are in the log and its nodes
+// are few.
+fn audit_of_report(
+    alloc: Global,
+    conflicts: u32,
+    question: &Question,
+    report: &Report,
+) -> Result<Reply, Stop>
+    requires spelled { IsSpelled report.now }
+    requires known { unknown_host question.now.log (form_of question.now.formula) ≡ None }
+    requires few { length (nodes_of (form_of question.now.formula)) ≤ MAX_NODES }
+    ensures outcome { Gives (OnSize (form_of question.now.formula) question.now.log (AuditOfReport conflicts (form_of question.now.formula) question.now.log report.now)) result }
+    ensures verdict { IfOk result (λ r. IsVerdict r.status) }
+    ensures read { IsErrOf result Stop.ReadFailed → ⊥ }
+{
+    match verdict::audit(alloc, &question.log, &question.formula, conflicts, report) {
+        Ok(Audit::Accepted) => Ok(accepted(alloc)?),
+        Ok(Audit::Refused { part, line }) => Err(Stop::Refused(Refusal::Part { part, line })),
+        Err(VerdictFault::UnknownHost { .. } | VerdictFault::TooManyNodes) => unreachable!(),
+        Err(VerdictFault::TooLarge { size }) => Err(Stop::Refused(Refusal::Size { size })),
+        Err(VerdictFault::Memory) => Err(Stop::NoMemory),
+    }
+}
+
+// What it answers for a formula and a log, and the report of a name.
+fn audit_of_question<S: Shelf>(
+    alloc: Global,
+    shelf: &mut S,
+    conflicts: u32,
+    question: &Question,
+    report: &str,
+) -> Result<Reply, Stop>
+    requires short { length question.now.text.items < 2 ^ 31 }
+    requires reads { FormulaOf question.now.text.items (Ok (form_of question.now.formula)) }
+    ensures outcome { S.tells shelf.old ≡ true → Gives (AuditOfLog (S.files shelf.old) conflicts report.now question.now.text.items (form_of question.now.formula) question.now.log) result }
+    ensures verdict { IfOk result (λ r. IsVerdict r.status) }
+    ensures failed { IsErrOf result Stop.ReadFailed → Rose (S.faults shelf.old) (S.faults shelf.new) }
+    ensures never { S.steady shelf.old → S.tells shelf.old ≡ true → HoldsThird (S.files shelf.old) report.now (form_of question.now.formula) question.now.log → IsErrOf result Stop.ReadFailed → ⊥ }
+    ensures later { S.faults shelf.old ≤ S.faults shelf.new }
+{
+    files::known_hosts(&question.text, &question.formula, &question.log)?;
+    files::few_nodes(alloc, &question.formula)?;
+    let file = files::file(alloc, shelf, report, REPORT_LIMIT, Named::Report)?;
+    let report = files::report(alloc, &file)?;
+    audit_of_report(alloc, conflicts, question, &report)
+}
+
+/// What `audit` answers for the formula, the log and the report of these names, where an unknown section is to have so
+/// many Learn lines.
+pub fn audit<S: Shelf>(
+    alloc: Global,
+    shelf: &mut S,
+    conflicts: u32,
+    formula: &str,
+    log: &str,
+    report: &str,
+) -> Result<Reply, Stop>
+    ensures outcome { S.tells shelf.old ≡ true → Gives (AuditOutcome (S.files shelf.old) conflicts formula.now log.now report.now) result }
+    ensures verdict { IfOk result (λ r. IsVerdict r.status) }
+    ensures failed { IsErrOf result Stop.ReadFailed → Rose (S.faults shelf.old) (S.faults shelf.new) }
+    ensures never { S.steady shelf.old → S.tells shelf.old ≡ true → HoldsQuestion (S.files shelf.old) formula.now log.now (HoldsThird (S.files shelf.old) report.now) → IsErrOf result Stop.ReadFailed → ⊥ }
+    ensures later { S.faults shelf.old ≤ S.faults shelf.new }
+{
+    let question = read_question(alloc, shelf, formula, log)?;
+    audit_of_question(alloc, shelf, conflicts, &question, report)
+}

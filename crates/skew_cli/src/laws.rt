@@ -1,0 +1,41 @@
+ghost use Rattle.skew_cli.specs.Laws.{AcceptedFilesAreTrue, ChecksAreAccepted, ChecksAreExact, ChecksAreJudged, UnknownIsBounded};
+
+use mtl_parse::texts_are_unambiguous;
+use report_text::{bytes_are_unambiguous, texts_read_back};
+use verdict::{audits_are_exact, right_reports_are_accepted, spent_conflicts_are_bounded};
+
+/// What `check` answers of a formula and a log within the limits: a right report, and the status of the values
+/// that the formula can have over all timings that the log admits, or of a section that is unknown. It answers
+/// such a status of no others.
+pub fn checks_are_exact()
+    ensures exact { ChecksAreExact }
+    ensures judged { ChecksAreJudged }
+{
+    texts_are_unambiguous();
+}
+
+/// `audit` answers that a report is accepted only where what the report claims is true of the formula and the
+/// log, whoever wrote it.
+pub fn accepted_files_are_true()
+    ensures { AcceptedFilesAreTrue }
+{}
+
+/// What `check` found and wrote is accepted by `audit`, with the same formula, log and number of conflicts, or it
+/// is longer than a report file may be.
+pub fn checks_are_accepted()
+    ensures { ChecksAreAccepted }
+{
+    texts_are_unambiguous();
+    bytes_are_unambiguous();
+    texts_read_back();
+    audits_are_exact();
+    right_reports_are_accepted();
+}
+
+/// `check` leaves a value unknown only where the number of conflicts is below three to the number of atoms of the
+/// rules, and unit propagation over the rules alone doesn't refute the value.
+pub fn unknown_is_bounded()
+    ensures { UnknownIsBounded }
+{
+    spent_conflicts_are_bounded();
+}
