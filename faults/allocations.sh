@@ -48,6 +48,15 @@ try /dev/null replay $formula examples/skewed.csv examples/request.times
 try /dev/null replay README.md $log examples/request.times
 try /dev/null replay examples/deadline.formula examples/skewed.csv examples/late.times
 try /dev/null replay examples/deadline.formula $log examples/request.times
+log=examples/answered.csv
+try /dev/null check examples/within_9.formula $log
+try /dev/null check examples/within_5.formula $log
+try /dev/null check --conflicts 1 examples/either.formula examples/apart.csv
+try /dev/null check examples/p.formula examples/twice_apart.csv
+try /dev/null audit examples/within_9.formula $log examples/answered_within_9.report
+try /dev/null audit examples/within_9.formula $log examples/answered_within_8.report
+try /dev/null audit --conflicts 1 examples/either.formula examples/apart.csv examples/apart_either_after_1.report
+try /dev/null audit examples/within_9.formula $log README.md
 try /dev/null times -
 try README.md times -
 try /dev/null times -x

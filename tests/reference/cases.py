@@ -1,6 +1,6 @@
 """Cases whose answers are written out by hand. They run before the generated ones."""
 
-from typing import NamedTuple
+from typing import NamedTuple, Optional
 
 
 class Case(NamedTuple):
@@ -9,6 +9,7 @@ class Case(NamedTuple):
     files: dict  # the bytes by name; the name - is the standard input
     status: int
     outputs: tuple  # the outputs of which each is right
+    pattern: Optional[bytes] = None  # what the output must match where there may be many
 
 
 HEADER = b"kind,host,time,name\n"

@@ -2,12 +2,16 @@
 
 Run as: python3 compare.py PROGRAM [--cases N] [--seed S] [--only KIND]
 
+Each report that check writes is audited by the program too, as it is and
+broken, and each of its witnesses is replayed.
+
 It stops at the first difference, prints that case in full and ends with 1.
 """
 
 import argparse
 import os
 import random
+import re
 import subprocess
 import sys
 import tempfile
@@ -16,10 +20,15 @@ from typing import NamedTuple
 sys.dont_write_bytecode = True  # leaves no compiled files beside the sources
 
 import cases
+import check_cases
 import generate
+import invent_reports
 import judge
 
 PATIENCE = 60  # seconds that one run of the program may take
+
+KINDS = {**generate.KINDS, **invent_reports.KINDS}
+SHARES = {"times": 10, "order": 15, "replay": 40, "check": 15, "audit": 15, "words": 5}
 
 
 class Outcome(NamedTuple):
@@ -49,13 +58,22 @@ def run_program(program, folder, words, files):
 
 def fixed_complaint(case, outcome):
     """What is wrong with the answer to a fixed case, or nothing."""
-    if outcome.status != case.status or outcome.output not in case.outputs:
-        return "another answer is written out by hand"
-    return ""
+    if outcome.status == case.status and is_expected(case, outcome.output):
+        return ""
+    return "another answer is written out by hand"
+
+
+def is_expected(case, output):
+    """Whether an output is one of those that are written out by hand."""
+    if case.pattern is not None:
+        return bool(re.fullmatch(case.pattern, output))
+    return output in case.outputs
 
 
 def fixed_expectation(case):
     """The answers to a fixed case that are written out by hand."""
+    if case.pattern is not None:
+        return f"status {case.status}, output like {case.pattern!r}"
     outputs = " or ".join(repr(output) for output in case.outputs)
     return f"status {case.status}, output {outputs}"
 
@@ -74,18 +92,43 @@ def print_difference(title, case, wanted, outcome, complaint):
         print(f"standard error: {outcome.errors!r}")
 
 
-def compare(program, folder, title, case, by_hand=False):
-    """Whether the program answers a case rightly; a difference is printed."""
-    outcome = run_program(program, folder, case.words, case.files)
-    complaint = fixed_complaint(case, outcome) if by_hand else ""
-    if not complaint:
-        complaint = judge.complaint(case.words, case.files, outcome.output, outcome.status)
-    if not complaint and outcome.errors:
-        complaint = "something is written to the standard error"
-    if complaint:
-        wanted = fixed_expectation(case) if by_hand else judge.expectation(case.words, case.files)
+class Comparison:
+    """The cases that a program has answered rightly, up to the first difference."""
+
+    def __init__(self, program, folder, seed):
+        self.program = program
+        self.folder = folder
+        self.seed = seed
+        self.on_reports = 0  # cases on reports that the program wrote
+
+    def is_right(self, title, case, by_hand=False):
+        """Whether the program answers a case rightly, and what follows from its answer."""
+        outcome = self.outcome(title, case, by_hand)
+        if outcome is None:
+            return False
+        draw = random.Random(f"{self.seed} {title}")
+        for what, following in invent_reports.follow_ups(draw, case, outcome.output):
+            self.on_reports += 1
+            is_known = isinstance(following, cases.Case)
+            if self.outcome(f"{what} of {title}", following, is_known) is None:
+                return False
+        return True
+
+    def outcome(self, title, case, by_hand):
+        """The outcome of a case where it is right, or None; a difference is printed."""
+        outcome = run_program(self.program, self.folder, case.words, case.files)
+        complaint = fixed_complaint(case, outcome) if by_hand else ""
+        wanted = fixed_expectation(case) if complaint else ""
+        complaint = complaint or judge.complaint(
+            case.words, case.files, outcome.output, outcome.status
+        )
+        if not complaint and outcome.errors:
+            complaint = "something is written to the standard error"
+        if not complaint:
+            return outcome
+        wanted = wanted or judge.expectation(case.words, case.files)
         print_difference(title, case, wanted, outcome, complaint)
-    return not complaint
+        return None
 
 
 def is_kind(case, only):
@@ -96,18 +139,28 @@ def is_kind(case, only):
     return only is None or kind == only
 
 
+def random_case(draw, only=None):
+    """A case of some command, or of the only one that is wanted."""
+    kinds = list(SHARES)
+    kind = only or draw.choices(kinds, weights=[SHARES[kind] for kind in kinds])[0]
+    return KINDS[kind](draw)
+
+
 def compare_all(program, count, seed, only):
     """Whether the program answers all fixed and count random cases rightly."""
     draw = random.Random(seed)
     with tempfile.TemporaryDirectory() as folder:
-        for case in cases.fixed_cases():
+        comparison = Comparison(program, folder, seed)
+        for case in [*cases.fixed_cases(), *check_cases.fixed_cases()]:
             title = f"fixed case, {case.title}"
-            if is_kind(case, only) and not compare(program, folder, title, case, by_hand=True):
+            if is_kind(case, only) and not comparison.is_right(title, case, by_hand=True):
                 return False
         for place in range(count):
-            case = generate.random_case(draw, only)
-            if not compare(program, folder, f"random case {place} of seed {seed}", case):
+            title = f"random case {place} of seed {seed}"
+            if not comparison.is_right(title, random_case(draw, only)):
                 return False
+    if comparison.on_reports:
+        print(f"{comparison.on_reports} cases on reports that check wrote")
     return True
 
 
@@ -117,7 +170,7 @@ def read_arguments():
     parser.add_argument("program")
     parser.add_argument("--cases", type=int, default=3000, help="number of random cases")
     parser.add_argument("--seed", type=int, default=1)
-    parser.add_argument("--only", choices=list(generate.CASES), help="take cases of one kind alone")
+    parser.add_argument("--only", choices=list(KINDS), help="take cases of one kind alone")
     return parser.parse_args()
 
 

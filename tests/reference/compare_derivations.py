@@ -60,7 +60,7 @@ def random_questions(seed, count):
         draw = random.Random(f"{seed} {place}")
         log, formula, problem = invent.some_problem(draw)
         right = invent.right_lines(invent.Search(draw, problem))
-        texts = [invent.text_of(right)]
+        texts = [derivations.text_of(right)]
         while len(texts) < min(EDITS + 1, count - asked):
             texts.append(edits.broken_text(draw, problem, right))
         head = head_of(log, formula, problem.value)

@@ -22,7 +22,6 @@ sys.dont_write_bytecode = True  # leaves no compiled files beside the sources
 import formats
 import invent
 import meanings
-import reference
 from compare_derivations import head_of
 from compare_problems import answers_of
 from generate import chance
@@ -74,19 +73,9 @@ def small_problem(draw):
     is_open = chance(draw, SHARE_OPEN)
     while True:
         log_text, formula_text, problem = invent.some_problem(draw)
-        values = values_of(problem.log, formats.read_formula(formula_text))
+        values = meanings.values(problem.log, formats.read_formula(formula_text))
         if not is_open or len(values) == 2:
             return log_text, formula_text, values
-
-
-def values_of(log, formula):
-    """The values of a formula in the admissible timings of a log."""
-    values = set()
-    for times in meanings.admissible_timings(log):
-        values.add(reference.truth(log, times, formula))
-        if len(values) == 2:
-            break
-    return values
 
 
 def compare_all(program, asked):

@@ -9,11 +9,12 @@ line is right, but no clause is empty. `wrong N`: line N is the first that isn't
 right, or the line before it has an empty clause already. `syntax N`: line N is
 the first that isn't in the grammar of lines.
 
-The module reads from top to bottom: literals, the grammar of lines, the clause
-of each rule, the test of a line, the verdict. It goes over lines and hints one
-after another and searches for nothing.
+The module reads from top to bottom: literals, the grammar of lines, their
+texts, the clause of each rule, the test of a line, the verdict. It goes over
+lines and hints one after another and searches for nothing.
 """
 
+import itertools
 import sys
 from enum import Enum
 from typing import NamedTuple, Union
@@ -251,6 +252,49 @@ def read_hint(words):
         raise NotInGrammar
     rule = words.number(RULE_GREATEST)
     return Rule(rule, words.numbers(len(RULE_ARGUMENTS.get(rule, ""))))
+
+
+# Texts of lines
+
+
+def text_of(lines):
+    """The text of a derivation."""
+    return b"".join(b" ".join(words_of(line)) + b"\n" for line in lines)
+
+
+def words_of(line):
+    """The words of a line."""
+    if isinstance(line, Cycle):
+        return [b"cycle", b"%d" % len(line.steps), *itertools.chain(*map(step_words, line.steps))]
+    literals = itertools.chain(*map(literal_words, line.literals))
+    hints = itertools.chain(*map(hint_words, line.hints))
+    return [b"learn", b"%d" % len(line.literals), *literals, b"%d" % len(line.hints), *hints]
+
+
+def step_words(step):
+    """The words of a step."""
+    return [step.kind, *spelled(step.numbers)]
+
+
+def literal_words(literal):
+    """The words of a literal. An order literal that is denied is spelled as its opposite."""
+    kind, *numbers = literal.atom
+    if kind != "order":
+        return [b"-+"[literal.positive :][:1] + kind.encode(), *spelled(numbers)]
+    e, f, bound = numbers
+    return [b"order", *spelled(numbers if literal.positive else (f, e, -bound - 1))]
+
+
+def hint_words(hint):
+    """The words of a hint."""
+    if isinstance(hint, LineHint):
+        return [b"line", *spelled(hint)]
+    return [b"rule", *spelled((hint.number, *hint.arguments))]
+
+
+def spelled(numbers):
+    """The numbers as words."""
+    return [b"%d" % value for value in numbers]
 
 
 # The clauses of rules
@@ -549,15 +593,28 @@ def hints_refute(literals, clauses):
 # The verdict
 
 
-def verdict(problem, lines):
-    """What the lines show: refutes, derives, or wrong and the first line that isn't right."""
+def first_wrong(problem, lines):
+    """The number of the first line that isn't right or follows an empty clause, or None."""
     clauses = []
     for place, line in enumerate(lines, start=1):
         after_empty = place > 1 and not clauses[-1]
         if after_empty or not is_right(problem, line, clauses):
-            return f"wrong {place}"
+            return place
         clauses.append(clause_of_line(line))
-    return "refutes" if clauses and not clauses[-1] else "derives"
+    return None
+
+
+def ends_empty(lines):
+    """Whether there is a last line and its clause is empty."""
+    return bool(lines) and not clause_of_line(lines[-1])
+
+
+def verdict(problem, lines):
+    """What the lines show: refutes, derives, or wrong and the first line that is wrong."""
+    place = first_wrong(problem, lines)
+    if place is not None:
+        return f"wrong {place}"
+    return "refutes" if ends_empty(lines) else "derives"
 
 
 def answer(problem, data):
@@ -574,18 +631,24 @@ def read_file(name):
         return file.read()
 
 
-def main(words):
-    """Prints the answer to the files that the words name."""
-    if len(words) != 4 or words[2] not in ("true", "false"):
-        sys.exit("usage: derivations.py FORMULA LOG VALUE DERIVATION")
-    formula = formats.read_formula(read_file(words[0]))
+def read_inputs(formula_name, log_name):
+    """The formula and the log of two files; without them there is nothing to judge."""
+    formula = formats.read_formula(read_file(formula_name))
     if isinstance(formula, formats.FormulaFault):
         sys.exit(f"the formula has {formula}")
-    log = formats.read_log(read_file(words[1]))
+    log = formats.read_log(read_file(log_name))
     if isinstance(log, formats.LogFault):
         sys.exit(f"the log has {log}")
     if formats.unknown_host(formula, log) is not None:
         sys.exit("a host of the formula isn't in the log")
+    return formula, log
+
+
+def main(words):
+    """Prints the answer to the files that the words name."""
+    if len(words) != 4 or words[2] not in ("true", "false"):
+        sys.exit("usage: derivations.py FORMULA LOG VALUE DERIVATION")
+    formula, log = read_inputs(words[0], words[1])
     print(answer(problem_of(log, formula, words[2] == "true"), read_file(words[3])))
 
 

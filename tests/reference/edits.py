@@ -5,7 +5,6 @@ right. Which is the case isn't known here.
 """
 
 import derivations
-import invent
 from derivations import Cycle, Learn, LineHint, Literal, Rule, Step, negation, order
 from generate import chance
 
@@ -14,13 +13,13 @@ LIMITS = (2**32 - 1, 2**32, 2**31, 2**64, 10**21, 10**21 + 1, 10**21 - 1, 10**22
 
 def broken_text(draw, problem, lines):
     """The text of the lines after an edit or two, which seldom leave it as it was."""
-    right = invent.text_of(lines)
+    right = derivations.text_of(lines)
     for _ in range(5):
         edited = [opened(line) for line in lines]
         for _ in range(draw.choice((0, 1, 1, 1, 1, 1, 1, 2))):
             edit = draw.choice(LINE_EDITS)
             edit(draw, problem, edited)
-        text = invent.text_of(edited)
+        text = derivations.text_of(edited)
         if text and chance(draw, 0.12):
             text = edited_text(draw, text)
         if text != right:

@@ -712,29 +712,45 @@ def replay_case(draw):
     return Case(["replay", *names], files)
 
 
+# The names of the files that commands take in cases of words.
+FILES_OF_WORDS = {"times": "l", "order": "l", "replay": "flt", "check": "fl", "audit": "flr"}
+NUMBERS_OF_CONFLICTS = "1 5 1000000 0 1000001 05 +5 -5 5x 1e3".split() + [""]
+
+
 def words_case(draw):
     """A case of words that are often no command, with short files that are without fault."""
-    command = draw.choice(("times", "times", "order", "replay", "replay", "check", "demo"))
-    count = reference.COMMANDS.get(command, 2)
-    words = ["f", "l", "t"] if count == 3 else ["l"] * count
+    command = draw.choice((*FILES_OF_WORDS, "replay", "check", "audit", "demo"))
+    words = list(FILES_OF_WORDS.get(command, "l"))
     for place in range(len(words)):
-        if chance(draw, 0.3):
+        if chance(draw, 0.2):
             words[place] = draw.choice(("-", "--", "--", "-x", "5", "", "none"))
     for _ in range(draw.choice((0, 0, 1, 1, 1, 2))):
         words.insert(draw.randint(0, len(words)), "--")
+    if chance(draw, 0.6 if command in ("check", "audit") else 0.1):
+        for _ in range(draw.choice((1, 1, 1, 1, 2))):
+            place = draw.randint(0, len(words))
+            words[place:place] = option_words(draw)
     words.insert(0, command)
     for _ in range(draw.choice((0, 0, 0, 1, 1, 2))):
         edit_words(draw, words)
     return Case([] if chance(draw, 0.05) else words, files_of_words(draw))
 
 
+def option_words(draw):
+    """The option on conflicts, mostly with a right number, in one of its two forms."""
+    number = draw.choice(NUMBERS_OF_CONFLICTS[: draw.choice((2, 3, 11))])
+    return draw.choice((["--conflicts", number], [f"--conflicts={number}"]))
+
+
 def files_of_words(draw):
     """Short files under names that words are likely to have."""
     log = b"kind,host,time,name\nhost,a,1,0\nset,a,10,p\n"
-    contents = {"f": b"a.p", "t": b"10\n"}
-    names = draw.sample(["f", "l", "t", "-x", "--", "5"], draw.randint(4, 6))
+    report = b"skewcheck 1\nevents 1\ntrue witness\n10\nfalse refuted 1\n"
+    report += b"learn 0 3 rule 2 0 0 0 rule 11 rule 24 0\nend\n"
+    contents = {"f": b"a.p", "t": b"10\n", "r": report}
+    names = draw.sample(["f", "l", "t", "r", "-x", "--", "5"], draw.randint(5, 7))
     files = {name: contents.get(name, log) for name in names}
-    files["-"] = draw.choice((log, b"a.p", b"10\n", b""))
+    files["-"] = draw.choice((log, b"a.p", b"10\n", report, b""))
     return files
 
 
@@ -754,12 +770,4 @@ def edit_words(draw, words):
         words.insert(draw.randint(0, len(words)), draw.choice(loose))
 
 
-CASES = {"times": times_case, "order": order_case, "replay": replay_case, "words": words_case}
-SHARES = {"times": 10, "order": 20, "replay": 65, "words": 5}
-
-
-def random_case(draw, only=None):
-    """A case of some command, or of the only one that is wanted."""
-    kinds = list(SHARES)
-    kind = only or draw.choices(kinds, weights=[SHARES[kind] for kind in kinds])[0]
-    return CASES[kind](draw)
+KINDS = {"times": times_case, "order": order_case, "replay": replay_case, "words": words_case}

@@ -84,49 +84,6 @@ def some_problem(draw):
     return log_text, formula_text, problem
 
 
-# Texts of lines
-
-
-def text_of(lines):
-    """The text of a derivation."""
-    return b"".join(b" ".join(words_of(line)) + b"\n" for line in lines)
-
-
-def words_of(line):
-    """The words of a line."""
-    if isinstance(line, Cycle):
-        return [b"cycle", b"%d" % len(line.steps), *itertools.chain(*map(step_words, line.steps))]
-    literals = itertools.chain(*map(literal_words, line.literals))
-    hints = itertools.chain(*map(hint_words, line.hints))
-    return [b"learn", b"%d" % len(line.literals), *literals, b"%d" % len(line.hints), *hints]
-
-
-def step_words(step):
-    """The words of a step."""
-    return [step.kind, *spelled(step.numbers)]
-
-
-def literal_words(literal):
-    """The words of a literal. An order literal that is denied is spelled as its opposite."""
-    kind, *numbers = literal.atom
-    if kind != "order":
-        return [b"-+"[literal.positive :][:1] + kind.encode(), *spelled(numbers)]
-    e, f, bound = numbers
-    return [b"order", *spelled(numbers if literal.positive else (f, e, -bound - 1))]
-
-
-def hint_words(hint):
-    """The words of a hint."""
-    if isinstance(hint, LineHint):
-        return [b"line", *spelled(hint)]
-    return [b"rule", *spelled((hint.number, *hint.arguments))]
-
-
-def spelled(numbers):
-    """The numbers as words."""
-    return [b"%d" % value for value in numbers]
-
-
 # Right derivations
 
 
@@ -147,6 +104,14 @@ class Edge(NamedTuple):
 def order_edge(e, f, bound):
     """The edge of an order step."""
     return Edge(e, f, bound, Step(b"order", (e, f, bound)))
+
+
+def bound_edges(log):
+    """The edges of the bounds of a log."""
+    return [
+        Edge(bound.start, bound.end, bound.most, Step(bound.kind, (bound.event,)))
+        for bound in reference.bounds(log)
+    ]
 
 
 class Satisfied(Exception):
@@ -247,10 +212,7 @@ class Search:
 
     def edges(self):
         """The edges of the bounds and of the order literals that are assumed."""
-        found = [
-            Edge(bound.start, bound.end, bound.most, Step(bound.kind, (bound.event,)))
-            for bound in self.problem.bounds.values()
-        ]
+        found = bound_edges(self.problem.log)
         for literal in self.trail:
             if literal.atom[0] == "order":
                 _, e, f, bound = literal.atom
@@ -315,6 +277,11 @@ class Search:
             if literal not in self.reasons and literal not in self.denied:
                 return literal
         raise Satisfied
+
+    def timing(self):
+        """A timing that meets the bounds and the order literals that are assumed."""
+        numbers = settled(self.edges())
+        return [numbers[event] - numbers[None] for event in range(len(self.problem.log.rows))]
 
     # Lines that don't belong to a refutation
 
@@ -406,19 +373,28 @@ def is_spelled_both_ways(bound):
 
 
 def find_negative_walk(edges):
-    """The steps of a closed walk of negative sum, or None, by the way of Bellman and Ford."""
-    least = {end: 0 for edge in edges for end in (edge.start, edge.end)}
-    last = {}  # the edge by which a node came to its number
-    for _ in range(len(least)):
+    """The steps of a closed walk of negative sum, or None."""
+    found = settled(edges)
+    return found if isinstance(found, list) else None
+
+
+def settled(edges):
+    """Numbers of all ends that meet the edges, or the steps of a closed walk of negative sum.
+
+    This is the way of Bellman and Ford.
+    """
+    numbers = {end: 0 for edge in edges for end in (edge.start, edge.end)}
+    last = {}  # the edge by which an end came to its number
+    for _ in range(len(numbers)):
         lowered = []
         for edge in edges:
-            number = least[edge.end] + edge.bound
-            if number < least[edge.start]:
-                least[edge.start] = number
+            number = numbers[edge.end] + edge.bound
+            if number < numbers[edge.start]:
+                numbers[edge.start] = number
                 last[edge.start] = edge
                 lowered.append(edge.start)
         if not lowered:
-            return None
+            return numbers
     return walk_from(last, lowered[-1])
 
 

@@ -2,19 +2,27 @@
 
 Most answers leave no choice and are compared byte for byte. A timing, and a
 list of steps or events that shows that there is none, may be any right one:
-these are checked by adding up.
+these are checked by adding up. A report is audited, and where a log has few
+timings, all of them are gone through.
 """
 
+import derivations
 import formats
+import meanings
+import program
 import reference
+import reports
+from reports import Inconsistent, Refuted, SyntaxFault, Unknown, Witness
 
 
 def complaint(words, files, output, status):
     """What is wrong with an answer, or nothing where it is right."""
-    wanted = reference.answer(words, files)
-    if isinstance(wanted, reference.Exact):
+    wanted = program.answer(words, files)
+    if isinstance(wanted, program.Exact):
         right = (status, output) == wanted
         return "" if right else "another status or other bytes are expected"
+    if wanted.command == "check":
+        return report_complaint(wanted, output, status)
     if wanted.command == "order":
         return cycle_complaint(wanted.log, output, status)
     return times_complaint(wanted.log, output, status)
@@ -22,9 +30,11 @@ def complaint(words, files, output, status):
 
 def expectation(words, files):
     """The right answer in words, for a reader."""
-    wanted = reference.answer(words, files)
-    if isinstance(wanted, reference.Exact):
+    wanted = program.answer(words, files)
+    if isinstance(wanted, program.Exact):
         return f"status {wanted.status}, output {wanted.output!r}"
+    if wanted.command == "check":
+        return "a right report and its status, " + values_in_words(wanted.log, wanted.formula)
     if wanted.command == "order":
         return "status 3, a cycle of events that are each directly before the next"
     return "status 0 and an admissible timing, or status 3 and bounds that can't all hold"
@@ -112,4 +122,75 @@ def cycle_complaint(log, output, status):
     for pair in zip(events, events[1:] + events[:1]):
         if pair not in pairs:
             return f"event {pair[0]} isn't directly before event {pair[1]}"
+    return ""
+
+
+# Reports
+
+
+def report_complaint(wanted, output, status):
+    """What is wrong with an answer of check, or nothing."""
+    report = reports.read_report(output)
+    if isinstance(report, SyntaxFault):
+        return f"no report begins with the lines up to line {report.line}"
+    values = meanings.values_where_few(wanted.log, wanted.formula)
+    claimed = "" if values is None else claims_complaint(values, report)
+    if claimed:
+        return claimed
+    place = reports.first_faulty_place(wanted.log, wanted.formula, wanted.conflicts, report)
+    if place is not None:
+        return f"the report fails in its part {place.part} at line {place.line}"
+    if status != status_of(report):
+        return f"the status of this report is {status_of(report)}"
+    return verdicts_complaint(wanted.conflicts, report)
+
+
+def status_of(report):
+    """The status that belongs to a report with a witness or a walk."""
+    if isinstance(report, Inconsistent):
+        return 3
+    if isinstance(report.on_true, Unknown) or isinstance(report.on_false, Unknown):
+        return 4
+    if isinstance(report.on_false, Witness):
+        return 2 if isinstance(report.on_true, Witness) else 1
+    return 0
+
+
+def verdicts_complaint(conflicts, report):
+    """What check may not write although an audit accepts it, or nothing."""
+    if isinstance(report, Inconsistent):
+        return ""
+    sections = (report.on_true, report.on_false)
+    if not any(isinstance(section, Witness) for section in sections):
+        return "no section is a witness"
+    for section in sections:
+        if isinstance(section, Refuted) and conflicts_of(section.lines) >= conflicts:
+            return "a refuted section has as many Learn lines as there may be conflicts"
+    return ""
+
+
+def conflicts_of(lines):
+    """The number of Learn lines that aren't empty."""
+    return reports.learned([line for line in lines if derivations.clause_of_line(line)])
+
+
+def values_in_words(log, formula):
+    """The values of a formula, for a reader."""
+    values = meanings.values_where_few(log, formula)
+    if values is None:
+        return "the timings are too many to go through"
+    if not values:
+        return "no timing is admissible"
+    return "the values are " + " and ".join(str(value).lower() for value in sorted(values))
+
+
+def claims_complaint(values, report):
+    """Which claim of a report isn't true, or nothing; the values are those in all timings."""
+    if isinstance(report, Inconsistent):
+        return "some timing is admissible" if values else ""
+    for value, section in ((True, report.on_true), (False, report.on_false)):
+        if isinstance(section, Witness) and value not in values:
+            return f"the value {value} is claimed, and no timing gives it"
+        if isinstance(section, Refuted) and value in values:
+            return f"the value {value} is excluded, and some timing gives it"
     return ""

@@ -7,6 +7,26 @@ through all, so the logs must be tiny.
 
 import reference
 
+WINDOWS_MOST = 4000  # ways to give each row a time of its window that are gone through
+
+
+def values(log, formula):
+    """The values of a formula in all admissible timings of a log, which has few."""
+    found = set()
+    for times in admissible_timings(log):
+        found.add(reference.truth(log, times, formula))
+        if len(found) == 2:
+            break
+    return found
+
+
+def values_where_few(log, formula):
+    """The values of a formula, or None where the log may have too many timings to go through."""
+    windows = 1
+    for row in log.rows:
+        windows *= 2 * log.hosts[row.host].skew + 1
+    return values(log, formula) if windows <= WINDOWS_MOST else None
+
 
 def admissible_timings(log):
     """All admissible timings of a log."""

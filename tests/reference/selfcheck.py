@@ -419,7 +419,7 @@ def clause_text(clause):
     """The literals of a clause as a line spells them, or the name of a fault."""
     if isinstance(clause, derivations.RuleFault):
         return clause.name
-    words = [word for literal in clause for word in invent.literal_words(literal)]
+    words = [word for literal in clause for word in derivations.literal_words(literal)]
     return b" ".join(words).decode()
 
 
@@ -486,11 +486,11 @@ def check_derivations(draw):
         check_rules(problem, draw.sample(worlds, min(len(worlds), 6)))
         search = invent.Search(draw, problem, patience=100)
         lines = invent.right_lines(search)
-        text = invent.text_of(lines)
+        text = derivations.text_of(lines)
         found = derivations.answer(problem, text)
         gave_up = found == "derives" and search.patience <= 0
         check(found == ("derives" if worlds else "refutes") or gave_up, problem, text, found)
-        check(invent.text_of(derivations.read_lines(text)) == text, text)
+        check(derivations.text_of(derivations.read_lines(text)) == text, text)
         clauses = set()
         for text in [text, *(edits.broken_text(draw, problem, lines) for _ in range(20))]:
             found = derivations.answer(problem, text)

@@ -1,0 +1,150 @@
+"""Runs a built program on the examples, and as the pages show it.
+
+Run as: python3 examples.py PROGRAM [--write]
+
+examples/runs.txt lists the runs of check and audit. Each report that check
+writes there has to be the one that is kept, and is audited with the same files:
+by the program, and by the second audit in tests/reference. Then each command of
+README.md and docs/ that a block of shell shows, and that the program, cat or
+python3 is in, has to write what stands below it. Every difference is printed, and the end is 1 where
+there is one. With --write the reports that differ are kept anew.
+"""
+
+import argparse
+import os
+import shlex
+import subprocess
+import sys
+from pathlib import Path
+from typing import NamedTuple
+
+sys.dont_write_bytecode = True  # leaves no compiled files beside the sources
+
+ROOT = Path(__file__).resolve().parent.parent.parent
+EXAMPLES = ROOT / "examples"
+sys.path.insert(0, str(ROOT / "tests" / "reference"))
+
+import program as answers
+
+PATIENCE = 60  # seconds that one run may take
+SHOWN = ("./skewcheck ", "cat ", "python3 ")  # what is in the commands of pages that are run
+
+
+class Run(NamedTuple):
+    """A run in the folder of examples, with what it must write and its status."""
+
+    words: list
+    status: int
+    output: bytes
+    report: str  # the name of the file that holds the output, or nothing
+
+
+class Outcome(NamedTuple):
+    status: int  # None where the program came to no end
+    output: bytes
+
+
+# Runs
+
+
+def listed_runs():
+    """The runs of runs.txt: words, status, and a file of the folder or a line that is written."""
+    for line in (EXAMPLES / "runs.txt").read_text().splitlines():
+        if not line or line.startswith("#"):
+            continue
+        words, status, output = (part.strip() for part in line.split("|"))
+        kept = EXAMPLES / output
+        is_file = output.endswith(".report")
+        text = kept.read_bytes() if is_file and kept.exists() else output.encode() + b"\n"
+        yield Run(words.split(), int(status), text, output if is_file else "")
+
+
+def outcome_of(program, words):
+    """What the program writes in the folder of examples, and its status."""
+    try:
+        done = subprocess.run(
+            [program, *words], cwd=EXAMPLES, stdin=subprocess.DEVNULL, capture_output=True,
+            timeout=PATIENCE,
+        )
+    except subprocess.TimeoutExpired:
+        return Outcome(None, b"")
+    return Outcome(done.returncode, done.stdout)
+
+
+def differences_of_runs(program, is_written):
+    """What differs in the listed runs, as lines."""
+    for run in listed_runs():
+        title = " ".join(run.words)
+        outcome = outcome_of(program, run.words)
+        if outcome.status != run.status:
+            yield f"{title}: status {outcome.status}, not {run.status}"
+        elif outcome.output != run.output and run.report and is_written:
+            (EXAMPLES / run.report).write_bytes(outcome.output)
+        elif outcome.output != run.output:
+            yield f"{title}: it writes {outcome.output!r}, not {run.report or run.output!r}"
+        if run.report:
+            yield from differences_of_audits(program, run)
+
+
+def differences_of_audits(program, run):
+    """What differs where a report that check has written is audited, as lines."""
+    words = ["audit", *run.words[1:], run.report]
+    title = " ".join(words)
+    outcome = outcome_of(program, words)
+    if outcome != (0, b"accepted\n"):
+        yield f"{title}: status {outcome.status}, {outcome.output!r}"
+    files = {path.name: path.read_bytes() for path in EXAMPLES.iterdir()}
+    if answers.answer(words, files) != answers.Exact(0, b"accepted\n"):
+        yield f"{title}: the second audit refuses it"
+
+
+# Pages
+
+
+def shown_commands(page):
+    """The commands of the shell blocks of a page, each with what stands below it."""
+    in_block, command, below = False, None, []
+    for line in page.read_text().splitlines():
+        starts = in_block and line.startswith("$ ")
+        ends = in_block and line == "```"
+        if command is not None and (starts or ends):
+            yield command, "".join(below)
+            command = None
+        if starts:
+            command, below = line.removeprefix("$ "), []
+        elif in_block:
+            below.append(line + "\n")
+        in_block = line == "```sh" or in_block and not ends
+
+
+def differences_of_pages(program):
+    """What differs between the pages and what the program writes, as lines."""
+    for page in [ROOT / "README.md", *sorted((ROOT / "docs").glob("*.md"))]:
+        for command, shown in shown_commands(page):
+            if not any(word in command for word in SHOWN):
+                continue
+            done = subprocess.run(
+                ["bash", "-c", command.replace("./skewcheck", shlex.quote(program))], cwd=ROOT,
+                stdin=subprocess.DEVNULL, capture_output=True, text=True, timeout=PATIENCE,
+            )
+            if done.stdout != shown:
+                yield f"{page.name}: {command}: it writes {done.stdout!r}, not {shown!r}"
+
+
+def main():
+    """Prints the differences, and ends with 0 where there is none and with 1 where there is one."""
+    parser = argparse.ArgumentParser(description="run skewcheck on its examples")
+    parser.add_argument("program")
+    parser.add_argument("--write", action="store_true", help="keep the reports that differ anew")
+    arguments = parser.parse_args()
+    program = os.path.abspath(arguments.program)
+    found = [*differences_of_runs(program, arguments.write), *differences_of_pages(program)]
+    for line in found:
+        print(f"tests/examples: {line}")
+    if found:
+        sys.exit(1)
+    print("examples and pages: no difference")
+
+
+if __name__ == "__main__":
+    main()

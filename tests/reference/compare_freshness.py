@@ -1,0 +1,85 @@
+"""Compares what check leaves unknown with what it is to spend conflicts.
+
+Run as: python3 compare_freshness.py PROGRAM [--cases N] [--seed S]
+
+Each case is a small log and formula made by chance, and a number of conflicts
+from one to three. Where the program leaves a value unknown, the lines of its
+section have to spend just these conflicts: as many Learn lines, each fresh,
+used and over atoms that stand in clauses of rules, which freshness.py tests.
+The first difference is printed with its files, and the end is 1.
+"""
+
+import os
+import random
+import subprocess
+import sys
+import tempfile
+from collections import Counter
+from pathlib import Path
+
+sys.dont_write_bytecode = True  # leaves no compiled files beside the sources
+
+import derivations
+import formats
+import freshness
+import invent
+import reports
+from tables import read_arguments
+
+CONFLICTS = (1, 2, 3)
+PATIENCE = 60  # seconds that one run may take
+
+
+def output_of(program, formula_text, log_text, conflicts):
+    """What check writes for a formula, a log and a number of conflicts."""
+    with tempfile.TemporaryDirectory() as folder:
+        for name, text in (("formula", formula_text), ("log", log_text)):
+            Path(folder, name).write_bytes(text)
+        words = [program, "check", "--conflicts", str(conflicts), "formula", "log"]
+        return subprocess.run(words, cwd=folder, capture_output=True, timeout=PATIENCE).stdout
+
+
+def unknown_sections(report):
+    """The values that a report leaves unknown, with the lines of their sections."""
+    if isinstance(report, reports.Verdicts):
+        for value, section in ((True, report.on_true), (False, report.on_false)):
+            if isinstance(section, reports.Unknown):
+                yield value, section.lines
+
+
+def complaint(formula_text, log_text, output, conflicts):
+    """What is wrong with the report of check, or nothing; and how many values it leaves unknown."""
+    log, formula = formats.read_log(log_text), formats.read_formula(formula_text)
+    report = reports.read_report(output)
+    if isinstance(report, derivations.SyntaxFault):
+        return f"no report: {output[:80]!r}", 0
+    left = list(unknown_sections(report))
+    for value, lines in left:
+        problem = derivations.problem_of(log, formula, value)
+        found = freshness.complaint(problem, freshness.rule_clauses(problem), lines, conflicts)
+        if found:
+            return found, len(left)
+    return "", len(left)
+
+
+def main():
+    """Compares, and ends with 0 where there is no difference and with 1 where there is one."""
+    arguments = read_arguments("compare what check leaves unknown", 1000, "checks")
+    program = os.path.abspath(arguments.program)
+    count = Counter()
+    for number in range(arguments.cases):
+        draw = random.Random(f"{arguments.seed} {number}")
+        log_text, formula_text, _ = invent.some_problem(draw)
+        conflicts = draw.choice(CONFLICTS)
+        output = output_of(program, formula_text, log_text, conflicts)
+        found, left = complaint(formula_text, log_text, output, conflicts)
+        if found:
+            print(f"difference: check {number} of seed {arguments.seed}, {conflicts} conflicts: {found}")
+            print(f"formula: {formula_text!r}\nlog: {log_text!r}\noutput: {output!r}")
+            sys.exit(1)
+        count["unknown" if left else "decided"] += 1
+    print(f"{arguments.cases} checks, no difference: {count['decided']} decided, {count['unknown']} unknown")
+
+
+if __name__ == "__main__":
+    main()
