@@ -1,5 +1,6 @@
 pub mod Literals
 pub mod Holds
+pub mod Occurs
 pub mod Parts
 pub mod Sought
 pub mod NodeShapes

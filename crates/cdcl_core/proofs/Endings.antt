@@ -13,11 +13,12 @@ use Rattle.clause_db.specs.Literals.{value_of}
 use Rattle.propagate.specs.Links.{edges_of}
 use Rattle.propagate.specs.Trails.{Assigned, literals}
 use Rattle.axiom_rules.specs.declared.literal.Literal.{Literal}
+use Rattle.axiom_rules.specs.Occurs.{OccursInRules}
 use Rattle.axiom_rules.specs.Sought.{sought_of}
 use Rattle.proof_log.specs.declared.line.Line.{Line}
 use Rattle.proof_log.specs.Derivations.{Refutes}
 use Rattle.proof_log.specs.FreshLaws.{IsRefutedByRules}
-use Rattle.proof_log.specs.Freshness.{OccursInRules, Spends, learnt}
+use Rattle.proof_log.specs.Freshness.{Spends, learnt}
 use Rattle.proof_log.proofs.FreshLines.{refuted-not_spent, spent-bounded}
 use Rattle.mtl_encode.specs.declared.problem.Problem.{Problem}
 use Rattle.mtl_encode.specs.Models.{IsModel, value_at}

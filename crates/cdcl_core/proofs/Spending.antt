@@ -18,13 +18,14 @@ use Rattle.axiom_rules.specs.declared.literal.Atom.{Atom}
 use Rattle.axiom_rules.specs.declared.literal.Literal.{Literal}
 use Rattle.axiom_rules.specs.declared.rule.Rule.{Rule}
 use Rattle.axiom_rules.specs.Clauses.{clause_of}
+use Rattle.axiom_rules.specs.Occurs.{OccursInRules}
 use Rattle.axiom_rules.specs.Sought.{Sought, sought_of}
 use Rattle.proof_log.specs.declared.line.Hint.{Hint}
 use Rattle.proof_log.specs.declared.line.Hint.TheVariants as hint
 use Rattle.proof_log.specs.declared.line.Line.{Line}
 use Rattle.proof_log.specs.declared.line.Line.TheVariants as line
 use Rattle.proof_log.specs.Derivations.{line_at}
-use Rattle.proof_log.specs.Freshness.{Fresh, IsLearnAt, IsNew, OccursInRules, Used, clauses_of, known_before, learnt, learnt_clause, named_rules, rule_of_hint, rules_of_line}
+use Rattle.proof_log.specs.Freshness.{Fresh, IsLearnAt, IsNew, Used, clauses_of, known_before, learnt, learnt_clause, named_rules, rule_of_hint, rules_of_line}
 use Rattle.proof_log.proofs.LearnLines.{given_at, given_has}
 use Rattle.mtl_encode.specs.declared.problem.Problem.{Problem}
 use Rattle.mtl_encode.specs.Problems.{Fits, StandsIn}
@@ -188,7 +189,7 @@ module _ (log : Logged) (f : Form) (v : Bool) (p : Problem) (fits : Fits (sought
   atoms_occur : All (OccursInRules sought) p.atoms
   atoms_occur = All-weaker (λ a. Any (StandsIn sought a) p.rules) (OccursInRules sought) (λ a any.
       let (r, has, stands) = any_found (StandsIn sought a) p.rules any in
-      record { rule = r; clause = stands.clause; of_rule = stands.of_rule; there = stands.there }) p.atoms fits.atoms
+      record { rule = r; clause = stands.clause; is_clause = stands.of_rule; stands = stands.there }) p.atoms fits.atoms
 
   -- before the first line the clauses of the rules are known
   pub spending_begun : IsSpending log f v p.rules p.atoms p.db (map hint.Rule p.rules) []

@@ -7,11 +7,12 @@ use Rattle.propagate.specs.Trails.{Assigned}
 use Rattle.propagate.specs.Closed.{ClosedAt}
 use Rattle.axiom_rules.specs.declared.literal.Atom.{Atom}
 use Rattle.axiom_rules.specs.declared.rule.Rule.{Rule}
+use Rattle.axiom_rules.specs.Occurs.{OccursInRules}
 use Rattle.axiom_rules.specs.Sought.{sought_of}
 use Rattle.proof_log.specs.declared.line.Hint.{Hint}
 use Rattle.proof_log.specs.declared.line.Hint.TheVariants as hint
 use Rattle.proof_log.specs.declared.line.Line.{Line}
-use Rattle.proof_log.specs.Freshness.{Fresh, IsLearnAt, OccursInRules, Used, clauses_of, learnt, named_rules}
+use Rattle.proof_log.specs.Freshness.{Fresh, IsLearnAt, Used, clauses_of, learnt, named_rules}
 use Rattle.cdcl_core.specs.Extending.{Extends}
 use Rattle.cdcl_core.specs.Recording.{read_clause}
 

@@ -7,9 +7,10 @@ use Rattle.mt_model.specs.Log.{Logged}
 use Rattle.axiom_rules.specs.declared.literal.Atom.{Atom}
 use Rattle.axiom_rules.specs.declared.literal.Atom.TheVariants.{First, Node, Order}
 use Rattle.axiom_rules.specs.Literals.{no, same_atom, yes}
+use Rattle.axiom_rules.specs.Occurs.{OccursInRules}
 use Rattle.axiom_rules.specs.Sought.{sought_of}
 use Rattle.axiom_rules.proofs.BoolLemmas.{apart, not_true, was_false}
-use Rattle.mtl_encode.specs.Exact.{Occurs, SatisfiesRules, clause_is_true}
+use Rattle.mtl_encode.specs.Exact.{SatisfiesRules, clause_is_true}
 use Rattle.mtl_encode.proofs.ClauseUses.{last_of_1, last_of_2}
 
 -- Clauses where event 0 is a first one and no other atom holds.
@@ -37,7 +38,7 @@ abbrev note : ℕ → Row
 note local = record { host = 0; local = pos local; act = act.Note (codes "n") }
 
 -- of two rows, an order atom stands in the clause by which a first event is not after the other one
-order-occurs : Occurs (sought_of (noted (note 10 ∷ note 11 ∷ [])) True true) (Order 0 1 (pos 0))
+order-occurs : OccursInRules (sought_of (noted (note 10 ∷ note 11 ∷ [])) True true) (Order 0 1 (pos 0))
 order-occurs = record {
   rule = record { number = 9; args = 0 ∷ 1 ∷ 0 ∷ 0 ∷ [] };
   clause = no (First 0) ∷ yes (Order 0 1 (pos 0)) ∷ [];

@@ -24,6 +24,7 @@ use Rattle.axiom_rules.specs.declared.rule.Rule.{Rule}
 use Rattle.axiom_rules.specs.Atoms.{AreOnce, IsVar}
 use Rattle.axiom_rules.specs.Clauses.{clause_of}
 use Rattle.axiom_rules.specs.Literals.{same_atom}
+use Rattle.axiom_rules.specs.Occurs.{OccursInRules}
 use Rattle.axiom_rules.specs.Sought.{Sought, sought_of}
 use Rattle.axiom_rules.proofs.AddingLemmas.{atom-itself}
 use Rattle.axiom_rules.proofs.PartLemmas.{atoms_same}
@@ -31,7 +32,7 @@ use Rattle.mtl_encode.proofs.AtomGrowth.{parts-read, read-at, read-atom, read-co
 use Rattle.mtl_encode.proofs.OrdersInRange.{IsInRange, orders-in-range}
 use Rattle.mtl_encode.proofs.RangeLemmas.{among-at}
 use Rattle.mtl_encode.specs.declared.problem.Problem.{Problem}
-use Rattle.mtl_encode.specs.Exact.{AgreesWith, Occurs, RulesAreExact, SatisfiesRules, clause_is_true, literal_is_true}
+use Rattle.mtl_encode.specs.Exact.{AgreesWith, RulesAreExact, SatisfiesRules, clause_is_true, literal_is_true}
 use Rattle.mtl_encode.specs.Listing.{ListsRules}
 use Rattle.mtl_encode.specs.Models.{IsModel, times_of, value_at}
 use Rattle.mtl_encode.specs.Problems.{Fits, IsClauseOf, ReadsAs, read_literal}

@@ -11,8 +11,9 @@ use Rattle.formula_arena.specs.Laws.{CoresAreCores, NodesAreSubtrees, TruthOfCor
 use Rattle.formula_arena.specs.Nodes.{nodes_of}
 use Rattle.axiom_rules.specs.declared.literal.Atom.{Atom}
 use Rattle.axiom_rules.specs.declared.literal.Atom.TheVariants.{Node, Order}
+use Rattle.axiom_rules.specs.Occurs.{OccursInRules}
 use Rattle.axiom_rules.specs.Sought.{Sought, sought_of}
-use Rattle.mtl_encode.specs.Exact.{AgreesWith, Occurs, RulesAreExact, SatisfiesRules, literal_is_true}
+use Rattle.mtl_encode.specs.Exact.{AgreesWith, RulesAreExact, SatisfiesRules, literal_is_true}
 use Rattle.mtl_encode.proofs.NodeLemmas.{node-core}
 use Rattle.mtl_encode.proofs.NodeUses.{first-exact, root-exact}
 use Rattle.mtl_encode.proofs.NodesExact.{node-exact}
@@ -29,14 +30,14 @@ any-among P (y ∷ ys) x (inr there) h = let (k, z, low, at, is) = any-among P y
 
 -- an order atom that occurs in no clause may be given the value of the timing
 module _ (s : Sought) (v : Atom → Bool) (t : List ℤ) (agrees : AgreesWith s v t) where
-  same-value : (a : Atom) → Occurs s a → v a ≡ with_times t v a
+  same-value : (a : Atom) → OccursInRules s a → v a ≡ with_times t v a
   same-value (Order e f c) occurs = agrees e f c occurs
   same-value _ occurs = refl
 
   satisfied-with_times : SatisfiesRules s v → SatisfiesRules s (with_times t v)
   satisfied-with_times satisfied rule c is =
       let (l, in_, holds) = any_some (literal_is_true v) c (satisfied rule c is) in
-      let occurs : Occurs s l.atom = record { rule = rule; clause = c; is_clause = is; stands = any-among (λ m. m.atom ≡ l.atom) c l in_ refl } in
+      let occurs : OccursInRules s l.atom = record { rule = rule; clause = c; is_clause = is; stands = any-among (λ m. m.atom ≡ l.atom) c l in_ refl } in
       some_any (literal_is_true (with_times t v)) c l in_ (ap (λ b. if l.positive then b else not b) (sym (same-value l.atom occurs)) ∙ holds)
 
 not_later : (x y : ℤ) → int_le x y ≡ true → x ≤ℤ y

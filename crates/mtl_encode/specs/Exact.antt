@@ -1,5 +1,5 @@
 -- What satisfies the rules gives a timing in which the formula has the value sought.
-use Rattle.std.specs.Prelude.{◌≡◌, ℕ, Bool, true, not, if◌then◌else◌, List, Any, Ok, ℤ, ◌-ℤ◌, int_le}
+use Rattle.std.specs.Prelude.{◌≡◌, ℕ, Bool, true, not, if◌then◌else◌, List, Ok, ℤ, ◌-ℤ◌, int_le}
 use Rattle.std.specs.List.{list_any}
 use Rattle.mt_model.specs.Form.{Form}
 use Rattle.mt_model.specs.Log.{Logged, IsLog}
@@ -12,6 +12,7 @@ use Rattle.axiom_rules.specs.declared.literal.Literal.{Literal}
 use Rattle.axiom_rules.specs.declared.rule.Rule.{Rule}
 use Rattle.axiom_rules.specs.Clauses.{clause_of}
 use Rattle.axiom_rules.specs.Holds.{means}
+use Rattle.axiom_rules.specs.Occurs.{OccursInRules}
 use Rattle.axiom_rules.specs.Sought.{Sought, sought_of}
 
 -- a literal is true where the truth value of its atom is the literal's sense
@@ -26,16 +27,9 @@ clause_is_true v c = list_any (literal_is_true v) c
 abbrev pub SatisfiesRules : Sought → (Atom → Bool) → Type 0
 SatisfiesRules s v = (rule : Rule) (c : List Literal) → clause_of s rule ≡ Ok c → clause_is_true v c ≡ true
 
--- an atom stands in the clause of a rule
-pub record Occurs (s : Sought) (a : Atom) : Type 0 where
-  pub rule : Rule
-  pub clause : List Literal
-  pub is_clause : clause_of s rule ≡ Ok clause
-  pub stands : Any (λ l. l.atom ≡ a) clause
-
 -- each order atom that occurs has the truth value that the timing gives it
 abbrev pub AgreesWith : Sought → (Atom → Bool) → List ℤ → Type 0
-AgreesWith s v t = (e f : ℕ) (c : ℤ) → Occurs s (Order e f c) → v (Order e f c) ≡ int_le (time_of t e -ℤ time_of t f) c
+AgreesWith s v t = (e f : ℕ) (c : ℤ) → OccursInRules s (Order e f c) → v (Order e f c) ≡ int_le (time_of t e -ℤ time_of t f) c
 
 -- truth values that satisfy the rules for a value sought, and a timing that the log admits and that gives each
 -- order atom its truth value: in that timing the formula has the value

@@ -17,10 +17,11 @@ use Rattle.axiom_rules.specs.declared.literal.Literal.{Literal}
 use Rattle.axiom_rules.specs.declared.rule.Rule.{Rule}
 use Rattle.axiom_rules.specs.Clauses.{clause_of}
 use Rattle.axiom_rules.specs.Literals.{negated}
+use Rattle.axiom_rules.specs.Occurs.{OccursInRules}
 use Rattle.axiom_rules.specs.Sought.{Sought, sought_of}
 use Rattle.proof_log.specs.declared.line.Line.{Line}
 use Rattle.proof_log.specs.declared.line.Line.TheVariants as line
-use Rattle.proof_log.specs.Freshness.{Fresh, IsLearnAt, IsNew, OccursInRules, Spends, clauses_of, known_before, learnt, learnt_clause, named_rules}
+use Rattle.proof_log.specs.Freshness.{Fresh, IsLearnAt, IsNew, Spends, clauses_of, known_before, learnt, learnt_clause, named_rules}
 use Rattle.proof_log.specs.FreshLaws.{FreshLinesDiffer, HaveSameLiterals, IsRefutedByRules, RefutedByRulesIsNotSpent, SpentIsBounded}
 use Rattle.proof_log.proofs.LearnLines.{given_at, given_has, given_pairs, learn_count, learn_of, learn_same, line_front}
 use Rattle.proof_log.proofs.LiteralSets.{IsPlain, few_sets, plain_once}

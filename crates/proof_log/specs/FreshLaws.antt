@@ -8,9 +8,10 @@ use Rattle.axiom_rules.specs.declared.literal.Atom.{Atom}
 use Rattle.axiom_rules.specs.declared.literal.Literal.{Literal}
 use Rattle.axiom_rules.specs.declared.rule.Rule.{Rule}
 use Rattle.axiom_rules.specs.Literals.{negated}
+use Rattle.axiom_rules.specs.Occurs.{OccursInRules}
 use Rattle.axiom_rules.specs.Sought.{Sought, sought_of}
 use Rattle.proof_log.specs.declared.line.Line.{Line}
-use Rattle.proof_log.specs.Freshness.{Fresh, IsLearnAt, OccursInRules, Spends, clauses_of, learnt}
+use Rattle.proof_log.specs.Freshness.{Fresh, IsLearnAt, Spends, clauses_of, learnt}
 
 -- two clauses have the same literals
 pub record HaveSameLiterals (c d : List Literal) : Type 0 where

@@ -12,6 +12,7 @@ use Rattle.axiom_rules.specs.declared.literal.Literal.{Literal}
 use Rattle.axiom_rules.specs.declared.rule.Rule.{Rule}
 use Rattle.axiom_rules.specs.Clauses.{clause_of}
 use Rattle.axiom_rules.specs.Literals.{negated}
+use Rattle.axiom_rules.specs.Occurs.{OccursInRules}
 use Rattle.axiom_rules.specs.Sought.{Sought, sought_of}
 use Rattle.proof_log.specs.declared.line.Hint.{Hint}
 use Rattle.proof_log.specs.declared.line.Hint.TheVariants as hint
@@ -70,13 +71,6 @@ pub record IsLearnAt (lines : List Line) (n : ℕ) : Type 0 where
   pub lits : List Literal
   pub hints : List Hint
   pub stands : line_at lines n ≡ Some (line.Learn lits hints)
-
--- the atom stands in the clause of some rule
-pub record OccursInRules (s : Sought) (a : Atom) : Type 0 where
-  pub rule : Rule
-  pub clause : List Literal
-  pub of_rule : clause_of s rule ≡ Ok clause
-  pub there : Any (λ l. l.atom ≡ a) clause
 
 module _ (log : Logged) (f : Form) (v : Bool) where
   -- line n is a Learn line that is the resolvent of its hints: each literal stands in the clause of one of them, and what each but

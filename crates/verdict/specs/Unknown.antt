@@ -4,9 +4,9 @@ use Rattle.mt_model.specs.Form.{Form}
 use Rattle.mt_model.specs.Log.{Logged}
 use Rattle.axiom_rules.specs.declared.literal.Atom.{Atom}
 use Rattle.axiom_rules.specs.declared.rule.Rule.{Rule}
+use Rattle.axiom_rules.specs.Occurs.{OccursInRules}
 use Rattle.axiom_rules.specs.Sought.{sought_of}
 use Rattle.proof_log.specs.FreshLaws.{IsRefutedByRules}
-use Rattle.proof_log.specs.Freshness.{OccursInRules}
 use Rattle.mtl_encode.specs.Kept.{Kept}
 
 -- the conflicts are fewer than three to the number of atoms that stand in clauses of rules, and unit propagation over the clauses of

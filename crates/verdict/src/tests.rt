@@ -91,34 +91,46 @@ fn words(report: &Report) -> (&'static str, &'static str) {
     }
 }
 
+// What `decide` says of the formula with this deadline, where the second row comes at most so long after the
+// first, and whether `audit` accepts it.
+fn judged(
+    alloc: Global,
+    most: i128,
+    high: u64,
+) -> Result<((&'static str, &'static str), bool), Fail> {
+    let log = two_rows_within(alloc, most)?;
+    let f = each_req_has_ack(alloc, high)?;
+    let report = decide(alloc, &log, &f, 200_000)?;
+    let is_accepted = audit(alloc, &log, &f, 200_000, &report)? == Audit::Accepted;
+    Ok((words(&report), is_accepted))
+}
+
+// The second row comes at least 1 after the first, and by its window alone at most 9.
 #[test]
 fn values_are_witnessed_or_refuted_and_accepted(rt: HostRuntime) -> Result<(), Fail> {
     let alloc = rt.alloc();
-    // The second row comes at least 1 after the first, and by its window alone at most 9.
-    let cases = [
-        (9, 0, ("refuted", "witness")),
-        (9, 5, ("witness", "witness")),
-        (4, 5, ("witness", "refuted")),
-        (0, 5, ("inconsistent", "inconsistent")),
-    ];
-    for (most, high, wanted) in cases {
-        let log = two_rows_within(alloc, most)?;
-        let f = each_req_has_ack(alloc, high)?;
-        let report = decide(alloc, &log, &f, 200_000)?;
-        assert_eq!(rt; words(&report), wanted);
-        assert_eq!(rt; audit(alloc, &log, &f, 200_000, &report)?, Audit::Accepted);
-    }
+    assert_eq!(rt; judged(alloc, 9, 0)?, (("refuted", "witness"), true));
+    assert_eq!(rt; judged(alloc, 9, 5)?, (("witness", "witness"), true));
+    assert_eq!(rt; judged(alloc, 4, 5)?, (("witness", "refuted"), true));
+    assert_eq!(rt;
+        judged(alloc, 0, 5)?,
+        (("inconsistent", "inconsistent"), true)
+    );
     Ok(())
 }
 
 // That the formula is true comes to a conflict on either side of its `or`.
+fn late_or_at_once(alloc: Global) -> Result<Formula, Fail> {
+    let early = Box::new(alloc, ack_within(alloc, 0, 0)?)?;
+    let late = Box::new(alloc, ack_within(alloc, 10, 20)?)?;
+    Ok(Formula::new(Tree::Or(early, late)).ok_or("no formula")?)
+}
+
 #[test]
 fn a_spent_budget_leaves_a_value_unknown(rt: HostRuntime) -> Result<(), Fail> {
     let alloc = rt.alloc();
     let log = two_rows(alloc)?;
-    let early = Box::new(alloc, ack_within(alloc, 0, 0)?)?;
-    let late = Box::new(alloc, ack_within(alloc, 10, 20)?)?;
-    let f = Formula::new(Tree::Or(early, late)).ok_or("no formula")?;
+    let f = late_or_at_once(alloc)?;
     let report = decide(alloc, &log, &f, 1)?;
     assert_eq!(rt; words(&report), ("unknown", "witness"));
     assert_eq!(rt; audit(alloc, &log, &f, 1, &report)?, Audit::Accepted);
