@@ -6,18 +6,44 @@
 //! - `?`: words of `check`. Only those lines of the report are told that don't depend on which timings and
 //!   which lines were found, and then what `audit` answers for the report and the same words.
 //! - `!`: words of `check`, of whose report the section for false is told.
+//! - `<`: words. Each call on the files fails in turn, first with one byte a call, and then with whole files. How
+//!   many calls there are is told, each of which must be answered as a failed read with nothing written, and the
+//!   status where none fails.
+//! - `^`: words. Writing fails after each number of bytes, once because a call fails, and once because there is no
+//!   more room. How many bytes there are is told, whose beginning must be written each time, and the status where
+//!   there is room for all.
+//! - `@`: a seed. The log of the demo is told.
 //! - `>`: the name of a file of the case. The lines after it are the file's.
 //! - `|`: a line, which a newline ends; `~`: one that a carriage return and a newline end; `/`: a last line
-//!   that nothing ends.
+//!   that nothing ends; `*` and `+`: a number, one space and a text without spaces, which is repeated so often,
+//!   without an end or with a newline each time.
 #![tactic(auto)]
 
+use log_read::write_log;
 use mt_port::{FileShelf, MemShelf, MemSink, StdSink, read_all, write_all};
-use skew_cli::run;
+use skew_cli::{Status, demo_log, run};
 use std::alloc::Global;
 use std::process::ExitCode;
 
 /// The most bytes of the table, and of an answer.
 const LIMIT: usize = 1_048_576;
+
+// How many bytes go in one call, how many the sink takes in all, and which call on the files and which of the sink
+// fails, where 0 is none.
+#[derive(Clone, Copy)]
+struct Devices {
+    piece: usize,
+    room: usize,
+    bad_read: u64,
+    bad_write: u64,
+}
+
+const SOUND: Devices = Devices {
+    piece: LIMIT,
+    room: LIMIT,
+    bad_read: 0,
+    bad_write: 0,
+};
 
 // Files, each under its name.
 type Files = Vec<(String, Vec<u8>)>;
@@ -28,6 +54,8 @@ enum Telling {
     Whole,
     Outline,
     FalseSection,
+    FailedReads,
+    FailedWrites,
 }
 
 // The words of a case and its files.
@@ -65,17 +93,30 @@ fn push_words(words: &[String], out: &mut Vec<u8>) -> Option<()> {
     out.push(b'\n').ok()
 }
 
-// Adds the status of words over files, and gives what is written.
-fn answer(alloc: Global, words: &Vec<String>, files: Files, out: &mut Vec<u8>) -> Option<Vec<u8>> {
-    if !MemShelf::are_distinct(&files) {
+// The status of words over files and devices, and what is written.
+fn ran(
+    alloc: Global,
+    words: &Vec<String>,
+    files: Files,
+    devices: Devices,
+) -> Option<(Status, Vec<u8>)> {
+    if devices.piece == 0 || !MemShelf::are_distinct(&files) {
         return None;
     }
-    let mut shelf = MemShelf::new(files, LIMIT, Vec::new(alloc));
-    let mut sink = MemSink::new(alloc, LIMIT, LIMIT, Vec::new(alloc)).ok()?;
+    let bad_reads = vec![in alloc; devices.bad_read].ok()?;
+    let bad_writes = vec![in alloc; devices.bad_write].ok()?;
+    let mut shelf = MemShelf::new(files, devices.piece, bad_reads);
+    let mut sink = MemSink::new(alloc, devices.room, devices.piece, bad_writes).ok()?;
     let status = run(alloc, words, &mut shelf, &mut sink);
+    Some((status, sink.bytes().to_vec(alloc).ok()?))
+}
+
+// Adds the status of words over files, and gives what is written.
+fn answer(alloc: Global, words: &Vec<String>, files: Files, out: &mut Vec<u8>) -> Option<Vec<u8>> {
+    let (status, text) = ran(alloc, words, files, SOUND)?;
     let line = format!(in alloc; "status {}\n", status.code()).ok()?;
     out.extend_from_slice(line.as_bytes()).ok()?;
-    sink.bytes().to_vec(alloc).ok()
+    Some(text)
 }
 
 // Adds what a line of a report says of any report on the same question.
@@ -124,6 +165,102 @@ fn copied(alloc: Global, files: &Files) -> Option<Files> {
     Some(copies)
 }
 
+// Adds how many calls on the files there are, each of which fails in turn, and the status where none does.
+fn push_failed_reads(
+    alloc: Global,
+    piece: usize,
+    words: &Vec<String>,
+    files: &Files,
+    out: &mut Vec<u8>,
+) -> Option<()> {
+    for calls in 0..LIMIT as u64 {
+        let devices = Devices {
+            piece,
+            bad_read: calls + 1,
+            ..SOUND
+        };
+        let (status, text) = ran(alloc, words, copied(alloc, files)?, devices)?;
+        if status != Status::ReadFailed || !text.is_empty() {
+            let line = format!(in alloc; "reads {calls} status {}\n", status.code()).ok()?;
+            return out.extend_from_slice(line.as_bytes()).ok();
+        }
+    }
+    None
+}
+
+// Whether writing fails after the beginning of a text.
+fn is_cut(
+    alloc: Global,
+    words: &Vec<String>,
+    files: &Files,
+    devices: Devices,
+    beginning: &[u8],
+) -> Option<bool> {
+    let (status, text) = ran(alloc, words, copied(alloc, files)?, devices)?;
+    Some(status == Status::WriteFailed && text.as_slice() == beginning)
+}
+
+// Whether writing fails after so many bytes of a text, by a call that fails and for want of room.
+fn is_cut_after(
+    alloc: Global,
+    words: &Vec<String>,
+    files: &Files,
+    text: &[u8],
+    count: usize,
+) -> Option<bool> {
+    let full = Devices {
+        room: count,
+        ..SOUND
+    };
+    let broken = Devices {
+        piece: 1,
+        bad_write: (count as u64).checked_add(1)?,
+        ..SOUND
+    };
+    let beginning = text.get(..count)?;
+    Some(
+        is_cut(alloc, words, files, full, beginning)?
+            && is_cut(alloc, words, files, broken, beginning)?,
+    )
+}
+
+// Adds how many bytes are written, after each number of which writing fails in turn, and the status where there is
+// room for all.
+fn push_failed_writes(
+    alloc: Global,
+    words: &Vec<String>,
+    files: &Files,
+    out: &mut Vec<u8>,
+) -> Option<()> {
+    let (_, text) = ran(alloc, words, copied(alloc, files)?, SOUND)?;
+    for count in 0..text.len() {
+        if !is_cut_after(alloc, words, files, &text, count)? {
+            return None;
+        }
+    }
+    let room = text.len();
+    let (status, _) = ran(
+        alloc,
+        words,
+        copied(alloc, files)?,
+        Devices { room, ..SOUND },
+    )?;
+    let line = format!(in alloc; "writes {room} status {}\n", status.code()).ok()?;
+    out.extend_from_slice(line.as_bytes()).ok()
+}
+
+// Adds the log of a seed.
+fn push_demo_log(alloc: Global, seed: &[u8], out: &mut Vec<u8>) -> Option<()> {
+    let log = demo_log(alloc, str::from_utf8(seed).ok()?.parse().ok()?).ok()?;
+    if !log.plain() {
+        return None;
+    }
+    out.extend_from_slice(b"@ ").ok()?;
+    out.extend_from_slice(seed).ok()?;
+    out.push(b'\n').ok()?;
+    out.extend_from_slice(&write_log(alloc, &log).ok()?).ok()
+}
+
 // The words of `audit` for those of `check`.
 fn audit_words(alloc: Global, words: &[String]) -> Option<Vec<String>> {
     let (_, rest) = words.split_first()?;
@@ -169,6 +306,11 @@ fn push_answer(alloc: Global, case: Case, out: &mut Vec<u8>) -> Option<()> {
             let report = answer(alloc, &words, files, out)?;
             push_false_section(&report, out)
         }
+        Telling::FailedReads => {
+            push_failed_reads(alloc, 1, &words, &files, out)?;
+            push_failed_reads(alloc, LIMIT, &words, &files, out)
+        }
+        Telling::FailedWrites => push_failed_writes(alloc, &words, &files, out),
     }
 }
 
@@ -186,6 +328,8 @@ fn told_after(mark: u8) -> Option<Telling> {
         b'=' => Some(Telling::Whole),
         b'?' => Some(Telling::Outline),
         b'!' => Some(Telling::FalseSection),
+        b'<' => Some(Telling::FailedReads),
+        b'^' => Some(Telling::FailedWrites),
         _ => None,
     }
 }
@@ -216,6 +360,17 @@ impl Case {
         bytes.extend_from_slice(end).ok()
     }
 
+    // Adds a text to the last file, so many times.
+    fn push_repeated(&mut self, repeated: &[u8], end: &[u8]) -> Option<()> {
+        let mut parts = repeated.split(|byte| *byte == b' ');
+        let count: usize = str::from_utf8(parts.next()?).ok()?.parse().ok()?;
+        let text = parts.next()?;
+        for _ in 0..count {
+            self.push_text(text, end)?;
+        }
+        Some(())
+    }
+
     // Adds what a line says, if it says something.
     fn push(&mut self, alloc: Global, mark: u8, text: &[u8]) -> Option<()> {
         match mark {
@@ -223,6 +378,8 @@ impl Case {
             b'|' => self.push_text(text, b"\n"),
             b'~' => self.push_text(text, b"\r\n"),
             b'/' => self.push_text(text, b""),
+            b'*' => self.push_repeated(text, b""),
+            b'+' => self.push_repeated(text, b"\n"),
             _ => Some(()),
         }
     }
@@ -239,6 +396,10 @@ fn answers(alloc: Global, table: &[u8]) -> Option<Vec<u8>> {
         if let Some(telling) = told_after(*mark) {
             push_last(alloc, case, &mut out)?;
             case = Some(begin(alloc, telling, text, &mut out)?);
+        } else if *mark == b'@' {
+            push_last(alloc, case, &mut out)?;
+            case = None;
+            push_demo_log(alloc, text, &mut out)?;
         } else if let Some(current) = &mut case {
             current.push(alloc, *mark, text)?;
         }

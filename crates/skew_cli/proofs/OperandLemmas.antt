@@ -1,9 +1,12 @@
 -- Operands among words that are read one after another.
-use Rattle.std.proofs.Common.{◌≡◌, ◌∙◌, sym, ap, refl, ℕ, ◌+◌, ◌-◌, ◌<◌, true, false, List, [], ◌∷◌, ◌++◌, length, get_or, map, take, drop, Option, Some, None, append_assoc, add-one, drop-cons}
-use Rattle.std.specs.Prelude.{option_map, bytes_eq, codes}
-use Rattle.std.proofs.lemmas.List.{length-drop, map-append}
+use Rattle.std.proofs.Common.{◌≡◌, ◌≢◌, ◌∙◌, sym, ap, refl, ℕ, ◌+◌, ◌-◌, ◌<◌, Bool, true, false, List, [], ◌∷◌, ◌++◌, length, get_or, map, take, drop, Option, Some, None, append_assoc, add-one, drop-cons}
+use Rattle.std.specs.Prelude.{MatchOption, option_map, bytes_eq, codes}
+use Rattle.std.specs.Borrow.{Bor}
+use Rattle.std.specs.Str.Pattern.{FindsTextPrefix, StripsPrefix}
+use Rattle.std.proofs.lemmas.List.{drop_at, length-drop, map-append, take-append-drop, take_at}
+use Rattle.std.proofs.lemmas.Slice.Eq.{bytes_eq-Decides}
 use Rattle.std.proofs.Math.Seq.{drop-length, take-length, take-suc}
-use Rattle.skew_cli.specs.Words.{Given, Word, given_by, given_of, is_option, operands_of, plain, with_front}
+use Rattle.skew_cli.specs.Words.{Given, Word, after, given_by, given_of, is_option, operands_of, plain, with_front}
 
 -- what is left of a list behind a place, as the code cuts it
 pub cut-rest : {X : Type 0} (xs : List X) (i : ℕ) → take (length xs - (i + 1)) (drop (i + 1) xs) ≡ drop (i + 1) xs
@@ -100,3 +103,19 @@ module _ {X : Type 0} (f : X → Word) (xs : List X) where
       let given : given_of (map f xs) ≡ Some (plain (map f xs ++ [])) = so_far.given ∙ rw (drop-length xs, take-length xs) refl in
       let operands : operands_of (map f xs) ≡ Some (map f xs ++ []) = so_far.operands ∙ rw (drop-length xs, take-length xs) refl in
       given ∙ sym (ap (option_map plain) operands)
+
+-- what follows a front, as `strip_prefix` finds it
+after-front : (front word rest : Word) → word ≡ front ++ rest → after front word ≡ Some rest
+after-front front word rest is = ap (after front) is ∙ rw (take_at front rest (length front) refl, drop_at front rest (length front) refl, (bytes_eq-Decides front front).1 refl) refl
+
+after-none : (front word : Word) → ((rest : Word) → word ≢ front ++ rest) → after front word ≡ None
+after-none front word lacks = go (bytes_eq (take (length front) word) front) refl
+  where
+    go : (b : Bool) → bytes_eq (take (length front) word) front ≡ b → after front word ≡ None
+    go false e = rw e refl
+    go true e = absurd (lacks (drop (length front) word) (sym (take-append-drop (length front) word) ∙ ap (λ t. t ++ drop (length front) word) ((bytes_eq-Decides (take (length front) word) front).0 e)))
+
+pub stripped-after : (front word : Word) (r : Option (Bor Word)) → MatchOption r (FindsTextPrefix front word None) (λ x. StripsPrefix (FindsTextPrefix front) word x.now)
+    → option_map (λ text. text.now) r ≡ after front word
+stripped-after front word None lacks = sym (after-none front word lacks)
+stripped-after front word (Some x) found = sym (after-front front word x.now (found.1.1 ∙ ap (λ rest. front ++ rest) (sym found.2)))

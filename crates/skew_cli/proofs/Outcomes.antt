@@ -26,7 +26,7 @@ use Rattle.skew_cli.specs.ReplayOutcome.{ReplayOfLog, ReplayOfTimes, ReplayOutco
 use Rattle.skew_cli.specs.Tests.{OnFile, OnFormula, OnHosts, OnLog, OnNodes, OnQuestion, OnReport, OnSize, OnTimes}
 use Rattle.skew_cli.specs.TimesOutcome.{TimesOfLog, TimesOutcome}
 use Rattle.skew_cli.specs.OrderOutcome.{OrderOfLog, OrderOutcome}
-use Rattle.skew_cli.specs.Words.{Audit, Check, Command, Order, Replay, Times, Word, command_of}
+use Rattle.skew_cli.specs.Words.{Audit, Check, Command, Demo, Order, Replay, Times, Word, command_of}
 use Rattle.skew_cli.proofs.Steps.{At}
 
 -- what is due may be said in a weaker way
@@ -104,6 +104,7 @@ module _ (held files : Files) (agree : Agree held files) (out : List ℕ) (s : S
   same-command (Order log) = same-order log
   same-command (Check conflicts formula log) = same-check conflicts formula log
   same-command (Audit conflicts formula log report) = same-audit conflicts formula log report
+  same-command (Demo seed) = λ h. h
 
 -- a refusal before a formula and a log are read is one, whatever comes after them
 pub question-refused : (files : Files) (formula log : Word) (next : List ℕ → Form → Logged → List ℕ → Status → Type 0) (r : Refusal) → At (OnQuestion files formula log NoAnswer) r → At (OnQuestion files formula log next) r

@@ -13,8 +13,8 @@ use Rattle.verdict.specs.Claims.{Claims}
 use Rattle.verdict.specs.Right.{SaysRight}
 use Rattle.skew_cli.specs.declared.status.Status.{Status}
 use Rattle.skew_cli.specs.declared.status.Status.TheVariants as status
-use Rattle.skew_cli.specs.CheckOutcome.{IsReportStatus}
-use Rattle.skew_cli.specs.Laws.{IsNoValue, IsStatusOfValues, is_undecided}
+use Rattle.skew_cli.specs.CheckOutcome.{IsReportStatus, is_undecided}
+use Rattle.skew_cli.specs.Laws.{IsNoValue, IsStatusOfValues}
 
 module _ (log : Logged) (f : Form) (r : Report) (s : Status) where
   -- no timing is admissible

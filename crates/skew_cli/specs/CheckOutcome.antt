@@ -1,5 +1,5 @@
 -- What `check` answers.
-use Rattle.std.specs.Prelude.{◌≡◌, ◌||◌, ℕ, IsTrue, List}
+use Rattle.std.specs.Prelude.{◌≡◌, ◌||◌, ℕ, Bool, false, IsTrue, List}
 use Rattle.mt_model.specs.Form.{Form}
 use Rattle.mt_model.specs.Log.{Logged}
 use Rattle.mt_port.specs.Port.{Files}
@@ -9,7 +9,7 @@ use Rattle.report_text.specs.declared.report.Report.{Report}
 use Rattle.report_text.specs.declared.report.Report.TheVariants as report
 use Rattle.report_text.specs.ReportText.{report_text}
 use Rattle.verdict.specs.Claims.{Claims}
-use Rattle.verdict.specs.Right.{IsRight, is_witness}
+use Rattle.verdict.specs.Right.{IsRight, is_unknown, is_witness}
 use Rattle.skew_cli.specs.declared.status.Status.{Status}
 use Rattle.skew_cli.specs.declared.status.Status.TheVariants as status
 use Rattle.skew_cli.specs.Tests.{OnHosts, OnNodes, OnQuestion, OnSize}
@@ -29,6 +29,11 @@ IsVerdictsStatus (section.Refuted lines) (section.Unknown others) s = s ≡ stat
 abbrev pub IsReportStatus : Report → Status → Type 0
 IsReportStatus (report.Inconsistent events steps) s = s ≡ status.Inconsistent
 IsReportStatus (report.Verdicts events on_true on_false) s = IsVerdictsStatus on_true on_false s
+
+-- a section of the report is unknown
+abbrev pub is_undecided : Report → Bool
+is_undecided (report.Inconsistent events steps) = false
+is_undecided (report.Verdicts events on_true on_false) = is_unknown on_true || is_unknown on_false
 
 -- a section for a value is a witness, or there is none at all
 abbrev pub IsWitnessed : Report → Type 0

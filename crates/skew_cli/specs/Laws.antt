@@ -7,28 +7,26 @@ use Rattle.mt_model.specs.Truth.{IsValue}
 use Rattle.mt_port.specs.Port.{Files, file_of}
 use Rattle.report_text.specs.declared.report.Report.{Report}
 use Rattle.report_text.specs.declared.report.Report.TheVariants as report
+use Rattle.report_text.specs.declared.report.Section.TheVariants as section
 use Rattle.report_text.specs.ReportOf.{ReportOf}
 use Rattle.verdict.specs.Claims.{Claims}
 use Rattle.verdict.specs.Faults.{IsJudged}
 use Rattle.verdict.specs.Right.{is_unknown, is_witness}
 use Rattle.verdict.specs.Unknown.{CanBeUnknown}
-use Rattle.skew_cli.specs.declared.limits.TheConstants.{REPORT_LIMIT}
+use Rattle.skew_cli.specs.declared.limits.TheConstants.{REPORT_LIMIT, TIMES_LIMIT}
 use Rattle.skew_cli.specs.declared.refusal.Named.TheVariants as named
 use Rattle.skew_cli.specs.declared.refusal.Refusal.TheVariants as refusal
 use Rattle.skew_cli.specs.declared.status.Status.{Status}
 use Rattle.skew_cli.specs.declared.status.Status.TheVariants as status
 use Rattle.skew_cli.specs.AuditOutcome.{AuditOutcome}
-use Rattle.skew_cli.specs.CheckOutcome.{CheckOutcome, Checked}
+use Rattle.skew_cli.specs.CheckOutcome.{CheckOutcome, Checked, is_undecided}
 use Rattle.skew_cli.specs.Outcome.{Says}
 use Rattle.skew_cli.specs.Reads.{IsQuestion}
 use Rattle.skew_cli.specs.Refusals.{Refuses}
+use Rattle.skew_cli.specs.ReplayOutcome.{ReplayOutcome, value_status, value_text}
 use Rattle.skew_cli.specs.Statuses.{IsVerdict}
+use Rattle.skew_cli.specs.Texts.{times_text}
 use Rattle.skew_cli.specs.Words.{Word}
-
--- a section of the report is unknown
-abbrev pub is_undecided : Report → Bool
-is_undecided (report.Inconsistent events steps) = false
-is_undecided (report.Verdicts events on_true on_false) = is_unknown on_true || is_unknown on_false
 
 -- no section of the report is unknown, and this holds of the value true and of the value false
 pub record Decides (r : Report) (OnTrue OnFalse : Type 0) : Type 0 where
@@ -122,3 +120,20 @@ leaves_unknown (report.Verdicts events on_true on_false) false = is_unknown on_f
 abbrev pub UnknownIsBounded : Type 0
 UnknownIsBounded =
     (conflicts : ℕ) (f : Form) (log : Logged) (out : List ℕ) (s : Status) (checked : Checked conflicts f log out s) (v : Bool) → 1 ≤ conflicts → IsTrue (leaves_unknown checked.report v) → CanBeUnknown log f v conflicts
+
+-- the report has this timing as its witness for the value
+abbrev pub IsWitnessOf : Report → Bool → List ℤ → Type 0
+IsWitnessOf (report.Inconsistent events steps) v t = ⊥
+IsWitnessOf (report.Verdicts events on_true on_false) true t = on_true ≡ section.Witness t
+IsWitnessOf (report.Verdicts events on_true on_false) false t = on_false ≡ section.Witness t
+
+-- what `replay` answers for a timing, written with a number on each line: the value, unless the text is longer than a file of times may be
+pub record IsReplayed (v : Bool) (t : List ℤ) (out : List ℕ) (s : Status) : Type 0 where
+  pub replayed : length (times_text t) ≤ TIMES_LIMIT → Says (value_text v) (value_status v) out s
+  pub too_long : TIMES_LIMIT < length (times_text t) → Refuses (refusal.Length named.Times) out s
+
+-- with the timing that `check` gave for a value, `replay` answers the value
+abbrev pub WitnessesAreReplayed : Type 0
+WitnessesAreReplayed =
+    (files : Files) (conflicts : ℕ) (formula log name : Word) (text : List ℕ) (f : Form) (l : Logged) (written out : List ℕ) (found s : Status) (checked : Checked conflicts f l written found) (v : Bool) (t : List ℤ)
+    → IsJudgedQuestion files formula log text f l → IsWitnessOf checked.report v t → file_of files name ≡ Some (times_text t) → ReplayOutcome files formula log name out s → IsReplayed v t out s

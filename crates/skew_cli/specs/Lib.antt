@@ -1,6 +1,8 @@
 pub mod Statuses
 pub mod Words
 pub mod Called
+pub mod NormalWords
+pub mod Matched
 pub mod Texts
 pub mod Refusals
 pub mod Stops
@@ -10,9 +12,13 @@ pub mod ReplayOutcome
 pub mod OrderOutcome
 pub mod CheckOutcome
 pub mod AuditOutcome
+pub mod DemoLog
+pub mod DemoFormula
+pub mod DemoOutcome
 pub mod Reads
 pub mod Outcome
 pub mod Laws
+pub mod DemoLaws
 pub use Rattle.mt_port.specs.Port
 pub use Rattle.mt_port.specs.Whole
 pub use Rattle.mt_model.specs.Bounds

@@ -12,7 +12,8 @@ use Rattle.skew_cli.specs.ReplayOutcome.{ReplayOutcome}
 use Rattle.skew_cli.specs.OrderOutcome.{OrderOutcome}
 use Rattle.skew_cli.specs.CheckOutcome.{CheckOutcome}
 use Rattle.skew_cli.specs.AuditOutcome.{AuditOutcome}
-use Rattle.skew_cli.specs.Words.{Audit, Check, Command, Order, Replay, Times, Word, command_of}
+use Rattle.skew_cli.specs.DemoOutcome.{DemoOutcome}
+use Rattle.skew_cli.specs.Words.{Audit, Check, Command, Demo, Order, Replay, Times, Word, command_of}
 
 -- one line, with its status
 abbrev pub Says : List ℕ → Status → List ℕ → Status → Type 0
@@ -25,6 +26,7 @@ CommandOutcome (Replay formula log times) files = ReplayOutcome files formula lo
 CommandOutcome (Order log) files = OrderOutcome files log
 CommandOutcome (Check conflicts formula log) files = CheckOutcome files conflicts formula log
 CommandOutcome (Audit conflicts formula log report) files = AuditOutcome files conflicts formula log report
+CommandOutcome (Demo seed) files = DemoOutcome seed
 
 -- what words give: the command's outcome, and a refusal where they are no command
 abbrev pub Outcome : List Word → Files → List ℕ → Status → Type 0
@@ -37,6 +39,7 @@ HoldsFiles files (Replay formula log times) = HoldsQuestion files formula log (H
 HoldsFiles files (Order log) = IsSome (file_of files log)
 HoldsFiles files (Check conflicts formula log) = HoldsQuestion files formula log NoThird
 HoldsFiles files (Audit conflicts formula log report) = HoldsQuestion files formula log (HoldsThird files report)
+HoldsFiles files (Demo seed) = Unit {0}
 
 -- the files that the command of words comes to read are held
 abbrev pub HoldsNamed : List Word → Files → Type 0

@@ -2,19 +2,20 @@
 use Rattle.std.specs.Prelude.{ℕ, ◌==◌, ◌&&◌, nat_le, Bool, false, List, [], ◌∷◌, ◌++◌, Option, Some, None, option_map, option_and_then, unwrap_or, if◌then◌else◌, bytes_eq, codes, length, take, drop}
 use Rattle.std.specs.Str.Parse.{digits_value}
 use Rattle.log_read.specs.Numbers.{is_number}
-use Rattle.skew_cli.specs.declared.limits.TheConstants.{DEFAULT_CONFLICTS, MAX_CONFLICTS}
+use Rattle.skew_cli.specs.declared.limits.TheConstants.{DEFAULT_CONFLICTS, MAX_CONFLICTS, MAX_SEED}
 
 -- a word of the command line, as its bytes
 abbrev pub Word : Type 0
 Word = List ℕ
 
--- a command with the names of its files; `check` and `audit` have a number of conflicts too
+-- a command with the names of its files; `check` and `audit` have a number of conflicts too, and `demo` has a seed and no file
 pub data Command : Type 0 where
   Times : (log : Word) → Command
   Replay : (formula : Word) → (log : Word) → (times : Word) → Command
   Order : (log : Word) → Command
   Check : (conflicts : ℕ) → (formula : Word) → (log : Word) → Command
   Audit : (conflicts : ℕ) → (formula : Word) → (log : Word) → (report : Word) → Command
+  Demo : (seed : ℕ) → Command
 
 -- a word that begins with `-` and is not `-` alone
 abbrev pub is_option : Word → Bool
@@ -106,6 +107,15 @@ abbrev pub audit_command : ℕ → List Word → Option Command
 audit_command n (formula ∷ log ∷ report ∷ []) = option_and_then (λ f. option_and_then (λ l. option_map (λ r. Audit n f l r) (file_name report)) (file_name log)) (file_name formula)
 audit_command n _ = None
 
+-- the seed of the demo: a number from 0 to 18,446,744,073,709,551,615
+abbrev pub seed_of : Word → Option ℕ
+seed_of word = if is_number word && nat_le (digits_value 10 word) MAX_SEED then Some (digits_value 10 word) else None
+
+-- `demo` has one operand, the seed
+abbrev pub demo_command : List Word → Option Command
+demo_command (seed ∷ []) = option_map Demo (seed_of seed)
+demo_command _ = None
+
 -- the number of conflicts that is given, or else 200,000
 abbrev pub conflicts_in : Given → ℕ
 conflicts_in g = unwrap_or g.conflicts DEFAULT_CONFLICTS
@@ -116,6 +126,7 @@ command_with first operands =
     if bytes_eq first (codes "times") then times_command operands
     else if bytes_eq first (codes "replay") then replay_command operands
     else if bytes_eq first (codes "order") then order_command operands
+    else if bytes_eq first (codes "demo") then demo_command operands
     else None
 
 -- the command of a first word and the words after it

@@ -19,6 +19,7 @@ use crate::question::{Question, read_question};
 use crate::refusal::Refusal;
 use crate::reply::{Reply, Stop};
 use crate::status::Status;
+use mt_model::{Formula, Log};
 use mt_port::Shelf;
 use report_text::{Report, Section, print_report};
 use std::alloc::{AllocError, Global};
@@ -39,8 +40,8 @@ fn verdicts_status(on_true: &Section, on_false: &Section) -> Status
     }
 }
 
-// The status of a report.
-fn report_status(report: &Report) -> Status
+/// The status of a report.
+pub fn report_status(report: &Report) -> Status
     requires { IsWitnessed report.now }
     ensures status { IsReportStatus report.now result }
     ensures verdict { IsVerdict result }
@@ -69,18 +70,23 @@ fn report_reply(alloc: Global, report: &Report) -> Result<Reply, AllocError>
     })
 }
 
-// The report on a formula and a log, where the formula's hosts are in the log.
-fn report_on(alloc: Global, conflicts: u32, question: &Question) -> Result<Report, Stop>
+/// The report on a formula and a log, where the formula's hosts are in the log, with so many conflicts in each section.
+pub fn report_on(
+    alloc: Global,
+    conflicts: u32,
+    log: &Log,
+    formula: &Formula,
+) -> Result<Report, Stop>
     requires some { 1 ≤ conflicts }
     requires most { conflicts ≤ MAX_CONFLICTS }
-    requires known { unknown_host question.now.log (form_of question.now.formula) ≡ None }
-    ensures right { IfOk result (IsRight question.now.log (form_of question.now.formula) conflicts) }
-    ensures claims { IfOk result (Claims question.now.log (form_of question.now.formula)) }
-    ensures judged { OnOk result (IsJudged question.now.log (form_of question.now.formula)) }
+    requires known { unknown_host log.now (form_of formula.now) ≡ None }
+    ensures right { IfOk result (IsRight log.now (form_of formula.now) conflicts) }
+    ensures claims { IfOk result (Claims log.now (form_of formula.now)) }
+    ensures judged { OnOk result (IsJudged log.now (form_of formula.now)) }
     ensures read { IsErrOf result Stop.ReadFailed → ⊥ }
-    ensures refused { RefusesFor result (TellsLarge (form_of question.now.formula) question.now.log) }
+    ensures refused { RefusesFor result (TellsLarge (form_of formula.now) log.now) }
 {
-    match decide(alloc, &question.log, &question.formula, conflicts) {
+    match decide(alloc, log, formula, conflicts) {
         Ok(report) => Ok(report),
         Err(VerdictFault::UnknownHost { .. }) => unreachable!(),
         Err(VerdictFault::TooManyNodes) => Err(Stop::Refused(Refusal::Nodes)),
@@ -100,7 +106,7 @@ fn check_of_question(alloc: Global, conflicts: u32, question: &Question) -> Resu
     ensures read { IsErrOf result Stop.ReadFailed → ⊥ }
 {
     files::known_hosts(&question.text, &question.formula, &question.log)?;
-    let report = report_on(alloc, conflicts, question)?;
+    let report = report_on(alloc, conflicts, &question.log, &question.formula)?;
     Ok(report_reply(alloc, &report)?)
 }
 

@@ -1,42 +1,40 @@
 //! The words of a command that takes the option `--conflicts`.
 
-ghost use Rattle.std.specs.Prelude.{◌≡◌, ◌≤◌, IfSome, MatchOption, map, option_map, string_bytes};
+ghost use Rattle.std.specs.Prelude.{◌≡◌, ℕ, IfSome, IsSome, MatchOption, None, Some, codes, map, option_map, string_bytes};
 ghost use Rattle.skew_cli.specs.Called.{given_in};
-ghost use Rattle.skew_cli.specs.declared.limits.TheConstants.{MAX_CONFLICTS};
-ghost use Rattle.skew_cli.specs.Words.{conflicts_of, given_by, given_of, operands_of, option_value, plain, with_front};
+ghost use Rattle.skew_cli.specs.Words.{after, conflicts_of, given_by, given_of, operands_of, option_value, plain, with_front};
 
-use crate::limits::MAX_CONFLICTS;
+use crate::numbers::conflicts;
 use crate::operands::{Operands, is_dashed, is_mark};
-use proof_log::number;
 
-/// The operands of a command, and the number of conflicts where the option gives it.
+/// The operands of a command, and the number of conflicts as the option writes it, where it is given.
 #[derive(Clone, Copy, Debug)]
 pub struct Given<'a> {
     pub operands: Operands<'a>,
-    pub conflicts: Option<u32>,
+    pub conflicts: Option<&'a str>,
 }
 
-// The number of conflicts that a word writes.
-fn conflicts(word: &[u8]) -> Option<u32>
-    ensures number { result ≡ conflicts_of word.now }
-    ensures range { IfSome result (λ n. (1 ≤ n) × (n ≤ MAX_CONFLICTS)) }
+// What follows `--conflicts=` at the front of a word.
+fn attached(word: &String) -> Option<&str>
+    ensures { option_map (λ text. text.now) result ≡ after (codes "--conflicts=") (string_bytes word.now) }
 {
-    let n = number(word, MAX_CONFLICTS as u128 + 1)?;
-    if n > 0 { Some(n as u32) } else { None }
+    word.as_str().strip_prefix("--conflicts=")
 }
 
-// The number of conflicts that an option gives, and the words after it that are left.
-fn value<'a>(option: &String, words: &'a [String]) -> Option<(u32, &'a [String])>
-    ensures value { option_map (λ r. (r.0, map string_bytes r.1.now)) result ≡ option_value (string_bytes option.now) (map string_bytes words.now) }
-    ensures range { IfSome result (λ r. (1 ≤ r.0) × (r.0 ≤ MAX_CONFLICTS)) }
+// The word in which an option writes its number, and the words after it that are left.
+fn value<'a>(option: &'a String, words: &'a [String]) -> Option<(&'a str, &'a [String])>
+    ensures { MatchOption result
+        (option_value (string_bytes option.now) (map string_bytes words.now) ≡ None)
+        (λ r. (n : ℕ) × (conflicts_of r.0.now ≡ Some n) × (option_value (string_bytes option.now) (map string_bytes words.now) ≡ Some (n, map string_bytes r.1.now))) }
 {
     if option.as_str() == "--conflicts" {
         let (next, rest) = words.split_first()?;
-        let n = conflicts(next.as_bytes())?;
-        Some((n, rest))
+        conflicts(next.as_str())?;
+        Some((next.as_str(), rest))
     } else {
-        let n = conflicts(option.as_bytes().strip_prefix(b"--conflicts=")?)?;
-        Some((n, words))
+        let text = attached(option)?;
+        conflicts(text)?;
+        Some((text, words))
     }
 }
 
@@ -59,22 +57,22 @@ fn split_at_option<'a>(words: &'a [String]) -> Option<(&'a [String], &'a String,
 
 impl<'a> Given<'a> {
     // What an option gives with the words before it and those after it.
-    fn around(front: &'a [String], option: &String, words: &'a [String]) -> Option<Given<'a>>
+    fn around(front: &'a [String], option: &'a String, words: &'a [String]) -> Option<Given<'a>>
         ensures given { option_map given_in result ≡ option_map (with_front (map string_bytes front.now)) (given_by (string_bytes option.now) (map string_bytes words.now)) }
-        ensures range { IfSome result (λ g. IfSome g.conflicts (λ n. (1 ≤ n) × (n ≤ MAX_CONFLICTS))) }
+        ensures number { IfSome result (λ g. IfSome g.conflicts (λ text. IsSome (conflicts_of text.now))) }
     {
-        let (conflicts, rest) = value(option, words)?;
+        let (text, rest) = value(option, words)?;
         let operands = Operands::among(front, rest)?;
         Some(Given {
             operands,
-            conflicts: Some(conflicts),
+            conflicts: Some(text),
         })
     }
 
     /// What the words give, and None exactly where they give nothing.
     pub fn among(words: &'a [String]) -> Option<Given<'a>>
         ensures given { option_map given_in result ≡ given_of (map string_bytes words.now) }
-        ensures range { IfSome result (λ g. IfSome g.conflicts (λ n. (1 ≤ n) × (n ≤ MAX_CONFLICTS))) }
+        ensures number { IfSome result (λ g. IfSome g.conflicts (λ text. IsSome (conflicts_of text.now))) }
     {
         match split_at_option(words) {
             Some((front, option, rest)) => Given::around(front, option, rest),

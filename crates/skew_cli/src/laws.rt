@@ -1,4 +1,6 @@
-ghost use Rattle.skew_cli.specs.Laws.{AcceptedFilesAreTrue, ChecksAreAccepted, ChecksAreExact, ChecksAreJudged, UnknownIsBounded};
+ghost use Rattle.skew_cli.specs.DemoLaws.{DemosAreExact, DemosAreJudged};
+ghost use Rattle.skew_cli.specs.DemoLog.{SeedsAreConsistent, SeedsHaveLogs};
+ghost use Rattle.skew_cli.specs.Laws.{AcceptedFilesAreTrue, ChecksAreAccepted, ChecksAreExact, ChecksAreJudged, UnknownIsBounded, WitnessesAreReplayed};
 
 use mtl_parse::texts_are_unambiguous;
 use report_text::{bytes_are_unambiguous, texts_read_back};
@@ -39,3 +41,20 @@ pub fn unknown_is_bounded()
 {
     spent_conflicts_are_bounded();
 }
+
+/// With the timing that `check` gave for a value, written with a number on each line, `replay` answers the value,
+/// or the text is longer than a file of times may be.
+pub fn witnesses_are_replayed()
+    ensures { WitnessesAreReplayed }
+{
+    texts_are_unambiguous();
+}
+
+/// Each seed has a valid log, which admits its local times, and of which the formula of the demo is judged. What `demo`
+/// answers is the values that the formula can have over all timings that the log admits, or that a section is unknown.
+pub fn demos_are_exact()
+    ensures logs { SeedsHaveLogs }
+    ensures consistent { SeedsAreConsistent }
+    ensures judged { DemosAreJudged }
+    ensures exact { DemosAreExact }
+{}

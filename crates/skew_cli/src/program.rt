@@ -10,12 +10,15 @@ ghost use Rattle.skew_cli.specs.Words.{command_of};
 
 use crate::Status;
 use crate::audit::audit;
+use crate::call::Call;
 use crate::check::check;
+use crate::demo::demo;
+use crate::matches::call_of;
 use crate::order::order;
 use crate::replay::replay;
 use crate::reply::{Reply, Stop};
 use crate::times::times;
-use crate::words::{Call, call_of};
+use crate::words::spoken_of;
 use mt_port::{Failed, Shelf, Sink, write_all};
 use std::alloc::Global;
 
@@ -61,6 +64,7 @@ fn work<S: Shelf>(alloc: Global, shelf: &mut S, call: Call<'_>) -> Result<Reply,
             log,
             report,
         } => audit(alloc, shelf, conflicts, formula, log, report),
+        Call::Demo { seed } => demo(alloc, seed),
     }
 }
 
@@ -116,8 +120,14 @@ pub fn run<S: Shelf, K: Sink>(
         → ¬ Rose (K.faults out.old) (K.faults out.new) → S.steady shelf.old ⊎ ¬ Rose (S.faults shelf.old) (S.faults shelf.new)
         → (result ≡ Status.NoMemory) ⊎ IsAnswer result }
 {
-    let Some(call) = call_of(words) else {
+    let Some(spoken) = spoken_of(words) else {
         return finish(out, b"refused words\n", Status::Words);
+    };
+    let Ok(list) = spoken.normal_list(alloc) else {
+        return Status::NoMemory;
+    };
+    let Ok(call) = call_of(alloc, spoken.verb(), &list) else {
+        return Status::NoMemory;
     };
     match reply(alloc, shelf, call) {
         Ok(reply) => finish(out, &reply.text, reply.status),

@@ -1,58 +1,85 @@
-ghost use Rattle.std.specs.Prelude.{◌≡◌, ◌≤◌, IfSome, map, option_map, string_bytes};
-ghost use Rattle.skew_cli.specs.Called.{HasFewConflicts, command_in, given_in, words_in};
-ghost use Rattle.skew_cli.specs.declared.limits.TheConstants.{MAX_CONFLICTS};
-ghost use Rattle.skew_cli.specs.Words.{audit_command, check_command, command_after, command_of, command_with, conflicts_in, order_command, replay_command, times_command};
+//! What the words of a command say, before the command's file names and numbers are taken from them.
+
+ghost use Rattle.std.specs.Prelude.{◌≡◌, IfSome, IsSome, map, option_and_then, string_bytes};
+ghost use Rattle.skew_cli.specs.Called.{given_in, words_in};
+ghost use Rattle.skew_cli.specs.NormalWords.{command_said, verb_of};
+ghost use Rattle.skew_cli.specs.Words.{audit_command, check_command, command_after, command_of, command_with, conflicts_in, conflicts_of, demo_command, order_command, replay_command, times_command};
 
 use crate::given::Given;
-use crate::limits::DEFAULT_CONFLICTS;
+use crate::numbers::seed;
 use crate::operands::Operands;
 
-/// A command with the names of its files, and the number of conflicts of each section of a report.
+/// The first word of a command.
 #[derive(Clone, Copy, Debug, PartialEq, Eq)]
-pub enum Call<'a> {
-    /// An admissible timing of a log.
+pub enum Verb {
+    Times,
+    Replay,
+    Order,
+    Check,
+    Audit,
+    Demo,
+}
+
+/// A command as its words say it: its operands, and the number of conflicts where the option gives it.
+#[derive(Clone, Copy, Debug)]
+pub enum Spoken<'a> {
     Times {
         log: &'a str,
     },
-    /// The truth of a formula on one timing of a log.
     Replay {
         formula: &'a str,
         log: &'a str,
         times: &'a str,
     },
-    /// Happened-before of the events of a log.
     Order {
         log: &'a str,
     },
-    /// The truth values of a formula over all timings of a log.
     Check {
-        conflicts: u32,
+        conflicts: Option<&'a str>,
         formula: &'a str,
         log: &'a str,
     },
-    /// Whether a report is accepted.
     Audit {
-        conflicts: u32,
+        conflicts: Option<&'a str>,
         formula: &'a str,
         log: &'a str,
         report: &'a str,
     },
+    Demo {
+        seed: &'a str,
+    },
 }
 
-fn times_call<'a>(operands: Operands<'a>) -> Option<Call<'a>>
-    ensures command { option_map command_in result ≡ times_command (words_in operands.entry) }
-    ensures conflicts { IfSome result HasFewConflicts }
+impl Spoken<'_> {
+    /// Its first word.
+    pub fn verb(&self) -> Verb
+        ensures { result ≡ verb_of self.now }
+    {
+        match self {
+            Spoken::Times { .. } => Verb::Times,
+            Spoken::Replay { .. } => Verb::Replay,
+            Spoken::Order { .. } => Verb::Order,
+            Spoken::Check { .. } => Verb::Check,
+            Spoken::Audit { .. } => Verb::Audit,
+            Spoken::Demo { .. } => Verb::Demo,
+        }
+    }
+}
+
+fn times_words<'a>(operands: Operands<'a>) -> Option<Spoken<'a>>
+    ensures command { option_and_then command_said result ≡ times_command (words_in operands.entry) }
+    ensures said { IfSome result (λ s. IsSome (command_said s)) }
 {
     if operands.count() != 1 {
         return None;
     }
     let log = operands.name(0)?;
-    Some(Call::Times { log })
+    Some(Spoken::Times { log })
 }
 
-fn replay_call<'a>(operands: Operands<'a>) -> Option<Call<'a>>
-    ensures command { option_map command_in result ≡ replay_command (words_in operands.entry) }
-    ensures conflicts { IfSome result HasFewConflicts }
+fn replay_words<'a>(operands: Operands<'a>) -> Option<Spoken<'a>>
+    ensures command { option_and_then command_said result ≡ replay_command (words_in operands.entry) }
+    ensures said { IfSome result (λ s. IsSome (command_said s)) }
 {
     if operands.count() != 3 {
         return None;
@@ -60,110 +87,105 @@ fn replay_call<'a>(operands: Operands<'a>) -> Option<Call<'a>>
     let formula = operands.name(0)?;
     let log = operands.name(1)?;
     let times = operands.name(2)?;
-    Some(Call::Replay {
+    Some(Spoken::Replay {
         formula,
         log,
         times,
     })
 }
 
-fn order_call<'a>(operands: Operands<'a>) -> Option<Call<'a>>
-    ensures command { option_map command_in result ≡ order_command (words_in operands.entry) }
-    ensures conflicts { IfSome result HasFewConflicts }
+fn order_words<'a>(operands: Operands<'a>) -> Option<Spoken<'a>>
+    ensures command { option_and_then command_said result ≡ order_command (words_in operands.entry) }
+    ensures said { IfSome result (λ s. IsSome (command_said s)) }
 {
     if operands.count() != 1 {
         return None;
     }
     let log = operands.name(0)?;
-    Some(Call::Order { log })
+    Some(Spoken::Order { log })
 }
 
-fn check_call<'a>(conflicts: u32, operands: Operands<'a>) -> Option<Call<'a>>
-    requires some { 1 ≤ conflicts }
-    requires most { conflicts ≤ MAX_CONFLICTS }
-    ensures command { option_map command_in result ≡ check_command conflicts (words_in operands.entry) }
-    ensures conflicts { IfSome result HasFewConflicts }
+fn check_words<'a>(given: Given<'a>) -> Option<Spoken<'a>>
+    requires { IfSome given.conflicts (λ text. IsSome (conflicts_of text.now)) }
+    ensures command { option_and_then command_said result ≡ check_command (conflicts_in (given_in given.entry)) (words_in given.entry.operands) }
+    ensures said { IfSome result (λ s. IsSome (command_said s)) }
 {
-    if operands.count() != 2 {
+    if given.operands.count() != 2 {
         return None;
     }
-    let formula = operands.name(0)?;
-    let log = operands.name(1)?;
-    Some(Call::Check {
-        conflicts,
+    let formula = given.operands.name(0)?;
+    let log = given.operands.name(1)?;
+    Some(Spoken::Check {
+        conflicts: given.conflicts,
         formula,
         log,
     })
 }
 
-fn audit_call<'a>(conflicts: u32, operands: Operands<'a>) -> Option<Call<'a>>
-    requires some { 1 ≤ conflicts }
-    requires most { conflicts ≤ MAX_CONFLICTS }
-    ensures command { option_map command_in result ≡ audit_command conflicts (words_in operands.entry) }
-    ensures conflicts { IfSome result HasFewConflicts }
+fn audit_words<'a>(given: Given<'a>) -> Option<Spoken<'a>>
+    requires { IfSome given.conflicts (λ text. IsSome (conflicts_of text.now)) }
+    ensures command { option_and_then command_said result ≡ audit_command (conflicts_in (given_in given.entry)) (words_in given.entry.operands) }
+    ensures said { IfSome result (λ s. IsSome (command_said s)) }
 {
-    if operands.count() != 3 {
+    if given.operands.count() != 3 {
         return None;
     }
-    let formula = operands.name(0)?;
-    let log = operands.name(1)?;
-    let report = operands.name(2)?;
-    Some(Call::Audit {
-        conflicts,
+    let formula = given.operands.name(0)?;
+    let log = given.operands.name(1)?;
+    let report = given.operands.name(2)?;
+    Some(Spoken::Audit {
+        conflicts: given.conflicts,
         formula,
         log,
         report,
     })
 }
 
-// The command of a first word that takes no option.
-fn call_with<'a>(first: &String, operands: Operands<'a>) -> Option<Call<'a>>
-    ensures command { option_map command_in result ≡ command_with (string_bytes first.now) (words_in operands.entry) }
-    ensures conflicts { IfSome result HasFewConflicts }
+fn demo_words<'a>(operands: Operands<'a>) -> Option<Spoken<'a>>
+    ensures command { option_and_then command_said result ≡ demo_command (words_in operands.entry) }
+    ensures said { IfSome result (λ s. IsSome (command_said s)) }
+{
+    if operands.count() != 1 {
+        return None;
+    }
+    let word = operands.name(0)?;
+    seed(word)?;
+    Some(Spoken::Demo { seed: word })
+}
+
+// What a first word that takes no option says with its operands.
+fn spoken_with<'a>(first: &String, operands: Operands<'a>) -> Option<Spoken<'a>>
+    ensures command { option_and_then command_said result ≡ command_with (string_bytes first.now) (words_in operands.entry) }
+    ensures said { IfSome result (λ s. IsSome (command_said s)) }
 {
     match first.as_str() {
-        "times" => times_call(operands),
-        "replay" => replay_call(operands),
-        "order" => order_call(operands),
+        "times" => times_words(operands),
+        "replay" => replay_words(operands),
+        "order" => order_words(operands),
+        "demo" => demo_words(operands),
         _ => None,
     }
 }
 
-// The number of conflicts that is given, or else the default.
-fn conflicts_or_default(given: &Given<'_>) -> u32
-    requires { IfSome given.now.conflicts (λ n. (1 ≤ n) × (n ≤ MAX_CONFLICTS)) }
-    ensures number { result ≡ conflicts_in (given_in given.now) }
-    ensures some { 1 ≤ result }
-    ensures most { result ≤ MAX_CONFLICTS }
-{
-    given.conflicts.unwrap_or(DEFAULT_CONFLICTS)
-}
-
-// The command of a first word and the words after it.
-fn call_after<'a>(first: &String, words: &'a [String]) -> Option<Call<'a>>
-    ensures command { option_map command_in result ≡ command_after (string_bytes first.now) (map string_bytes words.now) }
-    ensures conflicts { IfSome result HasFewConflicts }
+// What a first word says with the words after it.
+fn spoken_after<'a>(first: &String, words: &'a [String]) -> Option<Spoken<'a>>
+    ensures command { option_and_then command_said result ≡ command_after (string_bytes first.now) (map string_bytes words.now) }
+    ensures said { IfSome result (λ s. IsSome (command_said s)) }
 {
     match first.as_str() {
-        "check" => {
-            let given = Given::among(words)?;
-            check_call(conflicts_or_default(&given), given.operands)
-        }
-        "audit" => {
-            let given = Given::among(words)?;
-            audit_call(conflicts_or_default(&given), given.operands)
-        }
-        _ => call_with(first, Operands::among(&[], words)?),
+        "check" => check_words(Given::among(words)?),
+        "audit" => audit_words(Given::among(words)?),
+        _ => spoken_with(first, Operands::among(&[], words)?),
     }
 }
 
-/// The command that the words are, and None exactly where they are none.
-pub fn call_of(words: &[String]) -> Option<Call<'_>>
-    ensures command { option_map command_in result ≡ command_of (map string_bytes words.now) }
-    ensures conflicts { IfSome result HasFewConflicts }
+/// What the words say, and None exactly where they are no command.
+pub fn spoken_of(words: &[String]) -> Option<Spoken<'_>>
+    ensures command { option_and_then command_said result ≡ command_of (map string_bytes words.now) }
+    ensures said { IfSome result (λ s. IsSome (command_said s)) }
 {
     match words {
-        [] => Some(Call::Times { log: "-" }),
-        [first, rest @ ..] => call_after(first, rest),
+        [] => Some(Spoken::Times { log: "-" }),
+        [first, rest @ ..] => spoken_after(first, rest),
     }
 }

@@ -7,10 +7,8 @@ unreachable-requires c = let unknown = rw c.in-Err-UnknownHost.field-0-is at c.i
 
 pub returns-in-Err-TooManyNodes-clause-refused : goal.returns-in-Err-TooManyNodes-clause-refused
 returns-in-Err-TooManyNodes-clause-refused c =
-    let q = c.args.question.now in
-    many-told q.log (form_of q.formula) (rw c.in-Err-TooManyNodes.field-0-is at c.in-Err-TooManyNodes.ensures.fault)
+    many-told c.args.log.now (form_of c.args.formula.now) (rw c.in-Err-TooManyNodes.field-0-is at c.in-Err-TooManyNodes.ensures.fault)
 
 pub returns-in-Err-TooLarge-clause-refused : goal.returns-in-Err-TooLarge-clause-refused
 returns-in-Err-TooLarge-clause-refused c =
-    let q = c.args.question.now in
-    large-told q.log (form_of q.formula) c.in-Err-TooLarge.size (rw c.in-Err-TooLarge.field-0-is at c.in-Err-TooLarge.ensures.fault)
+    large-told c.args.log.now (form_of c.args.formula.now) c.in-Err-TooLarge.size (rw c.in-Err-TooLarge.field-0-is at c.in-Err-TooLarge.ensures.fault)

@@ -1,0 +1,64 @@
+-- What `demo` answers.
+use Rattle.std.proofs.Common.{◌≡◌, subst, ℕ, ◌≤◌, List, length, None, inl, inr, arith}
+use Rattle.mt_model.specs.Form.{Form}
+use Rattle.mt_model.specs.Log.{Logged}
+use Rattle.mt_model.specs.State.{unknown_host}
+use Rattle.formula_arena.specs.Nodes.{nodes_of}
+use Rattle.formula_arena.specs.declared.arena.TheConstants.{MAX_NODES}
+use Rattle.mtl_encode.specs.Size.{size}
+use Rattle.mtl_encode.specs.declared.size.TheConstants.{MAX_SIZE}
+use Rattle.report_text.specs.declared.report.Report.{Report}
+use Rattle.verdict.specs.Claims.{Claims}
+use Rattle.verdict.specs.Right.{IsRight}
+use Rattle.skew_cli.specs.CheckOutcome.{IsReportStatus}
+use Rattle.skew_cli.specs.declared.limits.TheConstants.{DEFAULT_CONFLICTS}
+use Rattle.skew_cli.specs.declared.refusal.Refusal.{Refusal}
+use Rattle.skew_cli.specs.declared.status.Status.{Status}
+use Rattle.skew_cli.specs.declared.status.Status.TheVariants as status
+use Rattle.skew_cli.specs.DemoFormula.{demo_formula}
+use Rattle.skew_cli.specs.DemoLaws.{DemosAreExact, DemosAreJudged}
+use Rattle.skew_cli.specs.DemoLog.{local_times, log_of_seed}
+use Rattle.skew_cli.specs.DemoOutcome.{DemoOutcome, demo_text}
+use Rattle.skew_cli.specs.Laws.{IsStatusOfValues}
+use Rattle.skew_cli.specs.Stops.{TellsLarge}
+use Rattle.skew_cli.proofs.DemoJudged.{demo-few, demo-known, demo-small}
+use Rattle.skew_cli.proofs.SeedsConsistent.{seeds-consistent}
+use Rattle.skew_cli.proofs.StatusValues.{exact-status}
+use Rattle.skew_cli.proofs.Witnesses.{exact-witnesses}
+
+-- a log and a formula that are those of the demo
+module _ (seed : ℕ) (log : Logged) (f : Form) (same_log : log ≡ log_of_seed seed) (same_form : f ≡ demo_formula) where
+  pub made-known : unknown_host log f ≡ None
+  made-known = rw (same_log, same_form) (demo-known seed)
+
+  pub never-large : (r : Refusal) → TellsLarge f log r → ⊥
+  never-large r told =
+      let few : length (nodes_of f) ≤ MAX_NODES = rw same_form demo-few in
+      let small : size log (nodes_of f) ≤ MAX_SIZE = rw (same_log, same_form) (demo-small seed) in
+      elim told [ inl many ↦ omega (arith, many.1, few) | inr large ↦ omega (arith, large.2, small) ]
+
+  pub demo-given : (r : Report) (out : List ℕ) (s : Status) → IsRight log f DEFAULT_CONFLICTS r → Claims log f r → out ≡ demo_text seed r → IsReportStatus r s → DemoOutcome seed out s
+  demo-given r out s right claims written status = record {
+    report = r;
+    right = subst (λ g. IsRight (log_of_seed seed) g DEFAULT_CONFLICTS r) same_form (subst (λ l. IsRight l f DEFAULT_CONFLICTS r) same_log right);
+    claims = subst (λ g. Claims (log_of_seed seed) g r) same_form (subst (λ l. Claims l f r) same_log claims);
+    written = written;
+    status = status;
+  }
+
+pub demos-judged : DemosAreJudged
+demos-judged seed = record { nodes = record { hosts = demo-known seed; few = demo-few }; small = demo-small seed }
+
+-- the local times are one timing that the log admits
+never-inconsistent : (seed : ℕ) (r : Report) (s : Status) → IsStatusOfValues (log_of_seed seed) demo_formula r s → s ≡ status.Inconsistent → ⊥
+never-inconsistent seed r s of_values is = of_values.inconsistent.0 is (local_times seed) (seeds-consistent seed)
+
+pub demos-exact : DemosAreExact
+demos-exact seed out s demo =
+    let of_values = exact-status (log_of_seed seed) demo_formula DEFAULT_CONFLICTS demo.report s demo.right.says demo.claims demo.status in
+    record {
+      demo = demo;
+      witnesses = exact-witnesses (log_of_seed seed) demo_formula demo.report demo.claims;
+      status = of_values;
+      consistent = never-inconsistent seed demo.report s of_values;
+    }

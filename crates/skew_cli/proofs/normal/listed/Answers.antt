@@ -1,0 +1,10 @@
+use Rattle.std.proofs.Common.{◌≡◌, ◌∙◌, ap, arith, length, map, take}
+use Rattle.std.specs.Prelude.{option_map}
+use Rattle.std.proofs.Math.Seq.{take-length}
+use Rattle.skew_cli.proofs.NormalLemmas.{operands-last}
+use Rattle.skew_cli.proofs.normal.listed.Goals as goal
+
+pub returns : goal.returns
+returns c =
+    let all : c.loop-operand.operand-index ≡ length c.args.operands.now = omega arith in
+    rw (all, take-length c.args.operands.now) at c.loop-operand.invariant ∙ operands-last (option_map (λ text. text.now) c.args.conflicts) (map (λ text. text.now) c.args.operands.now)

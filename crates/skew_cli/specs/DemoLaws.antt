@@ -1,0 +1,24 @@
+-- What the summaries of `demo` say of the values that its formula can have.
+use Rattle.std.specs.Prelude.{◌≡◌, ℕ, List}
+use Rattle.verdict.specs.Faults.{IsJudged}
+use Rattle.skew_cli.specs.declared.status.Status.{Status}
+use Rattle.skew_cli.specs.declared.status.Status.TheVariants as status
+use Rattle.skew_cli.specs.DemoFormula.{demo_formula}
+use Rattle.skew_cli.specs.DemoLog.{log_of_seed}
+use Rattle.skew_cli.specs.DemoOutcome.{DemoOutcome}
+use Rattle.skew_cli.specs.Laws.{HasExactWitnesses, IsStatusOfValues}
+
+-- no test refuses the formula of the demo for a seed: its hosts are in the log, and its nodes and the size are within their limits
+abbrev pub DemosAreJudged : Type 0
+DemosAreJudged = (seed : ℕ) → IsJudged (log_of_seed seed) demo_formula
+
+-- the witnesses and the status of the report that a summary is of are those of the values that the formula can have; it can have one, so that the status isn't Inconsistent
+pub record IsExactDemo (seed : ℕ) (out : List ℕ) (s : Status) : Type 0 where
+  pub demo : DemoOutcome seed out s
+  pub consistent : s ≡ status.Inconsistent → ⊥
+  pub witnesses : HasExactWitnesses (log_of_seed seed) demo_formula demo.report
+  pub status : IsStatusOfValues (log_of_seed seed) demo_formula demo.report s
+
+-- `demo` answers which values the formula can have, and nothing else
+abbrev pub DemosAreExact : Type 0
+DemosAreExact = (seed : ℕ) (out : List ℕ) (s : Status) → DemoOutcome seed out s → IsExactDemo seed out s
