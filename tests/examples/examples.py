@@ -6,12 +6,14 @@ examples/runs.txt lists the runs of check and audit. Each report that check
 writes there has to be the one that is kept, and is audited with the same files:
 by the program, and by the second audit in tests/reference. Then each command of
 README.md and docs/ that a block of shell shows, and that the program, cat or
-python3 is in, has to write what stands below it. Every difference is printed, and the end is 1 where
-there is one. With --write the reports that differ are kept anew.
+python3 is in, has to write what stands below it, and each clause that a block of
+text quotes has to stand in the code. Every difference is printed, and the end is
+1 where there is one. With --write the reports that differ are kept anew.
 """
 
 import argparse
 import os
+import re
 import shlex
 import subprocess
 import sys
@@ -117,9 +119,14 @@ def shown_commands(page):
         in_block = line == "```sh" or in_block and not ends
 
 
+def pages():
+    """README.md and the pages of docs."""
+    return [ROOT / "README.md", *sorted((ROOT / "docs").glob("*.md"))]
+
+
 def differences_of_pages(program):
     """What differs between the pages and what the program writes, as lines."""
-    for page in [ROOT / "README.md", *sorted((ROOT / "docs").glob("*.md"))]:
+    for page in pages():
         for command, shown in shown_commands(page):
             if not any(word in command for word in SHOWN):
                 continue
@@ -131,6 +138,25 @@ def differences_of_pages(program):
                 yield f"{page.name}: {command}: it writes {done.stdout!r}, not {shown!r}"
 
 
+# Clauses
+
+
+def quoted_clauses(page):
+    """The clauses of the text blocks of a page that begin with one."""
+    for block in re.findall(r"^```text\n(ensures .*?)\n```$", page.read_text(), re.M | re.S):
+        yield from re.split(r"\n(?=ensures )", block)
+
+
+def differences_of_clauses():
+    """The quoted clauses that don't stand in the code, blanks apart, as lines."""
+    sources = sorted((ROOT / "crates").glob("*/src/**/*.rt"))
+    code = " ".join(word for source in sources for word in source.read_text().split())
+    for page in pages():
+        for clause in quoted_clauses(page):
+            if " ".join(clause.split()) not in code:
+                yield f"{page.name}: no function has the clause {clause}"
+
+
 def main():
     """Prints the differences, and ends with 0 where there is none and with 1 where there is one."""
     parser = argparse.ArgumentParser(description="run skewcheck on its examples")
@@ -139,6 +165,7 @@ def main():
     arguments = parser.parse_args()
     program = os.path.abspath(arguments.program)
     found = [*differences_of_runs(program, arguments.write), *differences_of_pages(program)]
+    found += differences_of_clauses()
     for line in found:
         print(f"tests/examples: {line}")
     if found:

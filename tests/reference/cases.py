@@ -366,7 +366,10 @@ def words():
         ["replay", "-f", "l", "t"], ["check", "f"], ["check", "--conflicts", "0", "f", "l"],
         ["check", "--conflicts", "1000001", "f", "l"],
         ["check", "--conflicts", "5", "--conflicts", "5", "f", "l"],
-        ["demo", "007"], ["demo", "18446744073709551616"],
+        ["demo"], ["demo", "007"], ["demo", "00"], ["demo", "-1"], ["demo", "+7"], ["demo", "7 "],
+        ["demo", ""], ["demo", "0x7"], ["demo", "1e3"], ["demo", "7", "7"], ["demo", "--", "-7"],
+        ["demo", "18446744073709551616"], ["demo", "184467440737095516150"],
+        ["demo", "--conflicts", "5", "7"], ["demo", "--conflicts=5", "7"], ["demo", "--seed", "7"],
     ]
     files = {"l": NO_SKEW, "f": b"a.req", "t": b"10\n15\n"}
     for command in refused:
@@ -381,6 +384,7 @@ def words():
     dashed = {"-x": NO_SKEW, "--": NO_SKEW, "-": NO_SKEW}
     for name in dashed:
         yield Case("a name after two dashes", ["times", "--", name], dashed, 0, (b"10\n15\n",))
+    yield Case("a demo", ["demo", "7"], {}, 0, (b"demo 7\nhosts 6 rows 24\nvalues true\n",))
     yield Case("no such file", ["times", "l"], {}, 74, (b"",))
     yield Case("a folder", ["order", "."], {}, 74, (b"",))
 

@@ -8,6 +8,7 @@ What the program must answer is left to the reference.
 from typing import NamedTuple
 
 import formats
+import program
 import reference
 from formats import Host, Log, Row
 
@@ -733,7 +734,15 @@ def words_case(draw):
     words.insert(0, command)
     for _ in range(draw.choice((0, 0, 0, 1, 1, 2))):
         edit_words(draw, words)
+    if is_demo(words):
+        words.append("l")  # one operand too many: what a demo searches takes too long
     return Case([] if chance(draw, 0.05) else words, files_of_words(draw))
+
+
+def is_demo(words):
+    """Whether the words are the command demo with its seed."""
+    command = program.command_of(words)
+    return command is not None and command.name == "demo"
 
 
 def option_words(draw):

@@ -349,7 +349,7 @@ def follow_ups(draw, case, output):
     is_check = isinstance(wanted, program.Judged) and wanted.command == "check"
     if not is_check or isinstance(report, SyntaxFault):
         return
-    formula, log = (case.files[name] for name in program.command_of(case.words).files)
+    formula, log = (case.files[name] for name in program.command_of(case.words).operands)
     files = {"f": formula, "l": log}
     audited = ["audit", f"--conflicts={wanted.conflicts}", "f", "l", "r"]
     right = cases.Case("accepted", audited, {**files, "r": output}, 0, (b"accepted\n",))

@@ -6,6 +6,7 @@ answers leave no choice; what is asked of the others is left to judge.py.
 
 from typing import NamedTuple, Optional
 
+import formats
 import reference
 import reports
 from formats import (
@@ -27,11 +28,13 @@ from formats import (
     unknown_host,
 )
 
-# The commands of the program, each with its number of files.
-COMMANDS = {"times": 1, "replay": 3, "order": 1, "check": 2, "audit": 3}
+# The commands of the program, each with its number of operands: files, or a seed.
+COMMANDS = {"times": 1, "replay": 3, "order": 1, "check": 2, "audit": 3, "demo": 1}
 # Those that take the option on conflicts.
 SEARCHES = ("check", "audit")
 OPTION = "--conflicts"
+# The greatest seed of a demo.
+MAX_SEED = 2**64 - 1
 
 
 class Exact(NamedTuple):
@@ -86,7 +89,7 @@ class Files:
 
 class Command(NamedTuple):
     name: str
-    files: list  # the names of its files
+    operands: list  # the names of its files, or the seed of a demo
     conflicts: int
 
 
@@ -104,7 +107,14 @@ def command_of(words):
         return None
     if len(operands) != COMMANDS[name] or "" in operands:
         return None
+    if name == "demo" and not is_seed(operands[0]):
+        return None
     return Command(name, operands, *(numbers or [reports.CONFLICTS]))
+
+
+def is_seed(word):
+    """Whether a word is a number up to the greatest seed, without a sign or a leading zero."""
+    return formats.number(word.encode(), MAX_SEED) is not None
 
 
 def operands_and_values(words):
@@ -135,15 +145,17 @@ def answer(words, held):
     try:
         if command is None:
             raise Refusal(64, "refused words")
+        if command.name == "demo":
+            return demo_answer(*command.operands)
         files = Files(held)
         if command.name in ("times", "order"):
-            log = log_from(files, *command.files)
+            log = log_from(files, *command.operands)
             return order_answer(log) if command.name == "order" else Judged("times", log)
         if command.name == "replay":
-            return replay_answer(files, *command.files)
+            return replay_answer(files, *command.operands)
         if command.name == "check":
-            return check_answer(files, command.conflicts, *command.files)
-        return audit_answer(files, command.conflicts, *command.files)
+            return check_answer(files, command.conflicts, *command.operands)
+        return audit_answer(files, command.conflicts, *command.operands)
     except Refusal as refusal:
         return refusal.answer
 
@@ -246,3 +258,8 @@ def audit_answer(files, conflicts, formula_name, log_name, report_name):
     if place is not None:
         raise Refusal(5, f"refused {place.part} at line {place.line}")
     return Exact(0, b"accepted\n")
+
+
+def demo_answer(seed):
+    """The summary of a demo, whose formula is true by every timing whatever the seed."""
+    return Exact(0, f"demo {seed}\nhosts 6 rows 24\nvalues true\n".encode())

@@ -57,7 +57,7 @@ def own_outputs(draw, case):
     check(isinstance(wanted, program.Judged), case, wanted)
     if len(wanted.log.rows) == ROW_LIMIT or wanted.conflicts < 5:
         return []
-    formula_name = program.command_of(case.words).files[0]
+    formula_name = program.command_of(case.words).operands[0]
     question = Question(wanted.log, case.files[formula_name])
     report = invent_reports.whole_report(draw, question, wanted.conflicts)
     output = reports.report_text(report)

@@ -1,0 +1,205 @@
+"""Reports at the limits and beyond them, with what has to be answered.
+
+Most are about the formula true on a log of one row, whose values are told by one line each: of true by the
+time of the row, of false by a derivation.
+"""
+
+from case import TWO_ROWS, Blank, Case, audit
+
+LENGTH = 1_073_741_824
+MEBIBYTE = 1_048_576
+NUMBER = 2**32  # the least number that a report can't have
+COEFFICIENT = 10**21  # the greatest magnitude of an order's number
+TIME = 10**19
+TITLE = b"skewcheck 1\n"
+EMPTY_CLAUSE = b"learn 0 3 rule 3 0 0 rule 11 rule 24 0\n"
+ACCEPTED = b"accepted"
+
+
+def report_of(*lines, count=None, events=b"1", time=b"10"):
+    """A report with a witness of true and these lines against false; more lines can be announced."""
+    number = len(lines) if count is None else count
+    head = TITLE + b"events %s\ntrue witness\n%s\nfalse refuted %d\n" % (events, time, number)
+    return head + b"".join(line + b"\n" for line in lines) + b"end\n"
+
+
+def at(part, line):
+    """The line of a refusal."""
+    return b"refused %s at line %d" % (part, line)
+
+
+RIGHT = report_of(EMPTY_CLAUSE[:-1])
+
+
+def numbers_of_lists():
+    """Numbers that say how many of something follow, and numbers of rows."""
+    for value, line in (
+        (b"0", at(b"report", 4)), (b"2", at(b"report", 5)), (b"4294967295", at(b"report", 5)),
+        (b"4294967296", at(b"report", 2)), (b"4294967297", at(b"report", 2)),
+        (b"18446744073709551617", at(b"report", 2)), (b"1" + b"0" * 30, at(b"report", 2)),
+        (b"9" * MEBIBYTE, at(b"report", 2)), (b"01", at(b"report", 2)), (b"-1", at(b"report", 2)),
+        (b"+1", at(b"report", 2)), (b"", at(b"report", 2)),
+    ):
+        yield audit(f"events {shown(value)}", report_of(EMPTY_CLAUSE[:-1], events=value), 5, line)
+    for value, line in (
+        (4294967295, at(b"report", 7)), (4294967296, at(b"report", 5)), (4294967297, at(b"report", 5)),
+        (2**64 + 1, at(b"report", 5)), (10**30, at(b"report", 5)), (2, at(b"report", 7)), (0, at(b"report", 6)),
+    ):
+        report = report_of(EMPTY_CLAUSE[:-1], count=value)
+        yield audit(f"lines of a derivation {value}", report, 5, line)
+    for value, line in (
+        (1, at(b"inconsistent", 1)), (0, at(b"report", 4)), (2, at(b"report", 5)), (4294967295, at(b"report", 5)),
+        (4294967296, at(b"report", 3)), (2**64 + 1, at(b"report", 3)), (10**30, at(b"report", 3)),
+    ):
+        report = TITLE + b"events 1\ninconsistent %d\nlow 0\nend\n" % value
+        yield audit(f"bounds of a walk {value}", report, 5, line)
+    yield audit("no bound", TITLE + b"events 1\ninconsistent 0\nend\n", 5, at(b"inconsistent", 0))
+    yield audit("a walk for 4294967295 rows", TITLE + b"events 4294967295\ninconsistent 0\nend\n", 5, at(b"events", 0))
+
+
+def shown(value):
+    """A word as titles show it."""
+    return value.decode() if len(value) < 40 else f"of {len(value)} digits"
+
+
+def numbers_in_lines():
+    """Numbers in the lines of a derivation."""
+    syntax, wrong = at(b"report", 6), at(b"false", 1)
+    past = (NUMBER, NUMBER + 1, 2**64, 2**64 + 1, 10**30)
+    for line, is_syntax in (
+        *[(b"learn 0 1 line %d" % value, False) for value in (0, 1, NUMBER - 1)],
+        *[(b"learn 0 1 line %d" % value, True) for value in past],
+        *[(b"learn 0 1 rule %d" % value, False) for value in (0, 255)],
+        *[(b"learn 0 1 rule %d" % value, True) for value in (256, 256 + 11, NUMBER + 11, 10**30)],
+        (b"learn 0 1 rule 3 0 %d" % (NUMBER - 1), False), (b"learn 0 1 rule 3 0 %d" % NUMBER, True),
+        (b"learn 0 1 rule 3 %d 0" % (NUMBER - 1), False), (b"learn 0 1 rule 3 %d 0" % 2**64, True),
+        (b"learn 0 1 rule 11 0", True), (b"learn 0 1 rule 3 0", True),
+        (b"learn 1 +first %d 1 rule 11" % (NUMBER - 1), False), (b"learn 1 +first %d 1 rule 11" % NUMBER, True),
+        *[(b"learn %d 1 rule 11" % value, True) for value in (1, NUMBER - 1, *past)],
+        *[(b"learn 0 %d rule 11" % value, True) for value in (0, 2, NUMBER - 1, *past)],
+        *[(b"learn 1 order 0 1 %d 1 rule 11" % (sign * COEFFICIENT), False) for sign in (1, -1)],
+        *[(b"learn 1 order 0 1 %d 1 rule 11" % (sign * (COEFFICIENT + 1)), True) for sign in (1, -1)],
+        *[(b"learn 1 order 0 1 %s 1 rule 11" % text, True) for text in (b"-0", b"+1", b"01", b"9" * MEBIBYTE)],
+        (b"learn 1 order 0 0 1 1 rule 11", True), (b"learn 2 +first 0 -first 0 1 rule 11", True),
+        *[(b"cycle 1 low %d" % value, False) for value in (0, 1, NUMBER - 1)],
+        *[(b"cycle 1 low %d" % value, True) for value in past],
+        *[(b"cycle %d low 0" % value, True) for value in (0, 2, NUMBER - 1, *past)],
+        (b"cycle 0", False), (b"learn 0 0", False),
+        (b"cycle 1 order 0 1 %d" % COEFFICIENT, False), (b"cycle 1 order 0 1 %d" % (COEFFICIENT + 1), True),
+    ):
+        title = line.decode() if len(line) < 60 else f"a number of {len(line) - 30} digits and more"
+        yield audit(title, report_of(line), 5, syntax if is_syntax else wrong)
+
+
+def times_of_witnesses():
+    """Times of a witness."""
+    for value, line in (
+        (b"%d" % TIME, at(b"true", 0)), (b"-%d" % TIME, at(b"true", 0)), (b"%d" % (TIME + 1), at(b"report", 4)),
+        (b"-%d" % (TIME + 1), at(b"report", 4)), (b"%d" % (2**64 + 10), at(b"report", 4)),
+        (b"%d" % (2**128 + 10), at(b"report", 4)), (b"1" + b"0" * 30, at(b"report", 4)), (b"-0", at(b"report", 4)),
+        (b"010", at(b"report", 4)), (b" 10", at(b"report", 4)), (b"10 ", at(b"report", 4)),
+        (b"10\r", at(b"report", 4)), (b"1" * MEBIBYTE, at(b"report", 4)),
+    ):
+        report = report_of(EMPTY_CLAUSE[:-1], time=value)
+        title = value.decode().encode("unicode_escape").decode() if len(value) < 42 else f"{len(value)} digits"
+        yield audit(f"a time {title}", report, 5, line)
+
+
+def long_lists():
+    """Lines and lists of a mebibyte and more, some of them right."""
+    wrong = at(b"false", 1)
+    hints = MEBIBYTE // len(b" rule 3 0 0")
+    yield audit("1 MiB of equal hints", report_of(b"learn 0 %d" % hints + b" rule 3 0 0" * hints), 5, wrong)
+    hints = MEBIBYTE // len(b" line 1")
+    yield audit("1 MiB of hints at one line", report_of(b"learn 0 %d" % hints + b" line 1" * hints), 5, wrong)
+    short = b"learn 0 %d" % (hints + 1) + b" line 1" * hints
+    yield audit("1 MiB of hints, one less than is said", report_of(short), 5, at(b"report", 6))
+    above = b"".join(b" order 0 1 %d" % number for number in range(60_000))
+    first = b"cycle 3 low 1 order 1 0 0 high 0"
+    last = b"learn 0 5 line 1 rule 9 1 0 rule 11 rule 24 0 rule 2 0 0 0"
+    many = b"learn 60001 order 0 1 -1" + above + b" 1 line 1"
+    right = TITLE + b"events 2\ntrue witness\n10\n15\nfalse refuted 3\n" + b"\n".join((first, many, last)) + b"\nend\n"
+    either = {"formula": b"a.req", "log": TWO_ROWS}
+    yield audit("a right line of 60,001 literals", right, 0, ACCEPTED, **either)
+    twice = right.replace(b"learn 60001", b"learn 60002").replace(b" 1 line 1", b" order 0 1 -1 1 line 1")
+    yield audit("the same with its first literal twice", twice, 5, at(b"report", 8), **either)
+    turns = 60_000
+    walk = b"cycle %d low 1 order 1 0 0 high 0" % (3 + 2 * turns) + b" low 0 high 0" * turns
+    zero = TWO_ROWS.replace(b",2,1\n", b",0,1\n")
+    long_walk = right.replace(first, walk).replace(b"refuted 3", b"refuted 2").replace(many + b"\n", b"")
+    yield audit("a right walk of 120,003 steps", long_walk, 0, ACCEPTED, b"a.req", zero)
+    open_walk = long_walk.replace(walk, walk.replace(b"cycle 120003", b"cycle 120004") + b" low 0")
+    yield audit("the same, not closed", open_walk, 5, wrong, b"a.req", zero)
+    repeated = [b"learn 1 +first 0 1 rule 11"] * 40_000
+    yield audit("1 MiB of one right line", report_of(*repeated, EMPTY_CLAUSE[:-1]), 0, ACCEPTED)
+    chain = [repeated[0], *[b"learn 1 +first 0 1 line %d" % line for line in range(1, 40_000)]]
+    yield audit("40,000 lines, each by the one before", report_of(*chain, EMPTY_CLAUSE[:-1]), 0, ACCEPTED)
+    yield audit("1 MiB of empty clauses", report_of(*[EMPTY_CLAUSE[:-1]] * 27_000), 5, at(b"false", 2))
+    bounds = b"low 0\nhigh 0\n" * 80_000
+    walk = TITLE + b"events 1\ninconsistent 160000\n" + bounds + b"end\n"
+    yield audit("1 MiB of bounds of a walk that has no negative sum", walk, 5, at(b"inconsistent", 160_000))
+
+
+def distinct_lists():
+    """A walk of distinct steps, and a line of distinct literals that share a hash."""
+    pairs = 33_000
+    steps = b"".join(b" order 0 1 %d order 1 0 %d" % (number, -number - 1) for number in range(pairs))
+    report = TITLE + b"events 2\ntrue witness\n10\n15\nfalse refuted 1\ncycle %d" % (2 * pairs) + steps + b"\nend\n"
+    yield audit("a right walk of 66,000 distinct steps", report, 5, at(b"false", 0), b"a.req", TWO_ROWS)
+    for count in (8_000, 32_000):
+        line = b"learn %d %s 1 rule 11" % (count, b" ".join(colliding(count)))
+        yield audit(f"{count:,} literals whose atoms share a hash", report_of(line), 5, at(b"false", 1))
+
+
+def colliding(count):
+    """Order literals whose atoms have one hash in the tables of atoms, whose hash has a fixed seed.
+
+    The last bytes that are hashed are the bound's, eight by eight, and the first eight are joined by xor with
+    what comes from the bytes before: where the two are alike, the product is 0 whatever the other eight are.
+    """
+    found = []
+    for event in range(1, count):
+        state = mixed(mixed(mixed(0x243F6A8885A308D3, 0, 8), 0, 4), event, 4)
+        below = (state + 16) % 2**64
+        bounds = (high * 2**64 + below for high in range(-54, 54))
+        found += [b"order 0 %d %d" % (event, bound) for bound in bounds if abs(bound) <= COEFFICIENT]
+        if len(found) >= count:
+            return found[:count]
+
+
+def mixed(state, number, size):
+    """The state of the hash after a number of four or eight bytes."""
+    read = number * (2**32 + 1) if size == 4 else number
+    product = (state ^ read) * (0x9E3779B97F4A7C15 ^ 2 * size)
+    return product % 2**64 ^ product >> 64
+
+
+def odd_bytes():
+    """Reports whose bytes are odd, and what isn't one at all."""
+    yield audit("a right report", RIGHT, 0, ACCEPTED)
+    yield audit("empty file", b"", 5, at(b"report", 1))
+    yield audit("no newline at the end", RIGHT[:-1], 5, at(b"report", 7))
+    yield audit("a newline too many", RIGHT + b"\n", 5, at(b"report", 8))
+    yield audit("two reports", RIGHT * 2, 5, at(b"report", 8))
+    yield audit("1 MiB behind the end", RIGHT + b"a" * MEBIBYTE, 5, at(b"report", 8))
+    yield audit("lines that end with CRLF", RIGHT.replace(b"\n", b"\r\n"), 5, at(b"report", 1))
+    yield audit("a byte order mark", b"\xef\xbb\xbf" + RIGHT, 5, at(b"report", 1))
+    for byte in (b"a", b"\0", b" ", b"\n", b"\xff"):
+        yield audit(f"1 MiB of {byte!r}", byte * MEBIBYTE, 5, at(b"report", 1))
+    yield audit("a first line of 1 MiB", b"skewcheck 1" + b" " * MEBIBYTE + RIGHT[11:], 5, at(b"report", 1))
+    yield audit("1 MiB of blanks in a line", RIGHT.replace(b"rule 11", b"rule" + b" " * MEBIBYTE + b"11"), 5,
+                at(b"report", 6))
+    for byte in (b"\0", b"\x80", b"\xff", b"\t", b"\r", b"\x0b", b"\xc2\xa0"):
+        yield audit(f"{byte!r} for a blank", RIGHT.replace(b"rule 11", b"rule" + byte + b"11"), 5, at(b"report", 6))
+
+
+def longest():
+    """Files at their longest, and one byte more."""
+    yield audit("1 GiB of NUL bytes", Blank(LENGTH), 5, at(b"report", 1))
+    yield audit("one byte more", Blank(LENGTH + 1), 67, b"refused length report")
+
+
+def cases():
+    """All cases of reports but those of a gibibyte."""
+    for some in (numbers_of_lists, numbers_in_lines, times_of_witnesses, long_lists, distinct_lists, odd_bytes):
+        yield from some()
