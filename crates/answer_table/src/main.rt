@@ -9,9 +9,9 @@
 //! - `<`: words. Each call on the files fails in turn, first with one byte a call, and then with whole files. How
 //!   many calls there are is told, each of which must be answered as a failed read with nothing written, and the
 //!   status where none fails.
-//! - `^`: words. Writing fails after each number of bytes, once because a call fails, and once because there is no
-//!   more room. How many bytes there are is told, whose beginning must be written each time, and the status where
-//!   there is room for all.
+//! - `^`: words. Writing fails after each number of bytes: because there is no more room, because a call fails after
+//!   calls of one byte, and because one fails after a call of all these bytes. How many bytes there are is told, whose
+//!   beginning must be written each time, and the status where there is room for all.
 //! - `@`: a seed. The log of the demo is told.
 //! - `>`: the name of a file of the case. The lines after it are the file's.
 //! - `|`: a line, which a newline ends; `~`: one that a carriage return and a newline end; `/`: a last line
@@ -200,7 +200,8 @@ fn is_cut(
     Some(status == Status::WriteFailed && text.as_slice() == beginning)
 }
 
-// Whether writing fails after so many bytes of a text, by a call that fails and for want of room.
+// Whether writing fails after so many bytes of a text, for want of room and by a call that fails after many short
+// ones or a long one.
 fn is_cut_after(
     alloc: Global,
     words: &Vec<String>,
@@ -212,15 +213,21 @@ fn is_cut_after(
         room: count,
         ..SOUND
     };
-    let broken = Devices {
+    let bytewise = Devices {
         piece: 1,
         bad_write: (count as u64).checked_add(1)?,
+        ..SOUND
+    };
+    let at_once = Devices {
+        piece: count.max(1),
+        bad_write: if count == 0 { 1 } else { 2 },
         ..SOUND
     };
     let beginning = text.get(..count)?;
     Some(
         is_cut(alloc, words, files, full, beginning)?
-            && is_cut(alloc, words, files, broken, beginning)?,
+            && is_cut(alloc, words, files, bytewise, beginning)?
+            && is_cut(alloc, words, files, at_once, beginning)?,
     )
 }
 

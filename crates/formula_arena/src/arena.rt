@@ -310,6 +310,3 @@ fn push_prop(
     props.insert(prop, node)?;
     Ok(())
 }
-
-#[cfg(test)]
-mod tests;

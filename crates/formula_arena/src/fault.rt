@@ -21,21 +21,3 @@ impl From<AllocError> for ArenaFault {
         ArenaFault::Memory
     }
 }
-
-#[cfg(test)]
-mod tests {
-    use super::*;
-    use std::test::Fail;
-
-    #[test]
-    fn faults_have_texts(rt: HostRuntime) -> Result<(), Fail> {
-        let cases = [
-            (ArenaFault::TooManyNodes, "more than 512 nodes"),
-            (ArenaFault::Memory, "out of memory"),
-        ];
-        for (fault, text) in cases {
-            assert_eq!(rt; format!(in rt.alloc(); "{fault}")?.as_str(), text);
-        }
-        Ok(())
-    }
-}

@@ -80,28 +80,3 @@ impl Fields {
 
 /// Records in the order of their file.
 pub type RecordList = ListOf<Fields>;
-
-#[cfg(test)]
-mod tests {
-    use super::*;
-    use std::test::Fail;
-
-    #[test]
-    fn fields_stand_in_the_order_of_their_pushes(rt: HostRuntime) -> Result<(), Fail> {
-        let words = ["set", "", "p,\"q\"", "\u{e9}"];
-        let mut fields = Fields::new(rt.alloc());
-        assert_eq!(rt; fields.as_slice().len(), 0);
-        for word in words {
-            fields.push(word.as_bytes())?;
-        }
-        assert_eq!(rt; fields.as_slice().len(), words.len());
-        for (field, word) in fields.as_slice().iter().zip(words) {
-            assert_eq!(rt; field.bytes(), word.as_bytes());
-        }
-        assert_eq!(rt;
-            Field::new(rt.alloc(), b"a\0b")?.bytes(),
-            b"a\0b".as_slice()
-        );
-        Ok(())
-    }
-}

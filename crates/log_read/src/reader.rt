@@ -121,6 +121,3 @@ pub fn read_log(alloc: Global, bytes: &[u8]) -> Result<Log, LogFault>
     let records = all_records(alloc, bytes)?;
     log_in(alloc, records.as_slice())
 }
-
-#[cfg(test)]
-mod tests;

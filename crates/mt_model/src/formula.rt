@@ -203,6 +203,3 @@ impl Formula {
         pass_hosts(&self.tree, log, 0).err()
     }
 }
-
-#[cfg(test)]
-mod tests;

@@ -121,18 +121,3 @@ impl NodeId {
         self.0
     }
 }
-
-#[cfg(test)]
-mod tests {
-    use super::*;
-
-    #[test]
-    fn an_id_keeps_its_number(rt: HostRuntime) {
-        for n in [0, 7, u32::MAX] {
-            assert_eq!(rt; HostId::new(n).get(), n);
-            assert_eq!(rt; EventId::new(n).get(), n);
-            assert_eq!(rt; PropId::new(n).get(), n);
-            assert_eq!(rt; NodeId::new(n).get(), n);
-        }
-    }
-}

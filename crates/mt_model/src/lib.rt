@@ -30,6 +30,3 @@ pub use name::Name;
 pub use step::{Step, Steps};
 pub use times::{Bits, Times, Walk};
 pub use tree::{Interval, Tree};
-
-#[cfg(test)]
-mod testing;

@@ -467,6 +467,3 @@ impl Log {
                 .all(|host| host.skew <= MAX_WRITTEN_SKEW)
     }
 }
-
-#[cfg(test)]
-mod tests;

@@ -38,26 +38,3 @@ impl fmt::Display for Step {
         }
     }
 }
-
-#[cfg(test)]
-mod tests {
-    use super::*;
-    use std::test::Fail;
-
-    #[test]
-    fn a_step_reads_as_its_word_and_its_numbers(rt: HostRuntime) -> Result<(), Fail> {
-        let cases = [
-            (Step::Low(3), "low 3"),
-            (Step::High(0), "high 0"),
-            (Step::Rise(1), "rise 1"),
-            (Step::Message(2), "message 2"),
-            (Step::Extra(7), "extra 7"),
-            (Step::Order { e: 0, f: 1, c: -5 }, "order 0 1 -5"),
-        ];
-        for (step, text) in cases {
-            let written = format!(in rt.alloc(); "{step}")?;
-            assert_eq!(rt; written.as_str(), text);
-        }
-        Ok(())
-    }
-}

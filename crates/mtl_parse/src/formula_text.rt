@@ -61,6 +61,3 @@ pub fn parse_formula(alloc: Global, bytes: &[u8]) -> Result<Formula, FormulaFaul
         },
     }
 }
-
-#[cfg(test)]
-mod tests;

@@ -160,6 +160,3 @@ pub fn print_formula(alloc: Global, f: &Formula) -> Result<Vec<u8>, AllocError>
 pub fn printed_formulas_read_back()
     ensures { TextsReadBack }
 {}
-
-#[cfg(test)]
-mod tests;

@@ -23,6 +23,3 @@ pub use differences::Tight;
 pub use edges::edge_of;
 pub use list::bounds;
 pub use tightening::{TightFault, tight};
-
-#[cfg(test)]
-mod tests;

@@ -165,21 +165,3 @@ pub fn demo(alloc: Global, seed: u64) -> Result<Reply, Stop>
         status: report_status(&report),
     })
 }
-
-#[cfg(test)]
-mod tests {
-    use super::*;
-    use mtl_parse::{parse_formula, print_formula};
-    use std::test::Fail;
-
-    #[test]
-    fn the_formula_is_that_of_its_text(rt: HostRuntime) -> Result<(), Fail> {
-        let read = parse_formula(rt.alloc(), b"G (h0.p -> F[0,20] h1.q)");
-        let read = read.ok().ok_or("no formula")?;
-        let made = demo_formula(rt.alloc())?;
-        let read = print_formula(rt.alloc(), &read)?;
-        let made = print_formula(rt.alloc(), &made)?;
-        assert_eq!(rt; made.as_slice(), read.as_slice());
-        Ok(())
-    }
-}

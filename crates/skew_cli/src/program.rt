@@ -136,6 +136,3 @@ pub fn run<S: Shelf, K: Sink>(
         Err(Stop::ReadFailed) => Status::ReadFailed,
     }
 }
-
-#[cfg(test)]
-mod tests;

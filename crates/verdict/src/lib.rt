@@ -18,6 +18,3 @@ pub use laws::{
     accepted_reports_are_true, audits_are_exact, right_reports_are_accepted,
     right_reports_are_true, spent_conflicts_are_bounded,
 };
-
-#[cfg(test)]
-mod tests;

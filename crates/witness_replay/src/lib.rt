@@ -9,6 +9,3 @@ mod replayer;
 mod states;
 
 pub use replayer::Replayer;
-
-#[cfg(test)]
-mod tests;
