@@ -4,7 +4,9 @@ Most are about the formula true on a log of one row, whose values are told by on
 time of the row, of false by a derivation.
 """
 
-from case import TWO_ROWS, Blank, Case, audit
+from itertools import combinations
+
+from case import TWO_ROWS, Blank, Case, audit, log_of
 
 LENGTH = 1_073_741_824
 MEBIBYTE = 1_048_576
@@ -14,6 +16,7 @@ TIME = 10**19
 TITLE = b"skewcheck 1\n"
 EMPTY_CLAUSE = b"learn 0 3 rule 3 0 0 rule 11 rule 24 0\n"
 ACCEPTED = b"accepted"
+ROWS = log_of(b"host,a,0,1", *[b"note,a,%d,n" % time for time in range(64)])
 
 
 def report_of(*lines, count=None, events=b"1", time=b"10"):
@@ -141,30 +144,39 @@ def long_lists():
 
 
 def distinct_lists():
-    """A walk of distinct steps, and a line of distinct literals that share a hash."""
+    """A walk of distinct steps, and lines of distinct literals that would share a hash."""
     pairs = 33_000
     steps = b"".join(b" order 0 1 %d order 1 0 %d" % (number, -number - 1) for number in range(pairs))
     report = TITLE + b"events 2\ntrue witness\n10\n15\nfalse refuted 1\ncycle %d" % (2 * pairs) + steps + b"\nend\n"
     yield audit("a right walk of 66,000 distinct steps", report, 5, at(b"false", 0), b"a.req", TWO_ROWS)
-    for count in (8_000, 32_000):
-        line = b"learn %d %s 1 rule 11" % (count, b" ".join(colliding(count)))
-        yield audit(f"{count:,} literals whose atoms share a hash", report_of(line), 5, at(b"false", 1))
+    for count in (32_000, 128_000):
+        literals = colliding(count, ((0, event) for event in range(1, count)))
+        line = b"learn %d %s 1 rule 11" % (count, b" ".join(literals))
+        yield audit(f"{count:,} literals whose atoms would share a hash", report_of(line), 5, at(b"false", 1))
+        literals = colliding(count, combinations(range(64), 2))
+        line = b"learn %d %s 1 rule 11" % (count, b" ".join(literals))
+        report = report_of(line, events=b"64", time=b"\n".join(b"%d" % time for time in range(64)))
+        title = f"{count:,} such literals about the rows of a log"
+        yield audit(title, report, 5, at(b"false", 1), log=ROWS)
 
 
-def colliding(count):
-    """Order literals whose atoms have one hash in the tables of atoms, whose hash has a fixed seed.
+def colliding(count, pairs):
+    """Order literals of pairs of events whose atoms would have one hash in the standard tables, whose hash has a
+    fixed seed. Nothing hashes the literals of a report now: a line that is slow for its length shows that something
+    does.
 
     The last bytes that are hashed are the bound's, eight by eight, and the first eight are joined by xor with
     what comes from the bytes before: where the two are alike, the product is 0 whatever the other eight are.
     """
     found = []
-    for event in range(1, count):
-        state = mixed(mixed(mixed(0x243F6A8885A308D3, 0, 8), 0, 4), event, 4)
+    for first, second in pairs:
+        state = mixed(mixed(mixed(0x243F6A8885A308D3, 0, 8), first, 4), second, 4)
         below = (state + 16) % 2**64
         bounds = (high * 2**64 + below for high in range(-54, 54))
-        found += [b"order 0 %d %d" % (event, bound) for bound in bounds if abs(bound) <= COEFFICIENT]
+        found += [b"order %d %d %d" % (first, second, bound) for bound in bounds if abs(bound) <= COEFFICIENT]
         if len(found) >= count:
-            return found[:count]
+            break
+    return found[:count]
 
 
 def mixed(state, number, size):

@@ -1,33 +1,54 @@
 -- What is kept of lines, and the clauses that are cited.
-use Rattle.std.proofs.Common.{◌≡◌, ◌∙◌, sym, ap, refl, ℕ, suc, ◌+◌, ◌<◌, ◌≤◌, ◌↔◌, ◌==◌, inl, inr, Bool, true, false, List, [], ◌∷◌, ◌++◌, length, get_or, map, take, Option, Some, None, arith, append-nil, eqb-true}
-use Rattle.std.specs.Prelude.{option_map, slice_get}
+use Rattle.std.proofs.Common.{◌≡◌, ◌∙◌, sym, ap, refl, subst, ℕ, suc, ◌+◌, ◌<◌, ◌≤◌, ◌↔◌, ◌==◌, inl, inr, not, Bool, true, false, List, [], ◌∷◌, ◌++◌, length, get_or, map, take, Option, Some, None, arith, append-nil, eqb-true}
+use Rattle.std.specs.Prelude.{Contains, option_map, slice_get}
+use Rattle.std.specs.BTreeSet.{BTreeSet, Updates, contains}
 use Rattle.std.specs.List.{filter_map}
-use Rattle.std.proofs.lemmas.Bool.{cases_Bool, lt-ltb}
+use Rattle.std.proofs.lemmas.Bool.{false_from_ne_true, lt-ltb}
 use Rattle.std.proofs.lemmas.List.{length-map, length-take-le, map_more, take_more}
-use Rattle.std.proofs.lemmas.List.Elements.{filter_map-append}
-use Rattle.indexmap.specs.IndexSet.{insert_key}
-use Rattle.mt_model.proofs.Members.{same_bool}
+use Rattle.std.proofs.lemmas.List.Elements.{Contains-append_left, Contains-push, Contains-push_cases, filter_map-append}
 use Rattle.axiom_rules.specs.declared.literal.Literal.{Literal}
-use Rattle.axiom_rules.specs.contracts.literal.LiteralPartialEq.TheImpl.{eq-value as literal_eq}
-use Rattle.axiom_rules.specs.Literals.{has_literal}
+use Rattle.axiom_rules.specs.contracts.literal.LiteralOrd.TheImpl.{cmp-value as literal_cmp}
+use Rattle.axiom_rules.specs.contracts.literal.LiteralOrd.TheImpl.Laws.{total-law}
 use Rattle.axiom_rules.specs.Parts.{each_once}
 use Rattle.axiom_rules.specs.Sought.{Sought}
-use Rattle.axiom_rules.proofs.AddingLemmas.{among-once, once-among, once-new, once-old, stands, stands-has}
+use Rattle.axiom_rules.proofs.AddingLemmas.{once-new, once-old, stands, stands-has}
 use Rattle.proof_log.specs.declared.line.Hint.TheVariants as hint
 use Rattle.proof_log.specs.declared.line.Line.{Line}
 use Rattle.proof_log.specs.Derivations.{IsEmptyAt, clause_of_hint, clause_of_line, line_at}
+use Rattle.proof_log.proofs.OrderedSets.{had_old, has_more, lacks_added}
 use Rattle.proof_check.specs.Keeping.{kept_of}
-use Rattle.proof_check.proofs.TakeLemmas.{inserted}
+use Rattle.proof_check.proofs.Standing.{among_stands, stands_among}
+use Rattle.proof_check.proofs.TakeLemmas.{literals_told}
 
-has_once : (ls : List Literal) (l : Literal) → has_literal (each_once ls) l ≡ has_literal ls l
-has_once ls l = same_bool _ _ (λ h. stands-has ls l (once-among ls l (stands (each_once ls) l h))) (λ h. stands-has (each_once ls) l (among-once ls l (stands ls l h)))
+-- literals, each once, and the set of them
+pub record AreOnce (given lits keys : List Literal) : Type 0 where
+  pub listed : lits ≡ each_once given
+  pub seen : (l : Literal) → Contains keys l ↔ Contains given l
 
--- a set of literals that gets one more has each of them once
-pub once_inserted : (ls : List Literal) (l : Literal) → insert_key literal_eq.it (each_once ls) l ≡ each_once (ls ++ l ∷ [])
-once_inserted ls l = inserted (each_once ls) l ∙ (rw (has_once ls l) (elim (cases_Bool (has_literal ls l)) [
-  | inl there ↦ rw there (sym (once-old ls l there))
-  | inr absent ↦ rw absent (sym (once-new ls l absent))
-]))
+module _ (given lits : List Literal) (old new : BTreeSet Literal) (l : Literal) (added : Bool) (before : AreOnce given lits old.keys) (updates : Updates literal_cmp.it old new l true) (is : added ≡ not (contains literal_cmp.it old l)) where
+  also_seen : (m : Literal) → Contains new.keys m ↔ Contains (given ++ l ∷ []) m
+  also_seen m =
+      let grown = has_more total-law literals_told old new l updates m in (
+        λ has. elim (grown.0 has) [
+          | inl earlier ↦ Contains-append_left given (l ∷ []) m ((before.seen m).0 earlier)
+          | inr same ↦ subst (λ (k : Literal). Contains (given ++ l ∷ []) k) same (Contains-push given l)
+        ],
+        λ has. grown.1 (elim (Contains-push_cases given l m has) [ inl earlier ↦ inl ((before.seen m).1 earlier) | inr same ↦ inr same ]),
+      )
+
+  -- one that wasn't there is one more
+  pub once_more : added ≡ true → AreOnce (given ++ l ∷ []) (lits ++ l ∷ []) new.keys
+  once_more new_one = record {
+    listed = rw before.listed (sym (once-new given l (false_from_ne_true _ (λ there. lacks_added total-law literals_told old l added is new_one ((before.seen l).1 (among_stands given l (stands given l there)))))));
+    seen = also_seen;
+  }
+
+  -- one that was there changes nothing
+  pub once_kept : added ≡ false → AreOnce (given ++ l ∷ []) lits new.keys
+  once_kept old_one = record {
+    listed = before.listed ∙ sym (once-old given l (stands-has given l (stands_among given l ((before.seen l).0 (had_old total-law literals_told old l added is old_one)))));
+    seen = also_seen;
+  }
 
 -- what is given for one element more
 pub gives_one_more : {X Y : Type 0} (h : X → Option Y) (xs : List X) (i : ℕ) (d : X) (y : Y) → i < length xs → h (get_or xs i d) ≡ Some y

@@ -1,33 +1,33 @@
 -- What is left of a clause as it is read, and what is assumed.
-use Rattle.std.proofs.Common.{◌≡◌, ◌≢◌, ◌∙◌, sym, ap, refl, subst, ℕ, ◌+◌, ◌<◌, ◌≤◌, true, false, if◌then◌else◌, ◌↔◌, ◌⊎◌, inl, inr, List, [], ◌∷◌, ◌++◌, length, get_or, map, take, drop, take-append-drop, not, true≢false, Bool, Option, Some, None, arith}
-use Rattle.std.specs.Prelude.{Contains, IsTrue}
-use Rattle.std.specs.List.{list_any}
+use Rattle.std.proofs.Common.{◌≡◌, ◌≢◌, ◌∙◌, sym, ap, refl, subst, ℕ, ◌+◌, ◌<◌, ◌≤◌, true, false, ◌↔◌, ◌⊎◌, inl, inr, List, [], ◌∷◌, ◌++◌, length, get_or, map, take, drop, take-append-drop, not, true≢false, Bool, Option, Some, None, arith}
+use Rattle.std.specs.Prelude.{Contains}
+use Rattle.std.specs.BTreeSet.{BTreeSet, Updates}
+use Rattle.std.specs.Ordering.{is_eq}
 use Rattle.std.proofs.lemmas.Bool.{cases_Bool}
 use Rattle.std.proofs.Math.Seq.{take-length}
 use Rattle.std.proofs.lemmas.List.{map_push, take_more}
-use Rattle.std.proofs.lemmas.List.Elements.{All-contains, All-push, Contains-append_left, Contains-get_or, Contains-push, Contains-push_cases}
-use Rattle.indexmap.specs.IndexSet.{insert_key}
+use Rattle.std.proofs.lemmas.List.Elements.{All-contains, All-push, Contains-append_left, Contains-get_or, Contains-push}
+use Rattle.std.proofs.lemmas.Map.Lookups.{CmpEqualImpliesEq}
 use Rattle.hint_refutation.specs.Hints.{Gives, IsFalseUnder}
 use Rattle.hint_refutation.proofs.Hinted.{is_false, left_or_false}
-use Rattle.hint_refutation.proofs.Lists.{all_from}
+use Rattle.hint_refutation.proofs.Lists.{all_from, contains_cases, contains_first, contains_later}
 use Rattle.axiom_rules.specs.declared.literal.Literal.{Literal}
+use Rattle.axiom_rules.specs.contracts.literal.LiteralOrd.TheImpl.{cmp-value as literal_cmp}
+use Rattle.axiom_rules.specs.contracts.literal.LiteralOrd.TheImpl.Laws.{matches_eq-law, total-law}
 use Rattle.axiom_rules.specs.contracts.literal.LiteralPartialEq.TheImpl.{eq-value as literal_eq}
-use Rattle.axiom_rules.specs.Literals.{has_literal, negated, same_literal}
-use Rattle.axiom_rules.proofs.AddingLemmas.{literal-itself, stands, stands-has}
+use Rattle.axiom_rules.specs.Literals.{negated, same_literal}
+use Rattle.axiom_rules.proofs.AddingLemmas.{literal-itself}
 use Rattle.axiom_rules.proofs.PartLemmas.{literals_same}
-use Rattle.proof_check.specs.Refutation.{AreThose, GivesNext, IsNeither, with_assumed}
-use Rattle.proof_check.proofs.Standing.{among_stands, stands_among}
+use Rattle.proof_log.proofs.OrderedSets.{has_more}
+use Rattle.proof_check.specs.Refutation.{AreThose, GivesNext, IsNeither}
 
 -- the comparison of literals is that of the definition
 literal_is : (l m : Literal) → literal_eq.it l m ≡ same_literal l m
 literal_is l m = grind arith
 
-pub any_is : (l : Literal) (ls : List Literal) → list_any (literal_eq.it l) ls ≡ has_literal ls l
-any_is l [] = refl
-any_is l (m ∷ ls) = rw (literal_is l m, any_is l ls) refl
-
-pub inserted : (ls : List Literal) (l : Literal) → insert_key literal_eq.it ls l ≡ with_assumed ls l
-inserted ls l = ap (λ there. if there then ls else ls ++ l ∷ []) (any_is l ls)
+-- so the order of literals tells them apart
+pub literals_told : CmpEqualImpliesEq literal_cmp.it
+literals_told l m equal = literals_same l m (sym (literal_is l m) ∙ matches_eq-law l m ∙ ap is_eq equal)
 
 -- what a test for a difference of two literals says
 differ : (l m : Literal) (b : Bool) → b ≡ not (literal_eq.it l m) → b ≡ true → m ≢ l
@@ -41,52 +41,36 @@ agree l m b is equal = elim (cases_Bool (literal_eq.it l m)) [
   | inr other ↦ absurd (true≢false (sym (is ∙ ap not other) ∙ equal))
 ]
 
--- a literal is found exactly where it stands
-pub found : (ls : List Literal) (l : Literal) → IsTrue (has_literal ls l) ↔ Contains ls l
-found ls l = (λ is. among_stands ls l (stands ls l is), λ has. stands-has ls l (stands_among ls l has))
+-- the literals of a set that gets one more
+pub assumed_more : (old new : BTreeSet Literal) (l : Literal) → Updates literal_cmp.it old new l true → AreThose (l ∷ old.keys) new.keys
+assumed_more old new l updates = record {
+  has = all_from (Contains new.keys) (l ∷ old.keys) (λ m has. (grown m).1 (elim (contains_cases l m old.keys has) [ inl same ↦ inr same | inr before ↦ inl before ]));
+  only = all_from (Contains (l ∷ old.keys)) new.keys (λ m has. elim ((grown m).0 has) [
+    | inl before ↦ contains_later l m old.keys before
+    | inr same ↦ subst (λ (k : Literal). Contains (l ∷ old.keys) k) same (contains_first l old.keys)
+  ]);
+}
+  where
+    grown : (m : Literal) → Contains new.keys m ↔ (Contains old.keys m ⊎ (l ≡ m))
+    grown m = has_more total-law literals_told old new l updates m
 
--- one that isn't among literals goes to the end
-pub with_new : (ls : List Literal) (l : Literal) → (Contains ls l → ⊥) → with_assumed ls l ≡ ls ++ l ∷ []
-with_new ls l absent = elim (cases_Bool (has_literal ls l)) [
-  | inl there ↦ absurd (absent ((found ls l).0 there))
-  | inr fails ↦ rw fails refl
-]
-
--- what stands among literals with one more
-with_last : (ls : List Literal) (l : Literal) → Contains (with_assumed ls l) l
-with_last ls l = elim (cases_Bool (has_literal ls l)) [
-  | inl there ↦ rw there ((found ls l).0 there)
-  | inr fails ↦ rw fails (Contains-push ls l)
-]
-
-with_old : (ls : List Literal) (l m : Literal) → Contains ls m → Contains (with_assumed ls l) m
-with_old ls l m has = elim (cases_Bool (has_literal ls l)) [
-  | inl there ↦ rw there has
-  | inr fails ↦ rw fails (Contains-append_left ls (l ∷ []) m has)
-]
-
-with_cases : (ls : List Literal) (l m : Literal) → Contains (with_assumed ls l) m → Contains ls m ⊎ (l ≡ m)
-with_cases ls l m has = elim (cases_Bool (has_literal ls l)) [
-  | inl there ↦ inl (rw there at has)
-  | inr fails ↦ Contains-push_cases ls l m (rw fails at has)
-]
-
-those_with : (these ls : List Literal) (l : Literal) → AreThose these ls → AreThose (these ++ l ∷ []) (with_assumed ls l)
-those_with these ls l those = record {
-  has = All-push (Contains (with_assumed ls l)) these l
-      (all_from (Contains (with_assumed ls l)) these (λ m has. with_old ls l m (All-contains (Contains ls) these m those.has has))) (with_last ls l);
-  only = all_from (Contains (these ++ l ∷ [])) (with_assumed ls l) (λ m has. elim (with_cases ls l m has) [
-    | inl old ↦ Contains-append_left these (l ∷ []) m (All-contains (Contains these) ls m those.only old)
-    | inr same ↦ subst (λ (k : Literal). Contains (these ++ l ∷ []) k) same (Contains-push these l)
+those_with : (these old new : List Literal) (l : Literal) → AreThose these old → AreThose (l ∷ old) new → AreThose (these ++ l ∷ []) new
+those_with these old new l those more = record {
+  has = All-push (Contains new) these l
+      (all_from (Contains new) these (λ m has. All-contains (Contains new) (l ∷ old) m more.has (contains_later l m old (All-contains (Contains old) these m those.has has))))
+      (All-contains (Contains new) (l ∷ old) l more.has (contains_first l old));
+  only = all_from (Contains (these ++ l ∷ [])) new (λ m has. elim (contains_cases l m old (All-contains (Contains (l ∷ old)) new m more.only has)) [
+    | inl same ↦ subst (λ (k : Literal). Contains (these ++ l ∷ []) k) same (Contains-push these l)
+    | inr before ↦ Contains-append_left these (l ∷ []) m (All-contains (Contains these) old m those.only before)
   ]);
 }
 
 -- with one more literal denied
-pub denied_more : (lits keys new : List Literal) (i : ℕ) (d l : Literal) → i < length lits → l ≡ negated (get_or lits i d) → AreThose (map negated (take i lits)) keys → new ≡ with_assumed keys l
+pub denied_more : (lits old new : List Literal) (i : ℕ) (d l : Literal) → i < length lits → l ≡ negated (get_or lits i d) → AreThose (map negated (take i lits)) old → AreThose (l ∷ old) new
     → AreThose (map negated (take (i + 1) lits)) new
-denied_more lits keys new i d l below is those grown =
+denied_more lits old new i d l below is those grown =
     let more : map negated (take (i + 1) lits) ≡ map negated (take i lits) ++ l ∷ [] = rw (take_more lits i d below, map_push negated (take i lits) (get_or lits i d), is) refl in
-    rw (more, grown) (those_with (map negated (take i lits)) keys l those)
+    rw more (those_with (map negated (take i lits)) old new l those grown)
 
 module _ (assumed : List Literal) where
   -- each literal that was read is false, or one is open, which the clause would give if it ended here
@@ -191,9 +175,5 @@ module _ (assumed : List Literal) where
         subst (λ (ls : List Literal). IsOpen ls u) (ap (λ n. take n clause) same ∙ take-length clause) is
 
 -- what is assumed after a clause that gives a literal
-pub given_next : (keys old clause new : List Literal) (u : Literal) → keys ≡ old → Gives negated keys clause u → new ≡ with_assumed keys u → GivesNext old clause new
-given_next keys old clause new u same gives grown = record {
-  literal = u;
-  gives = subst (λ (ls : List Literal). Gives negated ls clause u) same gives;
-  assumed = grown ∙ with_new keys u gives.not_true ∙ ap (λ ls. ls ++ u ∷ []) same;
-}
+pub given_next : (keys old clause new : List Literal) (u : Literal) → keys ≡ old → Gives negated keys clause u → AreThose (u ∷ keys) new → GivesNext old clause new
+given_next keys old clause new u same gives grown = subst (λ (ls : List Literal). GivesNext ls clause new) same (record { literal = u; gives = gives; assumed = grown })

@@ -1,8 +1,8 @@
 -- Clauses that are taken one after another under literals that are assumed.
-use Rattle.std.specs.Prelude.{◌≡◌, if◌then◌else◌, List, [], ◌∷◌, ◌++◌, All, Contains}
+use Rattle.std.specs.Prelude.{◌≡◌, List, ◌∷◌, All, Contains}
 use Rattle.hint_refutation.specs.Hints.{Gives, IsFalseUnder}
 use Rattle.axiom_rules.specs.declared.literal.Literal.{Literal}
-use Rattle.axiom_rules.specs.Literals.{has_literal, negated}
+use Rattle.axiom_rules.specs.Literals.{negated}
 use Rattle.proof_check.specs.declared.refutation.Left.{Left}
 use Rattle.proof_check.specs.declared.refutation.Left.TheVariants as left
 use Rattle.proof_check.specs.declared.refutation.Taken.{Taken}
@@ -12,10 +12,6 @@ use Rattle.proof_check.specs.declared.refutation.Taken.TheVariants as taken
 pub record AreThose (these those : List Literal) : Type 0 where
   pub has : All (Contains those) these
   pub only : All (Contains these) those
-
--- the literals, and one more at the end where it isn't among them
-abbrev pub with_assumed : List Literal → Literal → List Literal
-with_assumed assumed l = if has_literal assumed l then assumed else assumed ++ l ∷ []
 
 -- the clause is neither false nor gives a literal
 pub record IsNeither (assumed clause : List Literal) : Type 0 where
@@ -28,11 +24,11 @@ IsLeft assumed clause left.Nothing = IsFalseUnder negated assumed clause
 IsLeft assumed clause (left.Only u) = Gives negated assumed clause u
 IsLeft assumed clause left.More = IsNeither assumed clause
 
--- the clause gives a literal, which is assumed after the old ones
+-- the clause gives a literal, which is assumed beside the old ones
 pub record GivesNext (old clause new : List Literal) : Type 0 where
   pub literal : Literal
   pub gives : Gives negated old clause literal
-  pub assumed : new ≡ old ++ literal ∷ []
+  pub assumed : AreThose (literal ∷ old) new
 
 -- the clause is false, and what is assumed stays
 pub record IsFalsified (old clause new : List Literal) : Type 0 where

@@ -10,10 +10,10 @@ ghost use Rattle.proof_log.specs.declared.line.Hint.TheVariants as hint;
 ghost use Rattle.proof_check.specs.Keeping.{AreKept, kept_of};
 
 use axiom_rules::{Literal, order_literal};
-use indexmap::IndexSet;
 use mt_model::Step;
 use proof_log::{Line, Lits};
 use std::alloc::{AllocError, Global};
+use std::collections::BTreeSet;
 
 // The negation of an order step.
 fn negated_step(step: Step) -> Option<Literal>
@@ -26,26 +26,22 @@ fn negated_step(step: Step) -> Option<Literal>
     }
 }
 
-// Adds a literal where it isn't there.
-fn add(lits: &mut IndexSet<Literal>, literal: Literal) -> Result<(), AllocError>
-    ensures { OnOk result ((ls : List Literal) → lits.old.keys ≡ each_once ls → lits.new.keys ≡ each_once (ls ++ literal ∷ [])) }
-{
-    lits.insert(literal)?;
-    Ok(())
-}
-
 // The clause of a Cycle line.
 fn cycle_clause(alloc: Global, steps: &[Step]) -> Result<Lits, AllocError>
     requires { All IsSpelledStep steps.now }
     ensures { IfOk result (λ lits. lits ≡ each_once (filter_map negated_step_of steps.now)) }
 {
-    let mut lits = IndexSet::new(alloc);
+    let mut seen = BTreeSet::new(alloc);
+    let mut lits = Lits::new(alloc);
     for step in steps {
-        if let Some(literal) = negated_step(*step) {
-            add(&mut lits, literal)?;
+        let Some(literal) = negated_step(*step) else {
+            continue;
+        };
+        if seen.insert(literal)? {
+            lits.push(literal)?;
         }
     }
-    Ok(Lits::from_vec(Vec::from_slice(alloc, lits.as_slice())?))
+    Ok(lits)
 }
 
 /// What is kept of a line: the clause of a Cycle line, so that who cites it doesn't pay for its steps, and nothing of a

@@ -1,12 +1,12 @@
 //! Clauses that are taken one after another under literals that are assumed.
 
-ghost use Rattle.std.specs.Prelude.{◌≡◌, ◌↔◌, [], map, Contains, IsTrue, IfOk, OnOk};
+ghost use Rattle.std.specs.Prelude.{◌≡◌, ◌↔◌, [], ◌∷◌, map, Contains, IsTrue, IfOk, OnOk};
 ghost use Rattle.axiom_rules.specs.Literals.{negated};
-ghost use Rattle.proof_check.specs.Refutation.{AreThose, IsLeft, IsTaken, with_assumed};
+ghost use Rattle.proof_check.specs.Refutation.{AreThose, IsLeft, IsTaken};
 
 use axiom_rules::Literal;
-use indexmap::IndexSet;
 use std::alloc::{AllocError, Global};
+use std::collections::BTreeSet;
 use std::marker::Model;
 
 /// What the literals that are assumed make of a clause.
@@ -29,12 +29,12 @@ enum Left {
     More,
 }
 
-/// Literals that are assumed, which contracts see as a list, in the order in which they were assumed.
+/// Literals that are assumed, which contracts see as a list whose order says nothing.
 ///
-/// Look-ups hash without random state.
+/// A look-up compares and doesn't hash, since literals could be chosen that share a hash.
 #[derive(Debug, Drop)]
 pub struct Assumed {
-    literals: IndexSet<Literal>,
+    literals: BTreeSet<Literal>,
 }
 
 impl Model for Assumed {
@@ -52,7 +52,7 @@ impl Assumed {
         ensures empty { result ≡ [] }
     {
         Assumed {
-            literals: IndexSet::new(alloc),
+            literals: BTreeSet::new(alloc),
         }
     }
 
@@ -84,22 +84,22 @@ impl Assumed {
 }
 
 // Whether a literal is assumed.
-fn has(literals: &IndexSet<Literal>, literal: &Literal) -> bool
+fn has(literals: &BTreeSet<Literal>, literal: &Literal) -> bool
     ensures { IsTrue result ↔ Contains literals.now.keys literal.now }
 {
     literals.contains(literal)
 }
 
 // Assumes a literal, which may be assumed already.
-fn assume(literals: &mut IndexSet<Literal>, literal: Literal) -> Result<(), AllocError>
-    ensures { OnOk result (literals.new.keys ≡ with_assumed literals.old.keys literal) }
+fn assume(literals: &mut BTreeSet<Literal>, literal: Literal) -> Result<(), AllocError>
+    ensures { OnOk result (AreThose (literal ∷ literals.old.keys) literals.new.keys) }
 {
     literals.insert(literal)?;
     Ok(())
 }
 
 // What is left of a clause.
-fn left_of(assumed: &IndexSet<Literal>, clause: &[Literal]) -> Left
+fn left_of(assumed: &BTreeSet<Literal>, clause: &[Literal]) -> Left
     ensures { IsLeft assumed.now.keys clause.now result }
 {
     let mut open = None;

@@ -1,6 +1,6 @@
 -- Fresh lines differ as sets of literals, so there are fewer than three to the number of atoms; and none is fresh where the rules
 -- alone refute.
-use Rattle.std.proofs.Common.{◌≡◌, ◌∙◌, sym, subst, refl, ℕ, suc, ◌+◌, ◌-◌, ◌^◌, ◌<◌, ◌⊎◌, inl, inr, Bool, List, [], ◌∷◌, ◌++◌, length, map, take, get_or, Some, arith}
+use Rattle.std.proofs.Common.{◌≡◌, ◌∙◌, sym, subst, refl, ℕ, suc, ◌-◌, ◌^◌, ◌<◌, ◌⊎◌, inl, inr, Bool, List, [], ◌∷◌, ◌++◌, length, map, take, get_or, Some, arith}
 use Rattle.std.specs.Prelude.{All, AllPairs, Contains}
 use Rattle.std.specs.Result.{result_ok}
 use Rattle.std.proofs.lemmas.Bool.{cases_lt}
@@ -21,7 +21,7 @@ use Rattle.axiom_rules.specs.Occurs.{OccursInRules}
 use Rattle.axiom_rules.specs.Sought.{Sought, sought_of}
 use Rattle.proof_log.specs.declared.line.Line.{Line}
 use Rattle.proof_log.specs.declared.line.Line.TheVariants as line
-use Rattle.proof_log.specs.Freshness.{Fresh, IsLearnAt, IsNew, Spends, clauses_of, known_before, learnt, learnt_clause, named_rules}
+use Rattle.proof_log.specs.Freshness.{IsLearnAt, IsNew, Spends, clauses_of, known_before, learnt, learnt_clause, named_rules}
 use Rattle.proof_log.specs.FreshLaws.{FreshLinesDiffer, HaveSameLiterals, IsRefutedByRules, RefutedByRulesIsNotSpent, SpentIsBounded}
 use Rattle.proof_log.proofs.LearnLines.{given_at, given_has, given_pairs, learn_count, learn_of, learn_same, line_front}
 use Rattle.proof_log.proofs.LiteralSets.{IsPlain, few_sets, plain_once}

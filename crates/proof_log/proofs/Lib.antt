@@ -9,6 +9,7 @@ pub mod PlainWords
 pub mod LineReading
 pub mod ReadingLines
 pub mod Texts
+pub mod OrderedSets
 pub mod AtomsApart
 pub mod LiteralSets
 pub mod LearnLines

@@ -1,13 +1,12 @@
 -- Learn lines that bring something new: fresh ones, whose clause unit propagation doesn't give yet, and used ones, whose clause is
 -- the resolvent of their hints. A number of such lines is what a spent budget shows. Lines count from 1.
-use Rattle.std.specs.Prelude.{◌≡◌, ℕ, ◌-◌, Bool, true, false, List, [], ◌∷◌, ◌++◌, map, take, All, Any, Option, Some, None, Ok, count_by}
+use Rattle.std.specs.Prelude.{◌≡◌, ℕ, ◌-◌, Bool, true, false, List, [], ◌∷◌, ◌++◌, map, take, All, Option, Some, None, count_by}
 use Rattle.std.specs.List.{filter_map, flat_map}
 use Rattle.std.specs.Result.{result_ok}
 use Rattle.mt_model.specs.Form.{Form}
 use Rattle.mt_model.specs.Log.{Logged}
 use Rattle.hint_refutation.specs.Hints.{Used as HintsUsed}
 use Rattle.hint_refutation.specs.Propagation.{Misses}
-use Rattle.axiom_rules.specs.declared.literal.Atom.{Atom}
 use Rattle.axiom_rules.specs.declared.literal.Literal.{Literal}
 use Rattle.axiom_rules.specs.declared.rule.Rule.{Rule}
 use Rattle.axiom_rules.specs.Clauses.{clause_of}
