@@ -10,7 +10,6 @@ pub mod Denied
 pub mod Stuck
 pub mod Refusals
 pub mod Descents
-pub mod RuleParts
 pub mod RuleAtoms
 pub mod RuleSpelling
 pub mod NodeIntervals

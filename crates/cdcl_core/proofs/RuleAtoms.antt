@@ -24,7 +24,7 @@ use Rattle.axiom_rules.specs.Parts.{not_after, order}
 use Rattle.axiom_rules.specs.Rules.{has_come, is, is_not_up_to, met_order, not_met_order, rule_1, rule_2, rule_3, rule_4, rule_5, rule_6, rule_7, rule_8, rule_9, rule_10, rule_11, rule_12, rule_13, rule_14, rule_15, rule_16, rule_17, rule_18, rule_19, rule_20, rule_21, rule_22, rule_23, rule_24}
 use Rattle.axiom_rules.specs.Shapes.{IsOver}
 use Rattle.axiom_rules.specs.Sought.{Sought}
-use Rattle.cdcl_core.proofs.RuleParts.{OfPart, OfRow, of-1, of-2, of-3, of-4, of-5, of-each, of-first-and-each, of-if, of-kind, of-ok, of-option, of-rule, row-of-change, row-of-event, row-of-events, row-of-node, row-of-nothing, row-of-three, row-of-two}
+use Rattle.mtl_encode.proofs.RuleParts.{OfPart, OfRow, of-1, of-2, of-3, of-4, of-5, of-each, of-first-and-each, of-if, of-kind, of-ok, of-option, of-rule, row-of-change, row-of-event, row-of-events, row-of-node, row-of-nothing, row-of-three, row-of-two}
 
 -- something holds of a bound and of that of the negated order
 pub record BothWays (B : ℤ → Type 0) (c : ℤ) : Type 0 where

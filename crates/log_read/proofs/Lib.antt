@@ -10,5 +10,6 @@ pub mod Middles
 pub mod PlainFields
 pub mod PrintedNumbers
 pub mod ReadBack
+pub mod ValidLogs
 pub mod WrittenLines
 pub mod WrittenRecords

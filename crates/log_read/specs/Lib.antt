@@ -3,6 +3,7 @@ pub mod Numbers
 pub mod Records
 pub mod LogOf
 pub mod LogText
+pub mod ValidLogs
 pub mod Reading
 pub use Rattle.mt_model.specs.Name
 pub use Rattle.mt_model.specs.Log

@@ -5,6 +5,7 @@ mod entry;
 mod fault;
 mod fields;
 mod kind;
+mod laws;
 mod number;
 mod reader;
 mod reading;
@@ -13,6 +14,7 @@ mod writer;
 
 pub use fault::LogFault;
 pub use fields::{Field, Fields, RecordList};
+pub use laws::logs_are_valid;
 pub use number::signed_number;
 pub use reader::{read_log, read_records};
 pub use writer::{texts_read_back, write_log};

@@ -1,11 +1,10 @@
 -- How many literals the clause of a rule has at most.
-use Rattle.std.proofs.Common.{◌≡◌, ◌∙◌, sym, ap, refl, subst, ℕ, zero, suc, ◌+◌, ◌<◌, ◌≤◌, Bool, true, false, not, ◌||◌, if◌then◌else◌, List, [], ◌∷◌, length, map, Option, Some, None, Ok, Err, ◌⊎◌, inl, inr, arith}
+use Rattle.std.proofs.Common.{◌≡◌, refl, ℕ, ◌+◌, ◌≤◌, Bool, true, false, not, ◌||◌, if◌then◌else◌, List, [], ◌∷◌, length, Option, Some, None, Ok, Err, arith}
 use Rattle.std.specs.Prelude.{Result, slice_get}
-use Rattle.std.specs.List.{AllByRecursion, filter_map, list_any, range_with_len}
+use Rattle.std.specs.List.{AllByRecursion, list_any}
 use Rattle.std.specs.Option.{option_map_or}
 use Rattle.std.proofs.lemmas.List.FromFn.{length-map-range_with_len}
 use Rattle.mt_model.specs.State.{Change}
-use Rattle.mt_model.specs.declared.limits.TheConstants.{MAX_ROWS}
 use Rattle.axiom_rules.specs.declared.fault.RuleFault.{RuleFault}
 use Rattle.axiom_rules.specs.declared.fault.RuleFault.TheVariants.{Kind, NoRule, Range, Trivial}
 use Rattle.axiom_rules.specs.declared.literal.Atom.TheVariants.{Node}
@@ -17,12 +16,11 @@ use Rattle.axiom_rules.specs.declared.rule.Rule.{Rule}
 use Rattle.axiom_rules.specs.Clauses.{Row, are_there, arg, clause_of, of_node_event_change, row_of, rows}
 use Rattle.axiom_rules.specs.Literals.{same_literal}
 use Rattle.axiom_rules.specs.NodeShapes.{changes_in, shape_at}
-use Rattle.axiom_rules.specs.Parts.{Written, after, clause_of_parts, clause_of_written, each_once, is_true, literal_in, literals_in, opposes_itself}
+use Rattle.axiom_rules.specs.Parts.{Written, after, clause_of_parts, clause_of_written, each_once, is_true, literals_in, opposes_itself}
 use Rattle.axiom_rules.specs.Rules.{for_each_event, has_come, of_kind, rule_2}
 use Rattle.axiom_rules.specs.Sought.{Sought}
 use Rattle.mtl_encode.proofs.RangeLemmas.{filtered-short}
 use Rattle.mtl_encode.proofs.RowCases.{row-case}
-use Rattle.mtl_encode.specs.Growth.{most_literals}
 
 -- what is written has at most n parts
 abbrev IsShort : ℕ → Written → Type 0

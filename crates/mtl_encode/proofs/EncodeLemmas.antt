@@ -1,9 +1,9 @@
 -- What the parts of an encoding make together.
-use Rattle.std.proofs.Common.{◌≡◌, ◌∙◌, sym, ap, refl, subst, ℕ, ◌+◌, ◌*◌, ◌^◌, ◌<◌, ◌≤◌, List, [], ◌∷◌, ◌++◌, length, arith}
+use Rattle.std.proofs.Common.{◌≡◌, ◌∙◌, ap, refl, subst, ℕ, ◌+◌, ◌^◌, ◌≤◌, List, [], ◌++◌, length, arith}
 use Rattle.std.specs.Prelude.{All}
 use Rattle.mt_model.specs.declared.bound.Bound.{Bound}
 use Rattle.mt_model.specs.Bounds.{bounds_of}
-use Rattle.mt_model.specs.Log.{IsLog, Logged}
+use Rattle.mt_model.specs.Log.{IsLog}
 use Rattle.neg_cycle.specs.declared.system.Edge.{Edge}
 use Rattle.neg_cycle.specs.Systems.{IsEdge}
 use Rattle.skew_bounds.proofs.Settled.{system-of}
@@ -13,7 +13,6 @@ use Rattle.axiom_rules.specs.Sought.{Sought}
 use Rattle.mtl_encode.proofs.InstanceCounts.{room-for-all}
 use Rattle.mtl_encode.proofs.KeptRules.{instances-listed}
 use Rattle.mtl_encode.specs.declared.clauses.Clauses.{Clauses}
-use Rattle.mtl_encode.specs.declared.problem.Problem.{Problem}
 use Rattle.mtl_encode.specs.declared.size.TheConstants.{MAX_SIZE}
 use Rattle.mtl_encode.specs.Growth.{AreClauses, Gains, HasRoom}
 use Rattle.mtl_encode.specs.Instances.{instances}

@@ -1,13 +1,12 @@
 -- The rules that are gone through are those that have a clause, each once.
-use Rattle.std.proofs.Common.{◌≡◌, ◌∙◌, sym, ap, refl, subst, ℕ, zero, suc, ◌+◌, ◌==◌, ◌<◌, ◌≤◌, Bool, true, false, ◌&&◌, if◌then◌else◌, List, [], ◌∷◌, ◌++◌, length, map, Option, Some, None, Ok, Err, ◌⊎◌, inl, inr, arith}
-use Rattle.std.specs.Prelude.{◌≢◌, All, AllPairs, Contains, Result, is_ok, nat_lt, option_and_then, slice_get, slice_index, slice_index_or}
-use Rattle.std.specs.List.{AllByRecursion, cons_option, filter_map, flat_map, range_with_len}
+use Rattle.std.proofs.Common.{◌≡◌, sym, ap, refl, subst, ℕ, zero, suc, ◌+◌, ◌<◌, ◌≤◌, Bool, true, false, if◌then◌else◌, List, [], ◌∷◌, length, map, Option, Some, None, Ok, Err, inl, inr, arith}
+use Rattle.std.specs.Prelude.{Result, is_ok, option_and_then, slice_get, slice_index, slice_index_or}
+use Rattle.std.specs.List.{AllByRecursion, cons_option, filter_map, range_with_len}
 use Rattle.std.specs.Option.{option_map_or}
-use Rattle.std.proofs.lemmas.Bool.{and_parts, cases_Bool}
+use Rattle.std.proofs.lemmas.Bool.{and_parts}
 use Rattle.std.proofs.lemmas.Bool.Decides.{nat_tests}
 use Rattle.std.proofs.lemmas.Option.{slice_get_within}
 use Rattle.mt_model.specs.Form.{Form, True, False, Prop, Not, And, Or, Implies, Until, Since, Eventually, Always, Once, Historically}
-use Rattle.mt_model.specs.Log.{Logged}
 use Rattle.mt_model.specs.State.{Change, change_at, changes_of, host_named}
 use Rattle.mt_model.proofs.Members.{Among}
 use Rattle.axiom_rules.specs.declared.fault.RuleFault.{RuleFault}
@@ -17,14 +16,13 @@ use Rattle.axiom_rules.specs.declared.part.Part.{Part}
 use Rattle.axiom_rules.specs.declared.rule.Argument.{Argument}
 use Rattle.axiom_rules.specs.declared.rule.Argument.TheVariants.{ANode, AnEvent, AChange, Unused}
 use Rattle.axiom_rules.specs.declared.rule.Rule.{Rule}
-use Rattle.axiom_rules.specs.declared.shape.Shape.{Shape}
-use Rattle.axiom_rules.specs.declared.shape.Shape.TheVariants as shape
 use Rattle.axiom_rules.specs.Clauses.{Row, are_there, clause_of, is_there, of_event, of_events, of_node_event, of_node_event_change, of_node_events, of_node_three_events, of_nothing, row_of, rows}
 use Rattle.axiom_rules.specs.NodeShapes.{changes_in, changes_named, shape_at, shape_of}
 use Rattle.axiom_rules.specs.Parts.{Written, clause_of_written}
 use Rattle.axiom_rules.specs.Rules.{of_kind, rule_1, rule_2, rule_3, rule_4, rule_5, rule_6, rule_7, rule_8, rule_9, rule_10, rule_11, rule_12, rule_13, rule_14, rule_15, rule_16, rule_17, rule_18, rule_19, rule_20, rule_21, rule_22, rule_23, rule_24}
 use Rattle.axiom_rules.specs.Sought.{Sought}
 use Rattle.mtl_encode.proofs.RangeLemmas.{Apart, among-at, among-flat, apart-flat, apart-pairs, flat-among, place-of}
+use Rattle.mtl_encode.proofs.ChangeCases.{changes-case}
 use Rattle.mtl_encode.proofs.RowCases.{row-case}
 use Rattle.mtl_encode.specs.Instances.{count_of, instances, kept, of_number, rule_at, with_none, with_one, with_three, with_two}
 use Rattle.mtl_encode.specs.Listing.{HasClause, ListsRules}
@@ -174,24 +172,8 @@ module _ (s : Sought) where
       go None = omega arith
       go (Some h) = changes-few (change_at s.log h name) 0 (length s.log.rows)
 
-  shape-few : (f : Form) (changes : List Change) → changes_in (shape_of s.log s.trees f) ≡ Some changes → length changes ≤ length s.log.rows
-  shape-few True changes is = absurd (cc)
-  shape-few False changes is = absurd (cc)
-  shape-few (Prop host name) changes is = let same : changes_named s.log host name ≡ changes = cc in rw (← same) (named-few host name)
-  shape-few (Not f) changes is = absurd (cc)
-  shape-few (And f g) changes is = absurd (cc)
-  shape-few (Or f g) changes is = absurd (cc)
-  shape-few (Implies f g) changes is = absurd (cc)
-  shape-few (Until I f g) changes is = absurd (cc)
-  shape-few (Since I f g) changes is = absurd (cc)
-  shape-few (Eventually I f) changes is = absurd (cc)
-  shape-few (Always I f) changes is = absurd (cc)
-  shape-few (Once I f) changes is = absurd (cc)
-  shape-few (Historically I f) changes is = absurd (cc)
-
   node-few : (o : Option Form) (changes : List Change) → changes_in (option_and_then (shape_of s.log s.trees) o) ≡ Some changes → length changes ≤ length s.log.rows
-  node-few None changes is = absurd (cc)
-  node-few (Some f) changes is = shape-few f changes is
+  node-few = changes-case s (λ changes. length changes ≤ length s.log.rows) named-few
 
   -- a change of which something is written is there
   change-there : (o : Option (List Change)) (write : List Change → Change → Written) (place : ℕ) (parts : List Part)

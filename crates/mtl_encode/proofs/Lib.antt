@@ -3,11 +3,13 @@ pub mod AtomGrowth
 pub mod Cubes
 pub mod SizeLemmas
 pub mod RowCases
+pub mod ChangeCases
 pub mod ClauseLengths
 pub mod ClauseGrowth
 pub mod KeptRules
 pub mod ReachRules
 pub mod InstanceCounts
+pub mod RuleParts
 pub mod OrdersInRange
 pub mod ModelLemmas
 mod ClauseUses

@@ -1,6 +1,6 @@
 -- What satisfies a problem that fits satisfies the rules, and gives an admissible timing that agrees with it.
-use Rattle.std.proofs.Common.{◌≡◌, ◌∙◌, sym, ap, refl, subst, ℕ, zero, suc, ◌+◌, ◌<◌, ◌≤◌, Bool, true, false, not, ◌||◌, if◌then◌else◌, List, [], ◌∷◌, length, map, drop, Some, Ok, ◌⊎◌, inl, inr, arith, ℤ, pos, ◌-ℤ◌}
-use Rattle.std.specs.Prelude.{All, Any, int_le, slice_get, slice_index_or}
+use Rattle.std.proofs.Common.{◌≡◌, ◌∙◌, sym, ap, refl, subst, ℕ, zero, suc, ◌+◌, ◌<◌, Bool, true, List, [], ◌∷◌, length, Some, Ok, inl, inr, arith, ℤ, pos, ◌-ℤ◌}
+use Rattle.std.specs.Prelude.{All, int_le, slice_get, slice_index_or}
 use Rattle.std.specs.List.{list_any, position_or_len}
 use Rattle.std.proofs.lemmas.Bool.{cases_Bool}
 use Rattle.std.proofs.lemmas.Int.{ints}
@@ -14,6 +14,7 @@ use Rattle.mt_model.specs.Timing.{Admissible, time_of}
 use Rattle.mt_model.specs.Truth.{truth}
 use Rattle.neg_cycle.specs.Systems.{IsEdge, number_of}
 use Rattle.skew_bounds.proofs.Settled.{timing-of}
+use Rattle.skew_bounds.specs.RowTimes.{times_of}
 use Rattle.clause_db.specs.declared.lit.Lit.{Lit}
 use Rattle.clause_db.specs.Clauses.{clause_at}
 use Rattle.clause_db.specs.Literals.{value_of}
@@ -24,7 +25,6 @@ use Rattle.axiom_rules.specs.declared.rule.Rule.{Rule}
 use Rattle.axiom_rules.specs.Atoms.{AreOnce, IsVar}
 use Rattle.axiom_rules.specs.Clauses.{clause_of}
 use Rattle.axiom_rules.specs.Literals.{same_atom}
-use Rattle.axiom_rules.specs.Occurs.{OccursInRules}
 use Rattle.axiom_rules.specs.Sought.{Sought, sought_of}
 use Rattle.axiom_rules.proofs.AddingLemmas.{atom-itself}
 use Rattle.axiom_rules.proofs.PartLemmas.{atoms_same}
@@ -34,8 +34,8 @@ use Rattle.mtl_encode.proofs.RangeLemmas.{among-at}
 use Rattle.mtl_encode.specs.declared.problem.Problem.{Problem}
 use Rattle.mtl_encode.specs.Exact.{AgreesWith, RulesAreExact, SatisfiesRules, clause_is_true, literal_is_true}
 use Rattle.mtl_encode.specs.Listing.{ListsRules}
-use Rattle.mtl_encode.specs.Models.{IsModel, times_of, value_at}
-use Rattle.mtl_encode.specs.Problems.{Fits, IsClauseOf, ReadsAs, read_literal}
+use Rattle.mtl_encode.specs.Models.{IsModel, value_at}
+use Rattle.mtl_encode.specs.Problems.{Fits, ReadsAs, read_literal}
 
 -- the truth value of an atom, read through the atoms
 abbrev pub value_in : List Atom → List Bool → Atom → Bool

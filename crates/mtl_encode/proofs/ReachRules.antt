@@ -1,16 +1,15 @@
 -- The rules 12 to 23 have no clause for a node that is no until and no since.
-use Rattle.std.proofs.Common.{◌≡◌, ◌∙◌, sym, ap, refl, subst, ℕ, zero, suc, ◌+◌, ◌<◌, ◌≤◌, Bool, true, false, if◌then◌else◌, List, [], ◌∷◌, length, drop, Option, Some, None, Ok, Err, arith}
-use Rattle.std.specs.Prelude.{Result, is_ok, option_and_then, slice_get, slice_index, slice_index_or}
-use Rattle.std.specs.List.{AllByRecursion, flat_map, range_with_len}
-use Rattle.std.specs.Option.{option_map_or}
+use Rattle.std.proofs.Common.{◌≡◌, refl, ℕ, zero, suc, ◌<◌, Bool, true, false, if◌then◌else◌, List, [], ◌∷◌, drop, Option, Some, None, Err}
+use Rattle.std.specs.Prelude.{Result, is_ok, option_and_then, slice_get, slice_index}
+use Rattle.std.specs.List.{AllByRecursion}
 use Rattle.mt_model.specs.Form.{Form, True, False, Prop, Not, And, Or, Implies, Until, Since, Eventually, Always, Once, Historically}
 use Rattle.formula_arena.specs.Nodes.{tree_at}
-use Rattle.axiom_rules.specs.declared.fault.RuleFault.TheVariants.{Kind, NoRule, Range}
+use Rattle.axiom_rules.specs.declared.fault.RuleFault.TheVariants.{Kind, Range}
 use Rattle.axiom_rules.specs.declared.literal.Literal.{Literal}
 use Rattle.axiom_rules.specs.declared.fault.RuleFault.{RuleFault}
-use Rattle.axiom_rules.specs.Clauses.{Row, are_there, clause_of, lasting_rows, row_of}
+use Rattle.axiom_rules.specs.Clauses.{Row, are_there, lasting_rows, row_of}
 use Rattle.axiom_rules.specs.NodeShapes.{reach_in, shape_at, shape_of}
-use Rattle.axiom_rules.specs.Parts.{Written, clause_of_written}
+use Rattle.axiom_rules.specs.Parts.{clause_of_written}
 use Rattle.axiom_rules.specs.Sought.{Sought}
 use Rattle.mtl_encode.proofs.RangeLemmas.{flat-nothing}
 use Rattle.mtl_encode.proofs.RowCases.{lasting-case}

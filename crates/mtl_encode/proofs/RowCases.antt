@@ -1,14 +1,15 @@
 -- What holds of each row of the table of rules.
-use Rattle.std.proofs.Common.{◌≡◌, ◌∙◌, sym, ap, refl, subst, ℕ, zero, suc, ◌+◌, ◌<◌, ◌≤◌, List, [], ◌∷◌, ◌++◌, length, drop, Option, Some, None, arith}
+use Rattle.std.proofs.Common.{◌≡◌, ◌∙◌, sym, ap, refl, subst, ℕ, zero, suc, ◌+◌, ◌<◌, ◌≤◌, List, [], ◌∷◌, ◌++◌, length, drop, Some, arith}
 use Rattle.std.specs.Prelude.{slice_get}
 use Rattle.std.specs.List.{AllByRecursion}
 use Rattle.axiom_rules.specs.Clauses.{Row, lasting_rows, of_event, row_of, rows}
 use Rattle.axiom_rules.specs.Rules.{rule_24}
 
-holds-at : (P : Row → Type 0) (xs : List Row) (n : ℕ) (row : Row) → AllByRecursion P xs → slice_get xs n ≡ Some row → P row
-holds-at P [] n row h there = absurd (cc)
-holds-at P (x ∷ xs) zero row h there = let same : x ≡ row = cc in subst P same h.0
-holds-at P (x ∷ xs) (suc n) row h there = holds-at P xs n row h.1 there
+-- what holds of each element holds of the one at a place
+pub holds-at : {X : Type 0} (P : X → Type 0) (xs : List X) (n : ℕ) (x : X) → AllByRecursion P xs → slice_get xs n ≡ Some x → P x
+holds-at P [] n x h there = absurd (cc)
+holds-at P (y ∷ xs) zero x h there = let same : y ≡ x = cc in subst P same h.0
+holds-at P (y ∷ xs) (suc n) x h there = holds-at P xs n x h.1 there
 
 -- what holds of each row of the table holds of that of a number
 pub row-case : (P : Row → Type 0) → AllByRecursion P rows → (number : ℕ) (row : Row) → row_of number ≡ Some row → P row

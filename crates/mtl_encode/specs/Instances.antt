@@ -1,5 +1,5 @@
 -- The rules that have a clause, in the order of their numbers and their arguments.
-use Rattle.std.specs.Prelude.{ℕ, Bool, if◌then◌else◌, List, [], ◌∷◌, length, map, is_ok, slice_index}
+use Rattle.std.specs.Prelude.{ℕ, if◌then◌else◌, List, [], ◌∷◌, length, map, is_ok, slice_index}
 use Rattle.std.specs.List.{flat_map, range_with_len}
 use Rattle.std.specs.Option.{option_map_or}
 use Rattle.axiom_rules.specs.declared.rule.Argument.{Argument}

@@ -1,5 +1,5 @@
 -- What satisfies a problem.
-use Rattle.std.specs.Prelude.{◌≡◌, ℕ, ◌+◌, Bool, true, false, List, length, map, drop, All, slice_index_or, ℤ, ◌-ℤ◌, int_le}
+use Rattle.std.specs.Prelude.{◌≡◌, ℕ, ◌+◌, Bool, true, false, List, length, All, slice_index_or, ℤ, ◌-ℤ◌, int_le}
 use Rattle.std.specs.List.{list_any}
 use Rattle.neg_cycle.specs.Systems.{Meets, number_of}
 use Rattle.clause_db.specs.Literals.{value_of}
@@ -10,10 +10,6 @@ use Rattle.mtl_encode.specs.declared.problem.Problem.{Problem}
 -- the truth value of a variable
 abbrev pub value_at : List Bool → ℕ → Bool
 value_at values v = slice_index_or values v false
-
--- the times of the rows, where these are the numbers of the nodes: the zero moment is node 0, and row e is node e + 1
-abbrev pub times_of : List ℤ → List ℤ
-times_of numbers = map (λ x. x -ℤ number_of numbers 0) (drop 1 numbers)
 
 -- one truth value an atom and one number a node satisfy the problem
 pub record IsModel (p : Problem) (values : List Bool) (numbers : List ℤ) : Type 0 where

@@ -2,10 +2,11 @@ ghost use Rattle.std.specs.Prelude.{◌≡◌, ◌≤◌, ◌+◌, Bool, List, l
 ghost use Rattle.mt_model.specs.Form.{Form};
 ghost use Rattle.mt_model.specs.Timing.{Admissible};
 ghost use Rattle.mt_model.specs.Truth.{truth};
+ghost use Rattle.skew_bounds.specs.RowTimes.{times_of};
 ghost use Rattle.formula_arena.specs.Nodes.{nodes_of};
 ghost use Rattle.axiom_rules.specs.Sought.{sought_of};
 ghost use Rattle.mtl_encode.specs.Kept.{Kept};
-ghost use Rattle.mtl_encode.specs.Models.{IsModel, times_of};
+ghost use Rattle.mtl_encode.specs.Models.{IsModel};
 ghost use Rattle.mtl_encode.specs.Problems.{Fits};
 ghost use Rattle.mtl_encode.specs.Size.{size};
 

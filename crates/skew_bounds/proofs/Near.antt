@@ -1,9 +1,10 @@
 -- The times of an admissible timing are within the limit of times.
-use Rattle.std.proofs.Common.{arith, ℕ, zero, suc, ◌+◌, ◌<◌, List, [], ◌∷◌, length, All, Option, Some, None, ℤ, pos, ◌≤ℤ◌}
+use Rattle.std.proofs.Common.{arith, ℕ, zero, suc, ◌+◌, ◌<◌, List, [], ◌∷◌, length, map, All, Option, Some, None, ℤ, pos, ◌≤ℤ◌}
 use Rattle.std.specs.Prelude.{IfSome, slice_get}
 use Rattle.std.specs.Option.{option_map_or}
 use Rattle.std.proofs.lemmas.Int.{ints}
-use Rattle.std.proofs.lemmas.List.Elements.{All-head, All-tail}
+use Rattle.std.proofs.lemmas.List.{get_or_default}
+use Rattle.std.proofs.lemmas.List.Elements.{All-nil, All-cons, All-head, All-tail}
 use Rattle.mt_model.specs.declared.log.Host.{Host}
 use Rattle.mt_model.specs.declared.log.Row.{Row}
 use Rattle.mt_model.specs.declared.limits.TheConstants.{MAX_LOCAL, MAX_SKEW, MAX_TIME}
@@ -15,6 +16,11 @@ slice_get-all : {X : Type 0} (P : X → Type 0) (xs : List X) (k : ℕ) → All 
 slice_get-all P [] k all = tt
 slice_get-all P (x ∷ xs) zero all = All-head P x xs all
 slice_get-all P (x ∷ xs) (suc k) all = slice_get-all P xs k (All-tail P x xs all)
+
+-- what holds of each element of a mapped list
+pub all-of-mapped : {A B : Type 0} (P : B → Type 0) (g : A → B) (xs : List A) → All P (map g xs) → All (λ x. P (g x)) xs
+all-of-mapped P g [] all = All-nil (λ x. P (g x))
+all-of-mapped P g (x ∷ xs) all = All-cons (λ y. P (g y)) x xs (All-head P (g x) (map g xs) all) (all-of-mapped P g xs (All-tail P (g x) (map g xs) all))
 
 module _ (log : Logged) (valid : IsLog log) where
   local-near : (e : ℕ) → IsWithin MAX_LOCAL (local_of log e)
@@ -42,3 +48,8 @@ module _ (log : Logged) (valid : IsLog log) where
         low = omega (arith, ints, low, local.low, skew);
         high = omega (arith, ints, high, local.high, skew);
       }
+
+  pub times-near : (t : List ℤ) → Admissible log t → All (IsWithin MAX_TIME) t
+  times-near t admissible k d below =
+      let near = admissible-near t admissible (suc k) (omega (arith, below, admissible.count)) in
+      rw (get_or_default t k d (pos 0) below) near

@@ -1,5 +1,5 @@
 -- What a solution of the edges of a log's bounds means for the log, and what a negative cycle of them means.
-use Rattle.std.proofs.Common.{◌≡◌, sym, ap, refl, arith, ℕ, zero, suc, ◌+◌, ◌*◌, ◌^◌, ◌<◌, ◌≤◌, List, [], ◌∷◌, length, map, drop, Some, All, ℤ, pos, ◌+ℤ◌, ◌-ℤ◌, ◌≤ℤ◌}
+use Rattle.std.proofs.Common.{◌≡◌, sym, ap, refl, arith, ℕ, zero, suc, ◌+◌, ◌<◌, List, [], ◌∷◌, length, map, Some, All, ℤ, pos, ◌+ℤ◌, ◌-ℤ◌}
 use Rattle.std.specs.Prelude.{IfSome, option_map, slice_index_or}
 use Rattle.std.proofs.lemmas.Int.{ints}
 use Rattle.std.proofs.lemmas.List.{get_or-map, length-map}
@@ -16,6 +16,7 @@ use Rattle.mt_model.specs.Timing.{Admissible}
 use Rattle.mt_model.specs.Walks.{Edge, HasEdges, IsClosedWalk, LeadsTo, Meets, edge_of, node_time, sum_of_bounds}
 use Rattle.skew_bounds.proofs.BoundCounts.{few-bounds}
 use Rattle.skew_bounds.specs.Edges.{AreEdges, bound_at, edge_in}
+use Rattle.skew_bounds.specs.RowTimes.{times_of}
 use Rattle.skew_bounds.specs.Consistency.{IsConflict, VisitsOnce, start_of}
 
 tail-same : {A B C : Type 0} (f : A → C) (g : B → C) (x : A) (xs : List A) (y : B) (ys : List B) → map f (x ∷ xs) ≡ map g (y ∷ ys) → (f x ≡ g y) × (map f xs ≡ map g ys)
@@ -133,7 +134,7 @@ conflict-of log bounds edges places are cycle once = record {
 
 -- a potential gives an admissible timing
 pub timing-of : BoundsAreAdmissible → (log : Logged) (bounds : List Bound) (edges : List SystemEdge) (numbers : List ℤ) → bounds ≡ bounds_of log → AreEdges log bounds edges
-    → All (system.IsEdge (length log.rows + 1)) edges → system.IsPotential (length log.rows + 1) edges numbers → Admissible log (map (λ y. y -ℤ system.number_of numbers 0) (drop 1 numbers))
+    → All (system.IsEdge (length log.rows + 1)) edges → system.IsPotential (length log.rows + 1) edges numbers → Admissible log (times_of numbers)
 timing-of law log bounds edges [] listed are within potential = absurd (let count = potential.count in omega arith)
 timing-of law log bounds edges (x ∷ xs) listed are within potential =
     let met = bounds-met log (length log.rows + 1) bounds edges x xs are potential.count within potential.meets in
@@ -151,13 +152,6 @@ system-of log bounds edges valid listed are within = record {
   few_edges = let few = rw (← listed) at (few-bounds log) in omega (arith, few, count-edges log bounds edges are, valid.few_rows, valid.few_extras);
   each = within;
 }
-
--- and their bounds are far from the ends of a number
-pub bounds-within : (nodes : ℕ) (edges : List SystemEdge) → All (system.IsEdge nodes) edges → system.HasBoundsWithin (2 ^ 90) edges
-bounds-within nodes edges within k d below = (within k d below).bound
-
-pub numbers-high : (nodes : ℕ) (numbers : List ℤ) → nodes ≤ 65 → All (λ x. x ≤ℤ pos (nodes * 2 ^ 90)) numbers → All (λ x. x ≤ℤ pos (2 ^ 120)) numbers
-numbers-high nodes numbers few high k d below = let here = high k d below in omega (arith, ints, here)
 
 -- the places of a cycle are places of bounds
 pub places-within : (log : Logged) (bounds : List Bound) (edges : List SystemEdge) (places : List ℕ) → AreEdges log bounds edges → system.IsClosedWalk edges places → All (λ p. p < length bounds) places

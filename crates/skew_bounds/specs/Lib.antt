@@ -1,4 +1,5 @@
 pub mod Edges
+pub mod RowTimes
 pub mod Consistency
 pub mod Differences
 pub mod BoundTable

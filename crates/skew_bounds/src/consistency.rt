@@ -1,12 +1,13 @@
-ghost use Rattle.std.specs.Prelude.{◌≡◌, ◌+◌, ◌<◌, ◌^◌, length, map, drop, All, IsSome, IfOk, ℤ, pos, ◌-ℤ◌, ◌≤ℤ◌};
+ghost use Rattle.std.specs.Prelude.{◌≡◌, ◌+◌, ◌<◌, length, map, All, IsSome, IfOk};
 ghost use Rattle.mt_model.specs.Bounds.{bounds_of, step_of as step_of_bound};
 ghost use Rattle.mt_model.specs.Walks.{edge_of};
-ghost use Rattle.neg_cycle.specs.Systems.{IsEdge, number_of};
+ghost use Rattle.neg_cycle.specs.Systems.{IsEdge};
 ghost use Rattle.skew_bounds.specs.Consistency.{Settles};
 ghost use Rattle.skew_bounds.specs.Edges.{AreEdges, bound_at};
 
 use crate::edges::edge_of;
 use crate::list::bounds;
+use crate::times::times_of;
 use mt_model::{Bound, Log, Step, Steps, Times, bounds_are_admissible};
 use neg_cycle::{EdgeList, Outcome, solve};
 use std::alloc::{AllocError, Global};
@@ -35,41 +36,6 @@ pub fn edges_of(alloc: Global, log: &Log, bounds: &[Bound]) -> Result<EdgeList, 
         }
     }
     Ok(edges)
-}
-
-fn difference(number: i128, zero: i128) -> i128
-    requires number_low { pos 0 ≤ℤ number }
-    requires number_high { number ≤ℤ pos (2 ^ 120) }
-    requires zero_low { pos 0 ≤ℤ zero }
-    requires zero_high { zero ≤ℤ pos (2 ^ 120) }
-    ensures { result ≡ number -ℤ zero }
-{
-    number - zero
-}
-
-// The numbers of the rows, relative to that of the zero moment.
-fn relative(alloc: Global, zero: i128, numbers: &[i128]) -> Result<Times, AllocError>
-    requires zero_low { pos 0 ≤ℤ zero }
-    requires zero_high { zero ≤ℤ pos (2 ^ 120) }
-    requires low { All (λ x. pos 0 ≤ℤ x) numbers.now }
-    requires high { All (λ x. x ≤ℤ pos (2 ^ 120)) numbers.now }
-    ensures { IfOk result (λ t. t ≡ map (λ x. x -ℤ zero) numbers.now) }
-{
-    let mut times = Times::new(alloc);
-    for number in numbers {
-        times.push(difference(*number, zero))?;
-    }
-    Ok(times)
-}
-
-// The times of the rows, where these are the numbers of the nodes.
-fn times_of(alloc: Global, numbers: &[i128]) -> Result<Times, AllocError>
-    requires some { 0 < length numbers.now }
-    requires low { All (λ x. pos 0 ≤ℤ x) numbers.now }
-    requires high { All (λ x. x ≤ℤ pos (2 ^ 120)) numbers.now }
-    ensures { IfOk result (λ t. t ≡ map (λ x. x -ℤ number_of numbers.now 0) (drop 1 numbers.now)) }
-{
-    relative(alloc, numbers[0], &numbers[1..])
 }
 
 /// A bound as a step of a walk.

@@ -16,6 +16,7 @@ mod matrix;
 mod rows;
 mod table;
 mod tightening;
+mod times;
 
 pub use broken::first_broken;
 pub use consistency::{Consistency, edges_of, settle, step_of};
@@ -23,3 +24,4 @@ pub use differences::Tight;
 pub use edges::edge_of;
 pub use list::bounds;
 pub use tightening::{TightFault, tight};
+pub use times::times_of;

@@ -3,7 +3,6 @@ use Rattle.std.proofs.Common.{◌≡◌, ap, subst, refl, inl, inr, ℕ, ◌<◌
 use Rattle.std.specs.Prelude.{codes}
 use Rattle.mt_model.specs.Form.{Form}
 use Rattle.mt_model.specs.Log.{Logged}
-use Rattle.mtl_encode.specs.Size.{size}
 use Rattle.mtl_encode.specs.declared.size.TheConstants.{MAX_SIZE}
 use Rattle.report_text.specs.declared.report.Report.{Report}
 use Rattle.verdict.specs.declared.answer.Part.{Part}

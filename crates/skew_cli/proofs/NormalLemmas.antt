@@ -1,6 +1,6 @@
 -- What clap makes of the normal list of a command.
-use Rattle.std.proofs.Common.{◌≡◌, ◌∙◌, ◌++◌, ap, ap₂, refl, sym, true, List, Option, Some, None, [], ◌∷◌}
-use Rattle.clap.specs.Words.{App, HasMatchesOf, Row, first_of, first_value, found_of, matches_of, rows_of, takes}
+use Rattle.std.proofs.Common.{◌≡◌, ◌∙◌, ◌++◌, ap, ap₂, refl, sym, true, List, Option, Some, None, []}
+use Rattle.clap.specs.Words.{App, HasMatchesOf, Row, first_of, found_of, matches_of, rows_of, takes}
 use Rattle.clap.specs.declared.parser.matches.ArgMatches.{ArgMatches}
 use Rattle.clap.proofs.OnLiterals.{clap_on_literals}
 use Rattle.clap.proofs.WalkLemmas.{both, first_value-rows}

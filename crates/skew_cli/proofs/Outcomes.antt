@@ -15,10 +15,13 @@ use Rattle.skew_cli.specs.declared.refusal.Named.{Named}
 use Rattle.skew_cli.specs.declared.refusal.Named.TheVariants as named
 use Rattle.skew_cli.specs.declared.refusal.Refusal.{Refusal}
 use Rattle.skew_cli.specs.declared.refusal.Refusal.TheVariants as refusal
+use Rattle.skew_cli.specs.declared.reply.Reply.{Reply}
+use Rattle.skew_cli.specs.declared.reply.Stop.{Stop}
 use Rattle.skew_cli.specs.declared.status.Status.{Status}
 use Rattle.skew_cli.specs.Outcome.{Agree, CommandOutcome, Ends, Outcome}
 use Rattle.skew_cli.specs.Refusals.{Refuses, status_of, text_of}
-use Rattle.skew_cli.specs.Stops.{NoAnswer}
+use Rattle.skew_cli.specs.Reads.{IsQuestion}
+use Rattle.skew_cli.specs.Stops.{Gives, HasReason, NoAnswer}
 use Rattle.skew_cli.specs.Texts.{line}
 use Rattle.skew_cli.specs.AuditOutcome.{AuditOfLog, AuditOfReport, AuditOutcome}
 use Rattle.skew_cli.specs.CheckOutcome.{CheckOfLog, CheckOutcome}
@@ -27,7 +30,7 @@ use Rattle.skew_cli.specs.Tests.{OnFile, OnFormula, OnHosts, OnLog, OnNodes, OnQ
 use Rattle.skew_cli.specs.TimesOutcome.{TimesOfLog, TimesOutcome}
 use Rattle.skew_cli.specs.OrderOutcome.{OrderOfLog, OrderOutcome}
 use Rattle.skew_cli.specs.Words.{Audit, Check, Command, Demo, Order, Replay, Times, Word, command_of}
-use Rattle.skew_cli.proofs.Steps.{At}
+use Rattle.skew_cli.proofs.Steps.{At, gives-weaker, question-read, reason-weaker}
 
 -- what is due may be said in a weaker way
 pub Ends-weaker : (D E : List ℕ → Status → Type 0) (old now : List ℕ) (s : Status) → ((b : List ℕ) (t : Status) → D b t → E b t) → Ends D old now s → Ends E old now s
@@ -106,9 +109,16 @@ module _ (held files : Files) (agree : Agree held files) (out : List ℕ) (s : S
   same-command (Audit conflicts formula log report) = same-audit conflicts formula log report
   same-command (Demo seed) = λ h. h
 
--- a refusal before a formula and a log are read is one, whatever comes after them
-pub question-refused : (files : Files) (formula log : Word) (next : List ℕ → Form → Logged → List ℕ → Status → Type 0) (r : Refusal) → At (OnQuestion files formula log NoAnswer) r → At (OnQuestion files formula log next) r
-question-refused files formula log next r = same-question files files (λ name is. refl) (line (text_of r)) (status_of r) formula log NoAnswer next (λ text f l h. absurd h)
+module _ (files : Files) (formula log : Word) (next : List ℕ → Form → Logged → List ℕ → Status → Type 0) where
+  -- what stops the reading of a formula and a log, whatever comes after them
+  pub question-stopped : (s : Stop) → HasReason s (At (OnQuestion files formula log NoAnswer)) → HasReason s (At (OnQuestion files formula log next))
+  question-stopped s =
+      reason-weaker s (At (OnQuestion files formula log NoAnswer)) (At (OnQuestion files formula log next))
+      (λ r. same-question files files (λ name is. refl) (line (text_of r)) (status_of r) formula log NoAnswer next (λ text f l h. absurd h))
+
+  -- what is given for a formula and a log, once they were read
+  pub question-given : (text : List ℕ) (f : Form) (l : Logged) (result : Result Reply Stop) → IsQuestion files formula log text f l → Gives (next text f l) result → Gives (OnQuestion files formula log next) result
+  question-given text f l result q = gives-weaker result (next text f l) (OnQuestion files formula log next) (λ out s. question-read files formula log next text f l out s q)
 
 -- the outcome of a command, for files that agree with those that are held
 pub Outcome-command : (words : List Word) (c : Command) (held files : Files) (out : List ℕ) (s : Status) → command_of words ≡ Some c → Agree held files → CommandOutcome c held out s → Outcome words files out s

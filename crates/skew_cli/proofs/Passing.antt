@@ -1,5 +1,5 @@
 -- What is asked of an answer where the tests before it are known to pass.
-use Rattle.std.proofs.Common.{◌≡◌, subst, ℕ, ◌<◌, ◌≤◌, Bool, true, false, List, length, Some, None, Ok, arith}
+use Rattle.std.proofs.Common.{◌≡◌, subst, ℕ, ◌<◌, ◌≤◌, true, false, List, length, Some, None, Ok, arith}
 use Rattle.std.specs.Prelude.{MatchResult, nat_lt}
 use Rattle.std.proofs.lemmas.Bool.Decides.{nat_tests}
 use Rattle.mt_model.specs.Form.{Form}

@@ -1,9 +1,8 @@
 -- What `replay` answers for the witness of a report.
-use Rattle.std.proofs.Common.{◌≡◌, ap, sym, subst, refl, inl, inr, ℕ, ◌≤◌, ◌<◌, Bool, true, false, List, length, Some, Ok, ℤ}
-use Rattle.std.specs.Prelude.{All}
-use Rattle.mt_model.specs.declared.limits.TheConstants.{MAX_TIME}
+use Rattle.std.proofs.Common.{sym, inl, inr, ℕ, ◌≤◌, Bool, true, false, List, length, ℤ, arith}
 use Rattle.mt_model.specs.Form.{Form}
-use Rattle.mt_model.specs.Log.{Logged, IsWithin}
+use Rattle.mt_model.specs.Log.{Logged}
+use Rattle.log_read.specs.ValidLogs.{LogsAreValid}
 use Rattle.mtl_parse.specs.Laws.{TextsAreUnambiguous}
 use Rattle.report_text.specs.declared.report.Report.{Report}
 use Rattle.report_text.specs.declared.report.Report.TheVariants as report
@@ -16,9 +15,9 @@ use Rattle.skew_cli.specs.Laws.{IsWitnessOf, WitnessesAreReplayed}
 use Rattle.skew_cli.specs.Outcome.{Says}
 use Rattle.skew_cli.specs.ReplayOutcome.{ReplayOfLog, ReplayOfTimes, value_status, value_text}
 use Rattle.skew_cli.specs.Tests.{OnFile, OnNodes, OnTimes}
-use Rattle.skew_cli.specs.Texts.{line, times_text}
-use Rattle.skew_cli.proofs.Passing.{pass-file, pass-hosts, pass-nodes, pass-question, too-long}
-use Rattle.skew_cli.proofs.TimesBack.{times-back}
+use Rattle.skew_cli.specs.Texts.{times_text}
+use Rattle.skew_cli.proofs.Passing.{pass-file, pass-hosts, pass-nodes, pass-question}
+use Rattle.skew_cli.proofs.TimesBack.{times-back, times-short}
 
 module _ (log : Logged) (f : Form) (conflicts : ℕ) where
   -- a witness of a right report is an admissible timing in which the formula has the value
@@ -40,17 +39,15 @@ module _ (log : Logged) (f : Form) (conflicts : ℕ) where
   pub times-read : (t : List ℤ) (out : List ℕ) (s : Status) → IsSpelledWitness (length log.rows) t → OnTimes (times_text t) log (ReplayOfTimes log f) out s → ReplayOfTimes log f t out s
   times-read t out s spelled h = rw (sym spelled.full, times-back t spelled.each) at h
 
-pub witnesses-replayed : TextsAreUnambiguous → WitnessesAreReplayed
-witnesses-replayed texts files conflicts formula log name text f l written out found s checked v t q is held h =
+pub witnesses-replayed : TextsAreUnambiguous → LogsAreValid → WitnessesAreReplayed
+witnesses-replayed texts logs files conflicts formula log name text f l written out found s checked v t q is held h =
     let times = λ (file : List ℕ). OnTimes file l (ReplayOfTimes l f) in
     let on_file = OnFile files name TIMES_LIMIT named.Times times in
     let on_hosts = pass-question out s texts files formula log (ReplayOfLog files name) text f l q.question h in
     let on_nodes = pass-hosts out s text f l (OnNodes f on_file) q.judged.nodes.hosts on_hosts in
     let asked = pass-nodes out s f on_file q.judged.nodes.few on_nodes in
-    record {
-      replayed = λ within.
-          let on_times = pass-file out s files name TIMES_LIMIT named.Times times (times_text t) held within asked in
-          let spelled = witness-spelled l f conflicts checked.report v t checked.right is in
-          replay-value l f conflicts v t out s (witness-right l f conflicts checked.report v t checked.right is) (times-read l f conflicts t out s spelled on_times);
-      too_long = λ longer. too-long out s files name TIMES_LIMIT named.Times times (times_text t) held longer asked;
-    }
+    let spelled = witness-spelled l f conflicts checked.report v t checked.right is in
+    let valid = logs q.question.file l q.question.log_read in
+    let short : length (times_text t) ≤ TIMES_LIMIT = omega (arith, times-short t spelled.each, spelled.full, valid.few_rows) in
+    let on_times = pass-file out s files name TIMES_LIMIT named.Times times (times_text t) held short asked in
+    replay-value l f conflicts v t out s (witness-right l f conflicts checked.report v t checked.right is) (times-read l f conflicts t out s spelled on_times)

@@ -1,5 +1,5 @@
 -- That each seed has a valid log.
-use Rattle.std.proofs.Common.{◌≡◌, ◌∙◌, sym, ap, refl, ℕ, zero, suc, ◌+◌, ◌*◌, ◌/◌, ◌%◌, ◌-◌, ◌<◌, ◌≤◌, ◌^◌, ◌==◌, ◌&&◌, ◌||◌, Bool, true, false, List, [], ◌∷◌, ◌++◌, map, length, Option, Some, None, pos, ◌+ℤ◌, ◌≤ℤ◌, arith}
+use Rattle.std.proofs.Common.{◌≡◌, ◌∙◌, sym, ap, refl, ℕ, zero, suc, ◌+◌, ◌*◌, ◌/◌, ◌%◌, ◌-◌, ◌<◌, ◌==◌, ◌&&◌, ◌||◌, Bool, true, false, List, [], ◌∷◌, ◌++◌, map, length, Option, Some, None, pos, arith}
 use Rattle.std.specs.Prelude.{All, AllPairs, Any, IfSome, codes, nat_le, if◌then◌else◌}
 use Rattle.std.specs.Fmt.{decimal}
 use Rattle.std.specs.List.{list_all, range_with_len}
@@ -9,13 +9,12 @@ use Rattle.std.proofs.lemmas.Int.{ints}
 use Rattle.std.proofs.lemmas.List.{append_cancel_left}
 use Rattle.std.proofs.lemmas.List.FromFn.{get_or-map-range_with_len, length-map-range_with_len, map-range_with_len_more}
 use Rattle.mt_model.specs.declared.limits.TheConstants.{MAX_LOCAL}
-use Rattle.mt_model.specs.declared.log.Act.{Act}
 use Rattle.mt_model.specs.declared.log.Act.TheVariants.{Set, Clear}
 use Rattle.mt_model.specs.declared.log.Host.{Host}
 use Rattle.mt_model.specs.declared.log.Row.{Row}
 use Rattle.mt_model.specs.Log.{AreRows, Logged, IsHost, IsRow, IsSent, IsWithin, SendSame, name_in, received_by, sent_by}
 use Rattle.mt_model.specs.Name.{is_digit, is_letter, is_name, is_name_byte}
-use Rattle.skew_cli.specs.DemoLog.{SeedsHaveLogs, demo_act, demo_host, demo_row, draw_for, log_of_seed, numbered, switched}
+use Rattle.skew_cli.specs.DemoLog.{SeedsHaveLogs, demo_act, demo_host, demo_row, draw_for, log_of_seed, numbered}
 
 -- what holds of a list that is made from places
 module _ {X : Type 0} (f : ℕ → X) (n : ℕ) where

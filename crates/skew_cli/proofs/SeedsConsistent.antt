@@ -1,10 +1,9 @@
 -- That the log of each seed admits its local times.
 use Rattle.std.proofs.Common.{◌≡◌, ◌∙◌, sym, ap, refl, ℕ, ◌+◌, ◌*◌, ◌/◌, ◌%◌, ◌<◌, ◌≤◌, true, false, List, map, length, get_or, Option, Some, None, pos, ◌+ℤ◌, ◌≤ℤ◌, arith}
-use Rattle.std.specs.Prelude.{bytes_eq, codes, option_and_then, position, slice_get}
+use Rattle.std.specs.Prelude.{bytes_eq, option_and_then, position, slice_get}
 use Rattle.std.specs.List.{range_with_len}
 use Rattle.std.specs.Option.{option_map_or}
 use Rattle.std.proofs.lemmas.Int.{ints}
-use Rattle.std.proofs.lemmas.List.{get_or-map}
 use Rattle.std.proofs.lemmas.List.FromFn.{get_or-map-range_with_len, length-map-range_with_len}
 use Rattle.std.proofs.lemmas.List.Quantifiers.{position-Some}
 use Rattle.std.proofs.lemmas.Option.{slice_get-get_or}
@@ -14,7 +13,7 @@ use Rattle.mt_model.specs.declared.log.Row.{Row}
 use Rattle.mt_model.specs.Log.{received_by, sent_by}
 use Rattle.mt_model.specs.Timing.{gap_of, host_of, is_send_of, local_of, previous_row, received_in, send_of, skew_of, time_of}
 use Rattle.mt_model.proofs.PreviousRows.{is_last}
-use Rattle.skew_cli.specs.DemoLog.{SeedsAreConsistent, demo_act, demo_host, demo_row, draw_for, local_times, log_of_seed, numbered}
+use Rattle.skew_cli.specs.DemoLog.{SeedsAreConsistent, demo_act, demo_host, demo_row, draw_for, local_times, log_of_seed}
 use Rattle.skew_cli.proofs.SeedLogs.{numbered-one, received-act, sent-act}
 
 made-at : {X : Type 0} (f : ℕ → X) (n i : ℕ) → i < n → slice_get (map f (range_with_len 0 n)) i ≡ Some (f i)

@@ -5,7 +5,6 @@ use Rattle.mt_model.specs.Log.{Logged}
 use Rattle.mt_model.specs.Timing.{Admissible}
 use Rattle.mt_model.specs.Truth.{IsValue, truth}
 use Rattle.skew_bounds.specs.Tight.{IsConsistent}
-use Rattle.report_text.specs.declared.report.Section.{Section}
 use Rattle.report_text.specs.declared.report.Section.TheVariants as section
 use Rattle.report_text.specs.declared.report.Report.{Report}
 use Rattle.report_text.specs.declared.report.Report.TheVariants as report

@@ -48,6 +48,11 @@ reason-weaker stop.ReadFailed P Q weaker h = tt
 abbrev pub At : (List ℕ → Status → Type 0) → Refusal → Type 0
 At Due r = Due (line (text_of r)) (status_of r)
 
+-- what was given may be said in a weaker way
+pub gives-weaker : (result : Result Reply Stop) (P Q : List ℕ → Status → Type 0) → ((out : List ℕ) (s : Status) → P out s → Q out s) → Gives P result → Gives Q result
+gives-weaker (Ok reply) P Q weaker h = weaker reply.text.items reply.status h
+gives-weaker (Err s) P Q weaker h = reason-weaker s (At P) (At Q) (λ r. weaker (line (text_of r)) (status_of r)) h
+
 module _ (files : Files) (name : Word) (limit : ℕ) (named : Named) (next : List ℕ → List ℕ → Status → Type 0) where
   pub file-refused : (r : Refusal) → (r ≡ refusal.Length named) × IsLonger (file_of files name) limit → At (OnFile files name limit named next) r
   file-refused r h = go (file_of files name) h.1
@@ -136,11 +141,17 @@ module _ (held : Files) (name : Word) (limit : ℕ) (named : Named) (text : List
       let file = OnFile held name limit named next in
       hosts-known text f log (OnNodes f file) out s known (nodes-few f file out s few h)
 
-  pub third-too_long : (r : Refusal) → (r ≡ refusal.Length named) × IsLonger (file_of held name) limit → At (OnHosts text f log (OnNodes f (OnFile held name limit named next))) r
-  third-too_long r why = third-reached (line (text_of r)) (status_of r) (file-refused held name limit named next r why)
+  -- what stops the reading of it
+  pub third-too_long : {Tells : Type 0} → Tells → (s : Stop) → HasReason s (λ r. (r ≡ refusal.Length named) × (Tells → IsLonger (file_of held name) limit)) → HasReason s (At (OnHosts text f log (OnNodes f (OnFile held name limit named next))))
+  third-too_long {Tells} tells s =
+      reason-weaker s (λ r. (r ≡ refusal.Length named) × (Tells → IsLonger (file_of held name) limit)) (At (OnHosts text f log (OnNodes f (OnFile held name limit named next))))
+      (λ r why. third-reached (line (text_of r)) (status_of r) (file-refused held name limit named next r (why.0, why.1 tells)))
 
-  pub third-read : (file : List ℕ) (out : List ℕ) (s : Status) → file_of held name ≡ Some file → length file ≤ limit → next file out s → OnHosts text f log (OnNodes f (OnFile held name limit named next)) out s
-  third-read file out s is within h = third-reached out s (file-read held name limit named next file out s is within h)
+  -- what is given for it, once it was read
+  pub third-given : (file : List ℕ) (result : Result Reply Stop) → file_of held name ≡ Some file → length file ≤ limit → Gives (next file) result → Gives (OnHosts text f log (OnNodes f (OnFile held name limit named next))) result
+  third-given file result is within =
+      gives-weaker result (next file) (OnHosts text f log (OnNodes f (OnFile held name limit named next)))
+      (λ out s h. third-reached out s (file-read held name limit named next file out s is within h))
 
 -- a place that is found is in the list
 position_from-below : {X : Type 0} (test : X → Bool) (xs : List X) (i k : ℕ) → position_from test i xs ≡ Some k → k < i + length xs
@@ -154,11 +165,6 @@ position_from-below test (x ∷ xs) i k found = go (test x) refl found (position
 -- the number of an unknown host is that of a proposition
 pub unknown-below : (log : Logged) (f : Form) (number : ℕ) → Some number ≡ unknown_host log f → number < length (propositions_of f)
 unknown-below log f number is = let below = position_from-below _ (propositions_of f) 0 number (sym is) in omega arith
-
--- what was given may be said in a weaker way
-pub gives-weaker : (result : Result Reply Stop) (P Q : List ℕ → Status → Type 0) → ((out : List ℕ) (s : Status) → P out s → Q out s) → Gives P result → Gives Q result
-gives-weaker (Ok reply) P Q weaker h = weaker reply.text.items reply.status h
-gives-weaker (Err s) P Q weaker h = reason-weaker s (At P) (At Q) (λ r. weaker (line (text_of r)) (status_of r)) h
 
 -- what a formula and a log come to, and what is answered before that
 module _ (files : Files) (formula log : Word) (next : List ℕ → Form → Logged → List ℕ → Status → Type 0) where

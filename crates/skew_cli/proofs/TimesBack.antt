@@ -1,14 +1,14 @@
--- Times that were written are read as what they were.
-use Rattle.std.proofs.Common.{◌≡◌, ◌∙◌, ap, ap₂, sym, refl, arith, ℕ, zero, suc, ◌+◌, ◌-◌, ◌<◌, ◌≤◌, ◌^◌, Bool, true, false, cond, List, [], ◌∷◌, ◌++◌, length, take, map, get_or, Option, Some, None, Ok, ℤ, pos, negsuc, ◌+ℤ◌, ◌≤ℤ◌, ◌==◌}
+-- Times that were written are read as what they were, and their text is short.
+use Rattle.std.proofs.Common.{◌≡◌, ◌∙◌, ap, ap₂, refl, arith, ℕ, suc, ◌+◌, ◌*◌, ◌-◌, ◌<◌, ◌≤◌, ◌^◌, Bool, true, false, List, [], ◌∷◌, length, take, map, get_or, Some, None, Ok, ℤ, pos, negsuc, ◌==◌}
 use Rattle.std.specs.Prelude.{◌&&◌, All, is_none, slice_index}
 use Rattle.std.specs.Char.{is_ascii_digit}
 use Rattle.std.specs.Fmt.{decimal, signed_decimal}
 use Rattle.std.specs.List.{filter_map, list_all, position_from, slice_split}
 use Rattle.std.specs.Str.Lines.{lines, lines_of_parts, strip_carriage_return}
 use Rattle.std.proofs.lemmas.Bool.Decides.{nat_tests}
-use Rattle.std.proofs.lemmas.Fmt.{decimal_nonempty, digits_decimal}
+use Rattle.std.proofs.lemmas.Fmt.{digits_decimal, length-decimal-le}
 use Rattle.std.proofs.lemmas.Int.{ints}
-use Rattle.std.proofs.lemmas.List.{append_assoc, length-map, take_all}
+use Rattle.std.proofs.lemmas.List.{append_assoc, length-append, length-map, take_all}
 use Rattle.std.proofs.lemmas.List.Elements.{All-cons, All-get_or, All-head, All-nil, All-tail, All-weaker}
 use Rattle.std.proofs.lemmas.List.Splits.{length-slice_split, slice_split_at}
 use Rattle.log_read.proofs.PrintedNumbers.{signed-printed}
@@ -16,7 +16,7 @@ use Rattle.mt_model.proofs.Digits.{digits_model}
 use Rattle.mt_model.specs.declared.limits.TheConstants.{MAX_TIME}
 use Rattle.mt_model.specs.Log.{IsWithin}
 use Rattle.times_read.specs.TimesOf.{first_bad, time_in, times_in, times_of}
-use Rattle.skew_cli.specs.Texts.{times_text}
+use Rattle.skew_cli.specs.Texts.{line, times_text}
 
 both : (a b : Bool) → (a && b) ≡ true → (a ≡ true) × (b ≡ true)
 both true b h = (refl, h)
@@ -91,3 +91,19 @@ numbers-back t each =
 -- the text of times is read as these times
 pub times-back : (t : List ℤ) → All (IsWithin MAX_TIME) t → times_of (length t) (times_text t) ≡ Ok t
 times-back t each = ap (times_in (length t)) (lines-times t each) ∙ numbers-back t each
+
+time-short : (z : ℤ) → IsWithin MAX_TIME z → length (signed_decimal z) ≤ 21
+time-short (pos n) within =
+    let digits = length-decimal-le 20 n (omega arith) (omega (arith, ints, within.high)) (omega (arith, ints, within.high)) in
+    omega (arith, digits)
+time-short (negsuc n) within =
+    let digits = length-decimal-le 20 (suc n) (omega arith) (omega (arith, ints, within.low)) (omega (arith, ints, within.low)) in
+    omega (arith, digits)
+
+-- a line of the text is no longer than a sign, twenty digits and its end
+pub times-short : (t : List ℤ) → All (IsWithin MAX_TIME) t → length (times_text t) ≤ 22 * length t
+times-short [] each = omega arith
+times-short (z ∷ t) each =
+    let here = time-short z (All-head (IsWithin MAX_TIME) z t each) in
+    let rest = times-short t (All-tail (IsWithin MAX_TIME) z t each) in
+    omega (arith, length-append (line (signed_decimal z)) (times_text t), length-append (signed_decimal z) (10 ∷ []), here, rest)

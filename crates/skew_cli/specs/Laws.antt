@@ -1,5 +1,5 @@
 -- What the statuses of `check` and `audit` say of the values that a formula can have, and that `audit` accepts what `check` wrote.
-use Rattle.std.specs.Prelude.{◌≡◌, ◌↔◌, ◌||◌, ◌≤◌, ◌<◌, ℕ, Bool, true, false, IsTrue, List, length, codes, Some, Ok, ℤ}
+use Rattle.std.specs.Prelude.{◌≡◌, ◌↔◌, ◌≤◌, ◌<◌, ℕ, Bool, true, false, IsTrue, List, length, codes, Some, Ok, ℤ}
 use Rattle.mt_model.specs.Form.{Form}
 use Rattle.mt_model.specs.Log.{Logged}
 use Rattle.mt_model.specs.Timing.{Admissible}
@@ -127,13 +127,8 @@ IsWitnessOf (report.Inconsistent events steps) v t = ⊥
 IsWitnessOf (report.Verdicts events on_true on_false) true t = on_true ≡ section.Witness t
 IsWitnessOf (report.Verdicts events on_true on_false) false t = on_false ≡ section.Witness t
 
--- what `replay` answers for a timing, written with a number on each line: the value, unless the text is longer than a file of times may be
-pub record IsReplayed (v : Bool) (t : List ℤ) (out : List ℕ) (s : Status) : Type 0 where
-  pub replayed : length (times_text t) ≤ TIMES_LIMIT → Says (value_text v) (value_status v) out s
-  pub too_long : TIMES_LIMIT < length (times_text t) → Refuses (refusal.Length named.Times) out s
-
--- with the timing that `check` gave for a value, `replay` answers the value
+-- with the timing that `check` gave for a value, written with a number on each line, `replay` answers the value
 abbrev pub WitnessesAreReplayed : Type 0
 WitnessesAreReplayed =
     (files : Files) (conflicts : ℕ) (formula log name : Word) (text : List ℕ) (f : Form) (l : Logged) (written out : List ℕ) (found s : Status) (checked : Checked conflicts f l written found) (v : Bool) (t : List ℤ)
-    → IsJudgedQuestion files formula log text f l → IsWitnessOf checked.report v t → file_of files name ≡ Some (times_text t) → ReplayOutcome files formula log name out s → IsReplayed v t out s
+    → IsJudgedQuestion files formula log text f l → IsWitnessOf checked.report v t → file_of files name ≡ Some (times_text t) → ReplayOutcome files formula log name out s → Says (value_text v) (value_status v) out s

@@ -2,6 +2,7 @@ ghost use Rattle.skew_cli.specs.DemoLaws.{DemosAreExact, DemosAreJudged};
 ghost use Rattle.skew_cli.specs.DemoLog.{SeedsAreConsistent, SeedsHaveLogs};
 ghost use Rattle.skew_cli.specs.Laws.{AcceptedFilesAreTrue, ChecksAreAccepted, ChecksAreExact, ChecksAreJudged, UnknownIsBounded, WitnessesAreReplayed};
 
+use log_read::logs_are_valid;
 use mtl_parse::texts_are_unambiguous;
 use report_text::{bytes_are_unambiguous, texts_read_back};
 use verdict::{audits_are_exact, right_reports_are_accepted, spent_conflicts_are_bounded};
@@ -42,12 +43,12 @@ pub fn unknown_is_bounded()
     spent_conflicts_are_bounded();
 }
 
-/// With the timing that `check` gave for a value, written with a number on each line, `replay` answers the value,
-/// or the text is longer than a file of times may be.
+/// With the timing that `check` gave for a value, written with a number on each line, `replay` answers the value.
 pub fn witnesses_are_replayed()
     ensures { WitnessesAreReplayed }
 {
     texts_are_unambiguous();
+    logs_are_valid();
 }
 
 /// Each seed has a valid log, which admits its local times, and of which the formula of the demo is judged. What `demo`

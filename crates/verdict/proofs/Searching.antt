@@ -6,28 +6,19 @@ use Rattle.mt_model.specs.Form.{Form}
 use Rattle.mt_model.specs.Log.{IsLog, IsWithin, Logged}
 use Rattle.mt_model.specs.Timing.{Admissible}
 use Rattle.mt_model.specs.Truth.{truth}
-use Rattle.neg_cycle.specs.Systems.{number_of}
+use Rattle.skew_bounds.specs.RowTimes.{times_of}
 use Rattle.axiom_rules.specs.declared.rule.Rule.{Rule}
 use Rattle.proof_log.specs.declared.line.Line.{Line}
 use Rattle.proof_log.specs.Derivations.{Refutes}
 use Rattle.proof_log.specs.Freshness.{Spends}
 use Rattle.mtl_encode.specs.Kept.{Kept}
-use Rattle.mtl_encode.specs.Models.{times_of}
 use Rattle.cdcl_core.specs.Founds.{lessons}
 use Rattle.report_text.specs.declared.report.Section.TheVariants as section
 use Rattle.report_text.specs.Spelled.{IsSpelledSection}
 use Rattle.verdict.specs.Right.{IsRightSection}
-use Rattle.verdict.proofs.Spelling.{lines_spelled, times_near, witness_spelled}
-
-all_mapped : {A B : Type 0} (P : B → Type 0) (g : A → B) (xs : List A) → All P (map g xs) → All (λ x. P (g x)) xs
-all_mapped P g [] all = All-nil (λ x. P (g x))
-all_mapped P g (x ∷ xs) all = All-cons (λ y. P (g y)) x xs (All-head P (g x) (map g xs) all) (all_mapped P g xs (All-tail P (g x) (map g xs) all))
+use Rattle.verdict.proofs.Spelling.{lines_spelled, witness_spelled}
 
 module _ (log : Logged) (f : Form) (budget : ℕ) (v : Bool) (valid : IsLog log) where
-  -- the numbers of a model are near that of the zero moment
-  pub numbers_near : (numbers : List ℤ) → Admissible log (times_of numbers) → All (λ x. IsWithin MAX_TIME (x -ℤ number_of numbers 0)) (drop 1 numbers)
-  numbers_near numbers admissible = all_mapped (IsWithin MAX_TIME) (λ x. x -ℤ number_of numbers 0) (drop 1 numbers) (times_near log (times_of numbers) valid admissible)
-
   pub model_right : (numbers t : List ℤ) → t ≡ times_of numbers → Admissible log (times_of numbers) → truth log (times_of numbers) 0 f ≡ v → IsRightSection log f budget v (section.Witness t)
   model_right numbers t same admissible value = rw same (record { admissible = admissible; value = value })
 

@@ -6,19 +6,13 @@ use Rattle.mt_model.specs.declared.limits.TheConstants.{MAX_TIME}
 use Rattle.mt_model.specs.Form.{Form}
 use Rattle.mt_model.specs.Log.{IsLog, IsWithin, Logged}
 use Rattle.mt_model.specs.Timing.{Admissible}
-use Rattle.skew_bounds.proofs.Near.{admissible-near}
+use Rattle.skew_bounds.proofs.Near.{times-near}
 use Rattle.proof_log.specs.declared.line.Line.{Line}
 use Rattle.proof_log.specs.Derivations.{NoneWrong}
 use Rattle.report_text.specs.Spelled.{AreSpelledLines, IsSpelledWitness}
 
-pub times_near : (log : Logged) (t : List ℤ) → IsLog log → Admissible log t → All (IsWithin MAX_TIME) t
-times_near log t valid admissible k d below =
-    let near = admissible-near log valid t admissible (suc k) (omega (arith, below, admissible.count)) in
-    let there = get_or_default t k d (pos 0) below in
-    rw there near
-
 pub witness_spelled : (log : Logged) (t : List ℤ) (events : ℕ) → IsLog log → Admissible log t → events ≡ length log.rows → IsSpelledWitness events t
-witness_spelled log t events valid admissible same = record { full = admissible.count ∙ sym same; each = times_near log t valid admissible }
+witness_spelled log t events valid admissible same = record { full = admissible.count ∙ sym same; each = times-near log valid t admissible }
 
 -- lines of which none is wrong have a spelling each
 pub lines_spelled : (log : Logged) (f : Form) (v : Bool) (lines : List Line) (budget : ℕ) → NoneWrong log f v lines → budget ≤ 1000000 → length lines ≤ 2 * budget → AreSpelledLines lines

@@ -1,14 +1,10 @@
 //! Reports of the values that a formula can have.
 
-ghost use Rattle.std.specs.Prelude.{◌≡◌, ◌<◌, ◌≤◌, ◌+◌, drop, length, map, All, IfErr, IfOk, OnOk, ◌-ℤ◌};
+ghost use Rattle.std.specs.Prelude.{◌≡◌, ◌≤◌, ◌+◌, length, IfErr, IfOk, OnOk};
 ghost use Rattle.mt_model.specs.Form.{form_of};
-ghost use Rattle.mt_model.specs.Log.{IsWithin};
 ghost use Rattle.mt_model.specs.Timing.{Admissible};
 ghost use Rattle.mt_model.specs.Truth.{truth};
-ghost use Rattle.mt_model.specs.declared.limits.TheConstants.{MAX_TIME};
-ghost use Rattle.neg_cycle.specs.Systems.{number_of};
 ghost use Rattle.formula_arena.specs.Nodes.{nodes_of as nodes_of_form};
-ghost use Rattle.mtl_encode.specs.Models.{times_of as times_of_numbers};
 ghost use Rattle.skew_bounds.specs.Tight.{IsConsistent};
 ghost use Rattle.report_text.specs.Spelled.{IsSpelledSection};
 ghost use Rattle.verdict.specs.Claims.{Claims};
@@ -23,36 +19,8 @@ use cdcl_core::{Found, search};
 use mt_model::{Formula, Log, Times, bounds_are_admissible};
 use mtl_encode::encode;
 use report_text::{Report, Section};
-use skew_bounds::{Consistency, settle};
+use skew_bounds::{Consistency, settle, times_of};
 use std::alloc::{AllocError, Global};
-
-fn difference(number: i128, zero: i128) -> i128
-    requires { IsWithin MAX_TIME (number -ℤ zero) }
-    ensures { result ≡ number -ℤ zero }
-{
-    number - zero
-}
-
-// The numbers of the rows, relative to that of the zero moment.
-fn relative(alloc: Global, zero: i128, numbers: &[i128]) -> Result<Times, AllocError>
-    requires { All (λ x. IsWithin MAX_TIME (x -ℤ zero)) numbers.now }
-    ensures { IfOk result (λ t. t ≡ map (λ x. x -ℤ zero) numbers.now) }
-{
-    let mut times = Times::new(alloc);
-    for number in numbers {
-        times.push(difference(*number, zero))?;
-    }
-    Ok(times)
-}
-
-// The times of the rows, where these are the numbers of the nodes.
-fn times_of(alloc: Global, numbers: &[i128]) -> Result<Times, AllocError>
-    requires some { 0 < length numbers.now }
-    requires range { All (λ x. IsWithin MAX_TIME (x -ℤ number_of numbers.now 0)) (drop 1 numbers.now) }
-    ensures { IfOk result (λ t. t ≡ times_of_numbers numbers.now) }
-{
-    relative(alloc, numbers[0], &numbers[1..])
-}
 
 // What a search finds of a value, with so many conflicts at most.
 fn searched(

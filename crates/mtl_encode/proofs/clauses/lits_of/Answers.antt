@@ -1,4 +1,4 @@
-use Rattle.std.proofs.Common.{◌≡◌, ◌∙◌, ap, sym, length, take, arith}
+use Rattle.std.proofs.Common.{◌∙◌, ap, sym, length, take, arith}
 use Rattle.std.proofs.lemmas.List.{length-take}
 use Rattle.mtl_encode.proofs.AtomGrowth.{Keeps, atoms-more, keeps-atom, longer-atoms, read-more}
 use Rattle.mtl_encode.proofs.clauses.lits_of.Goals as goal

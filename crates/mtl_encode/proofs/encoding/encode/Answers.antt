@@ -1,9 +1,8 @@
-use Rattle.std.proofs.Common.{◌≡◌, ◌+◌, ap, length, refl}
+use Rattle.std.proofs.Common.{◌+◌, ap, length}
 use Rattle.axiom_rules.specs.Sought.{sought_of}
 use Rattle.skew_bounds.proofs.BoundCounts.{all-have}
 use Rattle.mtl_encode.proofs.EncodeLemmas.{all-listed, few-atoms, fits-of, lists-of, room-first, room-of}
 use Rattle.mtl_encode.proofs.ModelLemmas.{model-exact}
-use Rattle.mtl_encode.specs.Growth.{HasRoom}
 use Rattle.mtl_encode.specs.Instances.{instances}
 use Rattle.mtl_encode.proofs.encoding.encode.Goals as goal
 

@@ -1,6 +1,8 @@
-use Rattle.std.proofs.Common.{◌≤◌, ◌^◌, ◌+◌, arith, length}
+use Rattle.std.proofs.Common.{arith}
+use Rattle.skew_bounds.specs.RowTimes.{times_of}
 use Rattle.skew_bounds.proofs.BoundCounts.{all-have}
-use Rattle.skew_bounds.proofs.Settled.{bounds-within, conflict-of, numbers-high, places-within, system-of, timing-of}
+use Rattle.skew_bounds.proofs.Near.{times-near}
+use Rattle.skew_bounds.proofs.Settled.{conflict-of, places-within, system-of, timing-of}
 use Rattle.skew_bounds.proofs.consistency.settle.Goals as goal
 
 pub edges_of-requires : goal.edges_of-requires
@@ -14,16 +16,12 @@ solve-requires c =
 
 pub times_of-requires : goal.times_of-requires
 times_of-requires c =
-    let nodes = length c.args.log.now.rows + 1 in
+    let are = rw (c.as_slice.ensures.items) at c.in_ok-edges.ensures.edges in
     let found = rw (c.rows.ensures.same, c.as_slice-2.ensures.items, c.in-Potential.is) at c.in_ok-outcome.ensures.found in
-    let low = rw (c.in-Potential.is) at c.in_ok-outcome.ensures.low in
-    let within = bounds-within nodes c.in_ok-edges.edges c.in_ok-edges.ensures.within in
-    let high = rw (c.rows.ensures.same, c.in-Potential.is) at (c.in_ok-outcome.ensures.high (2 ^ 90) (rw c.as_slice-2.ensures.items within)) in
-    let few : nodes ≤ 65 = let valid = c.rows.ensures.valid in omega (arith, valid.few_rows) in
+    let admissible = timing-of c.bounds_are_admissible.ensures c.args.log.now c.in_ok-bounds.bounds c.in_ok-edges.edges c.in-Potential.numbers c.in_ok-bounds.ensures.list are c.in_ok-edges.ensures.within found in
     rw c.as_slice-in-Potential.ensures.items (record {
-      some = let count = found.count in omega arith;
-      low = low;
-      high = numbers-high nodes c.in-Potential.numbers few high;
+      some = let count = found.count in omega (arith, count);
+      near = times-near c.args.log.now c.rows.ensures.valid (times_of c.in-Potential.numbers) admissible;
     })
 
 pub returns-in-Potential : goal.returns-in-Potential
@@ -31,7 +29,7 @@ returns-in-Potential c =
     let are = rw (c.as_slice.ensures.items) at c.in_ok-edges.ensures.edges in
     let found = rw (c.rows.ensures.same, c.as_slice-2.ensures.items, c.in-Potential.is) at c.in_ok-outcome.ensures.found in
     let admissible = timing-of c.bounds_are_admissible.ensures c.args.log.now c.in_ok-bounds.bounds c.in_ok-edges.edges c.in-Potential.numbers c.in_ok-bounds.ensures.list are c.in_ok-edges.ensures.within found in
-    let times = rw (c.as_slice-in-Potential.ensures.items) at c.in_ok-times-in-Potential.ensures in
+    let times = rw (c.as_slice-in-Potential.ensures.items) at c.in_ok-times-in-Potential.ensures.times in
     record { answer = rw times admissible }
 
 pub steps_of-requires : goal.steps_of-requires

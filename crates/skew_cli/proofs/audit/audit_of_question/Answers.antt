@@ -1,46 +1,48 @@
+use Rattle.std.proofs.Common.{ℕ, List, Err}
 use Rattle.std.proofs.lemmas.Result.{err_from_is_err_and}
-use Rattle.mt_model.specs.Form.{form_of}
+use Rattle.mt_model.specs.Form.{Form, form_of}
+use Rattle.mt_model.specs.Log.{Logged}
 use Rattle.skew_cli.specs.declared.limits.TheConstants.{REPORT_LIMIT}
 use Rattle.skew_cli.specs.declared.refusal.Named.TheVariants as named
-use Rattle.skew_cli.specs.AuditOutcome.{AuditOfLog, AuditOfReport}
-use Rattle.skew_cli.specs.Refusals.{status_of, text_of}
+use Rattle.skew_cli.specs.declared.status.Status.{Status}
+use Rattle.skew_cli.specs.AuditOutcome.{AuditOfReport}
+use Rattle.skew_cli.specs.Stops.{TellsFaultyLine}
 use Rattle.skew_cli.specs.Tests.{OnReport, OnSize}
-use Rattle.skew_cli.specs.Texts.{line}
-use Rattle.skew_cli.proofs.Steps.{At, gives-weaker, reason-weaker, report-read, report-refused, third-read, third-too_long}
+use Rattle.skew_cli.proofs.Steps.{At, gives-weaker, reason-weaker, report-read, report-refused, third-given, third-too_long}
 use Rattle.skew_cli.proofs.audit.audit_of_question.Goals as goal
+
+-- what is answered for a report's file
+abbrev AuditOfFile : ℕ → Form → Logged → List ℕ → List ℕ → Status → Type 0
+AuditOfFile conflicts f log file = OnReport file (λ r. OnSize f log (AuditOfReport conflicts f log r))
 
 pub returns-in_err-file-clause-outcome : goal.returns-in_err-file-clause-outcome
 returns-in_err-file-clause-outcome g c = λ tells.
     let p = err_from_is_err_and c.from_residual-in_err-file.result c.from_residual-in_err-file.ensures.1 in
-    let held = g.S.Shelf.files c.args.shelf.now in
     let q = c.args.question.now in
     let f = form_of q.formula in
-    rw (p.1, p.2) (reason-weaker c.in_err-file.field-0.0 _ (At (AuditOfLog held c.args.conflicts c.args.report.now q.text.items f q.log))
-    (λ r why. third-too_long held c.args.report.now REPORT_LIMIT named.Report q.text.items f q.log (λ bytes. OnReport bytes (λ r. OnSize f q.log (AuditOfReport c.args.conflicts f q.log r))) c.in_ok-known_hosts.ensures.known c.in_ok-few_nodes.ensures.few r (why.0, why.1 tells))
-    c.in_err-file.ensures.refused)
+    rw (p.1, p.2) (third-too_long (g.S.Shelf.files c.args.shelf.now) c.args.report.now REPORT_LIMIT named.Report q.text.items f q.log (AuditOfFile c.args.conflicts f q.log) c.in_ok-known_hosts.ensures.known c.in_ok-few_nodes.ensures.few
+    tells c.in_err-file.field-0.0 c.in_err-file.ensures.refused)
 
 pub returns-in_err-report-clause-outcome : goal.returns-in_err-report-clause-outcome
 returns-in_err-report-clause-outcome g c = λ tells.
     let p = err_from_is_err_and c.from_residual-in_err-report.result c.from_residual-in_err-report.ensures.1 in
-    let held = g.S.Shelf.files c.args.shelf.now in
     let q = c.args.question.now in
     let f = form_of q.formula in
     let file = c.in_ok-file.file.items in
+    let stop = c.in_err-report.field-0.0 in
     let refused = rw c.deref-2.ensures.value at c.in_err-report.ensures.refused in
-    rw (p.1, p.2) (reason-weaker c.in_err-report.field-0.0 _ (At (AuditOfLog held c.args.conflicts c.args.report.now q.text.items f q.log))
-    (λ r why. third-read held c.args.report.now REPORT_LIMIT named.Report q.text.items f q.log (λ bytes. OnReport bytes (λ r. OnSize f q.log (AuditOfReport c.args.conflicts f q.log r))) c.in_ok-known_hosts.ensures.known c.in_ok-few_nodes.ensures.few file (line (text_of r)) (status_of r) (c.in_ok-file.ensures.whole tells) c.in_ok-file.ensures.within
-    (report-refused file (λ r. OnSize f q.log (AuditOfReport c.args.conflicts f q.log r)) r why))
-    refused)
+    rw (p.1, p.2) (third-given (g.S.Shelf.files c.args.shelf.now) c.args.report.now REPORT_LIMIT named.Report q.text.items f q.log (AuditOfFile c.args.conflicts f q.log) c.in_ok-known_hosts.ensures.known c.in_ok-few_nodes.ensures.few
+    file (Err stop) (c.in_ok-file.ensures.whole tells) c.in_ok-file.ensures.within
+    (reason-weaker stop (TellsFaultyLine file) (At (AuditOfFile c.args.conflicts f q.log file)) (report-refused file (λ r. OnSize f q.log (AuditOfReport c.args.conflicts f q.log r))) refused))
 
 pub returns-clause-outcome : goal.returns-clause-outcome
 returns-clause-outcome g c = λ tells.
-    let held = g.S.Shelf.files c.args.shelf.now in
     let q = c.args.question.now in
     let f = form_of q.formula in
     let file = c.in_ok-file.file.items in
     let report = c.in_ok-report.report in
     let reads = rw c.deref-2.ensures.value at c.in_ok-report.ensures.report in
-    gives-weaker c.audit_of_report.result (OnSize f q.log (AuditOfReport c.args.conflicts f q.log report)) (AuditOfLog held c.args.conflicts c.args.report.now q.text.items f q.log)
-    (λ out s h. third-read held c.args.report.now REPORT_LIMIT named.Report q.text.items f q.log (λ bytes. OnReport bytes (λ r. OnSize f q.log (AuditOfReport c.args.conflicts f q.log r))) c.in_ok-known_hosts.ensures.known c.in_ok-few_nodes.ensures.few file out s (c.in_ok-file.ensures.whole tells) c.in_ok-file.ensures.within
-    (report-read file (λ r. OnSize f q.log (AuditOfReport c.args.conflicts f q.log r)) report out s reads h))
-    c.audit_of_report.ensures.outcome
+    third-given (g.S.Shelf.files c.args.shelf.now) c.args.report.now REPORT_LIMIT named.Report q.text.items f q.log (AuditOfFile c.args.conflicts f q.log) c.in_ok-known_hosts.ensures.known c.in_ok-few_nodes.ensures.few
+    file c.audit_of_report.result (c.in_ok-file.ensures.whole tells) c.in_ok-file.ensures.within
+    (gives-weaker c.audit_of_report.result (OnSize f q.log (AuditOfReport c.args.conflicts f q.log report)) (AuditOfFile c.args.conflicts f q.log file)
+    (λ out s. report-read file (λ r. OnSize f q.log (AuditOfReport c.args.conflicts f q.log r)) report out s reads) c.audit_of_report.ensures.outcome)

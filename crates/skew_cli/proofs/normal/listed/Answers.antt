@@ -1,4 +1,4 @@
-use Rattle.std.proofs.Common.{◌≡◌, ◌∙◌, ap, arith, length, map, take}
+use Rattle.std.proofs.Common.{◌≡◌, ◌∙◌, arith, length, map}
 use Rattle.std.specs.Prelude.{option_map}
 use Rattle.std.proofs.Math.Seq.{take-length}
 use Rattle.skew_cli.proofs.NormalLemmas.{operands-last}

@@ -1,7 +1,9 @@
 use Rattle.std.proofs.Common.{arith}
 use Rattle.mt_model.specs.Form.{form_of}
+use Rattle.skew_bounds.specs.RowTimes.{times_of}
+use Rattle.skew_bounds.proofs.Near.{times-near}
 use Rattle.cdcl_core.proofs.Posing.{posed}
-use Rattle.verdict.proofs.Searching.{model_right, model_spelled, numbers_near, refuted_right, refuted_spelled, spent_right, spent_spelled}
+use Rattle.verdict.proofs.Searching.{model_right, model_spelled, refuted_right, refuted_spelled, spent_right, spent_spelled}
 use Rattle.verdict.proofs.deciding.searched.Goals as goal
 
 pub encode-requires : goal.encode-requires
@@ -19,7 +21,7 @@ times_of-requires c =
     let exact = c.in_ok-problem.ensures.exact f c.requires.nodes c.requires.root c.in-Model.values c.in-Model.potentials model in
     rw c.as_slice.ensures.items (record {
       some = let count = model.numbers_count in let nodes = fits.nodes in omega (arith, count, nodes);
-      range = numbers_near c.args.log.now f c.args.budget c.args.value c.rows.ensures.valid c.in-Model.potentials exact.0;
+      near = times-near c.args.log.now c.rows.ensures.valid (times_of c.in-Model.potentials) exact.0;
     })
 
 pub returns-in-Model : goal.returns-in-Model
@@ -29,7 +31,7 @@ returns-in-Model c =
     let fits = c.in_ok-problem.ensures.fits f c.requires.nodes c.requires.root in
     let model = rw c.in-Model.is at (c.in_ok-potentials.ensures.found log f c.args.value c.rows.ensures.valid fits) in
     let exact = c.in_ok-problem.ensures.exact f c.requires.nodes c.requires.root c.in-Model.values c.in-Model.potentials model in
-    let same = rw c.as_slice.ensures.items at c.in_ok-times_of-in-Model.ensures in
+    let same = rw c.as_slice.ensures.items at c.in_ok-times_of-in-Model.ensures.times in
     record {
       right = model_right log f c.args.budget c.args.value c.rows.ensures.valid c.in-Model.potentials c.in_ok-times_of-in-Model.field-0 same exact.0 exact.1;
       spelled = model_spelled log f c.args.budget c.args.value c.rows.ensures.valid c.in-Model.potentials c.in_ok-times_of-in-Model.field-0 same exact.0;

@@ -1,11 +1,11 @@
 use Rattle.mt_model.specs.Form.{form_of}
-use Rattle.verdict.proofs.Spelling.{times_near}
+use Rattle.skew_bounds.proofs.Near.{times-near}
 use Rattle.verdict.proofs.deciding.value_in.Goals as goal
 
 pub truth-requires : goal.truth-requires
 truth-requires c = record {
   count = rw c.in_ok-judge.ensures.log c.requires.admissible.count;
-  range = times_near c.args.log.now c.args.times.now c.rows.ensures.valid c.requires.admissible;
+  range = times-near c.args.log.now c.rows.ensures.valid c.args.times.now c.requires.admissible;
 }
 
 pub returns : goal.returns

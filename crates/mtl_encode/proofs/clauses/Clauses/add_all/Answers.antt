@@ -1,4 +1,3 @@
-use Rattle.std.specs.Prelude.{slice_index}
 use Rattle.mtl_encode.proofs.ClauseGrowth.{gains-next, room-next}
 use Rattle.mtl_encode.specs.Instances.{of_number}
 use Rattle.mtl_encode.proofs.clauses.Clauses.add_all.Goals as goal
