@@ -1,5 +1,6 @@
 ghost use Rattle.std.specs.Prelude.{◌≡◌, ◌<◌, ◌≤◌, [], length, IsTrue, IfOk, OnOk, All};
 ghost use Rattle.propagate.specs.Clauses.{HasReasons};
+ghost use Rattle.propagate.specs.Closed.{Closed};
 ghost use Rattle.propagate.specs.Reach.{IsConflict};
 ghost use Rattle.propagate.specs.Steps.{InStep};
 ghost use Rattle.analyze.specs.Asserting.{HasHere, IsFalseSince};
@@ -78,6 +79,7 @@ impl Run {
         requires few { vars < 8 }
         ensures vars { IfOk result (λ r. r.trail.vars ≡ vars) }
         ensures step { IfOk result (λ r. InStep r.trail db.now r.links [] r.graph) }
+        ensures closed { IfOk result (λ r. Closed r.trail db.now) }
         ensures room { IfOk result (λ r. r.trail.vars ≤ r.graph.capacity) }
     {
         set_links_are_linked();
@@ -96,9 +98,11 @@ impl Run {
     fn decide(&mut self, db: &Db, lit: Lit) -> Result<(), Fail>
         requires in_range { lit.var < self.old.trail.vars }
         requires step { InStep self.old.trail db.now self.old.links [] self.old.graph }
+        requires closed { Closed self.old.trail db.now }
         requires room { self.old.trail.vars ≤ self.old.graph.capacity }
         ensures vars { OnOk result (self.new.trail.vars ≡ self.old.trail.vars) }
         ensures step { OnOk result (InStep self.new.trail db.now self.new.links [] self.new.graph) }
+        ensures closed { OnOk result (Closed self.new.trail db.now) }
         ensures room { OnOk result (self.new.trail.vars ≤ self.new.graph.capacity) }
     {
         room_for_all_is_room();
@@ -120,6 +124,7 @@ impl Run {
     fn conflict(&mut self, db: &Db, decisions: &[Lit]) -> Result<ClauseRef, Fail>
         requires in_range { All (λ l. l.var < self.old.trail.vars) decisions.now }
         requires step { InStep self.old.trail db.now self.old.links [] self.old.graph }
+        requires closed { Closed self.old.trail db.now }
         requires room { self.old.trail.vars ≤ self.old.graph.capacity }
         ensures reasons { OnOk result (HasReasons self.new.trail db.now) }
         ensures conflict { IfOk result (IsConflict self.new.trail db.now) }

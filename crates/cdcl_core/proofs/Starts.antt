@@ -104,10 +104,10 @@ module _ (cores : CoresAreCores) (nodes_law : NodesAreSubtrees) (p : Problem) (p
   recorded ranges log f v valid fits = begun log f v p (of_log log f v valid fits) fits (rules_spelled (sought_of log f v) p fits ranges)
 
   -- the search before the first conflict
-  pub started : NewTrailIsInStep → (vars : ℕ) (links : List (Option (Edge × Edge))) (t : Assigned) (g : Constraints) (d : Derived) → vars ≡ length p.atoms → t.vars ≡ vars → t.entries ≡ [] → t.levels ≡ [] → IsTrail t
+  pub started : NewTrailIsInStep → (vars : ℕ) (links : List (Option (Edge × Edge))) (t : Assigned) (g : Constraints) (d : Derived) → vars ≡ length p.atoms → t.vars ≡ vars → t.entries ≡ [] → t.levels ≡ [] → t.watching.watches ≡ [] → IsTrail t
       → g.nodes ≡ p.nodes → g.capacity ≡ length p.edges + vars → g.edges ≡ p.edges → AreLinks p.atoms links → d.db ≡ p.db → d.cites.items ≡ map hint.Rule p.rules → d.lines ≡ [] → All IsRuleInRange p.rules
       → IsSearch p vars links t g d 0
-  started law vars links t g d count assigned none flat trail same room held linked own cites lines ranges = record {
+  started law vars links t g d count assigned none flat unwatched trail same room held linked own cites lines ranges = record {
     count = count;
     assigned = assigned;
     nodes = same;
@@ -115,7 +115,7 @@ module _ (cores : CoresAreCores) (nodes_law : NodesAreSubtrees) (p : Problem) (p
     links_are = linked;
     run = record {
       trail = trail;
-      step = law t d.db links p.edges g none flat (subst (λ (n : ℕ). All (All (λ (l : Lit). l.var < n)) d.db) (sym (assigned ∙ count)) (rw own (fits_within (sought_of posed.log posed.form posed.value) p posed.fits)))
+      step = law t d.db links p.edges g none flat unwatched (subst (λ (n : ℕ). All (All (λ (l : Lit). l.var < n)) d.db) (sym (assigned ∙ count)) (rw own (fits_within (sought_of posed.log posed.form posed.value) p posed.fits)))
           (links_fit t g p.atoms links (assigned ∙ count) (rw same posed_orders) linked) held;
       closed = λ m deep. absurd (let levels : length t.levels ≡ 0 = ap length flat in omega (arith, deep, levels));
     };

@@ -6,7 +6,7 @@ use Rattle.std.specs.Option.{option_map_or}
 use Rattle.std.proofs.lemmas.Bool.{and_parts}
 use Rattle.std.proofs.lemmas.Bool.Decides.{nat_tests}
 use Rattle.std.proofs.lemmas.Option.{slice_get_within}
-use Rattle.mt_model.specs.Form.{Form, True, False, Prop, Not, And, Or, Implies, Until, Since, Eventually, Always, Once, Historically}
+use Rattle.mt_model.specs.Form.{Form}
 use Rattle.mt_model.specs.State.{Change, change_at, changes_of, host_named}
 use Rattle.mt_model.proofs.Members.{Among}
 use Rattle.axiom_rules.specs.declared.fault.RuleFault.{RuleFault}

@@ -1,9 +1,9 @@
 -- The order atoms of the rules are over rows of the log.
-use Rattle.std.proofs.Common.{◌≡◌, refl, subst, ℕ, zero, suc, ◌+◌, ◌==◌, ◌<◌, ◌≤◌, Bool, true, false, if◌then◌else◌, List, [], length, Option, Some, None, Ok, arith, ℤ, pos, ◌-ℤ◌, neg_ℤ}
+use Rattle.std.proofs.Common.{◌≡◌, refl, ℕ, zero, suc, ◌+◌, ◌==◌, ◌<◌, ◌≤◌, Bool, true, false, if◌then◌else◌, List, [], length, Option, Some, None, Ok, arith, ℤ, pos, ◌-ℤ◌, neg_ℤ}
 use Rattle.std.specs.Prelude.{int_le, nat_lt, option_and_then, option_map, slice_get}
 use Rattle.std.specs.List.{AllByRecursion, cons_option, filter_map, range_with_len}
 use Rattle.std.specs.Option.{option_map_or}
-use Rattle.mt_model.specs.Form.{Form, True, False, Prop, Not, And, Or, Implies, Until, Since, Eventually, Always, Once, Historically}
+use Rattle.mt_model.specs.Form.{Form}
 use Rattle.mt_model.specs.State.{Change, change_at, changes_of, effect_of, host_named}
 use Rattle.mt_model.specs.Timing.{host_of}
 use Rattle.mt_model.proofs.Members.{Among}

@@ -1,15 +1,13 @@
--- Literals of a trail, and what a scan of a clause knows step by step.
-use Rattle.std.proofs.Common.{◌≡◌, ◌∙◌, ap, sym, subst, refl, ℕ, ◌<◌, ◌⊎◌, inl, inr, List, [], ◌∷◌, ◌++◌, length, take, drop, get_or, Option, Some, None, Bool, true, false, not}
+-- Literals of a trail.
+use Rattle.std.proofs.Common.{◌≡◌, ◌∙◌, ap, sym, refl, ℕ, ◌<◌, List, length, get_or, Some, Bool, true, false, not}
 use mathlib.Core.Bool.{beq}
 use Rattle.std.specs.List.{Contains}
-use Rattle.std.proofs.lemmas.List.{length-map, get_or-map, get_or_read, take-append-drop}
-use Rattle.std.proofs.lemmas.List.Elements.{All-push, All-weaker, Contains-append_left, Contains-push}
-use Rattle.hint_refutation.specs.Propagation.{IsSettled}
+use Rattle.std.proofs.lemmas.List.{length-map, get_or-map, get_or_read}
 use Rattle.clause_db.specs.declared.lit.Lit.{Lit}
 use Rattle.clause_db.specs.Literals.{negation}
 use Rattle.propagate.specs.declared.entry.Entry.{Entry}
 use Rattle.propagate.specs.Trails.{no_entry, entry_at, literals, IsUnassigned, HasEntry}
-use Rattle.propagate.specs.Clauses.{IsFalsified, IsFront, IsTruth, IsUnit}
+use Rattle.propagate.specs.Clauses.{IsTruth}
 
 -- the literal at a place is one of the literals, and each of them is at a place
 pub literal_held : (xs : List Entry) (k : ℕ) (l : Lit) → k < length xs → (entry_at xs k).lit ≡ l → Contains (literals xs) l
@@ -54,51 +52,3 @@ truth_is xs l true true found sense = truth_same xs l true found sense
 truth_is xs l true false found sense = truth_other xs l true found (λ same. absurd cc)
 truth_is xs l false true found sense = truth_other xs l false found (λ same. absurd cc)
 truth_is xs l false false found sense = truth_same xs l false found sense
-
-module _ (es : List Entry) (front : List Lit) (x : Lit) where
-  pub front_false : (free : Option Lit) → IsFront es front free → Contains (literals es) (negation x) → IsFront es (front ++ x ∷ []) free
-  front_false None known held = All-push (λ (l : Lit). Contains (literals es) (negation l)) front x known held
-  front_false (Some u) known held = record {
-    leaves = record {
-      has = Contains-append_left front (x ∷ []) u known.leaves.has;
-      others_false = All-push (λ (l : Lit). (l ≡ u) ⊎ Contains (literals es) (negation l)) front x known.leaves.others_false (inr held);
-    };
-    unassigned = known.unassigned;
-  }
-
-  pub front_free : IsFalsified es front → IsUnassigned es x.var → IsUnit es (front ++ x ∷ []) x
-  front_free known free = record {
-    leaves = record {
-      has = Contains-push front x;
-      others_false = All-push (λ (l : Lit). (l ≡ x) ⊎ Contains (literals es) (negation l)) front x
-          (All-weaker (λ (l : Lit). Contains (literals es) (negation l)) (λ (l : Lit). (l ≡ x) ⊎ Contains (literals es) (negation l)) (λ l held. inr held) front known) (inl refl);
-    };
-    unassigned = free;
-  }
-
-  pub front_again : (u : Lit) → IsUnit es front u → u ≡ x → IsUnit es (front ++ x ∷ []) u
-  front_again u known same = record {
-    leaves = record {
-      has = Contains-append_left front (x ∷ []) u known.leaves.has;
-      others_false = All-push (λ (l : Lit). (l ≡ u) ⊎ Contains (literals es) (negation l)) front x known.leaves.others_false (inl (sym same));
-    };
-    unassigned = known.unassigned;
-  }
-
-contains_take : (i : ℕ) (xs : List Lit) (l : Lit) → Contains (take i xs) l → Contains xs l
-contains_take i xs l has = subst (λ (ys : List Lit). Contains ys l) (take-append-drop i xs) (Contains-append_left (take i xs) (drop i xs) l has)
-
--- a clause with a true literal, or with two that are unassigned, is settled
-pub settled_true : (es : List Entry) (clause : List Lit) (k : ℕ) (x : Lit) → k < length clause → get_or clause k x ≡ x → Contains (literals es) x → IsSettled negation (literals es) clause
-settled_true es clause k x within is held = inl (k, x, within, is, held)
-
-pub settled_two : (es : List Entry) (clause : List Lit) (i : ℕ) (u x : Lit) → IsUnit es (take i clause) u → (u ≡ x → ⊥) → IsUnassigned es x.var → Contains clause x → IsSettled negation (literals es) clause
-settled_two es clause i u x known other free has = inr (record {
-  one = u;
-  other = x;
-  has_one = contains_take i clause u known.leaves.has;
-  has_other = has;
-  differ = other;
-  one_open = unassigned_not_held es u (negation u) known.unassigned refl;
-  other_open = unassigned_not_held es x (negation x) free refl;
-})

@@ -13,6 +13,7 @@ use Rattle.propagate.specs.Trails.{Assigned, literals, IsTrail, IsUnassigned, fo
 use Rattle.propagate.specs.Clauses.{HasReasons}
 use Rattle.propagate.specs.Steps.{IsInStep, InStep}
 use Rattle.propagate.specs.Laws.{AddedClauseKeepsStep, StepHoldsMarks, RoomForAllIsRoom}
+use Rattle.propagate.proofs.WatchedLemmas.{watched_added}
 use Rattle.propagate.proofs.TrailLemmas.{few_literals, trail_followed}
 use Rattle.propagate.proofs.StepLemmas.{step_marks, lacks_marks}
 
@@ -31,6 +32,7 @@ step_added : (held : List Lit) (t : Assigned) (db : List (List Lit)) (clause : L
     → IsInStep held t db links base g → IsInStep held t (db ++ clause ∷ []) links base g
 step_added held t db clause links base g below step = record {
   reasons = reasons_added t db clause below step.reasons;
+  watched = watched_added t db clause step.watched;
   linked = step.linked;
   edges = step.edges;
   marks = step.marks;

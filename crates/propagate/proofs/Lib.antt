@@ -1,8 +1,16 @@
 pub mod TrailLemmas
 pub mod TableLemmas
+pub mod WatchingLemmas
+pub mod StoredLemmas
 pub mod ClauseLemmas
+pub mod PlaceLemmas
+pub mod WatchedLemmas
+pub mod BestLemmas
+pub mod GuardLemmas
+pub mod ClosedLemmas
 pub mod StepLemmas
 pub mod ReachLemmas
-pub mod ClosedLemmas
+pub mod VisitLemmas
+pub mod MoveLemmas
 pub mod LinkLemmas
 pub mod LawLemmas

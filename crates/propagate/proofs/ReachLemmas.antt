@@ -1,6 +1,6 @@
 -- What propagation keeps as it assigns literals.
-use Rattle.std.proofs.Common.{◌≡◌, ◌≢◌, ◌∙◌, ap, sym, refl, ℕ, ◌<◌, inl, inr, List, [], ◌∷◌, ◌++◌, length, take, get_or, arith, Option, Some, None, length-append}
-use Rattle.std.specs.Prelude.{option_to_list, IfSome, IsSome, Bool}
+use Rattle.std.proofs.Common.{◌≡◌, ◌≢◌, ◌∙◌, ap, sym, subst, refl, ℕ, ◌<◌, ◌≤◌, inl, inr, List, [], ◌∷◌, ◌++◌, length, take, get_or, arith, Option, Some, None, Result, Ok, Err, length-append}
+use Rattle.std.specs.Prelude.{option_to_list, IfOk, IfSome, IsSome, OnErr, Bool}
 use Rattle.std.proofs.lemmas.Bool.{cases_lt}
 use Rattle.std.proofs.lemmas.List.{take_at, take_all, take-take, length_push, get_or-take, get_or_append_left}
 use Rattle.std.proofs.lemmas.List.Elements.{All-push, All-weaker, All-contains, All-nil}
@@ -10,14 +10,22 @@ use Rattle.difference_graph.specs.Graphs.{Constraints, HasSameLimits, IfKept, If
 use Rattle.difference_graph.specs.declared.push.Push.{Push}
 use Rattle.difference_graph.specs.declared.push.Push.TheVariants.{Kept, Cycle}
 use Rattle.clause_db.specs.declared.lit.Lit.{Lit}
+use Rattle.hint_refutation.specs.Hints.{LeavesOnly}
+use Rattle.clause_db.specs.Literals.{negation}
 use Rattle.clause_db.specs.Clauses.{clause_at}
 use Rattle.propagate.specs.declared.entry.Entry.{Entry}
 use Rattle.propagate.specs.Links.{edge_in, edge_of, edges_at}
-use Rattle.propagate.specs.Trails.{Assigned, no_entry, entry_at, literals, IsUnassigned, IsTrail, followed}
-use Rattle.propagate.specs.Clauses.{HasReasons, IsReason, IsUnit}
-use Rattle.propagate.specs.Steps.{IsLinked, IsRefused, HasRoomFor}
-use Rattle.propagate.specs.Reach.{IsGrown, IsExtended, IsProgress, IsStopped}
-use Rattle.propagate.proofs.TrailLemmas.{cases_push, new_entry}
+use Rattle.propagate.specs.Trails.{Assigned, no_entry, entry_at, literals, IsUnassigned, IsTrail, followed, rewatched}
+use Rattle.propagate.specs.Watching.{Watching}
+use Rattle.propagate.specs.Clauses.{HasReasons, IsReason}
+use Rattle.propagate.specs.Watched.{AreWatched}
+use Rattle.propagate.specs.Steps.{InStep, IsInStep, IsRefused, HasRoomFor, LacksLast}
+use Rattle.propagate.specs.Reach.{IfClause, IfQuiet, IfTheory, IsAtWork, IsConflict, IsGrown, IsExtended, IsLast, IsProgress, IsReached, IsStopped, UnlessTheory}
+use Rattle.propagate.specs.declared.moves.Reached.{Reached}
+use Rattle.propagate.specs.declared.moves.Reached.TheVariants as reached
+use Rattle.propagate.proofs.TrailLemmas.{cases_push, new_entry, trail_followed}
+use Rattle.propagate.proofs.WatchedLemmas.{watched_push, watched_taken}
+use Rattle.propagate.proofs.ClosedLemmas.{closed_grown}
 use Rattle.propagate.proofs.StepLemmas.{linked_same, reasons_followed, step_followed, lacks_followed}
 
 pub if_kept_from : {A B : Type 0} (r : Push) → IfKept r A → (A → B) → IfKept r B
@@ -28,7 +36,7 @@ pub if_refused_from : {A B : Type 0} (r : Push) → IfRefused r A → (A → B) 
 if_refused_from Kept a f = tt
 if_refused_from Cycle a f = f a
 
-grown_none : (t : Assigned) → IsGrown t t
+pub grown_none : (t : Assigned) → IsGrown t t
 grown_none t = record { vars = refl; levels = refl; longer = omega arith; kept = take_all (length t.entries) t.entries (omega arith); added = λ k after within. absurd (omega (arith, after, within)) }
 
 pub grown_more : (a b c : Assigned) → IsGrown a b → IsGrown b c → IsGrown a c
@@ -44,6 +52,10 @@ grown_more a b c first second = record {
     | inr new ↦ rw first.levels at (second.added k new within)
   ];
 }
+
+-- the old literals are in their places
+pub grown_entry : (a b : Assigned) (k : ℕ) → IsGrown a b → k < length a.entries → entry_at b.entries k ≡ entry_at a.entries k
+grown_entry a b k grown within = sym (get_or-take (length a.entries) b.entries k no_entry within) ∙ ap (λ (xs : List Entry). entry_at xs k) grown.kept
 
 grown_followed : (t : Assigned) (u : Lit) (c : ℕ) → IsGrown t (followed t u c)
 grown_followed t u c =
@@ -128,63 +140,208 @@ module _ (t : Assigned) (links : List (Option (Edge × Edge))) (g : Constraints)
     room_followed : h.edges ≡ g.edges ++ option_to_list (edge_of links u) → HasRoomFor (followed t u c) links h
     room_followed kept = room_more (edge_of links u) refl kept
 
-pub progress_none : (t : Assigned) (db : List (List Lit)) (links : List (Option (Edge × Edge))) (g : Constraints) → HasReasons t db → IsLinked t links g → HasRoomFor t links g → IsProgress db links t g t g
-progress_none t db links g reasons linked room = record {
-  reasons = reasons;
-  linked = linked;
-  room = room;
+pub progress_none : (t : Assigned) (db : List (List Lit)) (links : List (Option (Edge × Edge))) (g : Constraints) → IsAtWork db links t g → IsProgress db links t g t g
+progress_none t db links g work = record {
+  work = work;
   grown = grown_none t;
+  known = omega arith;
   extended = extended_none g;
   in_step = λ base step. step;
 }
 
-pub progress_more : (db : List (List Lit)) (links : List (Option (Edge × Edge))) (a b c : Assigned) (g h i : Constraints) → IsProgress db links a g b h → IsProgress db links b h c i → IsProgress db links a g c i
-progress_more db links a b c g h i first second = record {
-  reasons = second.reasons;
-  linked = second.linked;
-  room = second.room;
-  grown = grown_more a b c first.grown second.grown;
-  extended = extended_more g h i first.extended second.extended;
-  in_step = λ base step. second.in_step base (first.in_step base step);
-}
+module _ (db : List (List Lit)) (links : List (Option (Edge × Edge))) (a b c : Assigned) (g h i : Constraints) (first : IsProgress db links a g b h) where
+  pub progress_more : IsProgress db links b h c i → IsProgress db links a g c i
+  progress_more second = record {
+    work = second.work;
+    grown = grown_more a b c first.grown second.grown;
+    known = let before = first.known in let after = second.known in omega (arith, before, after);
+    extended = extended_more g h i first.extended second.extended;
+    in_step = λ base step. second.in_step base (first.in_step base step);
+  }
 
-pub stopped_more : (db : List (List Lit)) (links : List (Option (Edge × Edge))) (a b c : Assigned) (g h i : Constraints) (u : Lit) → IsProgress db links a g b h → IsStopped db links b h u c i → IsStopped db links a g u c i
-stopped_more db links a b c g h i u first second = record {
-  reasons = second.reasons;
-  grown = grown_more a b c first.grown second.grown;
-  extended = extended_more g h i first.extended second.extended;
-  last = second.last;
-  refused = second.refused;
-  lacks_last = λ base step. second.lacks_last base (first.in_step base step);
-}
+  stopped_more : (u : Lit) → IsStopped db links b h u c i → IsStopped db links a g u c i
+  stopped_more u second = record {
+    reasons = second.reasons;
+    watched = second.watched;
+    grown = grown_more a b c first.grown second.grown;
+    extended = extended_more g h i first.extended second.extended;
+    last = second.last;
+    refused = second.refused;
+    lacks_last = λ base step. second.lacks_last base (first.in_step base step);
+  }
 
--- a unit clause's literal is in range
-pub unit_below : (t : Assigned) (db : List (List Lit)) (c : ℕ) (u : Lit) → HasReasons t db → c < length db → IsUnit t.entries (clause_at db c) u → u.var < t.vars
-unit_below t db c u reasons held unit = All-contains (λ (l : Lit). l.var < t.vars) (clause_at db c) u (reasons.variables c [] held) unit.leaves.has
+  -- where propagation came to, from further back
+  pub reached_more : (r : Reached) → IsReached db links b h r c i → IsReached db links a g r c i
+  reached_more reached.Quiet second = progress_more second
+  reached_more (reached.ClauseConflict k) second = (progress_more second.0, second.1)
+  reached_more (reached.TheoryConflict u) second = stopped_more u second
 
-module _ (t : Assigned) (db : List (List Lit)) (links : List (Option (Edge × Edge))) (g h : Constraints) (u : Lit) (c : ℕ) (held : c < length db) (unit : IsUnit t.entries (clause_at db c) u)
-    (trail : IsTrail t) (reasons : HasReasons t db) (limits : HasSameLimits g h) where
+-- a literal of a clause whose others are false, and that is assigned now
+module _ (t : Assigned) (db : List (List Lit)) (links : List (Option (Edge × Edge))) (g h : Constraints) (u : Lit) (c : ℕ) (held : c < length db) (leaves : LeavesOnly negation (literals t.entries) (clause_at db c) u)
+    (free : IsUnassigned t.entries u.var) (work : IsAtWork db links t g) (limits : HasSameLimits g h) where
   why : IsReason db (literals t.entries) u c
-  why = record { held = held; leaves = unit.leaves }
+  why = record { held = held; leaves = leaves }
 
-  pub progress_followed : IsLinked t links g → HasRoomFor t links g → h.edges ≡ g.edges ++ option_to_list (edge_of links u) → IsProgress db links t g (followed t u c) h
-  progress_followed linked room kept = record {
-    reasons = reasons_followed t db u c reasons why;
-    linked = linked_same t (followed t u c) links g h refl limits linked;
-    room = room_followed t links g room u (unit_below t db c u reasons held unit) unit.unassigned c h limits kept;
+  below : u.var < t.vars
+  below = All-contains (λ (l : Lit). l.var < t.vars) (clause_at db c) u (work.reasons.variables c [] held) leaves.has
+
+  pub progress_followed : h.edges ≡ g.edges ++ option_to_list (edge_of links u) → IsProgress db links t g (followed t u c) h
+  progress_followed kept = record {
+    work = record {
+      trail = trail_followed t u c work.trail below free;
+      reasons = reasons_followed t db u c work.reasons why;
+      watched = watched_push t db (record { lit = u; level = length t.levels; reason = Some c }) t.levels work.trail work.watched;
+      closed = closed_grown t (followed t u c) db (grown_followed t u c) work.closed;
+      linked = linked_same t (followed t u c) links g h refl limits work.linked;
+      room = room_followed t links g work.room u below free c h limits kept;
+    };
     grown = grown_followed t u c;
+    known = omega arith;
     extended = extended_by g h (option_to_list (edge_of links u)) limits kept;
-    in_step = λ base step. step_followed t db links base g h trail limits step u c why kept;
+    in_step = λ base step. step_followed t db links base g h work.trail limits step u c why kept;
   }
 
   pub stopped_followed : h.edges ≡ g.edges → IsRefused links u h → IsStopped db links t g u (followed t u c) h
   stopped_followed same refused =
       let e : Entry = record { lit = u; level = length t.levels; reason = Some c } in
       record {
-        reasons = reasons_followed t db u c reasons why;
+        reasons = reasons_followed t db u c work.reasons why;
+        watched = watched_push t db e t.levels work.trail work.watched;
         grown = grown_followed t u c;
         extended = extended_same g h limits same;
         last = record { place = length t.entries; is_last = length_push t.entries e; is = ap (λ (x : Entry). x.lit) (new_entry t.entries e (length t.entries) refl) };
         refused = refused;
-        lacks_last = λ base step. lacks_followed t db links base g h trail limits step u c why same;
+        lacks_last = λ base step. lacks_followed t db links base g h work.trail limits step u c why same;
       }
+
+-- a literal of a clause that is assigned is in range
+pub literal_below : (t : Assigned) (db : List (List Lit)) (c : ℕ) (u : Lit) → HasReasons t db → c < length db → LeavesOnly negation (literals t.entries) (clause_at db c) u → u.var < t.vars
+literal_below t db c u reasons held leaves = All-contains (λ (l : Lit). l.var < t.vars) (clause_at db c) u (reasons.variables c [] held) leaves.has
+
+-- other watched literals, and other literals taken
+module _ (t : Assigned) (db : List (List Lit)) (w : Watching) (n : ℕ) where
+  abbrev s : Assigned
+  s = rewatched t w n
+
+  reasons_rewatched : HasReasons t db → HasReasons (rewatched t w n) db
+  reasons_rewatched old = record { variables = old.variables; reasons = old.reasons }
+
+  step_rewatched : (held : List Lit) (links : List (Option (Edge × Edge))) (base : List Edge) (g : Constraints) → AreWatched (rewatched t w n) db → IsInStep held t db links base g → IsInStep held (rewatched t w n) db links base g
+  step_rewatched held links base g watched old = record {
+    reasons = reasons_rewatched old.reasons;
+    watched = watched;
+    linked = record { variables = old.linked.variables; edges = old.linked.edges };
+    edges = old.edges;
+    marks = old.marks;
+  }
+
+  pub progress_rewatched : (links : List (Option (Edge × Edge))) (a : Assigned) (g h : Constraints) → IsTrail (rewatched t w n) → AreWatched (rewatched t w n) db → length t.watching.watches ≤ length w.watches
+      → IsProgress db links a g t h → IsProgress db links a g (rewatched t w n) h
+  progress_rewatched links a g h trail watched more old = record {
+    work = record {
+      trail = trail;
+      reasons = reasons_rewatched old.work.reasons;
+      watched = watched;
+      closed = old.work.closed;
+      linked = record { variables = old.work.linked.variables; edges = old.work.linked.edges };
+      room = old.work.room;
+    };
+    grown = record { vars = old.grown.vars; levels = old.grown.levels; longer = old.grown.longer; kept = old.grown.kept; added = old.grown.added };
+    known = let known = old.known in omega (arith, known, more);
+    extended = old.extended;
+    in_step = λ base step. step_rewatched (literals t.entries) links base h watched (old.in_step base step);
+  }
+
+  stopped_rewatched : (links : List (Option (Edge × Edge))) (a : Assigned) (g h : Constraints) (u : Lit) → AreWatched (rewatched t w n) db → IsStopped db links a g u t h → IsStopped db links a g u (rewatched t w n) h
+  stopped_rewatched links a g h u watched old = record {
+    reasons = reasons_rewatched old.reasons;
+    watched = watched;
+    grown = record { vars = old.grown.vars; levels = old.grown.levels; longer = old.grown.longer; kept = old.grown.kept; added = old.grown.added };
+    extended = old.extended;
+    last = record { place = old.last.place; is_last = old.last.is_last; is = old.last.is };
+    refused = old.refused;
+    lacks_last = λ base step. let lacks = old.lacks_last base step in record { some = lacks.some; step = step_rewatched _ links base h watched lacks.step };
+  }
+
+-- fewer literals that count as taken
+module _ (t s : Assigned) (db : List (List Lit)) (links : List (Option (Edge × Edge))) (a : Assigned) (g h : Constraints) (is : s ≡ rewatched t t.watching s.taken) (le : s.taken ≤ t.taken) (trail : IsTrail s) where
+  pub progress_untaken : IsProgress db links a g t h → IsProgress db links a g s h
+  progress_untaken old =
+      let n = s.taken in
+      subst (λ (x : Assigned). IsProgress db links a g x h) (sym is) (progress_rewatched t db t.watching n links a g h (subst IsTrail is trail) (watched_taken t db n le old.work.watched) (omega arith) old)
+
+  pub reached_untaken : (r : Reached) → IsReached db links a g r t h → IsReached db links a g r s h
+  reached_untaken reached.Quiet old = progress_untaken old
+  reached_untaken (reached.ClauseConflict c) old =
+      (progress_untaken old.0, subst (λ (x : Assigned). IsConflict x db c) (sym is) (record { held = old.1.held; falsified = old.1.falsified }))
+  reached_untaken (reached.TheoryConflict u) old =
+      let n = s.taken in
+      subst (λ (x : Assigned). IsStopped db links a g u x h) (sym is) (stopped_rewatched t db t.watching n links a g h u (watched_taken t db n le old.watched) old)
+
+-- what is told of where propagation came to
+module _ (db : List (List Lit)) (links : List (Option (Edge × Edge))) (a : Assigned) (g : Constraints) (s : Assigned) (h : Constraints) where
+  abbrev IsTold : {E : Type 0} → Result Reached E → Type 0
+  IsTold (Ok x) = IsReached db links a g x s h
+  IsTold (Err y) = IsProgress db links a g s h
+
+  pub told : {E : Type 0} (r : Result Reached E) → IfOk r (λ x. IsReached db links a g x s h) → OnErr r (IsProgress db links a g s h) → IsTold r
+  told (Ok x) held memory = held
+  told (Err y) held memory = memory
+
+  pub told_reasons : {E : Type 0} (r : Result Reached E) → IsTold r → HasReasons s db
+  told_reasons (Ok reached.Quiet) is = is.work.reasons
+  told_reasons (Ok (reached.ClauseConflict c)) is = is.0.work.reasons
+  told_reasons (Ok (reached.TheoryConflict u)) is = is.reasons
+  told_reasons (Err y) is = is.work.reasons
+
+  pub told_watched : {E : Type 0} (r : Result Reached E) → IsTold r → AreWatched s db
+  told_watched (Ok reached.Quiet) is = is.work.watched
+  told_watched (Ok (reached.ClauseConflict c)) is = is.0.work.watched
+  told_watched (Ok (reached.TheoryConflict u)) is = is.watched
+  told_watched (Err y) is = is.work.watched
+
+  pub told_grown : {E : Type 0} (r : Result Reached E) → IsTold r → IsGrown a s
+  told_grown (Ok reached.Quiet) is = is.grown
+  told_grown (Ok (reached.ClauseConflict c)) is = is.0.grown
+  told_grown (Ok (reached.TheoryConflict u)) is = is.grown
+  told_grown (Err y) is = is.grown
+
+  pub told_edges : {E : Type 0} (r : Result Reached E) → IsTold r → IsExtended g h
+  told_edges (Ok reached.Quiet) is = is.extended
+  told_edges (Ok (reached.ClauseConflict c)) is = is.0.extended
+  told_edges (Ok (reached.TheoryConflict u)) is = is.extended
+  told_edges (Err y) is = is.extended
+
+  pub told_clause : {E : Type 0} (r : Result Reached E) → IsTold r → IfOk r (λ x. IfClause x (IsConflict s db))
+  told_clause (Ok reached.Quiet) is = tt
+  told_clause (Ok (reached.ClauseConflict c)) is = is.1
+  told_clause (Ok (reached.TheoryConflict u)) is = tt
+  told_clause (Err y) is = tt
+
+  pub told_theory : {E : Type 0} (r : Result Reached E) → IsTold r → IfOk r (λ x. IfTheory x (λ l. IsLast s l × IsRefused links l h))
+  told_theory (Ok reached.Quiet) is = tt
+  told_theory (Ok (reached.ClauseConflict c)) is = tt
+  told_theory (Ok (reached.TheoryConflict u)) is = (is.last, is.refused)
+  told_theory (Err y) is = tt
+
+  pub told_step : {E : Type 0} (r : Result Reached E) → IsTold r → IfOk r (λ x. UnlessTheory x ((base : List Edge) → InStep a db links base g → InStep s db links base h))
+  told_step (Ok reached.Quiet) is = is.in_step
+  told_step (Ok (reached.ClauseConflict c)) is = is.0.in_step
+  told_step (Ok (reached.TheoryConflict u)) is = tt
+  told_step (Err y) is = tt
+
+  pub told_lacks : {E : Type 0} (r : Result Reached E) → IsTold r → IfOk r (λ x. IfTheory x (λ _. (base : List Edge) → InStep a db links base g → LacksLast s db links base h))
+  told_lacks (Ok reached.Quiet) is = tt
+  told_lacks (Ok (reached.ClauseConflict c)) is = tt
+  told_lacks (Ok (reached.TheoryConflict u)) is = is.lacks_last
+  told_lacks (Err y) is = tt
+
+  pub told_memory : {E : Type 0} (r : Result Reached E) → IsTold r → OnErr r ((base : List Edge) → InStep a db links base g → InStep s db links base h)
+  told_memory (Ok x) is = tt
+  told_memory (Err y) is = is.in_step
+
+-- a fact of quiet, where propagation didn't end quietly
+pub if_quiet_stopped : (r : Reached) (P : Type 0) → (r ≡ reached.Quiet → ⊥) → IfQuiet r P
+if_quiet_stopped reached.Quiet P other = absurd (other refl)
+if_quiet_stopped (reached.ClauseConflict c) P other = tt
+if_quiet_stopped (reached.TheoryConflict l) P other = tt

@@ -13,7 +13,8 @@ use Rattle.propagate.specs.Links.{edge_of, edges_of}
 use Rattle.propagate.specs.Trails.{Assigned, no_entry, start_of, mark_of, literals, IsTrail, AreLevels, followed, decided, cut_to}
 use Rattle.propagate.specs.Clauses.{HasReasons, IsReason}
 use Rattle.propagate.specs.Steps.{IsLinked, HasMarks, IsInStep, InStep, LacksLast, AreMarksHeld}
-use Rattle.propagate.proofs.TrailLemmas.{cases_push, old_entry, new_entry, old_start, new_start, old_mark, new_mark, rising, up_to_start, at_start, at_mark}
+use Rattle.propagate.proofs.TrailLemmas.{cases_push, cut_at, cut_is_at, old_entry, new_entry, old_start, new_start, old_mark, new_mark, rising, at_start, at_mark}
+use Rattle.propagate.proofs.WatchedLemmas.{watched_cut, watched_push}
 
 -- a front of a list that grew
 pub front_kept : (xs : List Entry) (e : Entry) (k : ℕ) → k ≤ length xs → literals (take k (xs ++ e ∷ [])) ≡ literals (take k xs)
@@ -61,7 +62,7 @@ module _ (links : List (Option (Edge × Edge))) where
 
   -- marks after one more literal
   marks_push : (base : List Edge) (t : Assigned) (e : Entry) (levels : AreLevels t.entries t.levels) → HasMarks t links base
-      → HasMarks (record { vars = t.vars; entries = t.entries ++ e ∷ []; levels = t.levels }) links base
+      → HasMarks (record { vars = t.vars; entries = t.entries ++ e ∷ []; levels = t.levels; watching = t.watching; taken = t.taken }) links base
   marks_push base t e levels marks j op =
       let low = levels.within j op in
       rw (front_kept t.entries e (start_of t.levels j) (omega (arith, low))) (marks j op)
@@ -69,7 +70,7 @@ module _ (links : List (Option (Edge × Edge))) where
   -- marks after one more level, with its decision
   marks_open : (base : List Edge) (t : Assigned) (e : Entry) (l : Level) (levels : AreLevels t.entries t.levels) → HasMarks t links base
       → l.start ≡ length t.entries → l.mark ≡ length base + length (edges_of links (literals t.entries))
-      → HasMarks (record { vars = t.vars; entries = t.entries ++ e ∷ []; levels = t.levels ++ l ∷ [] }) links base
+      → HasMarks (record { vars = t.vars; entries = t.entries ++ e ∷ []; levels = t.levels ++ l ∷ []; watching = t.watching; taken = t.taken }) links base
   marks_open base t e l levels marks start mark j op = elim (cases_push t.levels l j op) [
     | inl a ↦
         let low = levels.within j a in
@@ -79,7 +80,7 @@ module _ (links : List (Option (Edge × Edge))) where
 
 -- the reasons after one more literal
 reasons_push : (t : Assigned) (db : List (List Lit)) (e : Entry) (levels : List Level) → HasReasons t db → ((c : ℕ) → e.reason ≡ Some c → IsReason db (literals t.entries) e.lit c)
-    → HasReasons (record { vars = t.vars; entries = t.entries ++ e ∷ []; levels = levels }) db
+    → HasReasons (record { vars = t.vars; entries = t.entries ++ e ∷ []; levels = levels; watching = t.watching; taken = t.taken }) db
 reasons_push t db e levels old why = record {
   variables = old.variables;
   reasons = λ k c within is. elim (cases_push t.entries e k within) [
@@ -119,6 +120,7 @@ module _ (t : Assigned) (db : List (List Lit)) (links : List (Option (Edge × Ed
       let e : Entry = record { lit = u; level = length t.levels; reason = Some c } in
       record {
         reasons = reasons_followed t db u c old.reasons why;
+        watched = watched_push t db e t.levels trail old.watched;
         linked = linked_same t (followed t u c) links g h refl limits old.linked;
         edges = edges_more e kept;
         marks = marks_push links base t e trail.levels old.marks;
@@ -131,6 +133,7 @@ module _ (t : Assigned) (db : List (List Lit)) (links : List (Option (Edge × Ed
         some = omega (arith, length_push t.entries e);
         step = record {
           reasons = reasons_followed t db u c old.reasons why;
+          watched = watched_push t db e t.levels trail old.watched;
           linked = linked_same t (followed t u c) links g h refl limits old.linked;
           edges = rw (but_last t.entries e) (same ∙ old.edges);
           marks = marks_push links base t e trail.levels old.marks;
@@ -146,6 +149,7 @@ module _ (t : Assigned) (db : List (List Lit)) (links : List (Option (Edge × Ed
       let e : Entry = record { lit = u; level = length t.levels + 1; reason = None } in
       record {
         reasons = reasons_decided t db u (length g.edges) old.reasons;
+        watched = watched_push t db e (t.levels ++ record { start = length t.entries; mark = length g.edges } ∷ []) trail old.watched;
         linked = linked_same t (decided t u (length g.edges)) links g h refl limits old.linked;
         edges = edges_more e kept;
         marks = marks_open links base t e (record { start = length t.entries; mark = length g.edges }) trail.levels old.marks refl mark_is;
@@ -158,6 +162,7 @@ module _ (t : Assigned) (db : List (List Lit)) (links : List (Option (Edge × Ed
         some = omega (arith, length_push t.entries e);
         step = record {
           reasons = reasons_decided t db u (length g.edges) old.reasons;
+          watched = watched_push t db e (t.levels ++ record { start = length t.entries; mark = length g.edges } ∷ []) trail old.watched;
           linked = linked_same t (decided t u (length g.edges)) links g h refl limits old.linked;
           edges = rw (but_last t.entries e) (same ∙ old.edges);
           marks = marks_open links base t e (record { start = length t.entries; mark = length g.edges }) trail.levels old.marks refl mark_is;
@@ -190,7 +195,7 @@ module _ (held : List Entry) (t : Assigned) (db : List (List Lit)) (links : List
   n = start_of t.levels m
 
   abbrev s : Assigned
-  s = record { vars = t.vars; entries = take n t.entries; levels = take m t.levels }
+  s = cut_at m t
 
   few : (k : ℕ) → k < length (take n t.entries) → (k < n) × (k < length t.entries)
   few k within = let short = length-take n t.entries in (omega (arith, short, within), omega (arith, short, within))
@@ -215,6 +220,7 @@ module _ (held : List Entry) (t : Assigned) (db : List (List Lit)) (links : List
           let at = get_or-take n t.entries k no_entry here.0 in
           rw (at, take-take k n t.entries (omega (arith, here.0))) (step.reasons.reasons k c here.1 (rw at at is));
     };
+    watched = watched_cut t db m op trail step.watched;
     linked = linked_same t s links g h refl limits step.linked;
     edges = edges_cut;
     marks = λ j within.
@@ -225,7 +231,7 @@ module _ (held : List Entry) (t : Assigned) (db : List (List Lit)) (links : List
   }
 
   step_undone : InStep (cut_to m t) db links base h
-  step_undone = rw (up_to_start t.entries t.levels m op trail.levels) cut_step
+  step_undone = subst (λ (x : Assigned). InStep x db links base h) (cut_is_at t m op trail) cut_step
 
 pub step_cut : (t : Assigned) (db : List (List Lit)) (links : List (Option (Edge × Edge))) (base : List Edge) (g h : Constraints) (m : ℕ) → m < length t.levels → IsTrail t → HasSameLimits g h
     → h.edges ≡ take (mark_of t.levels m) g.edges → InStep t db links base g → InStep (cut_to m t) db links base h

@@ -1,14 +1,15 @@
 -- The table of places, as literals come and go.
-use Rattle.std.proofs.Common.{◌≡◌, ◌≢◌, ◌∙◌, ap, sym, refl, ℕ, zero, suc, ◌+◌, ◌<◌, ◌≤◌, inl, inr, List, [], ◌∷◌, ◌++◌, length, take, set, arith, get_or, length-set, Option, Some, None, get_or-set_same, get_or-set_other}
+use Rattle.std.proofs.Common.{◌≡◌, ◌≢◌, ◌∙◌, ap, sym, refl, ℕ, zero, suc, ◌+◌, ◌<◌, ◌≤◌, inl, inr, List, [], ◌∷◌, ◌++◌, length, take, min, set, arith, get_or, length-set, Option, Some, None, get_or-set_same, get_or-set_other}
 use Rattle.std.proofs.lemmas.Bool.{cases_eq}
 use Rattle.std.proofs.lemmas.List.{length_push, get_or_read}
 use Rattle.std.proofs.lemmas.List.Elements.{All-from_get_or}
 use Rattle.clause_db.specs.declared.lit.Lit.{Lit}
 use Rattle.propagate.specs.declared.entry.Entry.{Entry}
 use Rattle.propagate.specs.declared.entry.Level.{Level}
-use Rattle.propagate.specs.Trails.{Assigned, no_entry, no_level, entry_at, start_of, IsAssigned, IsTrail, IsUnassigned, AreLevels, followed, cut_to}
+use Rattle.propagate.specs.Watching.{Watching}
+use Rattle.propagate.specs.Trails.{Assigned, no_entry, no_level, entry_at, start_of, IsAssigned, IsTrail, IsUnassigned, followed, cut_to}
 use Rattle.propagate.specs.Stored.{IsTable, IsStored}
-use Rattle.propagate.proofs.TrailLemmas.{cases_push, old_entry, new_entry, few_literals, few_levels, trail_followed, trail_decided, trail_cut, up_to_start}
+use Rattle.propagate.proofs.TrailLemmas.{cases_push, old_entry, new_entry, few_literals, few_levels, trail_followed, trail_decided, trail_cut, cut_is_at}
 
 some_same : {a b : ℕ} → Some a ≡ Some b → a ≡ b
 some_same e = cc
@@ -90,28 +91,28 @@ place_below [] v k found = absurd (none_is refl found)
 place_below (p ∷ ps) zero k found = omega arith
 place_below (p ∷ ps) (suc v) k found = let below = place_below ps v k found in omega (arith, below)
 
-abbrev pub trail_of : ℕ → List Entry → List Level → Assigned
-trail_of vars entries levels = record { vars = vars; entries = entries; levels = levels }
+abbrev pub trail_of : ℕ → List Entry → List Level → Watching → ℕ → Assigned
+trail_of vars entries levels watching taken = record { vars = vars; entries = entries; levels = levels; watching = watching; taken = taken }
 
 -- a trail with an unassigned variable has room for its literal
-pub room_for_entry : (xs : List Entry) (places : List (Option ℕ)) (ls : List Level) (ec lc : ℕ) (u : Lit) → IsStored xs places ls ec lc → u.var < length places → IsUnassigned xs u.var → length xs < length places
-room_for_entry xs places ls ec lc u stored below free =
-    let t : Assigned = record { vars = length places; entries = xs; levels = ls } in
+pub room_for_entry : (xs : List Entry) (places : List (Option ℕ)) (ls : List Level) (w : Watching) (n ec lc : ℕ) (u : Lit) → IsStored xs places ls w n ec lc → u.var < length places → IsUnassigned xs u.var → length xs < length places
+room_for_entry xs places ls w n ec lc u stored below free =
+    let t : Assigned = record { vars = length places; entries = xs; levels = ls; watching = w; taken = n } in
     let most = few_literals (followed t u 0) (trail_followed t u 0 stored.trail below free) in
     omega (arith, most, length_push xs (record { lit = u; level = length ls; reason = Some 0 }))
 
-pub room_for_level : (xs : List Entry) (places : List (Option ℕ)) (ls : List Level) (ec lc : ℕ) (u : Lit) → IsStored xs places ls ec lc → u.var < length places → IsUnassigned xs u.var → length ls < length places
-room_for_level xs places ls ec lc u stored below free =
-    let more = room_for_entry xs places ls ec lc u stored below free in
+pub room_for_level : (xs : List Entry) (places : List (Option ℕ)) (ls : List Level) (w : Watching) (n ec lc : ℕ) (u : Lit) → IsStored xs places ls w n ec lc → u.var < length places → IsUnassigned xs u.var → length ls < length places
+room_for_level xs places ls w n ec lc u stored below free =
+    let more = room_for_entry xs places ls w n ec lc u stored below free in
     let fewer = few_levels xs ls stored.trail.levels in
     omega (arith, more, fewer)
 
 -- what is stored after one more literal
-pub stored_followed : (xs ys : List Entry) (places : List (Option ℕ)) (ls : List Level) (ec lc more : ℕ) (u : Lit) (c v level place : ℕ) → IsStored xs places ls ec lc → ec ≤ more
+pub stored_followed : (xs ys : List Entry) (places : List (Option ℕ)) (ls : List Level) (w : Watching) (n ec lc more : ℕ) (u : Lit) (c v level place : ℕ) → IsStored xs places ls w n ec lc → ec ≤ more
     → u.var < length places → IsUnassigned xs u.var → v ≡ u.var → place ≡ length xs → level ≡ length ls → ys ≡ xs ++ record { lit = u; level = level; reason = Some c } ∷ []
-    → IsStored ys (set places v (Some place)) ls more lc
-stored_followed xs ys places ls ec lc more u c v level place stored room below free var at deep is =
-    let t : Assigned = record { vars = length places; entries = xs; levels = ls } in
+    → IsStored ys (set places v (Some place)) ls w n more lc
+stored_followed xs ys places ls w n ec lc more u c v level place stored room below free var at deep is =
+    let t : Assigned = record { vars = length places; entries = xs; levels = ls; watching = w; taken = n } in
     let e : Entry = record { lit = u; level = length ls; reason = Some c } in
     rw (is, var, at, deep) (record {
       trail = rw (length-set places u.var (Some (length xs))) (trail_followed t u c stored.trail below free);
@@ -122,11 +123,11 @@ stored_followed xs ys places ls ec lc more u c v level place stored room below f
     })
 
 -- what is stored after one more level, with its decision
-pub stored_decided : (xs ys : List Entry) (places : List (Option ℕ)) (ls ms : List Level) (ec lc more deeper : ℕ) (u : Lit) (mark v level place : ℕ) → IsStored xs places ls ec lc → ec ≤ more → lc ≤ deeper
+pub stored_decided : (xs ys : List Entry) (places : List (Option ℕ)) (ls ms : List Level) (w : Watching) (n ec lc more deeper : ℕ) (u : Lit) (mark v level place : ℕ) → IsStored xs places ls w n ec lc → ec ≤ more → lc ≤ deeper
     → u.var < length places → IsUnassigned xs u.var → v ≡ u.var → place ≡ length xs → level ≡ length ls → ys ≡ xs ++ record { lit = u; level = level + 1; reason = None } ∷ []
-    → ms ≡ ls ++ record { start = place; mark = mark } ∷ [] → IsStored ys (set places v (Some place)) ms more deeper
-stored_decided xs ys places ls ms ec lc more deeper u mark v level place stored room depth below free var at deep is opened =
-    let t : Assigned = record { vars = length places; entries = xs; levels = ls } in
+    → ms ≡ ls ++ record { start = place; mark = mark } ∷ [] → IsStored ys (set places v (Some place)) ms w n more deeper
+stored_decided xs ys places ls ms w n ec lc more deeper u mark v level place stored room depth below free var at deep is opened =
+    let t : Assigned = record { vars = length places; entries = xs; levels = ls; watching = w; taken = n } in
     let e : Entry = record { lit = u; level = length ls + 1; reason = None } in
     rw (is, opened, var, at, deep) (record {
       trail = rw (length-set places u.var (Some (length xs))) (trail_decided t u mark stored.trail below free);
@@ -137,10 +138,10 @@ stored_decided xs ys places ls ms ec lc more deeper u mark v level place stored 
     })
 
 -- what is stored after levels are undone
-pub stored_cut : (xs ys : List Entry) (places rest : List (Option ℕ)) (ls ms : List Level) (ec lc : ℕ) (m : ℕ) → m < length ls → IsStored xs places ls ec lc → ys ≡ take (start_of ls m) xs → ms ≡ take m ls
-    → length rest ≡ length places → IsTable ys rest → IsStored ys rest ms ec lc
-stored_cut xs ys places rest ls ms ec lc m op stored is undone count table =
-    let t : Assigned = record { vars = length places; entries = xs; levels = ls } in
+pub stored_cut : (xs ys : List Entry) (places rest : List (Option ℕ)) (ls ms : List Level) (w : Watching) (n ec lc : ℕ) (m : ℕ) → m < length ls → IsStored xs places ls w n ec lc → ys ≡ take (start_of ls m) xs → ms ≡ take m ls
+    → length rest ≡ length places → IsTable ys rest → IsStored ys rest ms w (min n (start_of ls m)) ec lc
+stored_cut xs ys places rest ls ms w n ec lc m op stored is undone count table =
+    let t : Assigned = record { vars = length places; entries = xs; levels = ls; watching = w; taken = n } in
     record {
       trail = rw (count, is, undone) (trail_cut t m op stored.trail);
       table = table;
@@ -154,6 +155,6 @@ pub read_start : (ls : List Level) (m : ℕ) (l : Level) → m < length ls → l
 read_start ls m l op is = ap (λ (x : Level). x.start) (get_or_read ls m l op is no_level)
 
 -- the trail after levels are undone
-pub cut_is : (xs ys : List Entry) (places rest : List (Option ℕ)) (ls ms : List Level) (m : ℕ) → m < length ls → AreLevels xs ls → ys ≡ take (start_of ls m) xs → ms ≡ take m ls → length rest ≡ length places
-    → trail_of (length rest) ys ms ≡ cut_to m (trail_of (length places) xs ls)
-cut_is xs ys places rest ls ms m op levels is undone count = rw (count, is, undone, up_to_start xs ls m op levels) refl
+pub cut_is : (xs ys : List Entry) (places rest : List (Option ℕ)) (ls ms : List Level) (w : Watching) (n m : ℕ) → m < length ls → IsTrail (trail_of (length places) xs ls w n) → ys ≡ take (start_of ls m) xs → ms ≡ take m ls
+    → length rest ≡ length places → trail_of (length rest) ys ms w (min n (start_of ls m)) ≡ cut_to m (trail_of (length places) xs ls w n)
+cut_is xs ys places rest ls ms w n m op trail is undone count = rw (count, is, undone) (cut_is_at (trail_of (length places) xs ls w n) m op trail)

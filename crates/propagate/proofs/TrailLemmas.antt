@@ -1,5 +1,5 @@
 -- Trails that grow by a literal or a level, and trails that are cut.
-use Rattle.std.proofs.Common.{◌≡◌, ◌≢◌, ◌∙◌, ap, sym, refl, ℕ, zero, suc, ◌+◌, ◌<◌, ◌≤◌, ◌⊎◌, inl, inr, List, [], ◌∷◌, ◌++◌, length, take, get_or, map, arith, Some, None, Bool, true, false, eqb}
+use Rattle.std.proofs.Common.{◌≡◌, ◌≢◌, ◌∙◌, ap, sym, refl, ℕ, zero, suc, ◌+◌, ◌<◌, ◌≤◌, ◌⊎◌, inl, inr, List, [], ◌∷◌, ◌++◌, length, take, min, get_or, map, arith, Some, None, Bool, true, false, eqb}
 use Rattle.std.specs.Prelude.{IsNone, nat_le, filter, ◌||◌}
 use Rattle.std.specs.List.{IsDistinct, list_any}
 use Rattle.std.proofs.lemmas.Bool.{cases_lt}
@@ -107,6 +107,9 @@ trail_followed t lit c old below free =
       below = All-push (λ (x : Entry). x.lit.var < t.vars) t.entries e old.below below;
       once = all_pairs_push (λ (d x : Entry). d.lit.var ≢ x.lit.var) t.entries e old.once free;
       levels = levels_followed t.entries t.levels e c old.levels refl refl;
+      taken = let most = old.taken in omega (arith, most, length_push t.entries e);
+      lists = old.lists;
+      listed = old.listed;
     }
 
 pub trail_decided : (t : Assigned) (lit : Lit) (mark : ℕ) → IsTrail t → lit.var < t.vars → IsUnassigned t.entries lit.var → IsTrail (decided t lit mark)
@@ -116,6 +119,9 @@ trail_decided t lit mark old below free =
       below = All-push (λ (x : Entry). x.lit.var < t.vars) t.entries e old.below below;
       once = all_pairs_push (λ (d x : Entry). d.lit.var ≢ x.lit.var) t.entries e old.once free;
       levels = levels_decided t.entries t.levels e (record { start = length t.entries; mark = mark }) old.levels refl refl refl;
+      taken = let most = old.taken in omega (arith, most, length_push t.entries e);
+      lists = old.lists;
+      listed = old.listed;
     }
 
 -- a later level begins later
@@ -209,15 +215,17 @@ up_to_top xs ls m old le =
 
 pub cut_at_top : (t : Assigned) (m : ℕ) → IsTrail t → length t.levels ≤ m → cut_to m t ≡ t
 cut_at_top t m old le =
-    let cut : List Entry → List Level → Assigned = λ xs ls. record { vars = t.vars; entries = xs; levels = ls } in
-    ap (λ xs. cut xs (take m t.levels)) (up_to_top t.entries t.levels m old.levels le) ∙ ap (λ ls. cut t.entries ls) (take_all m t.levels le)
+    let cut : List Entry → List Level → ℕ → Assigned = λ xs ls n. record { vars = t.vars; entries = xs; levels = ls; watching = t.watching; taken = n } in
+    let few : min t.taken (length t.entries) ≡ t.taken = let most = old.taken in omega (arith, most) in
+    ap (λ xs. cut xs (take m t.levels) (min t.taken (length xs))) (up_to_top t.entries t.levels m old.levels le) ∙ ap (λ ls. cut t.entries ls (min t.taken (length t.entries))) (take_all m t.levels le)
+    ∙ ap (λ n. cut t.entries t.levels n) few
 
 -- the levels up to one that is below the present one
 module _ (xs : List Entry) (ls : List Level) (m : ℕ) (op : m < length ls) (old : AreLevels xs ls) where
   abbrev n : ℕ
   n = start_of ls m
 
-  shallow : (k : ℕ) → k < n → k < length xs → (entry_at xs k).level ≤ m
+  pub shallow : (k : ℕ) → k < n → k < length xs → (entry_at xs k).level ≤ m
   shallow k less within = elim (cases_lt m (entry_at xs k).level) [
     | inl deep ↦ let after = (old.reached m k op within).1 deep in absurd (omega (arith, after, less))
     | inr le ↦ le
@@ -269,7 +277,11 @@ module _ (xs : List Entry) (ls : List Level) (m : ℕ) (op : m < length ls) (old
         (first.0, rw lower less, rw (at_start first.0 less) first.2);
   }
 
-pub trail_cut : (t : Assigned) (m : ℕ) → m < length t.levels → IsTrail t → IsTrail (record { vars = t.vars; entries = take (start_of t.levels m) t.entries; levels = take m t.levels })
+-- the trail from which all is taken from the start of a level on
+abbrev pub cut_at : ℕ → Assigned → Assigned
+cut_at m t = record { vars = t.vars; entries = take (start_of t.levels m) t.entries; levels = take m t.levels; watching = t.watching; taken = min t.taken (start_of t.levels m) }
+
+pub trail_cut : (t : Assigned) (m : ℕ) → m < length t.levels → IsTrail t → IsTrail (cut_at m t)
 trail_cut t m op old = record {
   below = All-take (λ (x : Entry). x.lit.var < t.vars) (start_of t.levels m) t.entries old.below;
   once = λ i j d less within.
@@ -279,4 +291,14 @@ trail_cut t m op old = record {
       let i_front : i < n = omega (arith, j_front, less) in
       rw (get_or-take n t.entries i d i_front, get_or-take n t.entries j d j_front) (old.once i j d less (omega (arith, short, within)));
   levels = levels_cut t.entries t.levels m op old.levels;
+  taken = let within = old.levels.within m op in omega (arith, within, length-take-le (start_of t.levels m) t.entries (omega (arith, within)));
+  lists = old.lists;
+  listed = old.listed;
 }
+
+pub cut_is_at : (t : Assigned) (m : ℕ) → m < length t.levels → IsTrail t → cut_at m t ≡ cut_to m t
+cut_is_at t m op old =
+    let n = start_of t.levels m in
+    let within = old.levels.within m op in
+    let cut : List Entry → ℕ → Assigned = λ xs k. record { vars = t.vars; entries = xs; levels = take m t.levels; watching = t.watching; taken = min t.taken k } in
+    ap (λ k. cut (take n t.entries) k) (sym (length-take-le n t.entries (omega (arith, within)))) ∙ ap (λ xs. cut xs (length xs)) (sym (up_to_start t.entries t.levels m op old.levels))

@@ -6,8 +6,6 @@ use Rattle.clause_db.specs.declared.lit.Lit.{Lit}
 use Rattle.clause_db.specs.Literals.{negation}
 use Rattle.clause_db.specs.Clauses.{clause_at}
 use Rattle.propagate.specs.declared.entry.Entry.{Entry}
-use Rattle.propagate.specs.declared.scan.Shape.{Shape}
-use Rattle.propagate.specs.declared.scan.Shape.TheVariants as shape
 use Rattle.propagate.specs.Trails.{Assigned, IsUnassigned, entry_at, literals}
 
 -- a literal is true where the trail has it, false where the trail has its negation, and neither where its variable is unassigned
@@ -20,25 +18,9 @@ IsTruth entries l (Some false) = Contains (literals entries) (negation l)
 abbrev pub IsFalsified : List Entry → List Lit → Type 0
 IsFalsified entries clause = IsFalseUnder negation (literals entries) clause
 
--- the clause is unit: one literal of it is unassigned, and the others are false
-pub record IsUnit (entries : List Entry) (clause : List Lit) (u : Lit) : Type 0 where
-  pub leaves : LeavesOnly negation (literals entries) clause u
-  pub unassigned : IsUnassigned entries u.var
-
 -- no clause is false or unit: each has a true literal, or two different ones that aren't false
 abbrev pub AreSettled : List Entry → List (List Lit) → Type 0
 AreSettled entries db = All (IsSettled negation (literals entries)) db
-
--- what the clause is
-abbrev pub IsShape : List Entry → List Lit → Shape → Type 0
-IsShape entries clause shape.Settled = IsSettled negation (literals entries) clause
-IsShape entries clause (shape.Unit u) = IsUnit entries clause u
-IsShape entries clause shape.False = IsFalsified entries clause
-
--- what was seen so far of a clause: all false, or all but one
-abbrev pub IsFront : List Entry → List Lit → Option Lit → Type 0
-IsFront entries front None = IsFalsified entries front
-IsFront entries front (Some u) = IsUnit entries front u
 
 -- the clause of this number has u, and its other literals were false before
 pub record IsReason (db : List (List Lit)) (before : List Lit) (u : Lit) (c : ℕ) : Type 0 where

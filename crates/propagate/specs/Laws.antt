@@ -7,9 +7,9 @@ use Rattle.clause_db.specs.declared.lit.Lit.{Lit}
 use Rattle.propagate.specs.Trails.{Assigned, IsTrail, IsUnassigned}
 use Rattle.propagate.specs.Steps.{InStep, IsLinked, LacksLast, HasRoomFor, AreMarksHeld}
 
--- a trail without literals and levels is in step with clauses and links that fit and a graph that holds the base
+-- a trail without literals and levels that watches no clause is in step with clauses and links that fit and a graph that holds the base
 abbrev pub NewTrailIsInStep : Type 0
-NewTrailIsInStep = (t : Assigned) (db : List (List Lit)) (links : List (Option (Edge × Edge))) (base : List Edge) (g : Constraints) → t.entries ≡ [] → t.levels ≡ []
+NewTrailIsInStep = (t : Assigned) (db : List (List Lit)) (links : List (Option (Edge × Edge))) (base : List Edge) (g : Constraints) → t.entries ≡ [] → t.levels ≡ [] → t.watching.watches ≡ []
     → All (All (λ l. l.var < t.vars)) db → IsLinked t links g → g.edges ≡ base → InStep t db links base g
 
 -- a clause over the trail's variables may be added

@@ -1,8 +1,12 @@
 pub mod Links
+pub mod Watching
 pub mod Trails
 pub mod Stored
 pub mod Clauses
+pub mod Watched
 pub mod Steps
-pub mod Reach
 pub mod Closed
+pub mod Reach
+pub mod Best
+pub mod Visits
 pub mod Laws

@@ -6,8 +6,10 @@ use Rattle.clause_db.specs.declared.lit.Lit.{Lit}
 use Rattle.clause_db.specs.Clauses.{clause_at}
 use Rattle.propagate.specs.declared.moves.Reached.{Reached}
 use Rattle.propagate.specs.declared.moves.Reached.TheVariants as reached
-use Rattle.propagate.specs.Trails.{Assigned, entry_at}
-use Rattle.propagate.specs.Clauses.{AreSettled, HasReasons, IsFalsified}
+use Rattle.propagate.specs.Trails.{Assigned, IsTrail, entry_at}
+use Rattle.propagate.specs.Clauses.{HasReasons, IsFalsified}
+use Rattle.propagate.specs.Watched.{AreWatched}
+use Rattle.propagate.specs.Closed.{Closed}
 use Rattle.propagate.specs.Steps.{InStep, IsLinked, IsRefused, HasRoomFor, LacksLast}
 
 -- literals of the present level were added, each with a reason
@@ -54,18 +56,33 @@ UnlessTheory reached.Quiet P = P
 UnlessTheory (reached.ClauseConflict c) P = P
 UnlessTheory (reached.TheoryConflict l) P = Unit {0}
 
--- what propagation keeps as it goes on
+-- the fact holds, unless propagation ended quietly
+abbrev pub UnlessQuiet : Reached → Type 0 → Type 0
+UnlessQuiet reached.Quiet P = Unit {0}
+UnlessQuiet (reached.ClauseConflict c) P = P
+UnlessQuiet (reached.TheoryConflict l) P = P
+
+-- what propagation asks of a trail, and keeps as it goes on
+pub record IsAtWork (db : List (List Lit)) (links : List (Option (Edge × Edge))) (t : Assigned) (g : Constraints) : Type 0 where
+  pub trail : IsTrail t
+  pub reasons : HasReasons t db
+  pub watched : AreWatched t db
+  pub closed : Closed t db
+  pub linked : IsLinked t links g
+  pub room : HasRoomFor t links g
+
+-- how propagation goes on
 pub record IsProgress (db : List (List Lit)) (links : List (Option (Edge × Edge))) (old : Assigned) (before : Constraints) (new : Assigned) (after : Constraints) : Type 0 where
-  pub reasons : HasReasons new db
-  pub linked : IsLinked new links after
-  pub room : HasRoomFor new links after
+  pub work : IsAtWork db links new after
   pub grown : IsGrown old new
+  pub known : length old.watching.watches ≤ length new.watching.watches
   pub extended : IsExtended before after
   pub in_step : (base : List Edge) → InStep old db links base before → InStep new db links base after
 
 -- what is so where an edge was refused
 pub record IsStopped (db : List (List Lit)) (links : List (Option (Edge × Edge))) (old : Assigned) (before : Constraints) (l : Lit) (new : Assigned) (after : Constraints) : Type 0 where
   pub reasons : HasReasons new db
+  pub watched : AreWatched new db
   pub grown : IsGrown old new
   pub extended : IsExtended before after
   pub last : IsLast new l
@@ -77,8 +94,8 @@ pub record IsConflict (t : Assigned) (db : List (List Lit)) (c : ℕ) : Type 0 w
   pub held : c < length db
   pub falsified : IsFalsified t.entries (clause_at db c)
 
--- where a pass over the clauses ended; where it found nothing and added nothing, no clause is false or unit
-abbrev pub IsPassed : List (List Lit) → List (Option (Edge × Edge)) → Assigned → Constraints → Reached → Assigned → Constraints → Type 0
-IsPassed db links old before reached.Quiet new after = IsProgress db links old before new after × (length new.entries ≡ length old.entries → AreSettled new.entries db)
-IsPassed db links old before (reached.ClauseConflict c) new after = IsProgress db links old before new after × IsConflict new db c
-IsPassed db links old before (reached.TheoryConflict l) new after = IsStopped db links old before l new after
+-- where propagation came to
+abbrev pub IsReached : List (List Lit) → List (Option (Edge × Edge)) → Assigned → Constraints → Reached → Assigned → Constraints → Type 0
+IsReached db links old before reached.Quiet new after = IsProgress db links old before new after
+IsReached db links old before (reached.ClauseConflict c) new after = IsProgress db links old before new after × IsConflict new db c
+IsReached db links old before (reached.TheoryConflict l) new after = IsStopped db links old before l new after

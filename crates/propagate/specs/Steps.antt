@@ -7,6 +7,7 @@ use Rattle.clause_db.specs.declared.lit.Lit.{Lit}
 use Rattle.propagate.specs.Links.{edge_of, edges_at, edges_of}
 use Rattle.propagate.specs.Trails.{Assigned, IsUnassigned, literals, start_of, mark_of}
 use Rattle.propagate.specs.Clauses.{HasReasons}
+use Rattle.propagate.specs.Watched.{AreWatched}
 
 -- the variables of the links are in range, and each edge meets the graph's conditions
 pub record IsLinked (t : Assigned) (links : List (Option (Edge × Edge))) (g : Constraints) : Type 0 where
@@ -20,6 +21,7 @@ HasMarks t links base = (j : ℕ) → j < length t.levels → mark_of t.levels j
 -- trail, clauses, links and graph are in step, where the graph holds the edges of the base and then those of these literals
 pub record IsInStep (held : List Lit) (t : Assigned) (db : List (List Lit)) (links : List (Option (Edge × Edge))) (base : List Edge) (g : Constraints) : Type 0 where
   pub reasons : HasReasons t db
+  pub watched : AreWatched t db
   pub linked : IsLinked t links g
   pub edges : g.edges ≡ base ++ edges_of links held
   pub marks : HasMarks t links base

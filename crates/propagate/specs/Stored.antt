@@ -2,6 +2,7 @@
 use Rattle.std.specs.Prelude.{◌≡◌, ℕ, ◌^◌, ◌<◌, ◌≤◌, List, length, Option, Some, None, slice_index_or}
 use Rattle.propagate.specs.declared.entry.Entry.{Entry}
 use Rattle.propagate.specs.declared.entry.Level.{Level}
+use Rattle.propagate.specs.Watching.{Watching}
 use Rattle.propagate.specs.Trails.{IsTrail, entry_at}
 
 -- the table has the place of each variable that is assigned, and none for the others
@@ -10,8 +11,8 @@ pub record IsTable (entries : List Entry) (places : List (Option ℕ)) : Type 0 
   pub there : (v k : ℕ) → slice_index_or places v None ≡ Some k → (k < length entries) × ((entry_at entries k).lit.var ≡ v)
 
 -- a trail with its table, and room for an entry and a level for each variable
-pub record IsStored (entries : List Entry) (places : List (Option ℕ)) (levels : List Level) (entry_capacity level_capacity : ℕ) : Type 0 where
-  pub trail : IsTrail (record { vars = length places; entries = entries; levels = levels })
+pub record IsStored (entries : List Entry) (places : List (Option ℕ)) (levels : List Level) (watching : Watching) (taken entry_capacity level_capacity : ℕ) : Type 0 where
+  pub trail : IsTrail (record { vars = length places; entries = entries; levels = levels; watching = watching; taken = taken })
   pub table : IsTable entries places
   pub few : length places < 2 ^ 32
   pub entry_room : length places ≤ entry_capacity

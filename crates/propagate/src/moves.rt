@@ -7,13 +7,14 @@ ghost use Rattle.difference_graph.specs.declared.push.Push.TheVariants.{Kept, Cy
 ghost use Rattle.difference_graph.specs.Graphs.{HasSameLimits, HasSolution, IfKept, IfRefused};
 ghost use Rattle.clause_db.specs.declared.lit.Lit.{Lit};
 ghost use Rattle.propagate.specs.Links.{edge_of};
-ghost use Rattle.propagate.specs.Trails.{IsUnassigned, IsTrail, cut_to, decided, followed, mark_of};
-ghost use Rattle.propagate.specs.Clauses.{AreSettled, HasReasons, IsReason};
+ghost use Rattle.propagate.specs.Trails.{IsTrail, IsUnassigned, IsUntaken, cut_to, decided, followed, mark_of};
+ghost use Rattle.propagate.specs.Clauses.{AreSettled, HasReasons};
+ghost use Rattle.propagate.specs.Watched.{AreWatched};
 ghost use Rattle.propagate.specs.Steps.{AreMarksHeld, HasRoomFor, InStep, IsLinked, IsRefused, LacksLast};
 ghost use Rattle.propagate.specs.Closed.{Closed, ClosedAt};
-ghost use Rattle.propagate.specs.Reach.{IfClause, IfQuiet, IfTheory, IsConflict, IsExtended, IsGrown, IsLast, IsPassed, UnlessTheory};
+ghost use Rattle.propagate.specs.Visits.{AreShortMet};
+ghost use Rattle.propagate.specs.Reach.{IfClause, IfQuiet, IfTheory, IsAtWork, IsConflict, IsExtended, IsGrown, IsLast, IsProgress, IsReached, UnlessQuiet, UnlessTheory};
 
-use crate::scan::{Shape, scan};
 use crate::{Links, Trail};
 use clause_db::{ClauseRef, Db, Lit};
 use difference_graph::{Graph, Push};
@@ -82,6 +83,8 @@ impl Trail {
 
     /// Assigns what follows from the clauses, with the edges of what it assigns, until nothing does,
     /// a clause is false, or an edge is refused.
+    ///
+    /// The clauses that were added since its last call are taken up first.
     pub fn propagate(
         &mut self,
         db: &Db,
@@ -89,9 +92,12 @@ impl Trail {
         graph: &mut Graph,
     ) -> Result<Reached, AllocError>
         requires reasons { HasReasons self.old db.now }
+        requires watched { AreWatched self.old db.now }
+        requires closed { Closed self.old db.now }
         requires linked { IsLinked self.old links.now graph.old }
         requires room { HasRoomFor self.old links.now graph.old }
         ensures reasons { HasReasons self.new db.now }
+        ensures watched { AreWatched self.new db.now }
         ensures grown { IsGrown self.old self.new }
         ensures edges { IsExtended graph.old graph.new }
         ensures quiet { IfOk result (λ r. IfQuiet r (AreSettled self.new.entries db.now)) }
@@ -107,44 +113,88 @@ impl Trail {
         // The levels below the present one stay closed, and at Quiet the present one is.
         ensures closed { Closed self.old db.now → Closed self.new db.now }
         ensures closed_at { IfOk result (λ r. IfQuiet r (ClosedAt self.new db.now (length self.new.levels))) }
+
+        // At Quiet each literal is taken, and else none of the present level is.
+        ensures taken { IfOk result (λ r. IfQuiet r (self.new.taken ≡ length self.new.entries)) }
+        ensures untaken { IfOk result (λ r. UnlessQuiet r (IsUntaken self.new)) }
+        ensures untaken_at_want { OnErr result (IsUntaken self.new) }
     {
-        'passes: loop {
-            let before = self.len();
-            match self.pass(db, links, graph) {
-                Reached::Quiet => {
-                    if self.len() == before {
-                        return Ok(Reached::Quiet);
-                    }
-                }
-                Reached::ClauseConflict(clause) => return Ok(Reached::ClauseConflict(clause)),
-                Reached::TheoryConflict(lit) => return Ok(Reached::TheoryConflict(lit)),
+        // With the level it is known that no variable is assigned twice.
+        let _ = self.level();
+        match self.settle(db, links, graph) {
+            Ok(Reached::Quiet) => Ok(Reached::Quiet),
+            Ok(stopped) => {
+                self.untake();
+                Ok(stopped)
+            }
+            Err(error) => {
+                self.untake();
+                Err(error)
             }
         }
     }
 
-    // One pass over the clauses.
-    fn pass(&mut self, db: &Db, links: &Links, graph: &mut Graph) -> Reached
-        requires reasons { HasReasons self.old db.now }
-        requires linked { IsLinked self.old links.now graph.old }
-        requires room { HasRoomFor self.old links.now graph.old }
-        ensures passed { IsPassed db.now links.now self.old graph.old result self.new graph.new }
+    // Takes up new clauses, meets the short ones, and takes each literal.
+    fn settle(&mut self, db: &Db, links: &Links, graph: &mut Graph) -> Result<Reached, AllocError>
+        requires work { IsAtWork db.now links.now self.old graph.old }
+        ensures reached { IfOk result (λ r. IsReached db.now links.now self.old graph.old r self.new graph.new) }
+        ensures settled { IfOk result (λ r. IfQuiet r (AreSettled self.new.entries db.now)) }
+        ensures taken { IfOk result (λ r. IfQuiet r (self.new.taken ≡ length self.new.entries)) }
+        ensures memory { OnErr result (IsProgress db.now links.now self.old graph.old self.new graph.new) }
     {
-        for c in 0..db.len() {
-            let clause = ClauseRef::new(c);
-            match scan(self, db.lits(clause)) {
-                Shape::Settled => {}
-                Shape::Unit(lit) => match self.assign(lit, clause, links, graph) {
-                    Push::Kept => {}
-                    Push::Cycle => return Reached::TheoryConflict(lit),
-                },
-                Shape::False => return Reached::ClauseConflict(clause),
+        match self.take_up_new(db, links, graph)? {
+            Reached::Quiet => self.take_all(db, links, graph),
+            stopped => Ok(stopped),
+        }
+    }
+
+    // Meets the short clauses and takes each literal, where all clauses are taken up.
+    fn take_all(&mut self, db: &Db, links: &Links, graph: &mut Graph) -> Result<Reached, AllocError>
+        requires work { IsAtWork db.now links.now self.old graph.old }
+        requires known { length db.now ≤ length self.old.watching.watches }
+        ensures reached { IfOk result (λ r. IsReached db.now links.now self.old graph.old r self.new graph.new) }
+        ensures settled { IfOk result (λ r. IfQuiet r (AreSettled self.new.entries db.now)) }
+        ensures taken { IfOk result (λ r. IfQuiet r (self.new.taken ≡ length self.new.entries)) }
+        ensures memory { OnErr result (IsProgress db.now links.now self.old graph.old self.new graph.new) }
+    {
+        match self.meet_short(db, links, graph) {
+            Reached::Quiet => self.take_each(db, links, graph),
+            stopped => Ok(stopped),
+        }
+    }
+
+    // Takes each literal, where all clauses are taken up and the short ones are met.
+    fn take_each(
+        &mut self,
+        db: &Db,
+        links: &Links,
+        graph: &mut Graph,
+    ) -> Result<Reached, AllocError>
+        requires work { IsAtWork db.now links.now self.old graph.old }
+        requires known { length db.now ≤ length self.old.watching.watches }
+        requires short { AreShortMet self.old db.now }
+        ensures reached { IfOk result (λ r. IsReached db.now links.now self.old graph.old r self.new graph.new) }
+        ensures settled { IfOk result (λ r. IfQuiet r (AreSettled self.new.entries db.now)) }
+        ensures taken { IfOk result (λ r. IfQuiet r (self.new.taken ≡ length self.new.entries)) }
+        ensures memory { OnErr result (IsProgress db.now links.now self.old graph.old self.new graph.new) }
+    {
+        'literals: while self.taken() < self.len() {
+            match self.visit_watchers(db, links, graph)? {
+                Reached::Quiet => {}
+                stopped => return Ok(stopped),
             }
         }
-        Reached::Quiet
+        Ok(Reached::Quiet)
     }
 
     // Assigns a literal that follows from a clause, and adds its edge where it has one.
-    fn assign(&mut self, lit: Lit, clause: ClauseRef, links: &Links, graph: &mut Graph) -> Push
+    pub(crate) fn assign(
+        &mut self,
+        lit: Lit,
+        clause: ClauseRef,
+        links: &Links,
+        graph: &mut Graph,
+    ) -> Push
         requires in_range { lit.var < self.old.vars }
         requires unassigned { IsUnassigned self.old.entries lit.var }
         requires edge { IfSome (edge_of links.now lit) (IsEdge graph.old.nodes) }

@@ -1,48 +1,63 @@
 //! The trail.
 
-ghost use Rattle.std.specs.Prelude.{◌≡◌, ◌↔◌, ◌<◌, ◌≤◌, [], length, take, IfOk, IfSome, IsNone, vec_capacity};
-ghost use Rattle.propagate.specs.Trails.{HasEntry, IsAssigned, IsTrail, IsUnassigned, cut_to, decided, entry_at, followed, mark_of};
+ghost use Rattle.std.specs.Prelude.{◌≡◌, ◌↔◌, ◌+◌, ◌^◌, ◌<◌, ◌≤◌, [], ◌∷◌, ◌++◌, length, min, take, set, Some, IfOk, OnOk, OnErr, IfSome, IsNone, IsTrue, Contains, slice_index_or, vec_capacity};
+ghost use Rattle.std.specs.List.{swap_remove};
+ghost use Rattle.clause_db.specs.Literals.{negation};
+ghost use Rattle.propagate.specs.Watching.{IsListed, IsUnwatched, IsWatcherAt, listing, watch_at, watchers_of, watching};
+ghost use Rattle.propagate.specs.Trails.{HasEntry, IsAssigned, IsTrail, IsUnassigned, IsUntaken, cut_to, decided, entry_at, followed, literals, mark_of, rewatched};
+ghost use Rattle.propagate.specs.Watched.{IsTrueAt, IsTrueUpTo};
 ghost use Rattle.propagate.specs.Clauses.{IsTruth};
 ghost use Rattle.propagate.specs.Stored.{IsTable};
 
 use crate::entry::{Entry, Level};
 use crate::room::push_within;
+use crate::watch::{Watch, Watchers};
 use clause_db::{ClauseRef, Lit, Var};
 use std::alloc::{AllocError, Global};
 use std::marker::Model;
 
-/// The assigned literals in the order of assignment, each with its level and its reason.
+/// The assigned literals in the order of assignment, each with its level and its reason, and the watched
+/// literals of clauses.
 #[derive(Drop)]
 pub struct Trail {
     entries: Vec<Entry>,
     places: Vec<Option<u32>>,
     levels: Vec<Level>,
+    watches: Vec<Option<Watch>>,
+    watchers: Vec<Watchers>,
+    taken: u32,
 }
 
 impl Model for Trail {
     ghost use Rattle.std.specs.Prelude.{length, vec_capacity};
+    ghost use Rattle.propagate.specs.Watching.{Watching};
     ghost use Rattle.propagate.specs.Trails.{Assigned};
     ghost use Rattle.propagate.specs.Stored.{IsStored};
 
     ghost Value = { Assigned };
 
-    ghost view = { λ t. record { vars = length t.places.items; entries = t.entries.items; levels = t.levels.items } };
+    ghost view = { λ t. record { vars = length t.places.items; entries = t.entries.items; levels = t.levels.items; watching = record { watches = t.watches.items; watchers = t.watchers.items }; taken = t.taken } };
 
-    ghost invariant = { λ t. IsStored t.entries.items t.places.items t.levels.items (vec_capacity t.entries) (vec_capacity t.levels) };
+    ghost invariant = { λ t. IsStored t.entries.items t.places.items t.levels.items (record { watches = t.watches.items; watchers = t.watchers.items }) t.taken (vec_capacity t.entries) (vec_capacity t.levels) };
 }
 
 impl Trail {
-    /// A trail at level 0 over so many variables, with no literal assigned. It has memory for all that
-    /// `decide` and `back_to` do.
+    /// A trail at level 0 over so many variables, with no literal assigned and no clause taken up. It
+    /// has memory for all that `decide` and `back_to` do.
     pub fn new(alloc: Global, vars: u32) -> Result<Trail, AllocError>
         ensures vars { IfOk result (λ t. t.vars ≡ vars) }
         ensures none { IfOk result (λ t. t.entries ≡ []) }
         ensures level { IfOk result (λ t. t.levels ≡ []) }
+        ensures unwatched { IfOk result (λ t. t.watching.watches ≡ []) }
+        ensures untaken { IfOk result (λ t. t.taken ≡ 0) }
     {
         Ok(Trail {
             entries: Vec::with_capacity(alloc, vars as usize)?,
             places: vec![in alloc; None; vars as usize]?,
             levels: Vec::with_capacity(alloc, vars as usize)?,
+            watches: Vec::new(alloc),
+            watchers: no_watchers(alloc, vars)?,
+            taken: 0,
         })
     }
 
@@ -167,9 +182,145 @@ impl Trail {
         ensures before { IsTrail self.old }
         ensures after { IsTrail self.new }
     {
-        let start = self.levels[level as usize].start as usize;
-        forget(&mut self.entries, &mut self.places, start);
+        let start = self.levels[level as usize].start;
+        forget(&mut self.entries, &mut self.places, start as usize);
         self.levels.truncate(level as usize);
+        self.taken = lesser(self.taken, start);
+    }
+
+    // The level at which a literal became false, and None where it isn't.
+    pub(crate) fn false_at(&self, lit: Lit) -> Option<u32>
+        requires in_range { lit.var < self.now.vars }
+        ensures open { IsNone result → Contains (literals self.now.entries) (negation lit) → ⊥ }
+        ensures level { IfSome result (IsTrueAt self.now.entries (negation lit)) }
+    {
+        // With the number it is known that no variable is assigned twice.
+        let _ = self.len();
+        match self.truth(lit) {
+            Some(false) => Some(self.level_of(lit.var())),
+            Some(true) => None,
+            None => None,
+        }
+    }
+
+    // Whether a literal is true since that level or a lower one.
+    pub(crate) fn true_up_to(&self, lit: Lit, level: u32) -> bool
+        requires in_range { lit.var < self.now.vars }
+        ensures since { IsTrue result ↔ IsTrueUpTo self.now.entries level lit }
+    {
+        // With the number it is known that no variable is assigned twice.
+        let _ = self.len();
+        match self.truth(lit) {
+            Some(true) => self.level_of(lit.var()) <= level,
+            Some(false) => false,
+            None => false,
+        }
+    }
+
+    // How many clauses were taken up.
+    pub(crate) fn known(&self) -> usize
+        ensures known { result ≡ length self.now.watching.watches }
+    {
+        self.watches.len()
+    }
+
+    // The watched literals of a clause, if it was taken up and has two.
+    pub(crate) fn watch(&self, clause: ClauseRef) -> Option<Watch>
+        ensures watch { result ≡ watch_at self.now.watching clause }
+    {
+        let place = clause.get() as usize;
+        if place < self.watches.len() {
+            self.watches[place]
+        } else {
+            None
+        }
+    }
+
+    // The clause at a place among the watchers of a literal, and None behind the last.
+    pub(crate) fn watcher(&self, lit: Lit, place: usize) -> Option<ClauseRef>
+        requires in_range { lit.var < self.now.vars }
+        ensures some { IfSome result (IsWatcherAt self.now.watching lit place) }
+        ensures none { IsNone result → length (watchers_of self.now.watching lit) ≤ place }
+        ensures few { IfSome result (λ _. place + 1 < 2 ^ 64) }
+    {
+        self.watchers[lit.var().get() as usize].get(lit.positive(), place)
+    }
+
+    // Adds a clause to the watchers of a literal; want of memory leaves them as they were.
+    pub(crate) fn add_watcher(&mut self, lit: Lit, clause: ClauseRef) -> Result<(), AllocError>
+        requires in_range { lit.var < self.old.vars }
+        ensures ok { OnOk result (self.new ≡ rewatched self.old (listing self.old.watching lit (watchers_of self.old.watching lit ++ clause ∷ [])) self.old.taken) }
+        ensures err { OnErr result (self.new ≡ self.old) }
+        ensures before { IsTrail self.old }
+        ensures after { IsTrail self.new }
+    {
+        self.watchers[lit.var().get() as usize].push(lit.positive(), clause)
+    }
+
+    // Takes the clause at a place off the watchers of a literal that it no longer watches.
+    pub(crate) fn drop_watcher(&mut self, lit: Lit, place: usize)
+        requires in_range { lit.var < self.old.vars }
+        requires within { place < length (watchers_of self.old.watching lit) }
+        requires unwatched { IsUnwatched self.old.watching (slice_index_or (watchers_of self.old.watching lit) place 0) lit }
+        ensures trail { self.new ≡ rewatched self.old (listing self.old.watching lit (swap_remove (watchers_of self.old.watching lit) place 0)) self.old.taken }
+        ensures before { IsTrail self.old }
+        ensures after { IsTrail self.new }
+    {
+        self.watchers[lit.var().get() as usize].remove(lit.positive(), place);
+    }
+
+    // Takes a clause up that has no two literals, or stands among the watchers of two.
+    pub(crate) fn take_up(&mut self, watch: Option<Watch>) -> Result<(), AllocError>
+        requires listed { IfSome watch (λ p. IsListed self.old.watching (length self.old.watching.watches) p) }
+        ensures ok { OnOk result (self.new ≡ rewatched self.old (watching self.old.watching (self.old.watching.watches ++ watch ∷ [])) self.old.taken) }
+        ensures err { OnErr result (self.new ≡ self.old) }
+        ensures before { IsTrail self.old }
+        ensures after { IsTrail self.new }
+    {
+        self.watches.push(watch)?;
+        Ok(())
+    }
+
+    // Watches two other literals of a clause, among whose watchers it stands.
+    pub(crate) fn set_watch(&mut self, clause: ClauseRef, watch: Watch)
+        requires known { clause < length self.old.watching.watches }
+        requires listed { IsListed self.old.watching clause watch }
+        ensures trail { self.new ≡ rewatched self.old (watching self.old.watching (set self.old.watching.watches clause (Some watch))) self.old.taken }
+        ensures before { IsTrail self.old }
+        ensures after { IsTrail self.new }
+    {
+        self.watches[clause.get() as usize] = Some(watch);
+    }
+
+    // How many literals were taken, from the first on.
+    pub(crate) fn taken(&self) -> u32
+        ensures taken { result ≡ self.now.taken }
+    {
+        self.taken
+    }
+
+    // Takes the next literal.
+    pub(crate) fn take_next(&mut self)
+        requires more { self.old.taken < length self.old.entries }
+        ensures trail { self.new ≡ rewatched self.old self.old.watching (self.old.taken + 1) }
+        ensures after { IsTrail self.new }
+    {
+        self.taken += 1;
+    }
+
+    // Counts no literal of the present level as taken.
+    pub(crate) fn untake(&mut self)
+        ensures trail { self.new ≡ rewatched self.old self.old.watching self.new.taken }
+        ensures untaken { IsUntaken self.new }
+        ensures fewer { self.new.taken ≤ self.old.taken }
+        ensures before { IsTrail self.old }
+        ensures after { IsTrail self.new }
+    {
+        let start = match self.levels.last() {
+            None => 0,
+            Some(level) => level.start,
+        };
+        self.taken = self.taken.min(start);
     }
 
     // The entry of a variable.
@@ -182,6 +333,24 @@ impl Trail {
             Some(place) => self.entries[place as usize],
         }
     }
+}
+
+// The lesser of two counts.
+fn lesser(a: u32, b: u32) -> u32
+    ensures lesser { result ≡ min a b }
+{
+    a.min(b)
+}
+
+// As many variables, whose literals no clause watches.
+fn no_watchers(alloc: Global, vars: u32) -> Result<Vec<Watchers>, AllocError>
+    ensures count { IfOk result (λ watchers. length watchers.items ≡ vars) }
+{
+    let mut watchers = Vec::with_capacity(alloc, vars as usize)?;
+    for _var in 0..vars {
+        watchers.push(Watchers::new(alloc))?;
+    }
+    Ok(watchers)
 }
 
 // Takes the entries from a place on off a trail, and their places off its table.

@@ -13,7 +13,6 @@ use Rattle.mtl_parse.specs.Places.{host_byte}
 use Rattle.skew_cli.specs.declared.limits.TheConstants.{FORMULA_LIMIT, LOG_LIMIT, REPORT_LIMIT, TIMES_LIMIT}
 use Rattle.skew_cli.specs.declared.refusal.Named.{Named}
 use Rattle.skew_cli.specs.declared.refusal.Named.TheVariants as named
-use Rattle.skew_cli.specs.declared.refusal.Refusal.{Refusal}
 use Rattle.skew_cli.specs.declared.refusal.Refusal.TheVariants as refusal
 use Rattle.skew_cli.specs.declared.reply.Reply.{Reply}
 use Rattle.skew_cli.specs.declared.reply.Stop.{Stop}

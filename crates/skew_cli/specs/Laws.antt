@@ -13,7 +13,7 @@ use Rattle.verdict.specs.Claims.{Claims}
 use Rattle.verdict.specs.Faults.{IsJudged}
 use Rattle.verdict.specs.Right.{is_unknown, is_witness}
 use Rattle.verdict.specs.Unknown.{CanBeUnknown}
-use Rattle.skew_cli.specs.declared.limits.TheConstants.{REPORT_LIMIT, TIMES_LIMIT}
+use Rattle.skew_cli.specs.declared.limits.TheConstants.{REPORT_LIMIT}
 use Rattle.skew_cli.specs.declared.refusal.Named.TheVariants as named
 use Rattle.skew_cli.specs.declared.refusal.Refusal.TheVariants as refusal
 use Rattle.skew_cli.specs.declared.status.Status.{Status}

@@ -13,7 +13,6 @@ use Rattle.report_text.specs.declared.report.Section.{Section}
 use Rattle.report_text.specs.declared.report.Section.TheVariants as section
 use Rattle.report_text.specs.declared.report.Report.{Report}
 use Rattle.report_text.specs.declared.report.Report.TheVariants as report
-use Rattle.verdict.specs.declared.answer.Audit.{Audit}
 use Rattle.verdict.specs.declared.answer.Audit.TheVariants as audit
 use Rattle.verdict.specs.declared.answer.Part.{Part}
 use Rattle.verdict.specs.declared.answer.Part.TheVariants as part

@@ -1,9 +1,7 @@
 -- What is found is a section.
-use Rattle.std.proofs.Common.{◌≡◌, refl, ℕ, ◌*◌, ◌<◌, ◌≤◌, Bool, List, [], ◌∷◌, length, drop, map, All, ℤ, ◌-ℤ◌}
-use Rattle.std.proofs.lemmas.List.Elements.{All-nil, All-cons, All-head, All-tail}
-use Rattle.mt_model.specs.declared.limits.TheConstants.{MAX_TIME}
+use Rattle.std.proofs.Common.{◌≡◌, refl, ℕ, ◌*◌, ◌<◌, ◌≤◌, Bool, List, length, ℤ}
 use Rattle.mt_model.specs.Form.{Form}
-use Rattle.mt_model.specs.Log.{IsLog, IsWithin, Logged}
+use Rattle.mt_model.specs.Log.{IsLog, Logged}
 use Rattle.mt_model.specs.Timing.{Admissible}
 use Rattle.mt_model.specs.Truth.{truth}
 use Rattle.skew_bounds.specs.RowTimes.{times_of}

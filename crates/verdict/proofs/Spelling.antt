@@ -1,10 +1,8 @@
 -- What is found has a spelling.
-use Rattle.std.proofs.Common.{◌≡◌, ◌∙◌, sym, arith, ℕ, suc, ◌*◌, ◌≤◌, Bool, List, length, All, ℤ, pos}
-use Rattle.std.proofs.lemmas.List.{get_or_default}
+use Rattle.std.proofs.Common.{◌≡◌, ◌∙◌, sym, arith, ℕ, suc, ◌*◌, ◌≤◌, Bool, List, length, ℤ}
 use Rattle.std.proofs.lemmas.Option.{get_or_from_slice_get}
-use Rattle.mt_model.specs.declared.limits.TheConstants.{MAX_TIME}
 use Rattle.mt_model.specs.Form.{Form}
-use Rattle.mt_model.specs.Log.{IsLog, IsWithin, Logged}
+use Rattle.mt_model.specs.Log.{IsLog, Logged}
 use Rattle.mt_model.specs.Timing.{Admissible}
 use Rattle.skew_bounds.proofs.Near.{times-near}
 use Rattle.proof_log.specs.declared.line.Line.{Line}

@@ -19,6 +19,12 @@ last_decided t lit mark =
 pub propagate-requires-clause-room : goal.propagate-requires-clause-room
 propagate-requires-clause-room c = running_room c.args.vars c.args.db.now c.args.links.now c.decisions.trail c.decisions.graph c.decisions.invariant.running
 
+pub propagate-requires-clause-watched : goal.propagate-requires-clause-watched
+propagate-requires-clause-watched c = c.decisions.invariant.running.run.step.watched
+
+pub propagate-requires-clause-closed : goal.propagate-requires-clause-closed
+propagate-requires-clause-closed c = c.decisions.invariant.running.run.closed
+
 pub returns-in-ClauseConflict-clause-descended : goal.returns-in-ClauseConflict-clause-descended
 returns-in-ClauseConflict-clause-descended c = λ base run.
     let in_step = rw c.in-ClauseConflict.is at c.in_ok-reached.ensures.in_step in

@@ -20,7 +20,7 @@ links_of-requires c = record { orders = orders-more c.args.problem.nodes MAX_NOD
 pub conflicts-init : goal.conflicts-init
 conflicts-init c = record {
   search = started c.cores_are_cores.ensures c.nodes_are_subtrees.ensures c.args.problem c.requires.posed c.new_trail_is_in_step.ensures.law c.len-vars.result c.in_ok-links.links c.in_ok-trail.trail c.in_ok-graph.graph
-      (record { db = c.args.problem.db; cites = c.in_ok-cites.cites; lines = c.new-lines.result }) c.len-vars.ensures.atoms c.in_ok-trail.ensures.vars c.in_ok-trail.ensures.none c.in_ok-trail.ensures.level c.level.ensures.trail
+      (record { db = c.args.problem.db; cites = c.in_ok-cites.cites; lines = c.new-lines.result }) c.len-vars.ensures.atoms c.in_ok-trail.ensures.vars c.in_ok-trail.ensures.none c.in_ok-trail.ensures.level c.in_ok-trail.ensures.unwatched c.level.ensures.trail
       c.in_ok-graph.ensures.nodes (rw c.as_slice.ensures.items at c.in_ok-graph.ensures.capacity) (c.in_ok-graph.ensures.edges ∙ c.as_slice.ensures.items) c.in_ok-links.ensures.links refl
       (rw c.as_slice-2.ensures.items at c.in_ok-cites.ensures.cites) c.new-lines.ensures.items (rw c.as_slice-2.ensures.items at c.in_ok-cites.ensures.in_range);
 }

@@ -17,3 +17,8 @@ pub returns-in-Kept-clause-step : goal.returns-in-Kept-clause-step
 returns-in-Kept-clause-step c =
     let step = (rw c.in-Quiet.is at c.in_ok-propagate.ensures.in_step) [] c.requires.step in
     c.in-Kept.ensures.in_step c.args.db.now [] step
+
+pub returns-in-Kept-clause-closed : goal.returns-in-Kept-clause-closed
+returns-in-Kept-clause-closed c =
+    let closed_at = rw c.in-Quiet.is at c.in_ok-propagate.ensures.closed_at in
+    c.decide.ensures.closed c.args.db.now (c.propagate.ensures.closed c.requires.closed) closed_at

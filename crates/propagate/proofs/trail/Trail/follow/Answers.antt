@@ -8,7 +8,7 @@ push_within-requires c =
     let inside = c.self.inside in
     let below : c.args.lit.var < length inside.places.items = rw (← c.self.view_is) at c.requires.in_range in
     let free : IsUnassigned inside.entries.items c.args.lit.var = rw (← c.self.view_is) at c.requires.unassigned in
-    let more = room_for_entry inside.entries.items inside.places.items inside.levels.items _ _ c.args.lit c.self.invariant below free in
+    let more = room_for_entry inside.entries.items inside.places.items inside.levels.items _ _ _ _ c.args.lit c.self.invariant below free in
     record { room = omega (arith, more, c.self.invariant.entry_room) }
 
 pub invariant_of-self : goal.invariant_of-self
@@ -18,7 +18,7 @@ invariant_of-self c =
     let free : IsUnassigned inside.entries.items c.args.lit.var = rw (← c.self.view_is) at c.requires.unassigned in
     let place : c.len-place.result ≡ length inside.entries.items = rw (← c.self.view_is) at c.len-place.ensures.count in
     let level : c.level-present.result ≡ length inside.levels.items = rw (← c.self.view_is) at c.level-present.ensures.level in
-    stored_followed inside.entries.items c.push_within.new.list.items inside.places.items inside.levels.items _ _ _ c.args.lit c.get.result c.get-2.result c.level-present.result c.len-place.result
+    stored_followed inside.entries.items c.push_within.new.list.items inside.places.items inside.levels.items _ _ _ _ _ c.args.lit c.get.result c.get-2.result c.level-present.result c.len-place.result
     c.self.invariant c.push_within.ensures.capacity below free (c.get-2.ensures.number ∙ c.var.ensures.variable) place level c.push_within.ensures.items
 
 pub returns-clause-after : goal.returns-clause-after

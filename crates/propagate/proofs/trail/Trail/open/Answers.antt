@@ -9,7 +9,7 @@ overflow_add-level c =
     let below : c.args.lit.var < length inside.places.items = rw (← c.self.view_is) at c.requires.in_range in
     let free : IsUnassigned inside.entries.items c.args.lit.var = rw (← c.self.view_is) at c.requires.unassigned in
     let level : c.level-level.result ≡ length inside.levels.items = rw (← c.self.view_is) at c.level-level.ensures.level in
-    let more = room_for_level inside.entries.items inside.places.items inside.levels.items _ _ c.args.lit c.self.invariant below free in
+    let more = room_for_level inside.entries.items inside.places.items inside.levels.items _ _ _ _ c.args.lit c.self.invariant below free in
     omega (arith, more, level, c.self.invariant.few)
 
 pub push_within-requires : goal.push_within-requires
@@ -17,7 +17,7 @@ push_within-requires c =
     let inside = c.self.inside in
     let below : c.args.lit.var < length inside.places.items = rw (← c.self.view_is) at c.requires.in_range in
     let free : IsUnassigned inside.entries.items c.args.lit.var = rw (← c.self.view_is) at c.requires.unassigned in
-    let more = room_for_entry inside.entries.items inside.places.items inside.levels.items _ _ c.args.lit c.self.invariant below free in
+    let more = room_for_entry inside.entries.items inside.places.items inside.levels.items _ _ _ _ c.args.lit c.self.invariant below free in
     record { room = omega (arith, more, c.self.invariant.entry_room) }
 
 pub push_within-requires-2 : goal.push_within-requires-2
@@ -25,7 +25,7 @@ push_within-requires-2 c =
     let inside = c.self.inside in
     let below : c.args.lit.var < length inside.places.items = rw (← c.self.view_is) at c.requires.in_range in
     let free : IsUnassigned inside.entries.items c.args.lit.var = rw (← c.self.view_is) at c.requires.unassigned in
-    let more = room_for_level inside.entries.items inside.places.items inside.levels.items _ _ c.args.lit c.self.invariant below free in
+    let more = room_for_level inside.entries.items inside.places.items inside.levels.items _ _ _ _ c.args.lit c.self.invariant below free in
     record { room = omega (arith, more, c.self.invariant.level_room) }
 
 pub invariant_of-self : goal.invariant_of-self
@@ -35,7 +35,7 @@ invariant_of-self c =
     let free : IsUnassigned inside.entries.items c.args.lit.var = rw (← c.self.view_is) at c.requires.unassigned in
     let start : c.len-start.result ≡ length inside.entries.items = rw (← c.self.view_is) at c.len-start.ensures.count in
     let level : c.level-level.result ≡ length inside.levels.items = rw (← c.self.view_is) at c.level-level.ensures.level in
-    stored_decided inside.entries.items c.push_within.new.list.items inside.places.items inside.levels.items c.push_within-2.new.list.items _ _ _ _ c.args.lit c.args.mark c.get.result c.level-level.result
+    stored_decided inside.entries.items c.push_within.new.list.items inside.places.items inside.levels.items c.push_within-2.new.list.items _ _ _ _ _ _ c.args.lit c.args.mark c.get.result c.level-level.result
     c.len-start.result c.self.invariant c.push_within.ensures.capacity c.push_within-2.ensures.capacity below free (c.get.ensures.number ∙ c.var.ensures.variable) start level c.push_within.ensures.items
     c.push_within-2.ensures.items
 

@@ -1,0 +1,182 @@
+-- The visits of the clauses that watch a literal which became false.
+use Rattle.std.proofs.Common.{◌≡◌, ◌≢◌, ◌∙◌, ap, sym, subst, refl, ℕ, ◌+◌, ◌<◌, ◌≤◌, ◌⊎◌, inl, inr, List, [], ◌∷◌, ◌++◌, length, get_or, set, arith, Option, Some, Result, Ok, Err}
+use Rattle.std.specs.Prelude.{IfOk, OnErr}
+use Rattle.std.specs.List.{Contains, swap_remove}
+use Rattle.std.proofs.lemmas.Bool.{cases_eq}
+use Rattle.std.proofs.lemmas.List.{get_or_default}
+use Rattle.std.proofs.lemmas.List.Elements.{All-contains}
+use Rattle.neg_cycle.specs.declared.system.Edge.{Edge}
+use Rattle.difference_graph.specs.Graphs.{Constraints}
+use Rattle.clause_db.specs.declared.lit.Lit.{Lit}
+use Rattle.clause_db.specs.Literals.{negation}
+use Rattle.clause_db.specs.Clauses.{clause_at}
+use Rattle.propagate.specs.declared.watch.Watch.{Watch}
+use Rattle.propagate.specs.declared.visit.Visit.{Visit}
+use Rattle.propagate.specs.declared.visit.Visit.TheVariants as visit
+use Rattle.propagate.specs.Watching.{Watching, AreWatchedOf, IsListed, IsUnwatched, IsWatcherAt, listing, watch_at, watchers_of, watching}
+use Rattle.propagate.specs.Trails.{Assigned, no_entry, entry_at, IsTrail, HasEntry, rewatched}
+use Rattle.propagate.specs.Watched.{AreGuarded, AreTwoOf, AreWatched}
+use Rattle.propagate.specs.Reach.{IsAtWork, IsGrown, IsProgress}
+use Rattle.propagate.specs.Best.{IsBest}
+use Rattle.propagate.specs.Visits.{HasMoved, HasVisited, IsAmong, IsMet, IsMoved, IsNextFalse, IsRewatched, IsUnmoved, IsVisited}
+use Rattle.propagate.proofs.ClauseLemmas.{literal_held}
+use Rattle.propagate.proofs.PlaceLemmas.{held_at, same_literal}
+use Rattle.propagate.proofs.WatchingLemmas.{cases_lit}
+use Rattle.propagate.proofs.WatchedLemmas.{guards_fewer, guards_longer, known_at}
+use Rattle.propagate.proofs.GuardLemmas.{guard_next, guards_stay, other_in}
+use Rattle.propagate.proofs.ReachLemmas.{grown_entry, progress_rewatched}
+use Rattle.propagate.proofs.VisitLemmas.{guards_moved, moved_anew, moved_known, moved_listed, moved_off, moved_unwatched, moved_within, next_grown, progress_again, since_before, visited_moved, visited_stay}
+
+pub on_err : {T E : Type 0} (r : Result T E) (P : Type 0) → P → OnErr r P
+on_err (Ok x) P p = tt
+on_err (Err y) P p = p
+
+pub if_ok_more : {T E : Type 0} (r : Result T E) (P Q : T → Type 0) → ((x : T) → P x → Q x) → IfOk r P → IfOk r Q
+if_ok_more (Ok x) P Q more p = more x p
+if_ok_more (Err y) P Q more p = tt
+
+pub on_err_more : {T E : Type 0} (r : Result T E) (P Q : Type 0) → (P → Q) → OnErr r P → OnErr r Q
+on_err_more (Ok x) P Q more p = tt
+on_err_more (Err y) P Q more p = more p
+
+-- the next literal to take is in range, and its level is that of its place
+pub next_below : (t : Assigned) (f : Lit) → IsTrail t → IsNextFalse t f → f.var < t.vars
+next_below t f trail next = rw next.is at (trail.below t.taken no_entry next.more)
+
+pub next_level : (t : Assigned) (f : Lit) (v n : ℕ) → IsTrail t → IsNextFalse t f → v ≡ f.var → HasEntry t.entries v (λ e. e.level ≡ n) → n ≡ (entry_at t.entries t.taken).level
+next_level t f v n trail next var found =
+    let at = held_at t (negation f) v n trail var (literal_held t.entries t.taken (negation f) next.more next.is) found in
+    let same = same_literal t at.0 t.taken (negation f) trail at.1 next.more at.2 next.is in
+    sym at.3 ∙ ap (λ k. (entry_at t.entries k).level) same
+
+-- the other watched literal of a clause is in range
+pub other_below : (db : List (List Lit)) (links : List (Option (Edge × Edge))) (t : Assigned) (g : Constraints) (c : ℕ) (f o : Lit) → IsAtWork db links t g → IsNextFalse t f → AreWatchedOf t.watching c f o → o.var < t.vars
+other_below db links t g c f o work next both =
+    let known = work.watched.known in
+    let held : c < length db = let within = known_at t.watching.watches c both.0 both.1 in omega (arith, known, within) in
+    All-contains (λ (l : Lit). l.var < t.vars) (clause_at db c) o (work.reasons.variables c [] held) (other_in t db c f o work.trail work.watched next both)
+
+-- a clause that is moved, step by step
+module _ (t : Assigned) (f o best : Lit) (c place : ℕ) (trail : IsTrail t) (in_range : best.var < t.vars) (next : IsNextFalse t f) (here : IsWatcherAt t.watching f place c) (both : AreWatchedOf t.watching c f o) (other_apart : o ≢ f)
+    (apart : best ≢ f) (s : Assigned) (added : s ≡ rewatched t (listing t.watching best (watchers_of t.watching best ++ c ∷ [])) t.taken) where
+  abbrev p : Watch
+  p = record { first = best; second = o }
+
+  within : f.var < length t.watching.watchers
+  within = let lists = trail.lists in omega (arith, lists, next_below t f trail next)
+
+  first : best.var < length t.watching.watchers
+  first = let lists = trail.lists in omega (arith, lists, in_range)
+
+  known : c < length t.watching.watches
+  known = known_at t.watching.watches c both.0 both.1
+
+  lists_added : s.watching ≡ listing t.watching best (watchers_of t.watching best ++ c ∷ [])
+  lists_added = ap (λ (x : Assigned). x.watching) added
+
+  other_listed : Contains (watchers_of t.watching o) c
+  other_listed =
+      let listed = trail.listed c both.0 both.1 in
+      elim both.2 [ inl at ↦ rw at.1 at listed.second | inr at ↦ rw at.1 at listed.first ]
+
+  pub step_listed : IsListed s.watching c p
+  step_listed = moved_listed t.watching s.watching (watching s.watching (set s.watching.watches c (Some p))) t.watching f p c place within first known apart here lists_added refl other_listed
+
+  pub step_known : c < length s.watching.watches
+  step_known = moved_known t.watching s.watching (watching s.watching (set s.watching.watches c (Some p))) t.watching f p c place within first known apart here lists_added refl
+
+  module _ (u : Assigned) (anew : u ≡ rewatched s (watching s.watching (set s.watching.watches c (Some p))) s.taken) where
+    lists_anew : u.watching ≡ watching s.watching (set s.watching.watches c (Some p))
+    lists_anew = ap (λ (x : Assigned). x.watching) anew
+
+    pub step_within : place < length (watchers_of u.watching f)
+    step_within = moved_within t.watching s.watching u.watching t.watching f p c place within first known apart here lists_added lists_anew
+
+    pub step_unwatched : IsUnwatched u.watching (get_or (watchers_of u.watching f) place 0) f
+    step_unwatched = moved_unwatched t.watching s.watching u.watching t.watching f p c place within first known apart here lists_added lists_anew other_apart
+
+    module _ (x : Assigned) (less : x ≡ rewatched u (listing u.watching f (swap_remove (watchers_of u.watching f) place 0)) u.taken) where
+      lists_less : x.watching ≡ listing u.watching f (swap_remove (watchers_of u.watching f) place 0)
+      lists_less = ap (λ (y : Assigned). y.watching) less
+
+      pub step_anew : IsRewatched t.watching x.watching c p
+      step_anew = moved_anew t.watching s.watching u.watching x.watching f p c place within first known apart here lists_added lists_anew lists_less
+
+      pub step_moved : IsMoved t.watching x.watching f p c place
+      step_moved = moved_off t.watching s.watching u.watching x.watching f p c place within first known apart here lists_added lists_anew lists_less
+
+-- the visit of a clause that watches the literal and another one
+module _ (db : List (List Lit)) (links : List (Option (Edge × Edge))) (t : Assigned) (g : Constraints) (s : Assigned) (h : Constraints) (u : Assigned) (c place : ℕ) (f o best : Lit) (work : IsAtWork db links t g) (next : IsNextFalse t f)
+    (here : IsWatcherAt t.watching f place c) (both : AreWatchedOf t.watching c f o) (is_best : IsBest t.entries (clause_at db c) (Some o) best) (progress : IsProgress db links t g s h) (unmoved : IsUnmoved t s) (met_here : IsMet t s o best)
+    (is : u ≡ rewatched s u.watching s.taken) (trail : IsTrail u) (anew : IsRewatched s.watching u.watching c (record { first = best; second = o })) where
+  abbrev q : Watch
+  q = record { first = best; second = o }
+
+  two : AreTwoOf (clause_at db c) q
+  two = record { differ = λ same. is_best.differs (ap (λ x. Some x) (sym same)); has_first = is_best.has; has_second = other_in t db c f o work.trail work.watched next both }
+
+  guards : AreGuarded s.entries (t.taken + 1) q
+  guards = guards_moved t s db c f o best work.trail progress.work.trail work.watched next both progress.grown unmoved met_here
+
+  pub best_progress : IsProgress db links t g u h
+  best_progress = progress_again db links t s u g h c q is trail anew two (guards_fewer s.entries (t.taken + 1) s.taken q (let same = unmoved.taken in omega (arith, same)) guards) progress
+
+  next_s : IsNextFalse s f
+  next_s = next_grown t s f progress.grown unmoved.taken next
+
+  both_s : AreWatchedOf s.watching c f o
+  both_s = subst (λ (w : Watching). AreWatchedOf w c f o) (sym unmoved.watching) both
+
+  pub best_visited : (v : Visit) → HasMoved s u f q c place v → HasVisited db links f c place t g v u h
+  best_visited visit.Stayed (same, sooner) =
+      let since = since_before t s db c f o best work.trail progress.work.trail work.watched next both progress.grown unmoved met_here sooner in
+      let stay = guards_stay s db c f o progress.work.trail progress.work.watched next_s both_s since in (
+        best_progress,
+        visited_stay t u f c place (ap (λ (x : Assigned). x.taken) same ∙ unmoved.taken) (ap (λ (x : Assigned). x.watching) same ∙ unmoved.watching) here
+            (subst (λ (x : Assigned). (p : Watch) → watch_at x.watching c ≡ Some p → AreGuarded x.entries (t.taken + 1) p) (sym same) (rw unmoved.taken at stay)),
+      )
+  best_visited visit.Moved moved = (best_progress, visited_moved t s u f c place q unmoved.taken unmoved.watching is anew moved guards)
+  best_visited (visit.Stopped r) moved = absurd moved
+
+-- what is left to visit
+abbrev pub AreLeft : Assigned → Lit → ℕ → Type 0
+AreLeft t f place = (d : ℕ) (p : Watch) → watch_at t.watching d ≡ Some p → AreGuarded t.entries (t.taken + 1) p ⊎ IsAmong (watchers_of t.watching f) place d
+
+pub left_first : (t : Assigned) (db : List (List Lit)) (f : Lit) → IsTrail t → AreWatched t db → IsNextFalse t f → AreLeft t f 0
+left_first t db f trail watched next d p is =
+    let listed = trail.listed d p is in
+    let rule = watched.rule d p is in
+    elim (cases_lit p.first f) [
+      | inl same ↦ inr (among (rw same at listed.first))
+      | inr apart ↦ elim (cases_lit p.second f) [
+        | inl same ↦ inr (among (rw same at listed.second))
+        | inr other ↦ inl (record { first = guard_next t f trail next p.first p.second apart rule.first; second = guard_next t f trail next p.second p.first other rule.second })
+      ]
+    ] where
+      among : Contains (watchers_of t.watching f) d → IsAmong (watchers_of t.watching f) 0 d
+      among (j, within, at) = (j, omega arith, within, get_or_default (watchers_of t.watching f) j 0 d within ∙ at)
+
+pub left_visited : (t s : Assigned) (f : Lit) (c place after : ℕ) → IsNextFalse t f → IsGrown t s → IsVisited t s f c place after → AreLeft t f place → AreLeft s f after
+left_visited t s f c place after next grown visited left d p is = elim (cases_eq d c) [
+  | inl same ↦ inl (rw visited.taken (visited.guarded p (ap (watch_at s.watching) (sym same) ∙ is)))
+  | inr other ↦ elim (left d p (sym (visited.others d other) ∙ is)) [
+    | inl kept ↦ inl (rw visited.taken (guards_longer t.entries s.entries grown.longer (λ k within. grown_entry t s k grown within) (t.taken + 1) p (let more = next.more in omega (arith, more)) kept))
+    | inr among ↦ inr (visited.left d other among)
+  ]
+]
+
+-- where nothing is left, the literal is taken
+pub progress_next : (db : List (List Lit)) (links : List (Option (Edge × Edge))) (a t s : Assigned) (g h : Constraints) (f : Lit) (place : ℕ) → IsProgress db links a g t h → AreLeft t f place → length (watchers_of t.watching f) ≤ place
+    → s ≡ rewatched t t.watching (t.taken + 1) → IsTrail s → IsProgress db links a g s h
+progress_next db links a t s g h f place old left end is trail =
+    subst (λ (x : Assigned). IsProgress db links a g x h) (sym is) (progress_rewatched t db t.watching (t.taken + 1) links a g h (subst IsTrail is trail) watched (omega arith) old) where
+      watched : AreWatched (rewatched t t.watching (t.taken + 1)) db
+      watched = record {
+        known = old.work.watched.known;
+        two = old.work.watched.two;
+        short = old.work.watched.short;
+        rule = λ c p at. elim (left c p at) [
+          | inl kept ↦ kept
+          | inr among ↦ let le = among.1 in let within = among.2 in absurd (omega (arith, le, within, end))
+        ];
+      }

@@ -1,0 +1,286 @@
+-- What is done with a clause that is taken up or visited.
+use Rattle.std.proofs.Common.{◌≡◌, ◌≢◌, ◌∙◌, ap, sym, subst, refl, ℕ, ◌+◌, ◌<◌, ◌≤◌, ◌⊎◌, inl, inr, List, [], ◌∷◌, ◌++◌, length, get_or, arith, Option, Some, None, get_or-set_same, get_or-set_other, set, length-set}
+use Rattle.std.specs.List.{All, Any, Contains, swap_remove}
+use Rattle.std.proofs.lemmas.Bool.{cases_eq}
+use Rattle.std.proofs.lemmas.List.{get_or_default, length_push}
+use Rattle.std.proofs.lemmas.List.Elements.{All-from_get_or, All-weaker}
+use Rattle.neg_cycle.specs.declared.system.Edge.{Edge}
+use Rattle.difference_graph.specs.Graphs.{Constraints}
+use Rattle.hint_refutation.specs.Hints.{LeavesOnly}
+use Rattle.hint_refutation.specs.Propagation.{IsSettled}
+use Rattle.clause_db.specs.declared.lit.Lit.{Lit}
+use Rattle.clause_db.specs.Literals.{negation}
+use Rattle.clause_db.specs.Clauses.{clause_at}
+use Rattle.propagate.specs.declared.watch.Watch.{Watch}
+use Rattle.propagate.specs.declared.moves.Reached.{Reached}
+use Rattle.propagate.specs.declared.moves.Reached.TheVariants as reached
+use Rattle.propagate.specs.Watching.{Watching, AreWatchedOf, IsListed, IsUnwatched, IsWatcherAt, listing, lists_at, watch_at, with_list, watchers_of, watching}
+use Rattle.propagate.specs.Trails.{Assigned, entry_at, literals, up_to, IsTrail, rewatched}
+use Rattle.propagate.specs.Watched.{AreGuarded, AreTwoOf, AreWatched, IsTrueAt, IsTrueUpTo}
+use Rattle.propagate.specs.Clauses.{AreSettled}
+use Rattle.propagate.specs.Closed.{Closed}
+use Rattle.propagate.specs.Reach.{IfQuiet, IsGrown, IsProgress, IsReached}
+use Rattle.propagate.specs.Best.{AreBest, AreFalseUpTo, IsBest}
+use Rattle.propagate.specs.Visits.{AreShortMet, IsAmong, IsMet, IsMetIfShort, IsMoved, IsNextFalse, IsRewatched, IsUnmoved, IsVisited}
+use Rattle.propagate.proofs.ClauseLemmas.{literal_at, literal_held}
+use Rattle.propagate.proofs.PlaceLemmas.{cases_contains, same_literal, up_to_held, up_to_here}
+use Rattle.propagate.proofs.WatchingLemmas.{listed_elsewhere, listed_here, listed_more, listed_new, removed_left, removed_length}
+use Rattle.propagate.proofs.WatchedLemmas.{guard_fewer, some_is, watched_again, watched_lists, watched_up}
+use Rattle.propagate.proofs.GuardLemmas.{guard_beside, guard_next, guard_open, guard_true, guards_best, other_apart, rule_of_other, two_best}
+use Rattle.propagate.proofs.ReachLemmas.{grown_entry, progress_rewatched}
+
+-- the literals stay
+pub held_grown : (t s : Assigned) (l : Lit) → IsGrown t s → Contains (literals t.entries) l → Contains (literals s.entries) l
+held_grown t s l grown has =
+    let at = literal_at t.entries l has in
+    let longer = grown.longer in
+    let within = at.0 in
+    literal_held s.entries has.0 l (omega (arith, within, longer)) (ap (λ e. e.lit) (grown_entry t s has.0 grown within) ∙ at.1)
+
+-- a clause that leaves a literal which is false is false
+pub leaves_false : (set clause : List Lit) (l : Lit) → LeavesOnly negation set clause l → Contains set (negation l) → All (λ x. Contains set (negation x)) clause
+leaves_false set clause l leaves held = All-weaker (λ (x : Lit). (x ≡ l) ⊎ Contains set (negation x)) (λ (x : Lit). Contains set (negation x)) weaker clause leaves.others_false where
+  weaker : (x : Lit) → (x ≡ l) ⊎ Contains set (negation x) → Contains set (negation x)
+  weaker x (inl same) = rw same held
+  weaker x (inr here) = here
+
+-- where the best literal is false, and the one beside it was made true
+module _ (db : List (List Lit)) (links : List (Option (Edge × Edge))) (t : Assigned) (g : Constraints) (s : Assigned) (h : Constraints) (clause : List Lit) (l best : Lit) (n : ℕ) (is_best : IsBest t.entries clause (Some l) best)
+    (at : IsTrueAt t.entries (negation best) n) where
+  met : IsProgress db links t g s h → Contains (literals s.entries) l → ((m : ℕ) → AreFalseUpTo t.entries m clause (Some l) → IsTrueUpTo s.entries m l) → IsMet t s l best
+  met progress made since = inr (
+    made,
+    λ j less is.
+        let longer = progress.grown.longer in
+        let k_in : at.0 < length s.entries = let within = at.1 in omega (arith, within, longer) in
+        let kept = grown_entry t s at.0 progress.grown at.1 in
+        let same = same_literal s j at.0 (negation best) progress.work.trail less k_in is (ap (λ e. e.lit) kept ∙ at.2) in
+        rw (same, kept) (since (entry_at t.entries at.0).level (is_best.last at.0 at.1 at.2)),
+  )
+
+  pub met_if_quiet : (r : Reached) → IsReached db links t g r s h → IfQuiet r (Contains (literals s.entries) l) → IfQuiet r ((m : ℕ) → AreFalseUpTo t.entries m clause (Some l) → IsTrueUpTo s.entries m l) → IfQuiet r (IsMet t s l best)
+  met_if_quiet reached.Quiet progress made since = met progress made since
+  met_if_quiet (reached.ClauseConflict c) progress made since = tt
+  met_if_quiet (reached.TheoryConflict u) progress made since = tt
+
+-- two different literals make two
+two_apart : (clause : List Lit) (k l : Lit) → Contains clause k → Contains clause l → length clause < 2 → k ≡ l
+two_apart clause k l (i, in_i, is_i) (j, in_j, is_j) short =
+    let first : i ≡ 0 = omega (arith, in_i, short) in
+    let second : j ≡ 0 = omega (arith, in_j, short) in
+    sym is_i ∙ ap (λ n. get_or clause n k) first ∙ get_or_default clause 0 k l (omega (arith, in_i)) ∙ ap (λ n. get_or clause n l) (sym second) ∙ is_j
+
+-- above level 0 the clauses of fewer than two literals are met
+pub short_met : (t : Assigned) (db : List (List Lit)) → IsTrail t → Closed t db → 0 < length t.levels → AreShortMet t db
+short_met t db trail closed op c held short = met_so (closed 0 op c [] held) where
+  met_so : IsSettled negation (literals (up_to 0 t.entries)) (clause_at db c) → Any (Contains (literals t.entries)) (clause_at db c)
+  met_so (inl (k, x, within, is, here)) = (k, x, within, is, up_to_held t.entries 0 x (up_to_here t.entries t.levels 0 op trail.levels x here))
+  met_so (inr two) = absurd (two.differ (two_apart (clause_at db c) two.one two.other two.has_one two.has_other short))
+
+pub met_grown : (t s : Assigned) (clause : List Lit) → IsGrown t s → IsMetIfShort t clause → IsMetIfShort s clause
+met_grown t s clause grown was short = let any = was short in (any.0, any.1, any.2, any.3, held_grown t s any.1 grown any.4)
+
+pub short_grown : (t s : Assigned) (db : List (List Lit)) → IsGrown t s → AreShortMet t db → AreShortMet s db
+short_grown t s db grown was c held = met_grown t s (clause_at db c) grown (was c held)
+
+-- where all is taken, and all clauses are taken up, each is settled
+pub all_settled : (t : Assigned) (db : List (List Lit)) → AreWatched t db → t.taken ≡ length t.entries → length db ≤ length t.watching.watches → AreShortMet t db → AreSettled t.entries db
+all_settled t db watched taken known short = All-from_get_or (IsSettled negation (literals t.entries)) db [] (λ c held. settled c held (watch_at t.watching c) refl) where
+  settled : (c : ℕ) → c < length db → (r : Option Watch) → watch_at t.watching c ≡ r → IsSettled negation (literals t.entries) (clause_at db c)
+  settled c held None is = inl (short c held (watched.short c (omega (arith, held, known)) is))
+  settled c held (Some p) is =
+      let two = watched.two c p is in
+      let rule = watched.rule c p is in
+      elim (cases_contains (literals t.entries) (negation p.first)) [
+        | inl no_first ↦
+            let at = literal_at t.entries (negation p.first) no_first in
+            let since = rule.first no_first.0 (let within = at.0 in omega (arith, within, taken)) at.1 in
+            let has = two.has_second in
+            inl (has.0, p.second, has.1, has.2, up_to_held t.entries _ p.second since)
+        | inr first_open ↦ elim (cases_contains (literals t.entries) (negation p.second)) [
+          | inl no_second ↦
+              let at = literal_at t.entries (negation p.second) no_second in
+              let since = rule.second no_second.0 (let within = at.0 in omega (arith, within, taken)) at.1 in
+              let has = two.has_first in
+              inl (has.0, p.first, has.1, has.2, up_to_held t.entries _ p.first since)
+          | inr second_open ↦ inr (record { one = p.first; other = p.second; has_one = two.has_first; has_other = two.has_second; differ = two.differ; one_open = first_open; other_open = second_open })
+        ]
+      ]
+
+-- the lists of watchers change
+pub progress_lists : (db : List (List Lit)) (links : List (Option (Edge × Edge))) (a t s : Assigned) (g h : Constraints) → s ≡ rewatched t s.watching t.taken → s.watching.watches ≡ t.watching.watches → IsTrail s → IsProgress db links a g t h
+    → IsProgress db links a g s h
+progress_lists db links a t s g h is same trail old =
+    let v = s.watching in
+    subst (λ (x : Assigned). IsProgress db links a g x h) (sym is) (progress_rewatched t db v t.taken links a g h (subst IsTrail is trail) (watched_lists t db v same old.work.watched) (omega (arith, ap length same)) old)
+
+-- one more clause is taken up
+pub progress_up : (db : List (List Lit)) (links : List (Option (Edge × Edge))) (a t s : Assigned) (g h : Constraints) (r : Option Watch) → s ≡ rewatched t s.watching t.taken → s.watching.watches ≡ t.watching.watches ++ r ∷ [] → IsTrail s
+    → length t.watching.watches < length db → (r ≡ None → length (clause_at db (length t.watching.watches)) < 2)
+    → ((p : Watch) → r ≡ Some p → AreTwoOf (clause_at db (length t.watching.watches)) p × AreGuarded t.entries t.taken p) → IsProgress db links a g t h → IsProgress db links a g s h
+progress_up db links a t s g h r is added trail more none some old =
+    let v = s.watching in
+    subst (λ (x : Assigned). IsProgress db links a g x h) (sym is)
+    (progress_rewatched t db v t.taken links a g h (subst IsTrail is trail) (watched_up t db v r added more none some old.work.watched) (omega (arith, ap length added, length_push t.watching.watches r)) old)
+
+-- one more clause whose best two literals are watched
+pub progress_two : (db : List (List Lit)) (links : List (Option (Edge × Edge))) (a t s : Assigned) (g h : Constraints) (c : ℕ) (p : Watch) → IsProgress db links a g t h → IsUnmoved a t → IsMet a t p.first p.second → AreBest a.entries (clause_at db c) p
+    → s ≡ rewatched t s.watching t.taken → s.watching.watches ≡ t.watching.watches ++ Some p ∷ [] → IsTrail s → c ≡ length a.watching.watches → c < length db → IsProgress db links a g s h
+progress_two db links a t s g h c p old unmoved met_here best is added trail at held =
+    let here : c ≡ length t.watching.watches = at ∙ ap (λ (w : Watching). length w.watches) (sym unmoved.watching) in
+    let guards = guards_best a t (clause_at db c) p t.taken old.work.trail old.work.trail.taken met_here best in
+    progress_up db links a t s g h (Some p) is added trail (omega (arith, held, here)) (λ none. absurd (some_none none)) (λ q same. let this : p ≡ q = some_is same in rw (← this, ← here) (two_best a.entries (clause_at db c) p best, guards)) old where
+      some_none : {x : Watch} → Some x ≡ None → ⊥
+      some_none e = cc
+
+-- the lists of watchers with a clause more, and with a clause less
+pub listed_two : (w : Watching) (p : Watch) (c : ℕ) → p.first.var < length w.watchers → p.second.var < length w.watchers
+    → IsListed (listing (listing w p.first (watchers_of w p.first ++ c ∷ [])) p.second (watchers_of (listing w p.first (watchers_of w p.first ++ c ∷ [])) p.second ++ c ∷ [])) c p
+listed_two w p c first second =
+    let v = listing w p.first (watchers_of w p.first ++ c ∷ []) in
+    let more : p.second.var < length v.watchers = omega (arith, second, length-set w.watchers p.first.var (with_list (lists_at w.watchers p.first.var) p.first.positive (watchers_of w p.first ++ c ∷ []))) in
+    record { first = listed_more v p.second c more p.first c (listed_new w p.first c first); second = listed_new v p.second c more }
+
+-- the next literal to take stays the next one
+pub next_grown : (t s : Assigned) (f : Lit) → IsGrown t s → s.taken ≡ t.taken → IsNextFalse t f → IsNextFalse s f
+next_grown t s f grown same next =
+    let longer = grown.longer in
+    let more = next.more in
+    record { more = omega (arith, more, longer, same); is = ap (λ k. (entry_at s.entries k).lit) same ∙ ap (λ e. e.lit) (grown_entry t s t.taken grown more) ∙ next.is }
+
+-- a clause that stays among the watchers of the literal
+pub among_next : (xs : List ℕ) (place c d : ℕ) → get_or xs place 0 ≡ c → d ≢ c → IsAmong xs place d → IsAmong xs (place + 1) d
+among_next xs place c d here other (j, le, within, at) = elim (cases_eq j place) [
+  | inl same ↦ absurd (other (sym at ∙ ap (λ k. get_or xs k 0) same ∙ here))
+  | inr differ ↦ (j, omega (arith, le, differ), within, at)
+]
+
+pub visited_stay : (t s : Assigned) (f : Lit) (c place : ℕ) → s.taken ≡ t.taken → s.watching ≡ t.watching → IsWatcherAt t.watching f place c → ((p : Watch) → watch_at s.watching c ≡ Some p → AreGuarded s.entries (t.taken + 1) p)
+    → IsVisited t s f c place (place + 1)
+visited_stay t s f c place taken same here guards = record {
+  taken = taken;
+  guarded = guards;
+  others = λ d other. ap (λ (w : Watching). watch_at w d) same;
+  count = omega (arith, ap (λ (w : Watching). length (watchers_of w f)) same);
+  left = λ d other among. rw same (among_next (watchers_of t.watching f) place c d here.is other among);
+}
+
+-- a clause that no longer watches it
+pub guards_elsewhere : (t : Assigned) (db : List (List Lit)) (f : Lit) (c : ℕ) → IsTrail t → AreWatched t db → IsNextFalse t f → IsUnwatched t.watching c f → (p : Watch) → watch_at t.watching c ≡ Some p → AreGuarded t.entries (t.taken + 1) p
+guards_elsewhere t db f c trail watched next unwatched p is =
+    let rule = watched.rule c p is in
+    let apart = unwatched p is in
+    record { first = guard_next t f trail next p.first p.second apart.0 rule.first; second = guard_next t f trail next p.second p.first apart.1 rule.second }
+
+-- the best literal beside the other one may be watched in place of it
+module _ (t s : Assigned) (db : List (List Lit)) (c : ℕ) (f o best : Lit) (before : IsTrail t) (trail : IsTrail s) (watched : AreWatched t db) (next : IsNextFalse t f) (both : AreWatchedOf t.watching c f o) (grown : IsGrown t s)
+    (unmoved : IsUnmoved t s) (met_here : IsMet t s o best) where
+  few : t.taken + 1 ≤ length s.entries
+  few = let more = next.more in let longer = grown.longer in omega (arith, more, longer)
+
+  pub guards_moved : AreGuarded s.entries (t.taken + 1) (record { first = best; second = o })
+  guards_moved = so met_here where
+    so : IsMet t s o best → AreGuarded s.entries (t.taken + 1) (record { first = best; second = o })
+    so (inl (open_here, same)) =
+        let more = next.more in
+        subst (λ (x : Assigned). AreGuarded x.entries (t.taken + 1) (record { first = best; second = o })) (sym same) (record {
+          first = guard_open t.entries (t.taken + 1) best o (omega (arith, more)) open_here;
+          second = guard_beside t f before next o best (other_apart t db c f o before watched next both) (rule_of_other t db c f o before watched next both);
+        })
+    so (inr (made, guarded)) = record {
+      first = guard_fewer s.entries (length s.entries) (t.taken + 1) best o few guarded;
+      second = guard_true s (t.taken + 1) o best trail few made;
+    }
+
+  -- where that one was false before, the other one is true since then
+  pub since_before : IsTrueUpTo s.entries (entry_at s.entries s.taken).level (negation best) → IsTrueUpTo s.entries (entry_at s.entries s.taken).level o
+  since_before sooner = so met_here where
+    so : IsMet t s o best → IsTrueUpTo s.entries (entry_at s.entries s.taken).level o
+    so (inl (open_here, same)) = absurd (open_here (subst (λ (x : Assigned). Contains (literals x.entries) (negation best)) same (up_to_held s.entries _ (negation best) sooner)))
+    so (inr (made, guarded)) =
+        let since = guarded sooner.0 sooner.1 sooner.2 in
+        let low = sooner.3 in
+        let high = since.3 in
+        (since.0, since.1, since.2, omega (arith, low, high))
+
+pub visited_moved : (t s u : Assigned) (f : Lit) (c place : ℕ) (p : Watch) → s.taken ≡ t.taken → s.watching ≡ t.watching → u ≡ rewatched s u.watching s.taken → IsRewatched s.watching u.watching c p → IsMoved s.watching u.watching f p c place
+    → AreGuarded s.entries (t.taken + 1) p → IsVisited t u f c place place
+visited_moved t s u f c place p taken same is anew moved guards = record {
+  taken = ap (λ (x : Assigned). x.taken) is ∙ taken;
+  guarded = λ q at.
+      let this : p ≡ q = some_is (sym moved.watch ∙ at) in
+      rw (ap (λ (x : Assigned). x.entries) is, ← this) guards;
+  others = λ d other. anew.others d other ∙ ap (λ (w : Watching). watch_at w d) same;
+  count = let count = moved.count in omega (arith, count, ap (λ (w : Watching). length (watchers_of w f)) same);
+  left = λ d other among. moved.left d other (rw same among);
+}
+
+-- a clause that was watched anew at two literals that may be watched
+pub progress_again : (db : List (List Lit)) (links : List (Option (Edge × Edge))) (a s u : Assigned) (g h : Constraints) (c : ℕ) (p : Watch) → u ≡ rewatched s u.watching s.taken → IsTrail u → IsRewatched s.watching u.watching c p
+    → AreTwoOf (clause_at db c) p → AreGuarded s.entries s.taken p → IsProgress db links a g s h → IsProgress db links a g u h
+progress_again db links a s u g h c p is trail anew two guards old =
+    let count = anew.count in
+    subst (λ (x : Assigned). IsProgress db links a g x h) (sym is)
+    (progress_rewatched s db u.watching s.taken links a g h (subst IsTrail is trail) (watched_again s db u.watching c p anew two guards old.work.watched) (omega (arith, count)) old)
+
+-- a clause that is moved: it is put among the watchers of its new literal, watches that, and leaves the old ones
+module _ (w v u x : Watching) (l : Lit) (p : Watch) (c place : ℕ) (within : l.var < length w.watchers) (first : p.first.var < length w.watchers) (known : c < length w.watches) (apart : p.first ≢ l) (here : IsWatcherAt w l place c)
+    (added : v ≡ listing w p.first (watchers_of w p.first ++ c ∷ [])) (anew : u ≡ watching v (set v.watches c (Some p))) where
+  kept_list : watchers_of u l ≡ watchers_of w l
+  kept_list =
+      let other : l ≢ p.first = λ same. apart (sym same) in
+      ap (λ (y : Watching). watchers_of y l) anew ∙ ap (λ (y : Watching). watchers_of y l) added ∙ listed_elsewhere w p.first (watchers_of w p.first ++ c ∷ []) first l other
+
+  kept_watches : v.watches ≡ w.watches
+  kept_watches = ap (λ (y : Watching). y.watches) added
+
+  watches_now : u.watches ≡ set w.watches c (Some p)
+  watches_now = ap (λ (y : Watching). y.watches) anew ∙ ap (λ xs. set xs c (Some p)) kept_watches
+
+  pub moved_listed : Contains (watchers_of w p.second) c → IsListed v c p
+  moved_listed has = rw added (record { first = listed_new w p.first c first; second = listed_more w p.first c first p.second c has })
+
+  pub moved_known : c < length v.watches
+  moved_known = rw kept_watches known
+
+  pub moved_within : place < length (watchers_of u l)
+  moved_within = rw kept_list here.within
+
+  pub moved_unwatched : p.second ≢ l → IsUnwatched u (get_or (watchers_of u l) place 0) l
+  moved_unwatched other q is =
+      let at : get_or (watchers_of u l) place 0 ≡ c = ap (λ xs. get_or xs place 0) kept_list ∙ here.is in
+      let found : Some p ≡ Some q = sym (get_or-set_same w.watches c (Some p) None known) ∙ ap (λ xs. get_or xs c None) (sym watches_now) ∙ ap (λ k. watch_at u k) (sym at) ∙ is in
+      let same : p ≡ q = some_is found in
+      rw (← same) (apart, other)
+
+  module _ (less : x ≡ listing u l (swap_remove (watchers_of u l) place 0)) where
+    end_watches : x.watches ≡ set w.watches c (Some p)
+    end_watches = ap (λ (y : Watching). y.watches) less ∙ watches_now
+
+    pub moved_anew : IsRewatched w x c p
+    moved_anew = record {
+      count = ap length end_watches ∙ length-set w.watches c (Some p);
+      others = λ d other. ap (λ xs. get_or xs d None) end_watches ∙ get_or-set_other w.watches c d (Some p) None other;
+      here = inr (ap (λ xs. get_or xs c None) end_watches ∙ get_or-set_same w.watches c (Some p) None known);
+    }
+
+    list_now : watchers_of x l ≡ swap_remove (watchers_of w l) place 0
+    list_now =
+        let lists : length u.watchers ≡ length w.watchers = ap (λ (y : Watching). length y.watchers) anew ∙ ap (λ (y : Watching). length y.watchers) added ∙ length-set w.watchers p.first.var (with_list (lists_at w.watchers p.first.var) p.first.positive (watchers_of w p.first ++ c ∷ [])) in
+        ap (λ (y : Watching). watchers_of y l) less ∙ listed_here u l (swap_remove (watchers_of u l) place 0) (omega (arith, lists, within)) ∙ ap (λ xs. swap_remove xs place 0) kept_list
+
+    pub moved_off : IsMoved w x l p c place
+    moved_off = record {
+      watch = ap (λ xs. get_or xs c None) end_watches ∙ get_or-set_same w.watches c (Some p) None known;
+      count = ap (λ xs. length xs + 1) list_now ∙ removed_length (watchers_of w l) place here.within;
+      left = λ d other among. rw list_now (left d other among);
+    } where
+      left : (d : ℕ) → d ≢ c → IsAmong (watchers_of w l) place d → IsAmong (swap_remove (watchers_of w l) place 0) place d
+      left d other (j, le, in_j, at) =
+          let elsewhere : j ≢ place = λ same. other (sym at ∙ ap (λ k. get_or (watchers_of w l) k 0) same ∙ here.is) in
+          let to = removed_left (watchers_of w l) place here.within j in_j elsewhere in
+          (to.0, to.2 le, to.1, to.3 ∙ at)
+
+-- where nothing but perhaps the lists changed
+pub lists_anew : (w v : Watching) (c : ℕ) (p : Watch) → v.watches ≡ w.watches → IsRewatched w v c p
+lists_anew w v c p same = record { count = ap length same; others = λ d other. ap (λ xs. get_or xs d None) same; here = inl (ap (λ xs. get_or xs c None) same) }

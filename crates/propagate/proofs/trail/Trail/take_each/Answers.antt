@@ -1,0 +1,45 @@
+use Rattle.std.proofs.Common.{arith}
+use Rattle.propagate.proofs.TrailLemmas.{few_literals}
+use Rattle.propagate.proofs.ReachLemmas.{if_quiet_stopped, progress_more, reached_more}
+use Rattle.propagate.proofs.MoveLemmas.{on_err}
+use Rattle.propagate.proofs.VisitLemmas.{all_settled, short_grown}
+use Rattle.propagate.proofs.trail.Trail.take_each.Goals as goal
+
+pub returns-in_err-stopped-clause-memory : goal.returns-in_err-stopped-clause-memory
+returns-in_err-stopped-clause-memory c =
+    on_err c.from_residual.result _
+    (progress_more c.args.db.now c.args.links.now c.args.self.now c.literals.self c.visit_watchers.new.self c.args.graph.now c.literals.graph c.visit_watchers.new.graph c.literals.invariant.progress c.in_err-stopped.ensures.memory)
+
+pub returns-in_default : goal.returns-in_default
+returns-in_default c = record {
+  reached = reached_more c.args.db.now c.args.links.now c.args.self.now c.literals.self c.visit_watchers.new.self c.args.graph.now c.literals.graph c.visit_watchers.new.graph c.literals.invariant.progress _ c.in_ok-stopped.ensures.reached;
+  settled = if_quiet_stopped _ _ (λ same. c.in_default.not-Quiet same);
+  taken = if_quiet_stopped _ _ (λ same. c.in_default.not-Quiet same);
+  memory = tt;
+}
+
+pub literals-smaller : goal.literals-smaller
+literals-smaller c =
+    let progress = rw c.in-Quiet.is at c.in_ok-stopped.ensures.reached in
+    let next = rw c.in-Quiet.is at c.in_ok-stopped.ensures.next in
+    let vars = progress.grown.vars in
+    let most = progress.work.trail.taken in
+    let few = few_literals c.visit_watchers.new.self progress.work.trail in
+    omega (arith, next, vars, most, few)
+
+pub literals-preserved : goal.literals-preserved
+literals-preserved c =
+    let progress = rw c.in-Quiet.is at c.in_ok-stopped.ensures.reached in
+    let more = progress.known in
+    let known = c.literals.invariant.known in
+    record {
+      progress = progress_more c.args.db.now c.args.links.now c.args.self.now c.literals.self c.visit_watchers.new.self c.args.graph.now c.literals.graph c.visit_watchers.new.graph c.literals.invariant.progress progress;
+      known = omega (arith, more, known);
+      short = short_grown c.literals.self c.visit_watchers.new.self c.args.db.now progress.grown c.literals.invariant.short;
+    }
+
+pub returns-clause-settled : goal.returns-clause-settled
+returns-clause-settled c =
+    let work = c.literals.invariant.progress.work in
+    let most = work.trail.taken in
+    all_settled c.literals.self c.args.db.now work.watched (omega (arith, most, c.literals-test.false, c.taken.ensures.taken, c.len.ensures.count)) c.literals.invariant.known c.literals.invariant.short

@@ -1,0 +1,65 @@
+use Rattle.std.proofs.Common.{◌∙◌, ap, sym, refl, rules, ◌+◌}
+use Rattle.clause_db.specs.Literals.{negation}
+use Rattle.propagate.specs.Trails.{entry_at}
+use Rattle.propagate.specs.Visits.{IsNextFalse}
+use Rattle.propagate.proofs.PlaceLemmas.{undone}
+use Rattle.propagate.proofs.ReachLemmas.{progress_more, progress_none, reached_more}
+use Rattle.propagate.proofs.VisitLemmas.{next_grown}
+use Rattle.propagate.proofs.MoveLemmas.{left_first, left_visited, on_err, progress_next}
+use Rattle.propagate.proofs.trail.Trail.visit_watchers.Goals as goal
+
+pub watchers-init : goal.watchers-init
+watchers-init c =
+    let t = c.args.self.now in
+    let work = c.requires.work in
+    let same = c.negated-lit.ensures.other ∙ ap negation c.lit.ensures.literal ∙ ap (λ k. negation (entry_at t.entries k).lit) c.taken.ensures.taken in
+    let next : IsNextFalse t c.negated-lit.result = record { more = c.requires.more; is = sym (undone (entry_at t.entries t.taken).lit) ∙ ap negation (sym same) } in
+    record {
+      progress = progress_none t c.args.db.now c.args.links.now c.args.graph.now work;
+      taken = refl;
+      next = next;
+      left = left_first t c.args.db.now c.negated-lit.result work.trail work.watched next;
+    }
+
+pub returns-in_err-visit-clause-memory : goal.returns-in_err-visit-clause-memory
+returns-in_err-visit-clause-memory c =
+    on_err c.from_residual.result _
+    (progress_more c.args.db.now c.args.links.now c.args.self.now c.watchers.self c.visit.new.self c.args.graph.now c.watchers.graph c.visit.new.graph c.watchers.invariant.progress c.in_err-visit.ensures.memory)
+
+pub watchers-preserved-in-Stayed : goal.watchers-preserved-in-Stayed
+watchers-preserved-in-Stayed c =
+    let t = c.watchers.self in
+    let s = c.visit.new.self in
+    let f = c.negated-lit.result in
+    let inv = c.watchers.invariant in
+    let visited = rw c.in-Stayed.is at c.in_ok-visit.ensures.visited in
+    record {
+      progress = progress_more c.args.db.now c.args.links.now c.args.self.now t s c.args.graph.now c.watchers.graph c.visit.new.graph inv.progress visited.0;
+      taken = visited.1.taken ∙ inv.taken;
+      next = next_grown t s f visited.0.grown visited.1.taken inv.next;
+      left = left_visited t s f c.in-Some.clause c.watchers.place (c.watchers.place + 1) inv.next visited.0.grown visited.1 inv.left;
+    }
+
+pub watchers-preserved : goal.watchers-preserved
+watchers-preserved c =
+    let t = c.watchers.self in
+    let s = c.visit.new.self in
+    let f = c.negated-lit.result in
+    let inv = c.watchers.invariant in
+    let visited = rw c.in-Moved.is at c.in_ok-visit.ensures.visited in
+    record {
+      progress = progress_more c.args.db.now c.args.links.now c.args.self.now t s c.args.graph.now c.watchers.graph c.visit.new.graph inv.progress visited.0;
+      taken = visited.1.taken ∙ inv.taken;
+      next = next_grown t s f visited.0.grown visited.1.taken inv.next;
+      left = left_visited t s f c.in-Some.clause c.watchers.place c.watchers.place inv.next visited.0.grown visited.1 inv.left;
+    }
+
+pub returns-in-Stopped-clause-reached : goal.returns-in-Stopped-clause-reached
+returns-in-Stopped-clause-reached c =
+    let visited = rw c.in-Stopped.is at c.in_ok-visit.ensures.visited in
+    reached_more c.args.db.now c.args.links.now c.args.self.now c.watchers.self c.visit.new.self c.args.graph.now c.watchers.graph c.visit.new.graph c.watchers.invariant.progress c.in-Stopped.reached visited.0
+
+pub returns-clause-reached : goal.returns-clause-reached
+returns-clause-reached c =
+    progress_next c.args.db.now c.args.links.now c.args.self.now c.watchers.self c.take_next.new.self c.args.graph.now c.watchers.graph c.negated-lit.result c.watchers.place c.watchers.invariant.progress c.watchers.invariant.left
+    (c.in_default.ensures.none (search rules)) c.take_next.ensures.trail c.take_next.ensures.after

@@ -1,0 +1,36 @@
+-- The literals of a clause that are best watched: those that aren't false, or else those that became false last.
+use Rattle.std.specs.Prelude.{◌≡◌, ◌≢◌, ◌⊎◌, ℕ, ◌<◌, List, length, Option, Some, None, All, Contains}
+use Rattle.clause_db.specs.declared.lit.Lit.{Lit}
+use Rattle.clause_db.specs.Literals.{negation}
+use Rattle.propagate.specs.declared.entry.Entry.{Entry}
+use Rattle.propagate.specs.declared.watch.Watch.{Watch}
+use Rattle.propagate.specs.declared.best.Falsified.{Falsified}
+use Rattle.propagate.specs.Trails.{entry_at}
+use Rattle.propagate.specs.Watched.{IsTrueAt, IsTrueUpTo}
+
+-- the literals of the clause, but perhaps for one, are false since that level or lower ones
+abbrev pub AreFalseUpTo : List Entry → ℕ → List Lit → Option Lit → Type 0
+AreFalseUpTo entries m clause but = All (λ x. (but ≡ Some x) ⊎ IsTrueUpTo entries m (negation x)) clause
+
+-- a literal of the clause beside another one; where it is false, so are the others, and none became false at a higher level
+pub record IsBest (entries : List Entry) (clause : List Lit) (beside : Option Lit) (l : Lit) : Type 0 where
+  pub has : Contains clause l
+  pub differs : beside ≢ Some l
+  pub last : (k : ℕ) → k < length entries → (entry_at entries k).lit ≡ negation l → AreFalseUpTo entries (entry_at entries k).level clause beside
+
+-- a literal of the clause beside another one that became false last of those that were seen, where all of these are false
+pub record IsLastFalse (entries : List Entry) (seen : List Lit) (beside : Option Lit) (f : Falsified) : Type 0 where
+  pub has : Contains seen f.lit
+  pub differs : beside ≢ Some f.lit
+  pub at : IsTrueAt entries (negation f.lit) f.level
+  pub others : AreFalseUpTo entries f.level seen beside
+
+-- what was seen so far of a clause, none of it but that one literal open
+abbrev pub IsSeen : List Entry → List Lit → Option Lit → Option Falsified → Type 0
+IsSeen entries seen beside None = All (λ x. beside ≡ Some x) seen
+IsSeen entries seen beside (Some f) = IsLastFalse entries seen beside f
+
+-- the best literal of the clause, and the best beside it
+pub record AreBest (entries : List Entry) (clause : List Lit) (p : Watch) : Type 0 where
+  pub first : IsBest entries clause None p.first
+  pub second : IsBest entries clause (Some p.first) p.second

@@ -1,0 +1,75 @@
+-- What is done with a clause that is taken up or visited.
+use Rattle.std.specs.Prelude.{◌≡◌, ◌≢◌, ◌⊎◌, ℕ, ◌+◌, ◌<◌, ◌≤◌, List, length, Option, Some, Any, Contains, slice_index_or}
+use Rattle.neg_cycle.specs.declared.system.Edge.{Edge}
+use Rattle.difference_graph.specs.Graphs.{Constraints}
+use Rattle.clause_db.specs.declared.lit.Lit.{Lit}
+use Rattle.clause_db.specs.Literals.{negation}
+use Rattle.clause_db.specs.Clauses.{clause_at}
+use Rattle.propagate.specs.declared.watch.Watch.{Watch}
+use Rattle.propagate.specs.declared.visit.Visit.{Visit}
+use Rattle.propagate.specs.declared.visit.Visit.TheVariants as visit
+use Rattle.propagate.specs.declared.moves.Reached.TheVariants as reached
+use Rattle.propagate.specs.Watching.{Watching, watch_at, watchers_of}
+use Rattle.propagate.specs.Trails.{Assigned, entry_at, literals}
+use Rattle.propagate.specs.Watched.{AreGuarded, IsGuarded, IsTrueUpTo}
+use Rattle.propagate.specs.Reach.{IsProgress, IsReached}
+
+-- if the clause has fewer than two literals, it has a true one
+abbrev pub IsMetIfShort : Assigned → List Lit → Type 0
+IsMetIfShort t clause = length clause < 2 → Any (Contains (literals t.entries)) clause
+
+-- each clause of fewer than two literals has a true one
+abbrev pub AreShortMet : Assigned → List (List Lit) → Type 0
+AreShortMet t db = (c : ℕ) → c < length db → IsMetIfShort t (clause_at db c)
+
+-- the best literal of a clause beside another one isn't false, and nothing was done; or that one is true, since a level not
+-- above that at which the best one became false
+abbrev pub IsMet : Assigned → Assigned → Lit → Lit → Type 0
+IsMet old new l best = ((Contains (literals old.entries) (negation best) → ⊥) × (new ≡ old)) ⊎ (Contains (literals new.entries) l × IsGuarded new.entries (length new.entries) best l)
+
+-- what is watched stayed, and so did the number of literals that are taken
+pub record IsUnmoved (old new : Assigned) : Type 0 where
+  pub watching : new.watching ≡ old.watching
+  pub taken : new.taken ≡ old.taken
+
+-- the next literal to take is the negation of this one
+pub record IsNextFalse (t : Assigned) (l : Lit) : Type 0 where
+  pub more : t.taken < length t.entries
+  pub is : (entry_at t.entries t.taken).lit ≡ negation l
+
+-- the clause stands in the list at that place or a later one
+abbrev pub IsAmong : List ℕ → ℕ → ℕ → Type 0
+IsAmong xs place c = (j : ℕ) × (place ≤ j) × (j < length xs) × (slice_index_or xs j 0 ≡ c)
+
+-- at most the clause is watched anew, at these two literals
+pub record IsRewatched (old new : Watching) (c : ℕ) (p : Watch) : Type 0 where
+  pub count : length new.watches ≡ length old.watches
+  pub others : (d : ℕ) → d ≢ c → watch_at new d ≡ watch_at old d
+  pub here : (watch_at new c ≡ watch_at old c) ⊎ (watch_at new c ≡ Some p)
+
+-- the clause is watched at these two literals, and left the watchers of the literal, whose others remain from its place on
+pub record IsMoved (old new : Watching) (l : Lit) (p : Watch) (c place : ℕ) : Type 0 where
+  pub watch : watch_at new c ≡ Some p
+  pub count : length (watchers_of new l) + 1 ≡ length (watchers_of old l)
+  pub left : (d : ℕ) → d ≢ c → IsAmong (watchers_of old l) place d → IsAmong (watchers_of new l) place d
+
+-- the clause stayed, since its best literal was false at the level of the next literal to take, or it moved
+abbrev pub HasMoved : Assigned → Assigned → Lit → Watch → ℕ → ℕ → Visit → Type 0
+HasMoved old new l p c place visit.Stayed = (new ≡ old) × IsTrueUpTo old.entries (entry_at old.entries old.taken).level (negation p.first)
+HasMoved old new l p c place visit.Moved = IsMoved old.watching new.watching l p c place
+HasMoved old new l p c place (visit.Stopped r) = ⊥
+
+-- the clause keeps the watch rule with the next literal taken too, the others are watched as before, and of the watchers of
+-- the literal those others remain from the next place on that remained from this one on
+pub record IsVisited (old new : Assigned) (l : Lit) (c place next : ℕ) : Type 0 where
+  pub taken : new.taken ≡ old.taken
+  pub guarded : (p : Watch) → watch_at new.watching c ≡ Some p → AreGuarded new.entries (old.taken + 1) p
+  pub others : (d : ℕ) → d ≢ c → watch_at new.watching d ≡ watch_at old.watching d
+  pub count : length (watchers_of new.watching l) + place + 1 ≡ length (watchers_of old.watching l) + next
+  pub left : (d : ℕ) → d ≢ c → IsAmong (watchers_of old.watching l) place d → IsAmong (watchers_of new.watching l) next d
+
+-- where the visit of a clause ended
+abbrev pub HasVisited : List (List Lit) → List (Option (Edge × Edge)) → Lit → ℕ → ℕ → Assigned → Constraints → Visit → Assigned → Constraints → Type 0
+HasVisited db links l c place old before visit.Stayed new after = IsProgress db links old before new after × IsVisited old new l c place (place + 1)
+HasVisited db links l c place old before visit.Moved new after = IsProgress db links old before new after × IsVisited old new l c place place
+HasVisited db links l c place old before (visit.Stopped r) new after = IsReached db links old before r new after × (r ≢ reached.Quiet)

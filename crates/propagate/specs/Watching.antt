@@ -1,0 +1,60 @@
+-- Watched literals: two of each clause that was taken up, after Moskewicz, Madigan, Zhao, Zhang and Malik (2001).
+use Rattle.std.specs.Prelude.{◌≡◌, ◌≢◌, ◌⊎◌, ℕ, ◌<◌, List, [], length, set, Bool, true, false, Option, Some, None, Contains, slice_index_or}
+use Rattle.clause_db.specs.declared.lit.Lit.{Lit}
+use Rattle.propagate.specs.declared.watch.Watch.{Watch}
+
+-- what is watched: the two literals of each clause that was taken up, if it has two, and for each variable the clauses that
+-- watch its positive and its negative literal
+pub record Watching : Type 0 where
+  pub watches : List (Option Watch)
+  pub watchers : List (List ℕ × List ℕ)
+
+-- the two watched literals of a clause, if it has any
+abbrev pub watch_at : Watching → ℕ → Option Watch
+watch_at w c = slice_index_or w.watches c None
+
+-- of a variable's lists the first is that of the positive literal, the second that of the negative one
+abbrev pub list_in : List ℕ × List ℕ → Bool → List ℕ
+list_in both true = both.0
+list_in both false = both.1
+
+abbrev pub with_list : List ℕ × List ℕ → Bool → List ℕ → List ℕ × List ℕ
+with_list both true cs = (cs, both.1)
+with_list both false cs = (both.0, cs)
+
+abbrev pub lists_at : List (List ℕ × List ℕ) → ℕ → List ℕ × List ℕ
+lists_at watchers v = slice_index_or watchers v ([], [])
+
+-- the clauses that watch a literal, and perhaps some that did
+abbrev pub watchers_of : Watching → Lit → List ℕ
+watchers_of w l = list_in (lists_at w.watchers l.var) l.positive
+
+-- the same with these watchers of a literal
+abbrev pub listing : Watching → Lit → List ℕ → Watching
+listing w l cs = record { watches = w.watches; watchers = set w.watchers l.var (with_list (lists_at w.watchers l.var) l.positive cs) }
+
+-- the same with these two literals of each clause
+abbrev pub watching : Watching → List (Option Watch) → Watching
+watching w watches = record { watches = watches; watchers = w.watchers }
+
+-- the clause stands at the place among the watchers of the literal
+pub record IsWatcherAt (w : Watching) (l : Lit) (place c : ℕ) : Type 0 where
+  pub within : place < length (watchers_of w l)
+  pub is : slice_index_or (watchers_of w l) place 0 ≡ c
+
+-- the clause stands among the watchers of the two literals
+pub record IsListed (w : Watching) (c : ℕ) (p : Watch) : Type 0 where
+  pub first : Contains (watchers_of w p.first) c
+  pub second : Contains (watchers_of w p.second) c
+
+-- each clause stands among the watchers of its two watched literals
+abbrev pub AreListed : Watching → Type 0
+AreListed w = (c : ℕ) (p : Watch) → watch_at w c ≡ Some p → IsListed w c p
+
+-- the literal is none of the two of the clause that are watched
+abbrev pub IsUnwatched : Watching → ℕ → Lit → Type 0
+IsUnwatched w c l = (p : Watch) → watch_at w c ≡ Some p → (p.first ≢ l) × (p.second ≢ l)
+
+-- of the two literals of the clause that are watched one is l, and the other one is other
+abbrev pub AreWatchedOf : Watching → ℕ → Lit → Lit → Type 0
+AreWatchedOf w c l other = (p : Watch) × (watch_at w c ≡ Some p) × (((p.first ≡ l) × (p.second ≡ other)) ⊎ ((p.second ≡ l) × (p.first ≡ other)))

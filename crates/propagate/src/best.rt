@@ -1,0 +1,64 @@
+//! The literals of a clause that are best watched.
+
+ghost use Rattle.std.specs.Prelude.{◌≡◌, ◌<◌, length, All, Option, Some, IfSome, IsNone, ◌≤◌, ◌⊎◌};
+ghost use Rattle.clause_db.specs.Literals.{HasVarsOnce};
+ghost use Rattle.propagate.specs.Trails.{IsTrail};
+ghost use Rattle.propagate.specs.Best.{AreBest, IsBest};
+
+use crate::Trail;
+use crate::watch::Watch;
+use clause_db::Lit;
+
+// A false literal, and the level at which it became so.
+#[derive(Clone, Copy, Debug)]
+pub struct Falsified {
+    pub lit: Lit,
+    pub level: u32,
+}
+
+// The two literals of a clause that are best watched, and None where it has no two.
+pub fn best_two(trail: &Trail, clause: &[Lit]) -> Option<Watch>
+    requires in_range { All (λ l. l.var < trail.now.vars) clause.now }
+    requires once { HasVarsOnce clause.now }
+    ensures two { IfSome result (AreBest trail.now.entries clause.now) }
+    ensures short { IsNone result → length clause.now < 2 }
+{
+    let first = best_beside(trail, clause, None)?;
+    let second = best_beside(trail, clause, Some(first))?;
+    Some(Watch { first, second })
+}
+
+// The literal of a clause, beside another one, that is best watched: one that isn't false, or else one
+// that became false last.
+pub fn best_beside(trail: &Trail, clause: &[Lit], beside: Option<Lit>) -> Option<Lit>
+    requires in_range { All (λ l. l.var < trail.now.vars) clause.now }
+    ensures best { IfSome result (IsBest trail.now.entries clause.now beside) }
+    ensures none { IsNone result → All (λ x. beside ≡ Some x) clause.now }
+{
+    // With the number it is known that no variable is assigned twice.
+    let _ = trail.len();
+    let mut last: Option<Falsified> = None;
+    for lit in clause {
+        if beside != Some(*lit) {
+            match trail.false_at(*lit) {
+                None => return Some(*lit),
+                Some(level) => last = Some(later(last, *lit, level)),
+            }
+        }
+    }
+    match last {
+        None => None,
+        Some(falsified) => Some(falsified.lit),
+    }
+}
+
+// Of two false literals the one that became false last, or the only one.
+fn later(last: Option<Falsified>, lit: Lit, level: u32) -> Falsified
+    ensures only { IsNone last → result ≡ record { lit = lit; level = level } }
+    ensures later { IfSome last (λ f. ((result ≡ f) × (level ≤ f.level)) ⊎ ((result ≡ record { lit = lit; level = level }) × (f.level ≤ level))) }
+{
+    match last {
+        Some(falsified) if level <= falsified.level => falsified,
+        _ => Falsified { lit, level },
+    }
+}

@@ -1,0 +1,158 @@
+//! The clauses that watch a literal which became false.
+
+ghost use Rattle.std.specs.Prelude.{◌≡◌, ◌≢◌, ◌+◌, ◌<◌, length, IfOk, OnErr, IfSome, IsNone};
+ghost use Rattle.propagate.specs.Watching.{AreWatchedOf, IsUnwatched, IsWatcherAt};
+ghost use Rattle.propagate.specs.Trails.{IsTrail, rewatched};
+ghost use Rattle.propagate.specs.Reach.{IfQuiet, IsAtWork, IsProgress, IsReached};
+ghost use Rattle.propagate.specs.Visits.{HasMoved, HasVisited, IsNextFalse, IsRewatched};
+
+use crate::best::best_beside;
+use crate::watch::Watch;
+use crate::{Links, Reached, Trail};
+use clause_db::{ClauseRef, Db, Lit};
+use difference_graph::Graph;
+use std::alloc::AllocError;
+
+// Where the visit of a clause ended: it stayed among the watchers or left them, or propagation stopped.
+#[derive(Clone, Copy, Debug)]
+pub enum Visit {
+    Stayed,
+    Moved,
+    Stopped(Reached),
+}
+
+impl Trail {
+    // Takes the next literal: visits the clauses that watch its negation.
+    pub(crate) fn visit_watchers(
+        &mut self,
+        db: &Db,
+        links: &Links,
+        graph: &mut Graph,
+    ) -> Result<Reached, AllocError>
+        requires work { IsAtWork db.now links.now self.old graph.old }
+        requires more { self.old.taken < length self.old.entries }
+        ensures reached { IfOk result (λ r. IsReached db.now links.now self.old graph.old r self.new graph.new) }
+        ensures next { IfOk result (λ r. IfQuiet r (self.new.taken ≡ self.old.taken + 1)) }
+        ensures memory { OnErr result (IsProgress db.now links.now self.old graph.old self.new graph.new) }
+    {
+        let lit = self.lit(self.taken()).negated();
+        let mut place = 0;
+        'watchers: while let Some(clause) = self.watcher(lit, place) {
+            match self.visit(clause, lit, place, db, links, graph)? {
+                Visit::Stayed => place += 1,
+                Visit::Moved => {}
+                Visit::Stopped(reached) => return Ok(reached),
+            }
+        }
+        self.take_next();
+        Ok(Reached::Quiet)
+    }
+
+    // Visits a clause among the watchers of a literal that became false: it stays there where its other
+    // watched literal is true since a level not above.
+    fn visit(
+        &mut self,
+        clause: ClauseRef,
+        lit: Lit,
+        place: usize,
+        db: &Db,
+        links: &Links,
+        graph: &mut Graph,
+    ) -> Result<Visit, AllocError>
+        requires work { IsAtWork db.now links.now self.old graph.old }
+        requires next { IsNextFalse self.old lit }
+        requires here { IsWatcherAt self.old.watching lit place clause }
+        ensures visited { IfOk result (λ v. HasVisited db.now links.now lit clause place self.old graph.old v self.new graph.new) }
+        ensures memory { OnErr result (IsProgress db.now links.now self.old graph.old self.new graph.new) }
+    {
+        match self.watched_beside(clause, lit) {
+            None => Ok(Visit::Stayed),
+            Some(other) => {
+                if self.true_up_to(other, self.level_of(lit.var())) {
+                    Ok(Visit::Stayed)
+                } else {
+                    self.watch_best(clause, lit, other, place, db, links, graph)
+                }
+            }
+        }
+    }
+
+    // The other watched literal of a clause, if it watches a literal.
+    fn watched_beside(&self, clause: ClauseRef, lit: Lit) -> Option<Lit>
+        ensures beside { IfSome result (AreWatchedOf self.now.watching clause lit) }
+        ensures none { IsNone result → IsUnwatched self.now.watching clause lit }
+    {
+        match self.watch(clause) {
+            None => None,
+            Some(watch) => {
+                if watch.first == lit {
+                    Some(watch.second)
+                } else if watch.second == lit {
+                    Some(watch.first)
+                } else {
+                    None
+                }
+            }
+        }
+    }
+
+    // Watches the best literal of a clause beside another one in place of a literal that became false.
+    fn watch_best(
+        &mut self,
+        clause: ClauseRef,
+        lit: Lit,
+        other: Lit,
+        place: usize,
+        db: &Db,
+        links: &Links,
+        graph: &mut Graph,
+    ) -> Result<Visit, AllocError>
+        requires work { IsAtWork db.now links.now self.old graph.old }
+        requires next { IsNextFalse self.old lit }
+        requires here { IsWatcherAt self.old.watching lit place clause }
+        requires both { AreWatchedOf self.old.watching clause lit other }
+        ensures visited { IfOk result (λ v. HasVisited db.now links.now lit clause place self.old graph.old v self.new graph.new) }
+        ensures memory { OnErr result (IsProgress db.now links.now self.old graph.old self.new graph.new) }
+    {
+        match best_beside(self, db.lits(clause), Some(other)) {
+            None => unreachable!(),
+            Some(best) => match self.meet_beside(best, other, clause, db, links, graph) {
+                Reached::Quiet => self.move_watch(clause, lit, best, other, place),
+                stopped => Ok(Visit::Stopped(stopped)),
+            },
+        }
+    }
+
+    // Watches a literal of a clause in place of one that became false, unless it was false before.
+    fn move_watch(
+        &mut self,
+        clause: ClauseRef,
+        lit: Lit,
+        best: Lit,
+        other: Lit,
+        place: usize,
+    ) -> Result<Visit, AllocError>
+        requires trail { IsTrail self.old }
+        requires in_range { best.var < self.old.vars }
+        requires next { IsNextFalse self.old lit }
+        requires here { IsWatcherAt self.old.watching lit place clause }
+        requires both { AreWatchedOf self.old.watching clause lit other }
+        requires apart { other ≢ lit }
+        ensures same { self.new ≡ rewatched self.old self.new.watching self.old.taken }
+        ensures trail { IsTrail self.new }
+        ensures rewatched { IsRewatched self.old.watching self.new.watching clause (record { first = best; second = other }) }
+        ensures moved { IfOk result (HasMoved self.old self.new lit (record { first = best; second = other }) clause place) }
+    {
+        if self.true_up_to(best.negated(), self.level_of(lit.var())) {
+            return Ok(Visit::Stayed);
+        }
+        self.add_watcher(best, clause)?;
+        let watch = Watch {
+            first: best,
+            second: other,
+        };
+        self.set_watch(clause, watch);
+        self.drop_watcher(lit, place);
+        Ok(Visit::Moved)
+    }
+}
