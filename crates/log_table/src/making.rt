@@ -72,6 +72,7 @@ pub fn tell_fault(alloc: Global, fault: LogFault, out: &mut Vec<u8>) -> Option<(
 }
 
 impl Case {
+    /// No part of a log, and no last log.
     pub fn new(alloc: Global) -> Case {
         Case {
             hosts: HostList::new(alloc),

@@ -16,6 +16,7 @@ fn order_of(text: &str) -> Option<Step> {
     })
 }
 
+/// A step by its word and its numbers.
 pub fn step_of(text: &str) -> Option<Step> {
     let (word, rest) = split_word(text);
     if word == "order" {

@@ -15,6 +15,7 @@ pub fn tell(out: &mut Vec<u8>, answer: &str) -> Option<()> {
     push_line(out, answer.as_bytes())
 }
 
+/// Adds a line that says whether something holds.
 pub fn tell_whether(out: &mut Vec<u8>, holds: bool) -> Option<()> {
     tell(out, if holds { "yes" } else { "no" })
 }

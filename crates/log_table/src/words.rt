@@ -19,6 +19,7 @@ pub fn decoded(alloc: Global, text: &str) -> Option<Vec<u8>> {
     Some(bytes)
 }
 
+/// The name of these bytes, if they are a name.
 pub fn name_of(alloc: Global, text: &str) -> Option<Name> {
     Name::new(alloc, text.as_bytes()).ok()?
 }
@@ -32,6 +33,7 @@ pub fn numbers(alloc: Global, text: &str) -> Option<Vec<i128>> {
     Some(numbers)
 }
 
+/// An extra bound by its two events and its number.
 pub fn extra_of(text: &str) -> Option<Extra> {
     let (e, rest) = split_word(text);
     let (f, most) = split_word(rest);
