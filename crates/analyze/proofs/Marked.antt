@@ -16,6 +16,12 @@ pub count_set : (xs : List (Option Bool)) (i : ℕ) (m : Option Bool) → i < le
     → count_here (set xs i m) + cond (is_here (mark_at xs i)) 1 0 ≡ count_here xs + cond (is_here m) 1 0
 count_set xs i m below = sum_by-set (λ x. cond (is_here x) 1 0) xs i m None below
 
+-- a mark more counts one, if it is of the present level
+pub count_put : (xs : List (Option Bool)) (i : ℕ) (here : Bool) → i < length xs → mark_at xs i ≡ None → count_here (set xs i (Some here)) ≡ count_here xs + cond here 1 0
+count_put xs i here below none =
+    let both = rw none at (count_set xs i (Some here) below) in
+    omega (arith, both)
+
 here_is : (m : Option Bool) → is_here m ≡ true → m ≡ Some true
 here_is (Some true) is = refl
 here_is (Some false) is = absurd cc

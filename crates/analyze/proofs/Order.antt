@@ -11,7 +11,7 @@ use Rattle.clause_db.specs.Literals.{negation}
 use Rattle.clause_db.specs.Clauses.{clause_at}
 use Rattle.clause_db.proofs.LawLemmas.{negation_other}
 use Rattle.propagate.specs.declared.entry.Entry.{Entry}
-use Rattle.propagate.specs.Trails.{Assigned, no_entry, entry_at, literals, AreLevels, IsAssigned, IsTrail}
+use Rattle.propagate.specs.Trails.{Assigned, no_entry, entry_at, literals, AreLevels, HasEntry, IsAssigned, IsTrail}
 use Rattle.propagate.specs.Clauses.{HasReasons, IsFalsified}
 use Rattle.propagate.proofs.ClauseLemmas.{literal_at}
 use Rattle.analyze.specs.Asserting.{IsFalseSince}
@@ -41,6 +41,13 @@ module _ (t : Assigned) (trail : IsTrail t) where
       | inr after ↦ absurd (trail.once k i no_entry (omega (arith, after, other)) i_in (sym same))
     ]
   ]
+
+  -- what was found for the variable of a place's literal is so of the place
+  pub entry_of_place : (k v : ℕ) → k < length t.entries → v ≡ (entry_at t.entries k).lit.var → (P : Entry → Type 0) → HasEntry t.entries v P → P (entry_at t.entries k)
+  entry_of_place k v k_in is P (j, e, within, at, (var, has)) =
+      let there = read_entry t.entries j e within at in
+      let same : j ≡ k = distinct j k within k_in (ap (λ (y : Entry). y.lit.var) there ∙ var ∙ is) in
+      subst (λ (i : ℕ). P (entry_at t.entries i)) same (subst P (sym there) has)
 
   -- later literals have no lower level
   pub rising : (i k : ℕ) → i ≤ k → k < length t.entries → level_of t.entries i ≤ level_of t.entries k
@@ -101,7 +108,7 @@ pub since_from : (xs : List Entry) (P : ℕ → Type 0) (k : ℕ) (l : Lit) → 
 since_from xs P k l within is level = (k, entry_at xs k, within, get_or_default xs k (entry_at xs k) no_entry within, (is, level))
 
 -- the place of a variable that is assigned
-assigned_at : (xs : List Entry) (k v : ℕ) → k < length xs → (entry_at xs k).lit.var ≡ v → IsAssigned xs v
+pub assigned_at : (xs : List Entry) (k v : ℕ) → k < length xs → (entry_at xs k).lit.var ≡ v → IsAssigned xs v
 assigned_at xs k v within same = (k, entry_at xs k, within, get_or_default xs k (entry_at xs k) no_entry within, same)
 
 -- what a table of places has at a variable that is assigned

@@ -3,6 +3,7 @@ pub mod Orders
 pub mod FrameRules
 pub mod PartLemmas
 mod TimingLemmas
+mod Negations
 pub mod ChangeLemmas
 pub mod TreeLemmas
 pub mod MeaningLemmas

@@ -4,7 +4,7 @@ ghost use Rattle.std.specs.Prelude.{◌≡◌, ◌++◌, [], ◌∷◌, map, OnO
 ghost use Rattle.std.specs.List.{range_with_len};
 ghost use Rattle.axiom_rules.specs.Adding.{Answers, with_literal, with_part, with_parts};
 ghost use Rattle.axiom_rules.specs.Each.{part_at};
-ghost use Rattle.axiom_rules.specs.Literals.{has_literal};
+ghost use Rattle.axiom_rules.specs.Literals.{has_literal, same_literal};
 ghost use Rattle.axiom_rules.specs.Parts.{clause_of_parts};
 
 use crate::RuleFault;
@@ -17,7 +17,7 @@ use std::alloc::{AllocError, Global};
 pub type Clause = SmallVec<Literal, 8, Global>;
 
 /// A part that a rule writes for each event.
-#[derive(Clone, Copy, Debug)]
+#[derive(Clone, Copy)]
 pub enum Each {
     /// Event e is after it.
     After { e: u32 },
@@ -43,11 +43,17 @@ impl Each {
     }
 }
 
+fn are_equal(literal: &Literal, other: &Literal) -> bool
+    ensures { result ≡ same_literal literal.now other.now }
+{
+    literal == other
+}
+
 // Whether a literal stands in a clause.
 fn has(clause: &[Literal], literal: &Literal) -> bool
     ensures { result ≡ has_literal clause.now literal.now }
 {
-    clause.iter().any(|other| literal == other)
+    clause.iter().any(|other| are_equal(literal, other))
 }
 
 fn push(clause: &mut Clause, literal: Literal) -> Result<(), AllocError>

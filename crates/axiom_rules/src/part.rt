@@ -7,7 +7,7 @@ use crate::literal::{Atom, Literal, order_literal};
 use mt_model::MAX_ORDER;
 
 /// A part of what a rule writes: a literal, or a constant that is known from the rule's arguments.
-#[derive(Clone, Copy, Debug, PartialEq, Eq)]
+#[derive(Clone, Copy)]
 pub enum Part {
     Says(Literal),
     Known(bool),

@@ -30,7 +30,7 @@ use Rattle.cdcl_core.specs.Recording.{IsRecord}
 use Rattle.cdcl_core.specs.Searching.{IsSearch}
 use Rattle.cdcl_core.proofs.Lessons.{lessons_learn}
 use Rattle.cdcl_core.proofs.Models.{model_clauses, model_orders}
-use Rattle.cdcl_core.proofs.Progress.{IsMidway}
+use Rattle.cdcl_core.specs.Turns.{IsMidway}
 
 -- what holds of each element holds of those of a front
 all_front : {X : Type 0} (P : X → Type 0) (xs ys : List X) → All P (xs ++ ys) → All P xs

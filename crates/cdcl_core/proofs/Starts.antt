@@ -28,11 +28,13 @@ use Rattle.proof_log.specs.declared.line.Hint.TheVariants as hint
 use Rattle.mtl_encode.specs.declared.problem.Problem.{Problem}
 use Rattle.mtl_encode.specs.Problems.{Fits, ReadsAs}
 use Rattle.mtl_encode.proofs.AtomGrowth.{read-at, read-atom}
+use Rattle.cdcl_core.specs.declared.conflict.Theory.{Theory}
 use Rattle.cdcl_core.specs.declared.derived.Derived.{Derived}
 use Rattle.cdcl_core.specs.Founds.{IsPosed}
 use Rattle.cdcl_core.specs.Orders.{AreLinks, IsOrderAmong, atom_at, order_edges}
 use Rattle.cdcl_core.specs.Recording.{AreOfLog, IsRecord, IsRuleInRange}
 use Rattle.cdcl_core.specs.Searching.{IsSearch}
+use Rattle.cdcl_core.specs.Turns.{IsReady}
 use Rattle.cdcl_core.proofs.Pairs.{atom_there}
 use Rattle.cdcl_core.proofs.ProblemAtoms.{atoms-in-range, orders-among}
 use Rattle.cdcl_core.proofs.Records.{begun, rules_spelled}
@@ -126,3 +128,10 @@ module _ (cores : CoresAreCores) (nodes_law : NodesAreSubtrees) (p : Problem) (p
     derives = λ log f v valid fits. rw (own, cites, lines) (recorded ranges log f v valid fits);
     spending = λ log f v valid fits. rw (own, cites, lines) (spending_begun log f v p fits);
   }
+
+-- the search before the first conflict, for a theory that is ready
+pub started_ready : (cores : CoresAreCores) (nodes_law : NodesAreSubtrees) (p : Problem) (theory : Theory) (edges : List Edge) (d : Derived) → IsReady p theory edges d → NewTrailIsInStep → (vars : ℕ) (t : Assigned) (g : Constraints) → vars ≡ length theory.atoms
+    → t.vars ≡ vars → t.entries ≡ [] → t.levels ≡ [] → t.watching.watches ≡ [] → IsTrail t → g.nodes ≡ theory.nodes → g.capacity ≡ length edges + vars → g.edges ≡ edges → IsSearch p vars theory.links t g d 0
+started_ready cores nodes_law p theory edges d ready law vars t g count assigned none flat unwatched trail same room held =
+    started cores nodes_law p ready.theory_of.posed law vars theory.links t g d (count ∙ ap length ready.theory_of.atoms) assigned none flat unwatched trail (same ∙ ready.theory_of.nodes) (rw ready.edges_are at room) (held ∙ ready.edges_are)
+    (rw ready.theory_of.atoms at ready.links_are) ready.clauses ready.cites ready.none ready.in_range

@@ -7,3 +7,4 @@ pub mod Running
 pub mod Extending
 pub mod Spending
 pub mod Searching
+pub mod Turns

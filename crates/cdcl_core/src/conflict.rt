@@ -32,13 +32,14 @@ use proof_log::Lines;
 use propagate::{Links, Trail};
 use std::alloc::{AllocError, Global};
 
-/// What order literals and bounds say of the nodes: the bounds of the log, the atoms by their variables, and
-/// the edges of the atoms.
+/// What order literals and bounds say of the nodes: the bounds of the log, the atoms by their variables, the
+/// edges of the atoms, and how many nodes there are.
 #[derive(Drop)]
 pub struct Theory {
     pub bounds: BoundList,
     pub atoms: AtomTable,
     pub links: Links,
+    pub nodes: u32,
 }
 
 /// The clause that is false where a descent ended, and None where nothing is left. The clause of a refused

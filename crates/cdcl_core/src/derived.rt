@@ -36,8 +36,8 @@ fn rule_hint(rule: &Rule) -> Hint
     Hint::Rule(*rule)
 }
 
-/// Hints that cite the clauses of rules.
-pub fn cites_of(alloc: Global, rules: &[Rule]) -> Result<Vec<Hint>, AllocError>
+// Hints that cite the clauses of rules.
+fn cites_of(alloc: Global, rules: &[Rule]) -> Result<Vec<Hint>, AllocError>
     ensures cites { IfOk result (λ v. v.items ≡ map hint.Rule rules.now) }
     ensures in_range { OnOk result (All IsRuleInRange rules.now) }
 {
@@ -86,6 +86,20 @@ pub fn read_hints(alloc: Global, cites: &[Hint], refs: &[ClauseRef]) -> Result<H
 }
 
 impl Derived {
+    /// These clauses, each of which is cited by its rule, and no lines.
+    pub fn begin(alloc: Global, db: Db, rules: &[Rule]) -> Result<Derived, AllocError>
+        ensures clauses { IfOk result (λ derived. derived.db ≡ db) }
+        ensures cites { IfOk result (λ derived. derived.cites.items ≡ map hint.Rule rules.now) }
+        ensures none { IfOk result (λ derived. derived.lines ≡ []) }
+        ensures in_range { OnOk result (All IsRuleInRange rules.now) }
+    {
+        Ok(Derived {
+            db,
+            cites: cites_of(alloc, rules)?,
+            lines: Lines::new(alloc),
+        })
+    }
+
     /// Adds a line and its clause, which later lines cite by the line's number.
     pub fn add(&mut self, lits: &[Lit], line: Line) -> Result<ClauseRef, AllocError>
         requires once { HasVarsOnce lits.now }

@@ -11,6 +11,7 @@ mod found;
 mod lines;
 mod linked;
 mod main_loop;
+mod turn;
 mod walk;
 
 pub use found::Found;

@@ -6,18 +6,21 @@ ghost use Rattle.mt_model.specs.Log.{Logged, IsLog};
 ghost use Rattle.axiom_rules.specs.Sought.{sought_of};
 ghost use Rattle.proof_log.specs.FreshLaws.{IsRefutedByRules};
 ghost use Rattle.mtl_encode.specs.Problems.{Fits};
+ghost use Rattle.mtl_encode.specs.declared.problem.Problem.{Problem};
 ghost use Rattle.cdcl_core.specs.Founds.{IfSpent, IsFound, IsPosed};
+ghost use Rattle.cdcl_core.specs.Searching.{IsSearch};
+ghost use Rattle.cdcl_core.specs.Turns.{IsAnswer, IsReady, IsTheoryOf, IsUnderWay};
 
 use crate::Found;
 use crate::assignment::{potentials_of, values_of};
-use crate::conflict::{Theory, conflict, learn_clause, refuted};
-use crate::derived::{Derived, cites_of};
-use crate::descent::descend;
+use crate::conflict::{Theory, refuted};
+use crate::derived::Derived;
 use crate::difference::{graph_of, links_of};
-use difference_graph::graphs_are_solved;
+use crate::turn::{Turn, take_turn};
+use difference_graph::{Graph, graphs_are_solved};
 use formula_arena::{cores_are_cores, nodes_are_subtrees};
 use mtl_encode::Problem;
-use proof_log::Lines;
+use neg_cycle::Edge;
 use propagate::{Trail, new_trail_is_in_step};
 use std::alloc::{AllocError, Global};
 
@@ -39,7 +42,6 @@ pub fn search(alloc: Global, problem: Problem, budget: u32) -> Result<Found, All
     // The nodes of a formula name each other, so the atoms of the rules are in range.
     cores_are_cores();
     nodes_are_subtrees();
-    new_trail_is_in_step();
     let Problem {
         db,
         rules,
@@ -48,44 +50,71 @@ pub fn search(alloc: Global, problem: Problem, budget: u32) -> Result<Found, All
         edges,
         nodes,
     } = problem;
-    let vars = atoms.len();
-    let mut graph = graph_of(alloc, nodes, edges.as_slice(), vars)?;
-    let mut trail = Trail::new(alloc, vars)?;
-    // With the level it is known that no variable is assigned twice.
-    let _ = trail.level();
     let links = links_of(alloc, &atoms)?;
-    let cites = cites_of(alloc, rules.as_slice())?;
-    let lines = Lines::new(alloc);
-    let mut derived = Derived { db, cites, lines };
+    let derived = Derived::begin(alloc, db, rules.as_slice())?;
     let theory = Theory {
         bounds,
         atoms,
         links,
+        nodes,
     };
+    start(alloc, &theory, edges.as_slice(), derived, budget)
+}
+
+// Searches with an empty trail and the edges of the bounds.
+fn start(
+    alloc: Global,
+    theory: &Theory,
+    edges: &[Edge],
+    derived: Derived,
+    budget: u32,
+) -> Result<Found, AllocError>
+    requires some { 1 ≤ budget }
+    requires most { budget ≤ 1000000 }
+    requires ready { (problem : Problem) × IsReady problem theory.now edges.now derived }
+    ensures answer { IfOk result (λ found. (problem : Problem) → IsReady problem theory.now edges.now derived → IsAnswer problem budget found) }
+{
+    // The nodes of a formula name each other, so the atoms of the rules are in range.
+    cores_are_cores();
+    nodes_are_subtrees();
+    new_trail_is_in_step();
+    let vars = theory.atoms.len();
+    let mut graph = graph_of(alloc, theory.nodes, edges, vars)?;
+    let mut trail = Trail::new(alloc, vars)?;
+    // With the level it is known that no variable is assigned twice.
+    let _ = trail.level();
+    run(alloc, theory, &mut trail, &mut graph, derived, vars, budget)
+}
+
+// Goes on from conflict to conflict until there is an answer or the budget is spent.
+fn run(
+    alloc: Global,
+    theory: &Theory,
+    trail: &mut Trail,
+    graph: &mut Graph,
+    derived: Derived,
+    vars: u32,
+    budget: u32,
+) -> Result<Found, AllocError>
+    requires some { 1 ≤ budget }
+    requires most { budget ≤ 1000000 }
+    requires begun { IsUnderWay theory.now vars trail.old graph.old derived 0 }
+    ensures answer { IfOk result (λ found. (problem : Problem) → IsTheoryOf problem theory.now → IsSearch problem vars theory.now.links trail.old graph.old derived 0 → IsAnswer problem budget found) }
+{
+    let mut derived = derived;
     'conflicts: for _conflict in 0..budget {
-        let descent = descend(&mut trail, &derived.db, &theory.links, &mut graph, vars)?;
-        let decided = conflict(alloc, &theory, &trail, &graph, &mut derived, descent)?;
-        match decided {
-            None => {
-                graphs_are_solved(&graph);
-                let values = values_of(alloc, &trail, vars)?;
-                let potentials = potentials_of(alloc, &graph, nodes)?;
+        match take_turn(alloc, theory, trail, graph, &mut derived, vars)? {
+            Turn::Whole => {
+                graphs_are_solved(graph);
+                let values = values_of(alloc, trail, vars)?;
+                let potentials = potentials_of(alloc, graph, theory.nodes)?;
                 return Ok(Found::Model { values, potentials });
             }
-            Some(clause) => {
-                if trail.level() == 0 {
-                    let lines = refuted(alloc, &theory.atoms, &trail, derived, clause)?;
-                    return Ok(Found::Refuted(lines));
-                }
-                learn_clause(
-                    alloc,
-                    &theory.atoms,
-                    &mut trail,
-                    &mut graph,
-                    &mut derived,
-                    clause,
-                )?;
+            Turn::Refuted(clause) => {
+                let lines = refuted(alloc, &theory.atoms, trail, derived, clause)?;
+                return Ok(Found::Refuted(lines));
             }
+            Turn::Learnt => {}
         }
     }
     Ok(Found::Spent(derived.lines))

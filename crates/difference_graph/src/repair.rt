@@ -1,7 +1,7 @@
 //! Numbers that meet all edges but one, lowered until they meet it too, as Cotton and Maler (2006)
 //! do: each node is lowered at most once, that of the edge with the least slack first.
 
-ghost use Rattle.std.specs.Prelude.{◌≡◌, ◌≢◌, ℕ, ◌+◌, ◌^◌, ◌<◌, ◌≤◌, ◌++◌, ◌∷◌, [], length, All, IsTrue, pos, ◌≤ℤ◌, vec_capacity};
+ghost use Rattle.std.specs.Prelude.{◌≡◌, ◌≢◌, ◌↔◌, ℕ, ◌+◌, ◌^◌, ◌<◌, ◌≤◌, ◌++◌, ◌∷◌, [], length, All, IsTrue, pos, ◌≤ℤ◌, vec_capacity};
 ghost use Rattle.neg_cycle.specs.Systems.{IsEdge, IsSystem, Meets, IsNegativeCycle, VisitsOnce, edge_at};
 ghost use Rattle.difference_graph.specs.Gaps.{IsNumber, IsNearNumber};
 ghost use Rattle.difference_graph.specs.Graphs.{IfKept, IfRefused};
@@ -46,7 +46,7 @@ pub fn repair(
     'steps: loop {
         let place = tightest(edges, lowered);
         let edge = edges[place];
-        if slack_of(lowered, edge) >= 0 {
+        if is_met(lowered, edge) {
             numbers.copy_from_slice(lowered);
             return Push::Kept;
         }
@@ -63,7 +63,7 @@ pub fn repair(
 pub fn is_met(numbers: &[i128], edge: Edge) -> bool
     requires edge { IsEdge (length numbers.now) edge }
     requires numbers { All IsNumber numbers.now }
-    ensures met { IsTrue result → Meets numbers.now edge }
+    ensures met { IsTrue result ↔ Meets numbers.now edge }
 {
     slack_of(numbers, edge) >= 0
 }

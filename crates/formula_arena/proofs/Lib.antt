@@ -8,4 +8,5 @@ mod NodeLemmas
 mod TableLemmas
 mod Tables
 mod Steps
+mod Grown
 pub mod NodeCounts

@@ -6,7 +6,7 @@ ghost use Rattle.indexmap.specs.IndexSet.{spare};
 ghost use Rattle.formula_arena.specs.Nodes.{Extends, has_form, IsArena, IsAt, nodes_of, propositions_in, tree_at, with_nodes_of};
 ghost use Rattle.formula_arena.specs.Shapes.{IsNode};
 ghost use Rattle.formula_arena.specs.Table.{IsOver, tree_of_proposition, tree_over};
-ghost use Rattle.formula_arena.specs.Growth.{with_subtrees, with_tree};
+ghost use Rattle.formula_arena.specs.Growth.{IsGrown, with_subtrees, with_tree};
 
 use crate::ArenaFault;
 use crate::node::{Core, Proposition};
@@ -132,11 +132,7 @@ impl Arena {
     // The node of an operator over nodes that are there.
     fn add(&mut self, node: Core) -> Result<NodeId, ArenaFault>
         requires { IsOver 0 (length self.old) node }
-        ensures at { IfOk result (λ id. IsAt self.new id (tree_over [] self.old node)) }
-        ensures nodes { OnOk result (self.new ≡ with_tree self.old (tree_over [] self.old node)) }
-        ensures too_many { result ≡ Err ArenaFault.TooManyNodes
-            → MAX_NODES < length (with_tree self.old (tree_over [] self.old node)) }
-        ensures kept { Extends self.old self.new }
+        ensures { let f = tree_over [] self.old node in IsGrown self.old (with_tree self.old f) f result self.new }
     {
         if let Some(place) = place_of(&self.nodes, &node) {
             return Ok(NodeId::new(place as u32));
@@ -147,15 +143,10 @@ impl Arena {
     }
 
     // The node of a negated operator over nodes that are there.
-    #[tactic(auto, using(crate::proofs::GrowthLemmas::longer_with_tree))]
     fn add_not(&mut self, node: Core) -> Result<NodeId, ArenaFault>
         requires { IsOver 0 (length self.old) node }
-        ensures at { IfOk result (λ id. IsAt self.new id (Not (tree_over [] self.old node))) }
-        ensures nodes { let f = tree_over [] self.old node in
-            OnOk result (self.new ≡ with_tree (with_tree self.old f) (Not f)) }
-        ensures too_many { let f = tree_over [] self.old node in
-            result ≡ Err ArenaFault.TooManyNodes → MAX_NODES < length (with_tree (with_tree self.old f) (Not f)) }
-        ensures kept { Extends self.old self.new }
+        ensures { let f = tree_over [] self.old node in
+            IsGrown self.old (with_tree (with_tree self.old f) (Not f)) (Not f) result self.new }
     {
         let id = self.add(node)?;
         self.add(Core::Not(id))
@@ -163,11 +154,7 @@ impl Arena {
 
     // The node of a proposition.
     fn add_prop(&mut self, host: &Name, name: &Name) -> Result<NodeId, ArenaFault>
-        ensures at { IfOk result (λ id. IsAt self.new id (Prop host.now name.now)) }
-        ensures nodes { OnOk result (self.new ≡ with_tree self.old (Prop host.now name.now)) }
-        ensures too_many { result ≡ Err ArenaFault.TooManyNodes
-            → MAX_NODES < length (with_tree self.old (Prop host.now name.now)) }
-        ensures kept { Extends self.old self.new }
+        ensures { let f = Prop host.now name.now in IsGrown self.old (with_tree self.old f) f result self.new }
     {
         let prop = Proposition {
             host: host.copy(self.alloc)?,
@@ -182,11 +169,7 @@ impl Arena {
     // The node of a proposition that isn't there.
     fn add_new_prop(&mut self, prop: Proposition) -> Result<NodeId, ArenaFault>
         requires { has_form self.old (tree_of_proposition prop) ≡ false }
-        ensures at { IfOk result (λ id. IsAt self.new id (tree_of_proposition prop)) }
-        ensures nodes { OnOk result (self.new ≡ with_tree self.old (tree_of_proposition prop)) }
-        ensures too_many { result ≡ Err ArenaFault.TooManyNodes
-            → MAX_NODES < length (with_tree self.old (tree_of_proposition prop)) }
-        ensures kept { Extends self.old self.new }
+        ensures { let f = tree_of_proposition prop in IsGrown self.old (with_tree self.old f) f result self.new }
     {
         let id = self.next_id()?;
         let node = Core::Prop(PropId::new(self.props.len() as u32));
@@ -199,11 +182,7 @@ impl Arena {
 
     // The node of a tree's core. Its subtrees are added in the order in which the walk finishes them.
     fn walk(&mut self, tree: &Tree) -> Result<NodeId, ArenaFault>
-        ensures at { IfOk result (λ id. IsAt self.new id (core_of (form_of tree.now))) }
-        ensures nodes { OnOk result (self.new ≡ with_subtrees self.old (core_of (form_of tree.now))) }
-        ensures too_many { result ≡ Err ArenaFault.TooManyNodes
-            → MAX_NODES < length (with_subtrees self.old (core_of (form_of tree.now))) }
-        ensures kept { Extends self.old self.new }
+        ensures { let f = core_of (form_of tree.now) in IsGrown self.old (with_subtrees self.old f) f result self.new }
     {
         match tree {
             Tree::True => self.add(Core::True),

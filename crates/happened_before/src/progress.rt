@@ -51,18 +51,25 @@ fn clock_after(
     Ok(clock)
 }
 
+// A clock without numbers for each of so many events.
+fn empty_clocks(alloc: Global, events: usize) -> Result<Vec<Clock>, AllocError>
+    ensures { IfOk result (λ clocks. length clocks.items ≡ events) }
+{
+    let mut clocks = Vec::new(alloc);
+    for _ in 0..events {
+        clocks.push(Clock::new(alloc))?;
+    }
+    Ok(clocks)
+}
+
 impl Progress {
     // None of so many events is finished.
     fn new(alloc: Global, events: usize) -> Result<Progress, AllocError>
         ensures { IfOk result (λ p. IsStart events p.finished.items p.clocks.items) }
     {
-        let mut clocks = Vec::new(alloc);
-        for _ in 0..events {
-            clocks.push(Clock::new(alloc))?;
-        }
         Ok(Progress {
             finished: vec![in alloc; false; events]?,
-            clocks,
+            clocks: empty_clocks(alloc, events)?,
         })
     }
 

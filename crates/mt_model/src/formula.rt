@@ -49,17 +49,17 @@ fn is_within(tree: &Tree, limit: u32) -> bool
         return false;
     }
     match tree {
-        Tree::True | Tree::False => true,
-        Tree::Prop { host: _, name: _ } => true,
-        Tree::Not(f) => is_within(f, limit - 1),
-        Tree::And(f, g) | Tree::Or(f, g) | Tree::Implies(f, g) => {
-            is_within(f, limit - 1) && is_within(g, limit - 1)
-        }
-        Tree::Until(_, f, g) | Tree::Since(_, f, g) => {
-            is_within(f, limit - 1) && is_within(g, limit - 1)
-        }
-        Tree::Eventually(_, f) | Tree::Always(_, f) => is_within(f, limit - 1),
-        Tree::Once(_, f) | Tree::Historically(_, f) => is_within(f, limit - 1),
+        Tree::True | Tree::False | Tree::Prop { host: _, name: _ } => true,
+        Tree::Not(f)
+        | Tree::Eventually(_, f)
+        | Tree::Always(_, f)
+        | Tree::Once(_, f)
+        | Tree::Historically(_, f) => is_within(f, limit - 1),
+        Tree::And(f, g)
+        | Tree::Or(f, g)
+        | Tree::Implies(f, g)
+        | Tree::Until(_, f, g)
+        | Tree::Since(_, f, g) => is_within(f, limit - 1) && is_within(g, limit - 1),
     }
 }
 
@@ -71,13 +71,16 @@ fn room_beside(tree: &Tree, room: u32) -> Option<u32>
     match tree {
         Tree::True | Tree::False => Some(room),
         Tree::Prop { host: _, name: _ } => room.checked_sub(1),
-        Tree::Not(f) => room_beside(f, room),
-        Tree::And(f, g) | Tree::Or(f, g) | Tree::Implies(f, g) => {
-            room_beside(g, room_beside(f, room)?)
-        }
-        Tree::Until(_, f, g) | Tree::Since(_, f, g) => room_beside(g, room_beside(f, room)?),
-        Tree::Eventually(_, f) | Tree::Always(_, f) => room_beside(f, room),
-        Tree::Once(_, f) | Tree::Historically(_, f) => room_beside(f, room),
+        Tree::Not(f)
+        | Tree::Eventually(_, f)
+        | Tree::Always(_, f)
+        | Tree::Once(_, f)
+        | Tree::Historically(_, f) => room_beside(f, room),
+        Tree::And(f, g)
+        | Tree::Or(f, g)
+        | Tree::Implies(f, g)
+        | Tree::Until(_, f, g)
+        | Tree::Since(_, f, g) => room_beside(g, room_beside(f, room)?),
     }
 }
 
@@ -99,19 +102,20 @@ fn has_host_names(tree: &Tree) -> bool
     match tree {
         Tree::True | Tree::False => true,
         Tree::Prop { host, name } => is_host_name(host, name),
-        Tree::Not(f) => has_host_names(f),
-        Tree::And(f, g) | Tree::Or(f, g) | Tree::Implies(f, g) => {
+        Tree::Not(f)
+        | Tree::Eventually(_, f)
+        | Tree::Always(_, f)
+        | Tree::Once(_, f)
+        | Tree::Historically(_, f) => has_host_names(f),
+        Tree::And(f, g)
+        | Tree::Or(f, g)
+        | Tree::Implies(f, g)
+        | Tree::Until(_, f, g)
+        | Tree::Since(_, f, g) => {
             let left = has_host_names(f);
             let right = has_host_names(g);
             left && right
         }
-        Tree::Until(_, f, g) | Tree::Since(_, f, g) => {
-            let left = has_host_names(f);
-            let right = has_host_names(g);
-            left && right
-        }
-        Tree::Eventually(_, f) | Tree::Always(_, f) => has_host_names(f),
-        Tree::Once(_, f) | Tree::Historically(_, f) => has_host_names(f),
     }
 }
 
@@ -120,8 +124,7 @@ fn has_intervals(tree: &Tree) -> bool
     ensures { result ≡ list_all is_interval (intervals_of (form_of tree.now)) }
 {
     match tree {
-        Tree::True | Tree::False => true,
-        Tree::Prop { host: _, name: _ } => true,
+        Tree::True | Tree::False | Tree::Prop { host: _, name: _ } => true,
         Tree::Not(f) => has_intervals(f),
         Tree::And(f, g) | Tree::Or(f, g) | Tree::Implies(f, g) => {
             has_intervals(f) && has_intervals(g)
@@ -129,12 +132,10 @@ fn has_intervals(tree: &Tree) -> bool
         Tree::Until(interval, f, g) | Tree::Since(interval, f, g) => {
             is_sound(interval) && has_intervals(f) && has_intervals(g)
         }
-        Tree::Eventually(interval, f) | Tree::Always(interval, f) => {
-            is_sound(interval) && has_intervals(f)
-        }
-        Tree::Once(interval, f) | Tree::Historically(interval, f) => {
-            is_sound(interval) && has_intervals(f)
-        }
+        Tree::Eventually(interval, f)
+        | Tree::Always(interval, f)
+        | Tree::Once(interval, f)
+        | Tree::Historically(interval, f) => is_sound(interval) && has_intervals(f),
     }
 }
 
@@ -162,15 +163,16 @@ fn pass_hosts(tree: &Tree, log: &Log, number: u32) -> Result<u32, u32>
             Some(_) => Ok(number + 1),
             None => Err(number),
         },
-        Tree::Not(f) => pass_hosts(f, log, number),
-        Tree::And(f, g) | Tree::Or(f, g) | Tree::Implies(f, g) => {
-            pass_hosts(g, log, pass_hosts(f, log, number)?)
-        }
-        Tree::Until(_, f, g) | Tree::Since(_, f, g) => {
-            pass_hosts(g, log, pass_hosts(f, log, number)?)
-        }
-        Tree::Eventually(_, f) | Tree::Always(_, f) => pass_hosts(f, log, number),
-        Tree::Once(_, f) | Tree::Historically(_, f) => pass_hosts(f, log, number),
+        Tree::Not(f)
+        | Tree::Eventually(_, f)
+        | Tree::Always(_, f)
+        | Tree::Once(_, f)
+        | Tree::Historically(_, f) => pass_hosts(f, log, number),
+        Tree::And(f, g)
+        | Tree::Or(f, g)
+        | Tree::Implies(f, g)
+        | Tree::Until(_, f, g)
+        | Tree::Since(_, f, g) => pass_hosts(g, log, pass_hosts(f, log, number)?),
     }
 }
 

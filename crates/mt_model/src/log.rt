@@ -148,6 +148,32 @@ impl Act {
     }
 }
 
+impl Host {
+    // An equal host.
+    fn copy(&self, alloc: Global) -> Result<Host, AllocError>
+        ensures { IfOk result (λ host. host ≡ self.now) }
+    {
+        Ok(Host {
+            name: self.name.copy(alloc)?,
+            skew: self.skew,
+            gap: self.gap,
+        })
+    }
+}
+
+impl Row {
+    // An equal row.
+    fn copy(&self, alloc: Global) -> Result<Row, AllocError>
+        ensures { IfOk result (λ row. row ≡ self.now) }
+    {
+        Ok(Row {
+            host: self.host,
+            local: self.local,
+            act: self.act.copy(alloc)?,
+        })
+    }
+}
+
 fn is_named(hosts: &[Host], name: &[u8]) -> bool
     ensures { IsTrue result ↔ Any (λ h. h.name ≡ name.now) hosts.now }
 {
@@ -236,11 +262,7 @@ fn copy_hosts(alloc: Global, hosts: &[Host]) -> Result<HostList, AllocError>
 {
     let mut list = HostList::new(alloc);
     for host in hosts {
-        list.push(Host {
-            name: host.name.copy(alloc)?,
-            skew: host.skew,
-            gap: host.gap,
-        })?;
+        list.push(host.copy(alloc)?)?;
     }
     Ok(list)
 }
@@ -250,11 +272,7 @@ fn copy_rows(alloc: Global, rows: &[Row]) -> Result<RowList, AllocError>
 {
     let mut list = RowList::new(alloc);
     for row in rows {
-        list.push(Row {
-            host: row.host,
-            local: row.local,
-            act: row.act.copy(alloc)?,
-        })?;
+        list.push(row.copy(alloc)?)?;
     }
     Ok(list)
 }
@@ -262,11 +280,7 @@ fn copy_rows(alloc: Global, rows: &[Row]) -> Result<RowList, AllocError>
 fn copy_extras(alloc: Global, extras: &[Extra]) -> Result<ExtraList, AllocError>
     ensures { IfOk result (λ list. list ≡ extras.now) }
 {
-    let mut list = ExtraList::new(alloc);
-    for extra in extras {
-        list.push(*extra)?;
-    }
-    Ok(list)
+    Ok(ExtraList::from_vec(extras.to_vec(alloc)?))
 }
 
 fn is_extra(extra: &Extra, rows: usize) -> bool

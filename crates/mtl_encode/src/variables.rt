@@ -124,6 +124,28 @@ fn moved_clauses(alloc: Global, places: &[u32], db: &Db) -> Result<Db, AllocErro
     Ok(clauses)
 }
 
+// Atoms in the order in which a search is to try them, and the place there of each one by its variable.
+#[derive(Drop)]
+pub struct Ordered {
+    pub atoms: AtomTable,
+    pub places: Vec<u32>,
+}
+
+// The atoms of a table in that order.
+fn ordered_atoms(alloc: Global, log: &Log, atoms: &AtomTable) -> Result<Ordered, AllocError>
+    requires few { length atoms.now ≤ 2 ^ 29 }
+    ensures only { IfOk result (λ o. All (Contains atoms.now) o.atoms) }
+    ensures places { IfOk result (λ o. AreMoved atoms.now o.atoms o.places.items) }
+{
+    let order = order_of(alloc, log, atoms)?;
+    let mut table = taken(alloc, atoms, &order)?;
+    let places = places_of(alloc, atoms, &mut table)?;
+    Ok(Ordered {
+        atoms: table,
+        places,
+    })
+}
+
 impl Clauses {
     /// The same clauses over variables in the order in which a search is to try their atoms.
     pub fn in_order(self, alloc: Global, rules: &Rules) -> Result<Clauses, AllocError>
@@ -137,16 +159,14 @@ impl Clauses {
             rules: listed,
             atoms,
         } = self;
-        let order = order_of(alloc, rules.log(), &atoms)?;
-        let mut table = taken(alloc, &atoms, &order)?;
-        let places = places_of(alloc, &atoms, &mut table)?;
+        let ordered = ordered_atoms(alloc, rules.log(), &atoms)?;
         // That each atom has one variable, their number is known with.
-        let _ = (atoms.len(), table.len());
-        let db = moved_clauses(alloc, &places, &db)?;
+        let _ = (atoms.len(), ordered.atoms.len());
+        let db = moved_clauses(alloc, &ordered.places, &db)?;
         Ok(Clauses {
             db,
             rules: listed,
-            atoms: table,
+            atoms: ordered.atoms,
         })
     }
 }

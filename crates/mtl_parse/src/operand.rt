@@ -10,7 +10,7 @@ use std::alloc::{AllocError, Global};
 use std::marker::Model;
 
 /// A formula of a height up to 200, with its height. Contracts see it as its tree.
-#[derive(Debug, Drop)]
+#[derive(Drop)]
 pub struct LowTree {
     tree: Tree,
     height: u32,
@@ -45,7 +45,7 @@ impl LowTree {
 }
 
 /// A formula that was read. Of one that is higher than 200 nothing is kept.
-#[derive(Debug, Drop)]
+#[derive(Drop)]
 pub enum Operand {
     Low(LowTree),
     TooHigh,
@@ -93,6 +93,20 @@ fn part_of(alloc: Global, operand: Operand) -> Result<Option<Part>, AllocError>
     }
 }
 
+fn both_sides(alloc: Global, left: Tree, right: Tree, height: u32) -> Result<Sides, AllocError>
+    ensures left { IfOk result (λ s. form_of s.left.value ≡ form_of left) }
+    ensures right { IfOk result (λ s. form_of s.right.value ≡ form_of right) }
+    ensures height { IfOk result (λ s. s.height ≡ height) }
+{
+    let left = boxed(alloc, left)?;
+    let right = boxed(alloc, right)?;
+    Ok(Sides {
+        left,
+        right,
+        height,
+    })
+}
+
 fn low_sides(alloc: Global, left: LowTree, right: LowTree) -> Result<Option<Sides>, AllocError>
     ensures room { IfOk result (λ o. IsSome o ↔ (max (height_of (form_of left)) (height_of (form_of right)) < MAX_HEIGHT)) }
     ensures left { IfOk result (λ o. IfSome o (λ s. form_of s.left.value ≡ form_of left)) }
@@ -100,14 +114,11 @@ fn low_sides(alloc: Global, left: LowTree, right: LowTree) -> Result<Option<Side
     ensures height { IfOk result (λ o. IfSome o (λ s. s.height ≡ max (height_of (form_of left)) (height_of (form_of right)))) }
 {
     let height = left.height.max(right.height);
-    if height >= MAX_HEIGHT {
-        return Ok(None);
+    if height < MAX_HEIGHT {
+        Ok(Some(both_sides(alloc, left.into_tree(), right.into_tree(), height)?))
+    } else {
+        Ok(None)
     }
-    Ok(Some(Sides {
-        left: boxed(alloc, left.into_tree())?,
-        right: boxed(alloc, right.into_tree())?,
-        height,
-    }))
 }
 
 #[tactic(auto, using(crate::proofs::Capping::tall_high))]

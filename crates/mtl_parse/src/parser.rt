@@ -1,7 +1,7 @@
 ghost use Rattle.std.specs.Prelude.{◌≡◌, ◌∷◌, IfOk, IfErr, Ok, Err, Some, None, option_map, true};
 ghost use Rattle.mtl_parse.specs.Tokens.{Word};
 ghost use Rattle.mtl_parse.specs.Machine.{LeftOfAnd, LeftOfImplies, LeftOfOr, Wanted, after_word, begin, capped, closed, complete, finish, high_bound, is_sound, left_of, letter_after, read_one, refusal_behind, step_bracket, step_comma, step_dot, step_high, step_host, step_letter, step_low, step_read, step_wanted};
-ghost use Rattle.mtl_parse.specs.States.{form_in, infix_in, letter_in, pending_in, placed_in, stack_in, state_in, token_in};
+ghost use Rattle.mtl_parse.specs.States.{completed_in, form_in, infix_in, letter_in, pending_in, placed_in, stack_in, state_in, token_in};
 
 use crate::FormulaFault;
 use crate::operand::Operand;
@@ -11,7 +11,7 @@ use mt_model::{Interval, Name, Tree};
 use std::alloc::{AllocError, Global};
 
 /// What the last tokens were, and what may follow.
-#[derive(Debug, Drop)]
+#[derive(Drop)]
 pub enum Stage {
     /// An operand is wanted.
     Wanted,
@@ -34,19 +34,26 @@ pub enum Stage {
 }
 
 /// A formula that is read token by token. What is pending stands innermost last.
-#[derive(Debug, Drop)]
+#[derive(Drop)]
 pub struct Parser {
     pub stack: Vec<Pending>,
     pub stage: Stage,
 }
 
-// What waits for an operand is read.
-fn wanted(mut stack: Vec<Pending>, pending: Pending) -> Result<Parser, AllocError>
-    ensures { IfOk result (λ p. state_in p ≡ record { stack = pending_in pending ∷ stack_in stack.items; stage = Wanted }) }
+// What waits for an operand stands innermost.
+fn pushed(mut stack: Vec<Pending>, pending: Pending) -> Result<Vec<Pending>, AllocError>
+    ensures { IfOk result (λ s. stack_in s.items ≡ pending_in pending ∷ stack_in stack.items) }
 {
     stack.push(pending).map_err(AllocError::from)?;
+    Ok(stack)
+}
+
+// What waits for an operand is read.
+fn wanted(stack: Vec<Pending>, pending: Pending) -> Result<Parser, AllocError>
+    ensures { IfOk result (λ p. state_in p ≡ record { stack = pending_in pending ∷ stack_in stack.items; stage = Wanted }) }
+{
     Ok(Parser {
-        stack,
+        stack: pushed(stack, pending)?,
         stage: Stage::Wanted,
     })
 }
@@ -147,8 +154,8 @@ fn step_letter(
         })),
         _ => {
             let everything = Interval { low: 0, high: None };
-            let parser = wanted(stack, Pending::Timed(letter, everything))?;
-            step_wanted(alloc, parser.stack, token)
+            let stack = pushed(stack, Pending::Timed(letter, everything))?;
+            step_wanted(alloc, stack, token)
         }
     }
 }
@@ -230,6 +237,20 @@ fn refusal_behind(stack: &[Pending], byte: u32) -> FormulaFault
     }
 }
 
+// The operand behind the last open parenthesis, which is closed.
+fn closed(completed: Completed) -> Option<Parser>
+    ensures { option_map state_in result ≡ closed (completed_in completed) }
+{
+    let Completed { mut stack, operand } = completed;
+    match stack.pop() {
+        Some(_) => Some(Parser {
+            stack,
+            stage: Stage::Read(operand),
+        }),
+        None => None,
+    }
+}
+
 fn after_close(
     alloc: Global,
     stack: Vec<Pending>,
@@ -240,12 +261,8 @@ fn after_close(
     ensures none { IfErr result (λ e. (e ≡ FormulaFault.Memory → ⊥) → closed (complete capped 1 (stack_in stack.items) (form_in operand)) ≡ None) }
     ensures fault { IfErr result (λ e. (e ≡ FormulaFault.Memory → ⊥) → e ≡ refusal_behind (stack_in stack.items) byte) }
 {
-    let Completed { mut stack, operand } = complete(alloc, 1, stack, operand)?;
-    match stack.pop() {
-        Some(_) => Ok(Parser {
-            stack,
-            stage: Stage::Read(operand),
-        }),
+    match closed(complete(alloc, 1, stack, operand)?) {
+        Some(parser) => Ok(parser),
         None => Err(FormulaFault::Trailing { byte }),
     }
 }

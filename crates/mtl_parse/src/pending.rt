@@ -9,7 +9,7 @@ use mt_model::Interval;
 use std::alloc::{AllocError, Global};
 
 /// A letter that was read.
-#[derive(Debug, Drop)]
+#[derive(Drop)]
 pub enum Letter {
     OfOne(Prefix),
     /// With its left side.
@@ -44,7 +44,7 @@ impl Letter {
 }
 
 /// What stands before an operand and waits for it.
-#[derive(Debug, Drop)]
+#[derive(Drop)]
 pub enum Pending {
     /// An open parenthesis.
     Opened,

@@ -9,7 +9,7 @@ ghost use Rattle.mtl_parse.specs.States.{first_lexeme, lexeme_in};
 use mt_model::{MAX_DISTANCE, MAX_NAME_LENGTH};
 
 /// A letter that stands between two formulas.
-#[derive(Clone, Copy, Debug)]
+#[derive(Clone, Copy)]
 pub enum Infix {
     /// `U`.
     Until,
@@ -18,7 +18,7 @@ pub enum Infix {
 }
 
 /// A letter that stands before a formula.
-#[derive(Clone, Copy, Debug)]
+#[derive(Clone, Copy)]
 pub enum Prefix {
     /// `F`.
     Eventually,
@@ -31,7 +31,7 @@ pub enum Prefix {
 }
 
 /// A token of a formula's text.
-#[derive(Clone, Copy, Debug)]
+#[derive(Clone, Copy)]
 pub enum Token<'a> {
     Open,
     Close,
@@ -51,14 +51,14 @@ pub enum Token<'a> {
 }
 
 /// A token and the byte, from 0, at which it begins.
-#[derive(Clone, Copy, Debug)]
+#[derive(Clone, Copy)]
 pub struct Placed<'a> {
     pub token: Token<'a>,
     pub byte: u32,
 }
 
 /// What stands at a byte that is no blank.
-#[derive(Clone, Copy, Debug)]
+#[derive(Clone, Copy)]
 pub enum Lexeme<'a> {
     /// A token, and the number of its bytes after the first.
     Found(Token<'a>, usize),

@@ -1,13 +1,13 @@
 -- The table of places, as literals come and go.
-use Rattle.std.proofs.Common.{◌≡◌, ◌≢◌, ◌∙◌, ap, sym, refl, ℕ, zero, suc, ◌+◌, ◌<◌, ◌≤◌, inl, inr, List, [], ◌∷◌, ◌++◌, length, take, min, set, arith, get_or, length-set, Option, Some, None, get_or-set_same, get_or-set_other}
-use Rattle.std.proofs.lemmas.Bool.{cases_eq}
+use Rattle.std.proofs.Common.{◌≡◌, ◌≢◌, ◌∙◌, ap, sym, refl, ℕ, zero, suc, ◌+◌, ◌-◌, ◌<◌, ◌≤◌, inl, inr, List, [], ◌∷◌, ◌++◌, length, take, min, set, arith, get_or, length-set, Option, Some, None, get_or-set_same, get_or-set_other}
+use Rattle.std.proofs.lemmas.Bool.{cases_eq, cases_lt}
 use Rattle.std.proofs.lemmas.List.{length_push, get_or_read}
 use Rattle.std.proofs.lemmas.List.Elements.{All-from_get_or}
 use Rattle.clause_db.specs.declared.lit.Lit.{Lit}
 use Rattle.propagate.specs.declared.entry.Entry.{Entry}
 use Rattle.propagate.specs.declared.entry.Level.{Level}
 use Rattle.propagate.specs.Watching.{Watching}
-use Rattle.propagate.specs.Trails.{Assigned, no_entry, no_level, entry_at, start_of, IsAssigned, IsTrail, IsUnassigned, followed, cut_to}
+use Rattle.propagate.specs.Trails.{Assigned, no_entry, no_level, entry_at, start_of, AreLevels, IsAssigned, IsTrail, IsUnassigned, followed, cut_to}
 use Rattle.propagate.specs.Stored.{IsTable, IsStored}
 use Rattle.propagate.proofs.TrailLemmas.{cases_push, old_entry, new_entry, few_literals, few_levels, trail_followed, trail_decided, trail_cut, cut_is_at}
 
@@ -158,3 +158,18 @@ read_start ls m l op is = ap (λ (x : Level). x.start) (get_or_read ls m l op is
 pub cut_is : (xs ys : List Entry) (places rest : List (Option ℕ)) (ls ms : List Level) (w : Watching) (n m : ℕ) → m < length ls → IsTrail (trail_of (length places) xs ls w n) → ys ≡ take (start_of ls m) xs → ms ≡ take m ls
     → length rest ≡ length places → trail_of (length rest) ys ms w (min n (start_of ls m)) ≡ cut_to m (trail_of (length places) xs ls w n)
 cut_is xs ys places rest ls ms w n m op trail is undone count = rw (count, is, undone) (cut_is_at (trail_of (length places) xs ls w n) m op trail)
+
+-- where no more literals are taken than begin before the present level, none of that level is
+pub untaken : (xs : List Entry) (ls : List Level) (n start k : ℕ) → AreLevels xs ls → n ≤ length xs → (length ls ≡ 0 → start ≡ 0) → ((j : ℕ) → length ls ≡ j + 1 → start ≡ start_of ls j) → k < min n start → (entry_at xs k).level < length ls
+untaken xs ls n start k levels most lowest above less = elim (cases_lt 0 (length ls)) [
+  | inr none ↦
+      let first = lowest (omega (arith, none)) in
+      absurd (omega (arith, less, first))
+  | inl some ↦ elim (cases_lt (length ls - 1) (entry_at xs k).level) [
+    | inr low ↦ omega (arith, low, some)
+    | inl high ↦
+        let from = (levels.reached (length ls - 1) k (omega (arith, some)) (omega (arith, less, most))).1 high in
+        let is = above (length ls - 1) (omega (arith, some)) in
+        absurd (omega (arith, from, is, less))
+  ]
+]

@@ -1,10 +1,10 @@
 //! The trail.
 
-ghost use Rattle.std.specs.Prelude.{◌≡◌, ◌↔◌, ◌+◌, ◌^◌, ◌<◌, ◌≤◌, [], ◌∷◌, ◌++◌, length, min, take, set, Some, IfOk, OnOk, OnErr, IfSome, IsNone, IsTrue, Contains, slice_index_or, vec_capacity};
+ghost use Rattle.std.specs.Prelude.{◌≡◌, ◌↔◌, ℕ, ◌+◌, ◌^◌, ◌<◌, ◌≤◌, [], ◌∷◌, ◌++◌, length, min, take, set, Some, IfOk, OnOk, OnErr, IfSome, IsNone, IsTrue, Contains, slice_index_or, vec_capacity};
 ghost use Rattle.std.specs.List.{swap_remove};
 ghost use Rattle.clause_db.specs.Literals.{negation};
 ghost use Rattle.propagate.specs.Watching.{IsListed, IsUnwatched, IsWatcherAt, listing, watch_at, watchers_of, watching};
-ghost use Rattle.propagate.specs.Trails.{HasEntry, IsAssigned, IsTrail, IsUnassigned, IsUntaken, cut_to, decided, entry_at, followed, literals, mark_of, rewatched};
+ghost use Rattle.propagate.specs.Trails.{HasEntry, IsAssigned, IsTrail, IsUnassigned, IsUntaken, cut_to, decided, entry_at, followed, literals, mark_of, rewatched, start_of};
 ghost use Rattle.propagate.specs.Watched.{IsTrueAt, IsTrueUpTo};
 ghost use Rattle.propagate.specs.Clauses.{IsTruth};
 ghost use Rattle.propagate.specs.Stored.{IsTable};
@@ -316,11 +316,7 @@ impl Trail {
         ensures before { IsTrail self.old }
         ensures after { IsTrail self.new }
     {
-        let start = match self.levels.last() {
-            None => 0,
-            Some(level) => level.start,
-        };
-        self.taken = self.taken.min(start);
+        self.taken = lesser(self.taken, present_start(&self.levels));
     }
 
     // The entry of a variable.
@@ -340,6 +336,17 @@ fn lesser(a: u32, b: u32) -> u32
     ensures lesser { result ≡ min a b }
 {
     a.min(b)
+}
+
+// Where the literals of the present level begin.
+fn present_start(levels: &[Level]) -> u32
+    ensures lowest { length levels.now ≡ 0 → result ≡ 0 }
+    ensures above { (j : ℕ) → length levels.now ≡ j + 1 → result ≡ start_of levels.now j }
+{
+    match levels.last() {
+        None => 0,
+        Some(level) => level.start,
+    }
 }
 
 // As many variables, whose literals no clause watches.

@@ -6,7 +6,7 @@ use Rattle.std.specs.List.{list_any, range_with_len}
 use Rattle.std.proofs.lemmas.Int.{ints}
 use Rattle.std.proofs.lemmas.Bool.{and_from, and_parts, cases_Bool}
 use Rattle.mt_model.proofs.TruthLemmas.{implies-from, implies-then}
-use Rattle.mt_model.specs.Frame.{Frame, implies, reaches, span}
+use Rattle.mt_model.specs.Frame.{Frame, reaches, span}
 use Rattle.mt_model.proofs.Members.{Among, any_same, same_bool, all_each, each_all}
 use Rattle.mt_model.proofs.PositionLemmas.{below, within_has}
 use Rattle.witness_replay.specs.declared.operators.Direction.{Direction}

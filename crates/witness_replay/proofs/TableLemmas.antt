@@ -19,7 +19,7 @@ use Rattle.witness_replay.specs.Tables.{ColumnsAreTruths, column_at}
 use Rattle.witness_replay.proofs.GapLemmas.{points}
 
 -- a column ends before a later one begins
-ends-before : (j k rows : ℕ) → j < k → j * rows + rows ≤ k * rows
+pub ends-before : (j k rows : ℕ) → j < k → j * rows + rows ≤ k * rows
 ends-before j k n less = grind (arith, rows)
 
 -- what follows the columns before node k plays no part in them
@@ -29,6 +29,11 @@ column-before j k n xs ys len less =
     let start : j * n ≤ length xs = omega arith in
     let room : n ≤ length (drop (j * n) xs) = omega (arith, length-drop (j * n) xs) in
     rw (drop-append-le (j * n) xs ys start) (take-append-le n (drop (j * n) xs) ys room)
+
+-- the columns before node n alone
+pub columns-before : (log : Logged) (t : List ℤ) (trees : List Form) (n : ℕ) (xs rest : List Bool) → length xs ≡ n * length t → ColumnsAreTruths log t trees n (xs ++ rest) → ColumnsAreTruths log t trees n xs
+columns-before log t trees n xs rest len truths =
+    λ k less. subst (IsColumn (length t) (λ e. truth_of log t e (tree_at trees k))) (column-before k n (length t) xs rest len less) (truths k less)
 
 -- the column of node k follows them
 pub column-here : (k rows : ℕ) (xs ys zs : List Bool) → length xs ≡ k * rows → length ys ≡ rows → column_at rows (xs ++ (ys ++ zs)) k ≡ ys

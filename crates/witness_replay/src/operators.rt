@@ -16,7 +16,7 @@ ghost use Rattle.witness_replay.specs.Directions.{is_near as is_near_from, rows_
 use mt_model::Interval;
 
 /// Where an operator looks from a row.
-#[derive(Clone, Copy, Debug, PartialEq, Eq)]
+#[derive(Clone, Copy)]
 pub enum Direction {
     /// At that instant and after it.
     Ahead,

@@ -1,5 +1,5 @@
 ghost use Rattle.std.specs.Prelude.{◌≡◌, ◌↔◌, ◌<◌, ◌≤◌, ◌*◌, length, All, IsTrue, IfOk, OnOk, None, Err, ◌^◌};
-ghost use Rattle.mt_model.specs.Bounds.{first_broken as first_broken_of};
+ghost use Rattle.mt_model.specs.Bounds.{bounds_of, first_broken as first_broken_of};
 ghost use Rattle.mt_model.specs.Form.{Form, form_of};
 ghost use Rattle.mt_model.specs.Log.{IsWithin};
 ghost use Rattle.mt_model.specs.State.{unknown_host};
@@ -53,6 +53,16 @@ fn make_table(alloc: Global, nodes: u32, rows: usize) -> Result<Vec<bool>, Alloc
     vec![in alloc; false; nodes as usize * rows]
 }
 
+// A copy of a log, and its bounds.
+fn copy_with_bounds(alloc: Global, log: &Log) -> Result<(Log, BoundList), AllocError>
+    ensures log { IfOk result (λ r. r.0 ≡ log.now) }
+    ensures bounds { IfOk result (λ r. r.1 ≡ bounds_of log.now) }
+{
+    let log = log.copy(alloc)?;
+    let bounds = bounds(alloc, &log)?;
+    Ok((log, bounds))
+}
+
 impl Replayer {
     /// Takes the memory for a log and a formula, whose hosts are in the log. `TooManyNodes` comes exactly
     /// where the formula has more than 512 nodes.
@@ -65,9 +75,8 @@ impl Replayer {
     {
         let mut arena = Arena::new(alloc);
         let root = arena.intern(f)?;
-        let log = log.copy(alloc)?;
-        let bounds = bounds(alloc, &log)?;
         let table = make_table(alloc, arena.len(), log.rows().len())?;
+        let (log, bounds) = copy_with_bounds(alloc, log)?;
         Ok(Replayer {
             log,
             arena,

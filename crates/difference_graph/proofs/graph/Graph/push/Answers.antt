@@ -130,7 +130,7 @@ invariant_of-self c =
     let i = c.self.inside in
     let edge = subst (λ (g : Constraints). IsEdge g.nodes c.args.edge) (sym c.self.view_is) c.requires.edge in
     let room = subst (λ (g : Constraints). length g.edges < g.capacity) (sym c.self.view_is) c.requires.room in
-    let meets = rw c.deref.ensures.value at (c.is_met.ensures.met c.if-is_met.true) in
+    let meets = rw c.deref.ensures.value at (c.is_met.ensures.met.0 c.if-is_met.true) in
     let had = c.self.invariant.1 in (
       rw c.push_within.ensures.items (graph_with i.held.items i.limit i.current.items c.self.invariant.0 c.args.edge edge room meets),
       record { edges = omega (arith, had.edges, c.push_within.ensures.capacity); copy = had.copy; order = had.order; walk = had.walk },
@@ -141,7 +141,7 @@ returns-then-is_met-clause-kept c =
     let i = c.self.inside in
     let edge = subst (λ (g : Constraints). IsEdge g.nodes c.args.edge) (sym c.self.view_is) c.requires.edge in
     let room = subst (λ (g : Constraints). length g.edges < g.capacity) (sym c.self.view_is) c.requires.room in
-    let meets = rw c.deref.ensures.value at (c.is_met.ensures.met c.if-is_met.true) in
+    let meets = rw c.deref.ensures.value at (c.is_met.ensures.met.0 c.if-is_met.true) in
     let all = met_with i.held.items i.limit i.current.items c.self.invariant.0 c.args.edge edge room meets in
     let solution = has_solution (length i.current.items) (i.held.items ++ c.args.edge ∷ []) i.current.items refl all in
     (decided_kept _ (subst (λ (g : Constraints). HasSolution g.nodes (g.edges ++ c.args.edge ∷ [])) c.self.view_is solution)).kept
@@ -151,7 +151,7 @@ returns-then-is_met-clause-refused c =
     let i = c.self.inside in
     let edge = subst (λ (g : Constraints). IsEdge g.nodes c.args.edge) (sym c.self.view_is) c.requires.edge in
     let room = subst (λ (g : Constraints). length g.edges < g.capacity) (sym c.self.view_is) c.requires.room in
-    let meets = rw c.deref.ensures.value at (c.is_met.ensures.met c.if-is_met.true) in
+    let meets = rw c.deref.ensures.value at (c.is_met.ensures.met.0 c.if-is_met.true) in
     let all = met_with i.held.items i.limit i.current.items c.self.invariant.0 c.args.edge edge room meets in
     let solution = has_solution (length i.current.items) (i.held.items ++ c.args.edge ∷ []) i.current.items refl all in
     (decided_kept _ (subst (λ (g : Constraints). HasSolution g.nodes (g.edges ++ c.args.edge ∷ [])) c.self.view_is solution)).refused

@@ -1,0 +1,15 @@
+use Rattle.std.proofs.Common.{◌≡◌, ◌∙◌, ap, sym}
+use Rattle.clause_db.specs.declared.lit.Lit.{Lit}
+use Rattle.propagate.specs.declared.entry.Entry.{Entry}
+use Rattle.analyze.proofs.Order.{assigned_at, entry_of_place}
+use Rattle.analyze.proofs.places.level_at.Goals as goal
+
+pub level_of-requires : goal.level_of-requires
+level_of-requires c =
+    let is = c.var.ensures.variable ∙ ap (λ (l : Lit). l.var) c.lit.ensures.literal in
+    record { assigned = assigned_at c.args.trail.now.entries c.args.place c.var.result c.requires.in_range (sym is) }
+
+pub returns : goal.returns
+returns c =
+    let is = c.var.ensures.variable ∙ ap (λ (l : Lit). l.var) c.lit.ensures.literal in
+    record { level = sym (entry_of_place c.args.trail.now c.requires.trail c.args.place c.var.result c.requires.in_range is (λ (e : Entry). e.level ≡ c.level_of.result) c.level_of.ensures.level) }
