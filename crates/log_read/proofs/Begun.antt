@@ -20,7 +20,7 @@ use Rattle.mt_model.specs.Timing.{is_send_of}
 use Rattle.log_read.specs.declared.fault.LogFault.{LogFault}
 use Rattle.log_read.specs.declared.kind.EventKind.{EventKind}
 use Rattle.log_read.specs.declared.kind.EventKind.TheVariants as event
-use Rattle.log_read.specs.Numbers.{is_number, number_up_to, negated, signed_up_to}
+use Rattle.decimal.specs.Numbers.{is_number, number_up_to, negated, signed_up_to}
 use Rattle.log_read.specs.Records.{host_with, row_with, place_of_host, act_of}
 use Rattle.log_read.specs.LogOf.{host_fault, event_fault, is_declared, sends_again}
 use Rattle.log_read.specs.Reading.{IsBegun}

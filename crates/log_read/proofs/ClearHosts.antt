@@ -13,12 +13,12 @@ use Rattle.mt_model.specs.declared.log.Host.{Host}
 use Rattle.mt_model.specs.declared.limits.TheConstants.{MAX_HOSTS, MAX_WRITTEN_SKEW, MAX_GAP}
 use Rattle.mt_model.specs.Name.{is_name, is_reserved}
 use Rattle.log_read.specs.declared.fault.LogFault.{LogFault}
-use Rattle.log_read.specs.Numbers.{number_up_to}
+use Rattle.decimal.specs.Numbers.{number_up_to}
 use Rattle.log_read.specs.Records.{listed}
 use Rattle.log_read.specs.LogOf.{fault_of, first_fault, is_declared}
 use Rattle.log_read.specs.LogText.{host_fields}
 use Rattle.log_read.proofs.Middles.{All-front, All-middle, AllPairs-front, AllPairs-middle}
-use Rattle.log_read.proofs.PrintedNumbers.{number-printed}
+use Rattle.decimal.proofs.Printed.{number-printed}
 use Rattle.log_read.proofs.WrittenRecords.{AreDistinct, IsOf, IsWritable, listed-written}
 
 -- where each of the tests passes, there is no fault

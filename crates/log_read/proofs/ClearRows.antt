@@ -15,13 +15,13 @@ use Rattle.mt_model.specs.declared.limits.TheConstants.{MAX_ROWS, MAX_LOCAL}
 use Rattle.mt_model.specs.Log.{SendSame, sent_by, name_in}
 use Rattle.mt_model.specs.Timing.{is_send_of}
 use Rattle.log_read.specs.declared.fault.LogFault.{LogFault}
-use Rattle.log_read.specs.Numbers.{signed_up_to}
+use Rattle.decimal.specs.Numbers.{signed_up_to}
 use Rattle.log_read.specs.Records.{place_of_host, listed}
 use Rattle.log_read.specs.LogOf.{fault_of, first_fault, sends_again}
 use Rattle.log_read.specs.LogText.{host_fields, host_name, row_fields}
 use Rattle.log_read.proofs.FirstFaults.{sent_by-is}
 use Rattle.log_read.proofs.Middles.{All-front, All-middle, AllPairs-middle}
-use Rattle.log_read.proofs.PrintedNumbers.{signed-printed}
+use Rattle.decimal.proofs.Printed.{signed-printed}
 use Rattle.log_read.proofs.WrittenRecords.{IsOf, kind_in, kind_of-word, listed-written, place-found}
 use Rattle.log_read.proofs.ClearHosts.{AreHosts}
 

@@ -8,7 +8,6 @@ pub mod Lines
 pub mod Listing
 pub mod Middles
 pub mod PlainFields
-pub mod PrintedNumbers
 pub mod ReadBack
 pub mod ValidLogs
 pub mod WrittenLines

@@ -9,7 +9,7 @@ use Rattle.std.proofs.lemmas.Int.{ints}
 use Rattle.std.proofs.lemmas.Fmt.{digits_decimal}
 use Rattle.csv.specs.Writing.{default_writer, needs_byte}
 use Rattle.mt_model.specs.Name.{is_letter, is_name, is_name_byte}
-use Rattle.mt_model.proofs.Digits.{digits_model}
+use Rattle.decimal.proofs.Digits.{digits_model}
 use Rattle.log_read.proofs.Lines.{IsPlainField}
 
 either : (a b : Bool) → a ≡ false → b ≡ false → (a || b) ≡ false

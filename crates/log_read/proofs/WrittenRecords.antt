@@ -20,7 +20,7 @@ use Rattle.log_read.specs.declared.kind.Kind.TheVariants as kind
 use Rattle.log_read.specs.Records.{Record, act_of, host_in, hosts_in, kind_of, place_of_host, row_in, rows_after, listed}
 use Rattle.log_read.specs.LogText.{act_word, host_fields, host_name, row_fields}
 use Rattle.log_read.proofs.Middles.{position-found}
-use Rattle.log_read.proofs.PrintedNumbers.{number-printed, signed-printed}
+use Rattle.decimal.proofs.Printed.{number-printed, signed-printed}
 
 -- the kind of an event in which an act is told
 abbrev pub kind_in : Act → EventKind

@@ -1,5 +1,4 @@
 pub mod Faults
-pub mod Numbers
 pub mod Records
 pub mod LogOf
 pub mod LogText
@@ -8,3 +7,4 @@ pub mod Reading
 pub use Rattle.mt_model.specs.Name
 pub use Rattle.mt_model.specs.Log
 pub use Rattle.mt_model.specs.Timing
+pub use Rattle.decimal.specs.Numbers

@@ -14,7 +14,7 @@ use Rattle.log_read.specs.declared.kind.Kind.{Kind}
 use Rattle.log_read.specs.declared.kind.Kind.TheVariants as kind
 use Rattle.log_read.specs.declared.kind.EventKind.{EventKind}
 use Rattle.log_read.specs.declared.kind.EventKind.TheVariants as event
-use Rattle.log_read.specs.Numbers.{number_up_to, signed_up_to}
+use Rattle.decimal.specs.Numbers.{number_up_to, signed_up_to}
 use Rattle.log_read.specs.Records.{Record, kind_of, place_of_host, listed}
 
 -- the fields `kind`, `host`, `time`, `name`

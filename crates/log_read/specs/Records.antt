@@ -11,7 +11,7 @@ use Rattle.log_read.specs.declared.kind.Kind.{Kind}
 use Rattle.log_read.specs.declared.kind.Kind.TheVariants as kind
 use Rattle.log_read.specs.declared.kind.EventKind.{EventKind}
 use Rattle.log_read.specs.declared.kind.EventKind.TheVariants as event
-use Rattle.log_read.specs.Numbers.{number_up_to, signed_up_to}
+use Rattle.decimal.specs.Numbers.{number_up_to, signed_up_to}
 
 -- the fields of one line
 abbrev pub Record : Type 0

@@ -7,7 +7,7 @@ ghost use Rattle.log_read.specs.Records.{host_with, row_with, place_of_host};
 
 use crate::LogFault;
 use crate::kind::EventKind;
-use crate::number::{number, signed_number};
+use decimal::{signed_number, unsigned_number};
 use mt_model::{
     Host, HostId, MAX_GAP, MAX_HOSTS, MAX_LOCAL, MAX_ROWS, MAX_WRITTEN_SKEW, Name, Row,
 };
@@ -80,10 +80,10 @@ pub fn host_entry(
     if hosts.len() >= MAX_HOSTS {
         return Err(LogFault::TooManyHosts { place });
     }
-    let Some(skew) = number(skew, MAX_WRITTEN_SKEW) else {
+    let Some(skew) = unsigned_number(skew, MAX_WRITTEN_SKEW) else {
         return Err(LogFault::Number { place });
     };
-    let Some(gap) = number(gap, MAX_GAP) else {
+    let Some(gap) = unsigned_number(gap, MAX_GAP) else {
         return Err(LogFault::Number { place });
     };
     Ok(Host {

@@ -1,4 +1,4 @@
-ghost use Rattle.std.specs.Prelude.{◌≡◌, ◌<◌, length, Some, IfOk};
+ghost use Rattle.std.specs.Prelude.{◌≡◌, ◌<◌, ◌∷◌, ◌++◌, [], length, Some, IfOk, OnOk};
 ghost use Rattle.csv.specs.Reading.{AreRecords, default_config, records, strip_bom};
 ghost use Rattle.csv.specs.Records.{field_at, fields_of};
 ghost use Rattle.csv.specs.declared.parser.State.TheVariants as st;
@@ -28,6 +28,15 @@ fn copied(alloc: Global, row: &ByteRecord) -> Result<Fields, AllocError>
     Ok(fields)
 }
 
+// Adds the fields of a record of `csv`.
+fn keep(alloc: Global, list: &mut RecordList, row: &ByteRecord) -> Result<(), AllocError>
+    ensures ok { OnOk result (list.new ≡ list.old ++ fields_of row.now ∷ []) }
+{
+    let fields = copied(alloc, row)?;
+    list.push(fields)?;
+    Ok(())
+}
+
 /// The records of a text, of any number of fields, none of them set apart as a header.
 pub fn all_records(alloc: Global, text: &[u8]) -> Result<RecordList, AllocError>
     ensures records { IfOk result (λ list. AreRecords default_config st.StartRecord (strip_bom text.now) list) }
@@ -39,10 +48,7 @@ pub fn all_records(alloc: Global, text: &[u8]) -> Result<RecordList, AllocError>
     let mut list = RecordList::new(alloc);
     for row in rdr.into_byte_records() {
         match row {
-            Ok(row) => {
-                let fields = copied(alloc, &row)?;
-                list.push(fields)?;
-            }
+            Ok(row) => keep(alloc, &mut list, &row)?,
             Err(error) => match error.kind() {
                 ErrorKind::Io(_) | ErrorKind::OutOfMemory => return Err(AllocError),
                 _ => unreachable!(),

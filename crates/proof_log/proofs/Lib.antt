@@ -1,6 +1,5 @@
 pub mod Spacing
 pub mod Cuts
-pub mod Numbers
 pub mod Items
 pub mod Giving
 pub mod ReadItems

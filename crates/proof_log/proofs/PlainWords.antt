@@ -13,6 +13,7 @@ use Rattle.mt_model.specs.declared.limits.TheConstants.{MAX_ORDER}
 use Rattle.mt_model.specs.declared.step.Step.{Step}
 use Rattle.mt_model.specs.declared.step.Step.TheVariants as step
 use Rattle.mt_model.specs.Log.{IsWithin}
+use Rattle.decimal.proofs.Printed.{digits-printed}
 use Rattle.axiom_rules.specs.declared.literal.Atom.{Atom}
 use Rattle.axiom_rules.specs.declared.literal.Atom.TheVariants as atom
 use Rattle.axiom_rules.specs.declared.literal.Literal.{Literal}
@@ -23,7 +24,6 @@ use Rattle.proof_log.specs.declared.line.Line.TheVariants as line
 use Rattle.proof_log.specs.LinesText.{Word, atom_words, hint_words, line_words, literal_words, newline, number_words, order_words, space, step_words}
 use Rattle.proof_log.specs.Spelled.{IsNumber, IsSpelled, IsSpelledAtom, IsSpelledHint, IsSpelledLiteral, IsSpelledStep, written_bound}
 use Rattle.proof_log.proofs.Cuts.{Lacks}
-use Rattle.proof_log.proofs.Numbers.{digits_written}
 
 -- each byte is above a space
 abbrev pub is_plain : Word → Bool
@@ -49,7 +49,7 @@ digits-plain (d ∷ ds) digits = by (is_ascii_digit d) (list_all is_ascii_digit 
     by false b first later h rest = cc
 
 plain-decimal : (n : ℕ) → n < 10 ^ 64 → is_plain (decimal n) ≡ true
-plain-decimal n small = digits-plain (decimal n) (digits_written n small)
+plain-decimal n small = digits-plain (decimal n) (digits-printed n small)
 
 pub plain-number : (n : ℕ) → IsNumber n → is_plain (decimal n) ≡ true
 plain-number n is = plain-decimal n (omega arith)

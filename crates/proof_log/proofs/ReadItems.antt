@@ -11,7 +11,9 @@ use Rattle.mt_model.specs.declared.limits.TheConstants.{MAX_ORDER}
 use Rattle.mt_model.specs.declared.step.Step.{Step}
 use Rattle.mt_model.specs.declared.step.Step.TheVariants as step
 use Rattle.mt_model.specs.Log.{IsWithin}
-use Rattle.log_read.specs.Numbers.{signed_up_to}
+use Rattle.decimal.specs.Laws.{WritesNumber, WritesSigned}
+use Rattle.decimal.specs.Numbers.{number_below, signed_up_to}
+use Rattle.decimal.proofs.Written.{number-sound, signed-sound}
 use Rattle.axiom_rules.specs.declared.literal.Atom.{Atom}
 use Rattle.axiom_rules.specs.declared.literal.Atom.TheVariants as atom
 use Rattle.axiom_rules.specs.declared.literal.Literal.{Literal}
@@ -21,10 +23,9 @@ use Rattle.axiom_rules.specs.Literals.{no, order_literal, yes}
 use Rattle.proof_log.specs.declared.item.Constraint.{Constraint}
 use Rattle.proof_log.specs.declared.line.Hint.TheVariants as hint
 use Rattle.proof_log.specs.LinesText.{Word, atom_words, hint_words, literal_words, number_words, order_words, rule_words, signed_word, step_words}
-use Rattle.proof_log.specs.Reading.{Reading, argument_in, arguments_in, atom_in, bound_in, byte_in, constraint_in, counted_in, hint_in, items_in, literal_in, literal_of, literal_with, made, number_below, number_in, rule_in, signed_in, step_in, step_of, three_in, two_in}
+use Rattle.proof_log.specs.Reading.{Reading, argument_in, arguments_in, atom_in, bound_in, byte_in, constraint_in, counted_in, hint_in, items_in, literal_in, literal_of, literal_with, made, number_in, rule_in, signed_in, step_in, step_of, three_in, two_in}
 use Rattle.proof_log.specs.Spelled.{IsNumber, IsOrder, IsSpelledAtom, IsSpelledHint, IsSpelledLiteral, IsSpelledRule, IsSpelledStep, argument_count, is_used}
 use Rattle.proof_log.proofs.Giving.{IsRead, gives-after, gives-if, gives-made, gives-map, gives-named, gives-then, gives-weaker}
-use Rattle.proof_log.proofs.Numbers.{WritesBound, WritesNumber, bound-sound, number-sound}
 
 -- the words of a number, of two, of three and of a constraint without its name
 abbrev pub one_word : ℕ → List Word
@@ -61,7 +62,7 @@ byte-read (w ∷ ws) =
 bound-read : (ws : List Word) → IfSome (bound_in ws) (IsRead (λ c. signed_decimal c ∷ []) (IsWithin MAX_ORDER) ws)
 bound-read [] = tt
 bound-read (w ∷ ws) =
-    gives-map (λ c. (c, ws)) (signed_up_to MAX_ORDER w) (WritesBound w) (IsRead (λ c. signed_decimal c ∷ []) (IsWithin MAX_ORDER) (w ∷ ws)) (λ c is. record { valid = is.within; words_are = ap (λ v. v ∷ ws) is.written }) (bound-sound w)
+    gives-map (λ c. (c, ws)) (signed_up_to MAX_ORDER w) (WritesSigned MAX_ORDER w) (IsRead (λ c. signed_decimal c ∷ []) (IsWithin MAX_ORDER) (w ∷ ws)) (λ c is. record { valid = record { low = is.low; high = is.high }; words_are = ap (λ v. v ∷ ws) is.written }) (signed-sound MAX_ORDER (omega (arith, ints)) w)
 
 two-read : (ws : List Word) → IfSome (two_in ws) (IsRead two_words AreTwo ws)
 two-read ws = gives-then (λ a. made (λ n. (a.0, n)) (number_in a.1)) (number_in ws) (IsRead one_word IsNumber ws) (IsRead two_words AreTwo ws) second (number-read ws)

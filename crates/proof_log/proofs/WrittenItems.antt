@@ -4,11 +4,14 @@ use Rattle.std.specs.Prelude.{All, nat_lt, if◌then◌else◌, option_and_then,
 use Rattle.std.specs.Fmt.{decimal, signed_decimal}
 use Rattle.std.specs.List.{flat_map}
 use Rattle.std.proofs.lemmas.Bool.Decides.{nat_tests}
+use Rattle.std.proofs.lemmas.Int.{ints}
 use Rattle.std.proofs.lemmas.List.Elements.{All-head, All-tail}
 use Rattle.mt_model.specs.declared.limits.TheConstants.{MAX_ORDER}
 use Rattle.mt_model.specs.declared.step.Step.{Step}
 use Rattle.mt_model.specs.declared.step.Step.TheVariants as step
 use Rattle.mt_model.specs.Log.{IsWithin}
+use Rattle.decimal.specs.Numbers.{number_below}
+use Rattle.decimal.proofs.Printed.{number-below-printed, signed-printed}
 use Rattle.axiom_rules.specs.declared.literal.Atom.{Atom}
 use Rattle.axiom_rules.specs.declared.literal.Atom.TheVariants as atom
 use Rattle.axiom_rules.specs.declared.literal.Literal.{Literal}
@@ -18,10 +21,9 @@ use Rattle.proof_log.specs.declared.item.Constraint.{Constraint}
 use Rattle.proof_log.specs.declared.line.Hint.{Hint}
 use Rattle.proof_log.specs.declared.line.Hint.TheVariants as hint
 use Rattle.proof_log.specs.LinesText.{Word, atom_words, hint_words, literal_words, number_words, order_words, rule_words, step_words}
-use Rattle.proof_log.specs.Reading.{Reading, argument_in, arguments_in, bound_in, byte_in, constraint_in, counted_in, hint_in, items_in, literal_in, literal_of, literal_with, made, number_below, number_in, rule_in, step_in, step_of, three_in, two_in}
+use Rattle.proof_log.specs.Reading.{Reading, argument_in, arguments_in, bound_in, byte_in, constraint_in, counted_in, hint_in, items_in, literal_in, literal_of, literal_with, made, number_in, rule_in, step_in, step_of, three_in, two_in}
 use Rattle.proof_log.specs.Spelled.{IsNumber, IsOrder, IsSpelledAtom, IsSpelledHint, IsSpelledLiteral, IsSpelledRule, IsSpelledStep, argument_count, used_arguments}
 use Rattle.proof_log.proofs.Giving.{made-back}
-use Rattle.proof_log.proofs.Numbers.{bound-back, number-back}
 use Rattle.proof_log.proofs.ReadItems.{at-most-four, bound-twice}
 
 abbrev before : {X : Type 0} → List Word → X → X × List Word
@@ -31,13 +33,13 @@ with_rest : {X : Type 0} (rest : List Word) (o : Option X) (x : X) → o ≡ Som
 with_rest rest o x is = ap (option_map (before rest)) is
 
 number-written : (n : ℕ) (rest : List Word) → IsNumber n → number_in (decimal n ∷ rest) ≡ Some (n, rest)
-number-written n rest is = with_rest rest (number_below (2 ^ 32) (decimal n)) n (number-back (2 ^ 32) n (lit≤ tt) is)
+number-written n rest is = with_rest rest (number_below (2 ^ 32) (decimal n)) n (number-below-printed (2 ^ 32) n (lit≤ tt) is)
 
 byte-written : (n : ℕ) (rest : List Word) → n < 2 ^ 8 → byte_in (decimal n ∷ rest) ≡ Some (n, rest)
-byte-written n rest is = with_rest rest (number_below (2 ^ 8) (decimal n)) n (number-back (2 ^ 8) n (lit≤ tt) is)
+byte-written n rest is = with_rest rest (number_below (2 ^ 8) (decimal n)) n (number-below-printed (2 ^ 8) n (lit≤ tt) is)
 
 bound-written : (c : ℤ) (rest : List Word) → IsWithin MAX_ORDER c → bound_in (signed_decimal c ∷ rest) ≡ Some (c, rest)
-bound-written c rest is = with_rest rest _ c (bound-back c is)
+bound-written c rest is = with_rest rest _ c (signed-printed MAX_ORDER c (omega (arith, ints)) is.low is.high)
 
 two-written : (a b : ℕ) (rest : List Word) → IsNumber a → IsNumber b → two_in (decimal a ∷ decimal b ∷ rest) ≡ Some ((a, b), rest)
 two-written a b rest ia ib =

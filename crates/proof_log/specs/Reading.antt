@@ -1,12 +1,11 @@
 -- What is read at the front of a list of words, and the words after it.
-use Rattle.std.specs.Prelude.{ℕ, zero, suc, ◌^◌, ◌==◌, ◌&&◌, nat_lt, Bool, true, false, List, [], ◌∷◌, bytes_eq, codes, Option, Some, None, option_map, option_and_then, if◌then◌else◌, ℤ}
+use Rattle.std.specs.Prelude.{ℕ, zero, suc, ◌^◌, ◌==◌, nat_lt, Bool, true, false, List, [], ◌∷◌, bytes_eq, codes, Option, Some, None, option_map, option_and_then, if◌then◌else◌, ℤ}
 use Rattle.std.specs.List.{slice_split}
-use Rattle.std.specs.Str.Parse.{digits_value}
 use Rattle.memchr.specs.Find.{is_byte}
 use Rattle.mt_model.specs.declared.limits.TheConstants.{MAX_ORDER}
 use Rattle.mt_model.specs.declared.step.Step.{Step}
 use Rattle.mt_model.specs.declared.step.Step.TheVariants as step
-use Rattle.log_read.specs.Numbers.{is_number, signed_up_to}
+use Rattle.decimal.specs.Numbers.{number_below, signed_up_to}
 use Rattle.axiom_rules.specs.declared.literal.Atom.{Atom}
 use Rattle.axiom_rules.specs.declared.literal.Atom.TheVariants as atom
 use Rattle.axiom_rules.specs.declared.literal.Literal.{Literal}
@@ -32,10 +31,6 @@ Reading X = Option (X × List Word)
 -- what was read, as something made of it
 abbrev pub made : {X Y : Type 0} → (X → Y) → Reading X → Reading Y
 made make reading = option_map (λ r. (make r.0, r.1)) reading
-
--- the number below a limit that a word writes
-abbrev pub number_below : ℕ → Word → Option ℕ
-number_below limit w = if is_number w && nat_lt (digits_value 10 w) limit then Some (digits_value 10 w) else None
 
 -- a number below 2^32
 abbrev pub number_in : List Word → Reading ℕ

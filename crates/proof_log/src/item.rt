@@ -7,9 +7,10 @@ ghost use Rattle.proof_log.specs.Reading.{argument_in, arguments_in, atom_in, bo
 
 use crate::arguments::argument_count;
 use crate::line::Hint;
-use crate::word::{bound, next_word, number};
+use crate::word::next_word;
 use axiom_rules::{Atom, Literal, Rule, order_literal};
-use mt_model::Step;
+use decimal::{number, signed_number};
+use mt_model::{MAX_ORDER, Step};
 
 /// `t_e - t_f <= c`.
 #[derive(Clone, Copy, Debug)]
@@ -41,7 +42,7 @@ fn next_bound(words: &[u8]) -> Option<(i128, &[u8])>
     ensures range { IfSome result (λ r. IsWithin MAX_ORDER r.0) }
 {
     let (word, rest) = next_word(words)?;
-    let value = bound(word)?;
+    let value = signed_number(word, MAX_ORDER)?;
     Some((value, rest))
 }
 

@@ -22,4 +22,3 @@ pub use line::{Hint, Hints, Line, Lines, Lits};
 pub use printer::{print_lines, push_line};
 pub use reader::{read_line, read_lines};
 pub use spelling::has_spelling;
-pub use word::{bound, number};

@@ -1,22 +1,24 @@
 -- What stands at the front of bytes, and what a line says.
-use Rattle.std.proofs.Common.{◌≡◌, ◌∙◌, sym, ap, subst, arith, ℕ, ◌+◌, ◌<◌, ◌≤◌, ◌^◌, Bool, true, List, [], ◌∷◌, ◌++◌, append_assoc, length, get_or, take, drop, add-one, Some, None, codes, ℤ}
-use Rattle.std.specs.Prelude.{IfSome}
+use Rattle.std.proofs.Common.{◌≡◌, ◌∙◌, sym, ap, subst, arith, ℕ, ◌+◌, ◌<◌, ◌≤◌, ◌^◌, Bool, true, List, [], ◌∷◌, ◌++◌, append_assoc, length, get_or, take, drop, add-one, Option, Some, None, codes, ℤ}
+use Rattle.std.specs.Prelude.{IfSome, MatchOption}
 use Rattle.std.specs.Fmt.{decimal, signed_decimal}
 use Rattle.std.proofs.Math.Seq.{split_at}
 use Rattle.std.proofs.lemmas.Bool.Decides.{nat_tests}
+use Rattle.std.proofs.lemmas.Int.{ints}
 use Rattle.std.proofs.lemmas.List.{append_cancel_left, get_or-take, length-take-le}
 use Rattle.memchr.specs.Find.{NoneBefore, Passes, is_byte}
-use Rattle.mt_model.specs.declared.limits.TheConstants.{MAX_ORDER, MAX_TIME}
+use Rattle.mt_model.specs.declared.limits.TheConstants.{MAX_TIME}
 use Rattle.mt_model.specs.declared.step.Step.{Step}
 use Rattle.mt_model.specs.declared.step.Step.TheVariants as step
 use Rattle.mt_model.specs.Log.{IsWithin}
 use Rattle.mt_model.specs.Texts.{step_text}
-use Rattle.log_read.specs.Numbers.{signed_up_to}
+use Rattle.decimal.specs.Laws.{WritesNumber, WritesSigned}
+use Rattle.decimal.specs.Numbers.{number_below, signed_up_to}
+use Rattle.decimal.proofs.Printed.{number-below-printed}
+use Rattle.decimal.proofs.Written.{number-sound, signed-sound}
 use Rattle.proof_log.specs.LinesText.{newline}
-use Rattle.proof_log.specs.Reading.{number_below}
 use Rattle.proof_log.specs.Spelled.{IsNumber}
 use Rattle.proof_log.proofs.Cuts.{lacks}
-use Rattle.proof_log.proofs.Numbers.{WritesBound, WritesNumber, bound-back, bound-sound, number-back, number-sound}
 use Rattle.report_text.specs.declared.part.Kind.{Kind}
 use Rattle.report_text.specs.declared.part.Kind.TheVariants as kind
 use Rattle.report_text.specs.declared.part.Opening.{Opening}
@@ -26,7 +28,7 @@ use Rattle.report_text.specs.ReportOf.{LacksNewline}
 use Rattle.report_text.specs.ReportText.{ended, value_word}
 use Rattle.report_text.specs.Spelled.{IsSpelledBound}
 use Rattle.report_text.proofs.Cutting.{same-line}
-use Rattle.report_text.proofs.LineTexts.{wider}
+use Rattle.report_text.proofs.LineTexts.{time-printed}
 
 -- bytes are cut at the place of their first newline
 pub first-cut : (w : List ℕ) (n : ℕ) → NoneBefore (Passes (is_byte newline) w) 0 (length w) n → Passes (is_byte newline) w n → IsCut w (take n w) (drop (n + 1) w)
@@ -51,7 +53,7 @@ module _ (words line digits : List ℕ) (begins : line ≡ words ++ digits) wher
   pub no-number : number_below (2 ^ 32) digits ≡ None → (n : ℕ) → IsNumbered words line n → ⊥
   no-number none n is =
       let written : decimal n ≡ digits = append_cancel_left words (decimal n) digits (is.text ∙ begins) in
-      let read : Some n ≡ None = sym (number-back (2 ^ 32) n (omega arith) is.number) ∙ ap (number_below (2 ^ 32)) written ∙ none in
+      let read : Some n ≡ None = sym (number-below-printed (2 ^ 32) n (omega arith) is.number) ∙ ap (number_below (2 ^ 32)) written ∙ none in
       absurd (cc read)
 
   pub is-number : (n : ℕ) → number_below (2 ^ 32) digits ≡ Some n → IsNumbered words line n
@@ -59,25 +61,16 @@ module _ (words line digits : List ℕ) (begins : line ≡ words ++ digits) wher
       let w : WritesNumber (2 ^ 32) digits n = subst (λ o. IfSome o (WritesNumber (2 ^ 32) digits)) read (number-sound (2 ^ 32) digits (omega arith)) in
       record { number = w.below; text = ap (λ d. words ++ d) (sym w.written) ∙ sym begins }
 
--- a line of a time
+-- a line of a time, by what was read of it
 
 module _ (line : List ℕ) where
-  pub no-bound : signed_up_to MAX_ORDER line ≡ None → (t : ℤ) → IsLineOf (IsWithin MAX_TIME) signed_decimal line t → ⊥
-  no-bound none t is =
-      let read : Some t ≡ None = sym (bound-back t (wider t is.is)) ∙ ap (signed_up_to MAX_ORDER) is.text ∙ none in
-      absurd (cc read)
-
-  module _ (c : ℤ) (read : signed_up_to MAX_ORDER line ≡ Some c) where
-    pub too-far : (IsWithin MAX_TIME c → ⊥) → (t : ℤ) → IsLineOf (IsWithin MAX_TIME) signed_decimal line t → ⊥
-    too-far far t is =
-        let some : Some t ≡ Some c = sym (bound-back t (wider t is.is)) ∙ ap (signed_up_to MAX_ORDER) is.text ∙ read in
-        let same : t ≡ c = cc some in
-        far (subst (IsWithin MAX_TIME) same is.is)
-
-    pub is-time-line : IsWithin MAX_TIME c → IsLineOf (IsWithin MAX_TIME) signed_decimal line c
-    is-time-line within =
-        let w : WritesBound line c = subst (λ o. IfSome o (WritesBound line)) read (bound-sound line) in
-        record { is = within; text = sym w.written }
+  pub time-line : (o : Option ℤ) → o ≡ signed_up_to MAX_TIME line → MatchOption o ((t : ℤ) → IsLineOf (IsWithin MAX_TIME) signed_decimal line t → ⊥) (IsLineOf (IsWithin MAX_TIME) signed_decimal line)
+  time-line None read = λ t is.
+      let found : Some t ≡ None = sym (time-printed t is.is) ∙ ap (signed_up_to MAX_TIME) is.text ∙ sym read in
+      absurd (cc found)
+  time-line (Some t) read =
+      let w : WritesSigned MAX_TIME line t = subst (λ o. IfSome o (WritesSigned MAX_TIME line)) (sym read) (signed-sound MAX_TIME (omega (arith, ints)) line) in
+      record { is = record { low = w.low; high = w.high }; text = sym w.written }
 
   -- a line of a bound
 

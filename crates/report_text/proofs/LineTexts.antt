@@ -13,13 +13,13 @@ use Rattle.mt_model.specs.declared.step.Step.{Step}
 use Rattle.mt_model.specs.declared.step.Step.TheVariants as step
 use Rattle.mt_model.specs.Log.{IsWithin}
 use Rattle.mt_model.specs.Texts.{step_text}
-use Rattle.log_read.specs.Numbers.{signed_up_to}
+use Rattle.decimal.specs.Numbers.{signed_up_to}
+use Rattle.decimal.proofs.Printed.{signed-printed}
 use Rattle.proof_log.specs.declared.line.Line.{Line}
 use Rattle.proof_log.specs.LinesText.{Word, line_words, newline, space, step_words}
 use Rattle.proof_log.specs.Reading.{step_in}
 use Rattle.proof_log.specs.Spelled.{IsNumber, IsSpelledStep, IsSpelled as IsSpelledLine}
 use Rattle.proof_log.proofs.LineReading.{one-line}
-use Rattle.proof_log.proofs.Numbers.{bound-back}
 use Rattle.proof_log.proofs.PlainWords.{joined-lacks, plain-bound, plain-lacks, plain-line, plain-number, plain-step, split-joined}
 use Rattle.proof_log.proofs.Texts.{read-alike}
 use Rattle.proof_log.proofs.WrittenItems.{step-written}
@@ -69,11 +69,15 @@ events-spelled = record {
 
 -- times
 
-pub wider : (t : ℤ) → IsWithin MAX_TIME t → IsWithin MAX_ORDER t
+wider : (t : ℤ) → IsWithin MAX_TIME t → IsWithin MAX_ORDER t
 wider t within = record { low = omega (arith, ints, within.low); high = omega (arith, ints, within.high) }
 
 some_same : {X : Type 0} (a b : X) → Some a ≡ Some b → a ≡ b
 some_same a b same = cc
+
+-- a time that is printed is read
+pub time-printed : (t : ℤ) → IsWithin MAX_TIME t → signed_up_to MAX_TIME (signed_decimal t) ≡ Some t
+time-printed t within = signed-printed MAX_TIME t (omega (arith, ints)) within.low within.high
 
 pub times-spelled : AreSpellings (IsWithin MAX_TIME) signed_decimal
 times-spelled = record {
@@ -82,7 +86,7 @@ times-spelled = record {
 }
   where
     one : (t u : ℤ) → IsWithin MAX_TIME t → IsWithin MAX_TIME u → signed_decimal t ≡ signed_decimal u → t ≡ u
-    one t u is_t is_u same = some_same t u (sym (bound-back t (wider t is_t)) ∙ ap (signed_up_to MAX_ORDER) same ∙ bound-back u (wider u is_u))
+    one t u is_t is_u same = some_same t u (sym (time-printed t is_t) ∙ ap (signed_up_to MAX_TIME) same ∙ time-printed u is_u)
 
 -- bounds
 

@@ -13,9 +13,10 @@ ghost use Rattle.report_text.specs.ReportText.{bound_text, ended, time_text, val
 ghost use Rattle.report_text.specs.Spelled.{IsSpelledBound};
 
 use crate::part::{Kind, Opening};
+use decimal::{number, signed_number};
 use memchr::memchr;
 use mt_model::{MAX_TIME, Step};
-use proof_log::{Line, bound, number, read_line};
+use proof_log::{Line, read_line};
 use std::alloc::{AllocError, Global};
 
 // The bytes before the first newline, and those after it.
@@ -52,8 +53,7 @@ pub fn is_time(time: i128) -> bool
 fn time_of(line: &[u8]) -> Option<i128>
     ensures { MatchOption result ((t : ℤ) → IsLineOf (IsWithin MAX_TIME) signed_decimal line.now t → ⊥) (IsLineOf (IsWithin MAX_TIME) signed_decimal line.now) }
 {
-    let time = bound(line)?;
-    if is_time(time) { Some(time) } else { None }
+    signed_number(line, MAX_TIME)
 }
 
 fn bound_of(line: &[u8]) -> Option<Step>

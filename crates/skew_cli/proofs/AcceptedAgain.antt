@@ -11,23 +11,24 @@ use Rattle.verdict.specs.declared.answer.Audit.TheVariants as audit
 use Rattle.verdict.specs.Claims.{Claims}
 use Rattle.verdict.specs.Laws.{AuditsAreExact, RightReportsAreAccepted}
 use Rattle.verdict.specs.Right.{IsRight}
+use Rattle.skew_answers.specs.declared.status.Status.{Status}
+use Rattle.skew_answers.specs.declared.status.Status.TheVariants as status
 use Rattle.skew_cli.specs.declared.limits.TheConstants.{REPORT_LIMIT}
-use Rattle.skew_cli.specs.declared.refusal.Named.TheVariants as named
-use Rattle.skew_cli.specs.declared.refusal.Refusal.TheVariants as refusal
-use Rattle.skew_cli.specs.declared.status.Status.{Status}
-use Rattle.skew_cli.specs.declared.status.Status.TheVariants as status
-use Rattle.skew_cli.specs.AuditOutcome.{AuditOfLog, AuditOfReport}
+use Rattle.skew_commands.specs.declared.refusal.Named.TheVariants as named
+use Rattle.skew_commands.specs.declared.refusal.Refusal.TheVariants as refusal
+use Rattle.skew_cli.specs.AuditOutcome.{AuditOfLog, AuditOfReport, refused_part}
 use Rattle.skew_cli.specs.CheckOutcome.{CheckOfLog, Checked}
 use Rattle.skew_cli.specs.Laws.{AcceptedFilesAreTrue, ChecksAreAccepted}
 use Rattle.skew_cli.specs.Outcome.{Says}
-use Rattle.skew_cli.specs.Reads.{IsQuestion}
-use Rattle.skew_cli.specs.Tests.{OnFile, OnNodes, OnReport, OnSize}
+use Rattle.skew_commands.specs.Reads.{IsQuestion}
+use Rattle.skew_cli.specs.ReportTests.{OnReport, OnSize}
+use Rattle.skew_commands.specs.Tests.{OnFile, OnNodes}
 use Rattle.skew_cli.proofs.Passing.{pass-file, pass-hosts, pass-nodes, pass-question, pass-report, pass-size, too-long}
 use Rattle.skew_cli.proofs.Reaching.{reach-file, reach-hosts, reach-nodes, reach-question, reach-report, reach-size, refuses-no_verdict}
 
 zero-claims : (conflicts : ℕ) (f : Form) (log : Logged) (r : Report) (out : List ℕ) → AuditOfReport conflicts f log r out status.Zero → Claims log f r
 zero-claims conflicts f log r out (inl a) = a.claims
-zero-claims conflicts f log r out (inr b) = absurd (refuses-no_verdict (refusal.Part b.part b.number) out status.Zero tt b.refused)
+zero-claims conflicts f log r out (inr b) = absurd (refuses-no_verdict (refusal.Part (refused_part b.part) b.number) out status.Zero tt b.refused)
 
 -- the report that was accepted claims what is so
 pub accepted-true : AcceptedFilesAreTrue

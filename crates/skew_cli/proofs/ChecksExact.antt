@@ -2,7 +2,8 @@
 use Rattle.mtl_parse.specs.Laws.{TextsAreUnambiguous}
 use Rattle.skew_cli.specs.CheckOutcome.{CheckOfLog, Checked}
 use Rattle.skew_cli.specs.Laws.{ChecksAreExact, ChecksAreJudged}
-use Rattle.skew_cli.specs.Tests.{OnNodes, OnSize}
+use Rattle.skew_cli.specs.ReportTests.{OnSize}
+use Rattle.skew_commands.specs.Tests.{OnNodes}
 use Rattle.skew_cli.proofs.Passing.{pass-hosts, pass-nodes, pass-question, pass-size}
 use Rattle.skew_cli.proofs.Reaching.{reach-hosts, reach-nodes, reach-question, reach-size}
 use Rattle.skew_cli.proofs.StatusValues.{exact-status}

@@ -9,8 +9,8 @@ use Rattle.formula_arena.specs.Nodes.{nodes_of}
 use Rattle.formula_arena.specs.declared.arena.TheConstants.{MAX_NODES}
 use Rattle.mtl_encode.specs.Size.{size}
 use Rattle.mtl_encode.specs.declared.size.TheConstants.{MAX_SIZE}
-use Rattle.skew_cli.specs.DemoFormula.{demo_formula}
-use Rattle.skew_cli.specs.DemoLog.{demo_host, demo_row, log_of_seed}
+use Rattle.demo_log.specs.DemoFormula.{demo_formula}
+use Rattle.demo_log.specs.DemoLog.{demo_host, demo_row, log_of_seed}
 
 -- a host whose name has these digits
 abbrev called : List ℕ → Host

@@ -1,5 +1,6 @@
 -- What `demo` answers.
-use Rattle.std.proofs.Common.{◌≡◌, subst, ℕ, ◌≤◌, List, length, None, inl, inr, arith}
+use Rattle.std.proofs.Common.{◌≡◌, subst, ℕ, ◌≤◌, length, None, Result, Ok, Err, inl, inr, arith}
+use Rattle.std.specs.Prelude.{IfOk}
 use Rattle.mt_model.specs.Form.{Form}
 use Rattle.mt_model.specs.Log.{Logged}
 use Rattle.mt_model.specs.State.{unknown_host}
@@ -10,19 +11,20 @@ use Rattle.mtl_encode.specs.declared.size.TheConstants.{MAX_SIZE}
 use Rattle.report_text.specs.declared.report.Report.{Report}
 use Rattle.verdict.specs.Claims.{Claims}
 use Rattle.verdict.specs.Right.{IsRight}
-use Rattle.skew_cli.specs.CheckOutcome.{IsReportStatus}
-use Rattle.skew_cli.specs.declared.limits.TheConstants.{DEFAULT_CONFLICTS}
-use Rattle.skew_cli.specs.declared.refusal.Refusal.{Refusal}
-use Rattle.skew_cli.specs.declared.status.Status.{Status}
-use Rattle.skew_cli.specs.declared.status.Status.TheVariants as status
-use Rattle.skew_cli.specs.DemoFormula.{demo_formula}
+use Rattle.skew_words.specs.declared.limits.TheConstants.{DEFAULT_CONFLICTS}
+use Rattle.skew_answers.specs.declared.status.Status.{Status}
+use Rattle.skew_answers.specs.declared.status.Status.TheVariants as status
+use Rattle.demo_log.specs.DemoFormula.{demo_formula}
+use Rattle.demo_log.specs.DemoLog.{local_times, log_of_seed}
+use Rattle.demo_log.proofs.SeedsConsistent.{seeds-consistent}
+use Rattle.skew_commands.specs.declared.refusal.Refusal.{Refusal}
+use Rattle.skew_commands.specs.declared.reply.Stop.{Stop}
+use Rattle.skew_commands.specs.Stops.{RefusesFor}
+use Rattle.skew_commands.proofs.Steps.{reason-weaker}
 use Rattle.skew_cli.specs.DemoLaws.{DemosAreExact, DemosAreJudged}
-use Rattle.skew_cli.specs.DemoLog.{local_times, log_of_seed}
-use Rattle.skew_cli.specs.DemoOutcome.{DemoOutcome, demo_text}
 use Rattle.skew_cli.specs.Laws.{IsStatusOfValues}
-use Rattle.skew_cli.specs.Stops.{TellsLarge}
+use Rattle.skew_cli.specs.ReportTests.{TellsLarge}
 use Rattle.skew_cli.proofs.DemoJudged.{demo-few, demo-known, demo-small}
-use Rattle.skew_cli.proofs.SeedsConsistent.{seeds-consistent}
 use Rattle.skew_cli.proofs.StatusValues.{exact-status}
 use Rattle.skew_cli.proofs.Witnesses.{exact-witnesses}
 
@@ -31,20 +33,22 @@ module _ (seed : ℕ) (log : Logged) (f : Form) (same_log : log ≡ log_of_seed 
   pub made-known : unknown_host log f ≡ None
   made-known = rw (same_log, same_form) (demo-known seed)
 
-  pub never-large : (r : Refusal) → TellsLarge f log r → ⊥
+  never-large : (r : Refusal) → TellsLarge f log r → ⊥
   never-large r told =
       let few : length (nodes_of f) ≤ MAX_NODES = rw same_form demo-few in
       let small : size log (nodes_of f) ≤ MAX_SIZE = rw (same_log, same_form) (demo-small seed) in
       elim told [ inl many ↦ omega (arith, many.1, few) | inr large ↦ omega (arith, large.2, small) ]
 
-  pub demo-given : (r : Report) (out : List ℕ) (s : Status) → IsRight log f DEFAULT_CONFLICTS r → Claims log f r → out ≡ demo_text seed r → IsReportStatus r s → DemoOutcome seed out s
-  demo-given r out s right claims written status = record {
-    report = r;
-    right = subst (λ g. IsRight (log_of_seed seed) g DEFAULT_CONFLICTS r) same_form (subst (λ l. IsRight l f DEFAULT_CONFLICTS r) same_log right);
-    claims = subst (λ g. Claims (log_of_seed seed) g r) same_form (subst (λ l. Claims l f r) same_log claims);
-    written = written;
-    status = status;
-  }
+  pub right-made : (result : Result Report Stop) → IfOk result (IsRight log f DEFAULT_CONFLICTS) → IfOk result (IsRight (log_of_seed seed) demo_formula DEFAULT_CONFLICTS)
+  right-made result right =
+      subst (λ g. IfOk result (IsRight (log_of_seed seed) g DEFAULT_CONFLICTS)) same_form (subst (λ l. IfOk result (IsRight l f DEFAULT_CONFLICTS)) same_log right)
+
+  pub claims-made : (result : Result Report Stop) → IfOk result (Claims log f) → IfOk result (Claims (log_of_seed seed) demo_formula)
+  claims-made result claims = subst (λ g. IfOk result (Claims (log_of_seed seed) g)) same_form (subst (λ l. IfOk result (Claims l f)) same_log claims)
+
+  pub never-refused : (result : Result Report Stop) → RefusesFor result (TellsLarge f log) → RefusesFor result (λ r. ⊥)
+  never-refused (Ok report) told = tt
+  never-refused (Err s) told = reason-weaker s (TellsLarge f log) (λ r. ⊥) never-large told
 
 pub demos-judged : DemosAreJudged
 demos-judged seed = record { nodes = record { hosts = demo-known seed; few = demo-few }; small = demo-small seed }

@@ -9,14 +9,14 @@ use Rattle.verdict.specs.declared.answer.Part.{Part}
 use Rattle.verdict.specs.AuditPlace.{AuditPlace, IsAccepted}
 use Rattle.verdict.specs.Claims.{Claims}
 use Rattle.verdict.specs.Faults.{HasTooManyNodes, IsJudged, IsTooLarge}
-use Rattle.skew_cli.specs.declared.refusal.Refusal.TheVariants as refusal
-use Rattle.skew_cli.specs.declared.status.Status.TheVariants as status
-use Rattle.skew_cli.specs.AuditOutcome.{AuditOfReport}
-use Rattle.skew_cli.specs.Refusals.{text_of}
-use Rattle.skew_cli.specs.Stops.{TellsLarge}
-use Rattle.skew_cli.specs.Tests.{OnSize}
-use Rattle.skew_cli.specs.Texts.{line}
-use Rattle.skew_cli.proofs.Steps.{At, size-refused, size-small}
+use Rattle.skew_answers.specs.declared.status.Status.TheVariants as status
+use Rattle.skew_answers.specs.Texts.{line}
+use Rattle.skew_commands.specs.declared.refusal.Refusal.TheVariants as refusal
+use Rattle.skew_cli.specs.AuditOutcome.{AuditOfReport, refused_part}
+use Rattle.skew_commands.specs.Refusals.{text_of}
+use Rattle.skew_cli.specs.ReportTests.{TellsLarge, OnSize}
+use Rattle.skew_cli.proofs.ReportSteps.{size-refused, size-small}
+use Rattle.skew_commands.proofs.Steps.{At}
 
 module _ (log : Logged) (f : Form) where
   pub many-told : HasTooManyNodes log f → TellsLarge f log refusal.Nodes
@@ -31,9 +31,9 @@ module _ (log : Logged) (f : Form) where
     audit-large n h = size-refused f log (AuditOfReport conflicts f log r) (refusal.Size n) (ap refusal.Size h.size) (subst (λ m. MAX_SIZE < m) h.size h.large)
 
     module _ (judged : IsJudged log f) where
-      pub audit-refused : (p : Part) (k : ℕ) → AuditPlace log f conflicts r p k → At (OnSize f log (AuditOfReport conflicts f log r)) (refusal.Part p k)
+      pub audit-refused : (p : Part) (k : ℕ) → AuditPlace log f conflicts r p k → At (OnSize f log (AuditOfReport conflicts f log r)) (refusal.Part (refused_part p) k)
       audit-refused p k place =
-          size-small f log (AuditOfReport conflicts f log r) (line (text_of (refusal.Part p k))) status.Rejected judged.small
+          size-small f log (AuditOfReport conflicts f log r) (line (text_of (refusal.Part (refused_part p) k))) status.Rejected judged.small
           (inr (record { part = p; number = k; place = place; refused = (refl, refl) }))
 
       pub audit-accepted : (out : List ℕ) → IsAccepted log f conflicts r → Claims log f r → out ≡ line (codes "accepted") → OnSize f log (AuditOfReport conflicts f log r) out status.Zero

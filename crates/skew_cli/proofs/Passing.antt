@@ -16,15 +16,16 @@ use Rattle.mtl_parse.specs.Laws.{TextsAreUnambiguous}
 use Rattle.report_text.specs.declared.report.Report.{Report}
 use Rattle.report_text.specs.Laws.{BytesAreUnambiguous}
 use Rattle.report_text.specs.ReportOf.{ReportOf}
-use Rattle.skew_cli.specs.declared.limits.TheConstants.{FORMULA_LIMIT, LOG_LIMIT}
-use Rattle.skew_cli.specs.declared.refusal.Named.{Named}
-use Rattle.skew_cli.specs.declared.refusal.Named.TheVariants as named
-use Rattle.skew_cli.specs.declared.refusal.Refusal.TheVariants as refusal
-use Rattle.skew_cli.specs.declared.status.Status.{Status}
-use Rattle.skew_cli.specs.Reads.{IsQuestion}
-use Rattle.skew_cli.specs.Refusals.{Refuses}
-use Rattle.skew_cli.specs.Tests.{OnFile, OnFormula, OnHosts, OnLog, OnNodes, OnQuestion, OnReport, OnSize, RefusesReport}
-use Rattle.skew_cli.specs.Words.{Word}
+use Rattle.skew_answers.specs.declared.status.Status.{Status}
+use Rattle.skew_words.specs.Words.{Word}
+use Rattle.skew_commands.specs.declared.limits.TheConstants.{FORMULA_LIMIT, LOG_LIMIT}
+use Rattle.skew_commands.specs.declared.refusal.Named.{Named}
+use Rattle.skew_commands.specs.declared.refusal.Named.TheVariants as named
+use Rattle.skew_commands.specs.declared.refusal.Refusal.TheVariants as refusal
+use Rattle.skew_commands.specs.Reads.{IsQuestion}
+use Rattle.skew_commands.specs.Refusals.{Refuses}
+use Rattle.skew_cli.specs.ReportTests.{OnReport, OnSize, RefusesReport}
+use Rattle.skew_commands.specs.Tests.{OnFile, OnFormula, OnHosts, OnLog, OnNodes, OnQuestion}
 
 module _ (out : List ℕ) (s : Status) where
   pub pass-file : (files : Files) (name : Word) (limit : ℕ) (n : Named) (next : List ℕ → List ℕ → Status → Type 0) (file : List ℕ) → file_of files name ≡ Some file → length file ≤ limit → OnFile files name limit n next out s → next file out s

@@ -20,17 +20,18 @@ use Rattle.report_text.specs.declared.fault.ReportFault.{ReportFault}
 use Rattle.report_text.specs.declared.fault.ReportFault.TheVariants as report
 use Rattle.report_text.specs.declared.report.Report.{Report}
 use Rattle.report_text.specs.ReportOf.{ReportOf}
-use Rattle.skew_cli.specs.declared.limits.TheConstants.{FORMULA_LIMIT, LOG_LIMIT}
-use Rattle.skew_cli.specs.declared.refusal.Named.{Named}
-use Rattle.skew_cli.specs.declared.refusal.Named.TheVariants as named
-use Rattle.skew_cli.specs.declared.refusal.Refusal.{Refusal}
-use Rattle.skew_cli.specs.declared.refusal.Refusal.TheVariants as refusal
-use Rattle.skew_cli.specs.declared.status.Status.{Status}
-use Rattle.skew_cli.specs.Reads.{IsQuestion}
-use Rattle.skew_cli.specs.Refusals.{Refuses, status_of}
-use Rattle.skew_cli.specs.Statuses.{IsVerdict}
-use Rattle.skew_cli.specs.Tests.{OnFile, OnFormula, OnHosts, OnLog, OnNodes, OnQuestion, OnReport, OnSize, RefusesReport}
-use Rattle.skew_cli.specs.Words.{Word}
+use Rattle.skew_answers.specs.declared.status.Status.{Status}
+use Rattle.skew_answers.specs.Statuses.{IsVerdict}
+use Rattle.skew_words.specs.Words.{Word}
+use Rattle.skew_commands.specs.declared.limits.TheConstants.{FORMULA_LIMIT, LOG_LIMIT}
+use Rattle.skew_commands.specs.declared.refusal.Named.{Named}
+use Rattle.skew_commands.specs.declared.refusal.Named.TheVariants as named
+use Rattle.skew_commands.specs.declared.refusal.Refusal.{Refusal}
+use Rattle.skew_commands.specs.declared.refusal.Refusal.TheVariants as refusal
+use Rattle.skew_commands.specs.Reads.{IsQuestion}
+use Rattle.skew_commands.specs.Refusals.{Refuses, status_of}
+use Rattle.skew_cli.specs.ReportTests.{OnReport, OnSize, RefusesReport}
+use Rattle.skew_commands.specs.Tests.{OnFile, OnFormula, OnHosts, OnLog, OnNodes, OnQuestion}
 
 -- the status of a refusal is no verdict
 refusal-no_verdict : (r : Refusal) → IsVerdict (status_of r) → ⊥

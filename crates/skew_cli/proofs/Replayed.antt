@@ -8,16 +8,16 @@ use Rattle.report_text.specs.declared.report.Report.{Report}
 use Rattle.report_text.specs.declared.report.Report.TheVariants as report
 use Rattle.report_text.specs.Spelled.{IsSpelledWitness}
 use Rattle.verdict.specs.Right.{IsRight, IsWitness}
-use Rattle.skew_cli.specs.declared.limits.TheConstants.{TIMES_LIMIT}
-use Rattle.skew_cli.specs.declared.refusal.Named.TheVariants as named
-use Rattle.skew_cli.specs.declared.status.Status.{Status}
+use Rattle.skew_answers.specs.declared.status.Status.{Status}
+use Rattle.skew_answers.specs.Texts.{times_text}
+use Rattle.skew_answers.proofs.TimesBack.{times-back, times-short}
+use Rattle.skew_commands.specs.declared.limits.TheConstants.{TIMES_LIMIT}
+use Rattle.skew_commands.specs.declared.refusal.Named.TheVariants as named
 use Rattle.skew_cli.specs.Laws.{IsWitnessOf, WitnessesAreReplayed}
 use Rattle.skew_cli.specs.Outcome.{Says}
-use Rattle.skew_cli.specs.ReplayOutcome.{ReplayOfLog, ReplayOfTimes, value_status, value_text}
-use Rattle.skew_cli.specs.Tests.{OnFile, OnNodes, OnTimes}
-use Rattle.skew_cli.specs.Texts.{times_text}
+use Rattle.skew_commands.specs.ReplayOutcome.{ReplayOfLog, ReplayOfTimes, value_status, value_text}
+use Rattle.skew_commands.specs.Tests.{OnFile, OnNodes, OnTimes}
 use Rattle.skew_cli.proofs.Passing.{pass-file, pass-hosts, pass-nodes, pass-question}
-use Rattle.skew_cli.proofs.TimesBack.{times-back, times-short}
 
 module _ (log : Logged) (f : Form) (conflicts : ℕ) where
   -- a witness of a right report is an admissible timing in which the formula has the value

@@ -10,8 +10,8 @@ use Rattle.report_text.specs.declared.report.Report.{Report}
 use Rattle.report_text.specs.declared.report.Report.TheVariants as report
 use Rattle.verdict.specs.Claims.{Claims}
 use Rattle.verdict.specs.Right.{SaysRight}
-use Rattle.skew_cli.specs.declared.status.Status.{Status}
-use Rattle.skew_cli.specs.declared.status.Status.TheVariants as status
+use Rattle.skew_answers.specs.declared.status.Status.{Status}
+use Rattle.skew_answers.specs.declared.status.Status.TheVariants as status
 use Rattle.skew_cli.specs.CheckOutcome.{IsReportStatus, is_undecided}
 use Rattle.skew_cli.specs.Laws.{IsNoValue, IsStatusOfValues}
 

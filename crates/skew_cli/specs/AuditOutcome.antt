@@ -5,17 +5,21 @@ use Rattle.mt_model.specs.Log.{Logged}
 use Rattle.mt_port.specs.Port.{Files}
 use Rattle.report_text.specs.declared.report.Report.{Report}
 use Rattle.verdict.specs.declared.answer.Part.{Part}
+use Rattle.verdict.specs.declared.answer.Part.TheVariants as shown
 use Rattle.verdict.specs.AuditPlace.{AuditPlace, IsAccepted}
 use Rattle.verdict.specs.Claims.{Claims}
+use Rattle.skew_answers.specs.declared.status.Status.{Status}
+use Rattle.skew_answers.specs.declared.status.Status.TheVariants as status
+use Rattle.skew_answers.specs.Texts.{line}
+use Rattle.skew_words.specs.Words.{Word}
 use Rattle.skew_cli.specs.declared.limits.TheConstants.{REPORT_LIMIT}
-use Rattle.skew_cli.specs.declared.refusal.Named.TheVariants as named
-use Rattle.skew_cli.specs.declared.refusal.Refusal.TheVariants as refusal
-use Rattle.skew_cli.specs.declared.status.Status.{Status}
-use Rattle.skew_cli.specs.declared.status.Status.TheVariants as status
-use Rattle.skew_cli.specs.Refusals.{Refuses}
-use Rattle.skew_cli.specs.Texts.{line}
-use Rattle.skew_cli.specs.Tests.{OnFile, OnHosts, OnNodes, OnQuestion, OnReport, OnSize}
-use Rattle.skew_cli.specs.Words.{Word}
+use Rattle.skew_commands.specs.declared.refusal.Named.TheVariants as named
+use Rattle.skew_commands.specs.declared.refusal.Refusal.TheVariants as refusal
+use Rattle.skew_commands.specs.declared.refusal.ReportPart.{ReportPart}
+use Rattle.skew_commands.specs.declared.refusal.ReportPart.TheVariants as name
+use Rattle.skew_commands.specs.Refusals.{Refuses}
+use Rattle.skew_cli.specs.ReportTests.{OnReport, OnSize}
+use Rattle.skew_commands.specs.Tests.{OnFile, OnHosts, OnNodes, OnQuestion}
 
 -- the report is accepted, and what it claims is so
 pub record Accepted (conflicts : ℕ) (f : Form) (log : Logged) (r : Report) (out : List ℕ) (s : Status) : Type 0 where
@@ -24,12 +28,19 @@ pub record Accepted (conflicts : ℕ) (f : Form) (log : Logged) (r : Report) (ou
   pub written : out ≡ line (codes "accepted")
   pub zero : s ≡ status.Zero
 
+-- a part of a report, as a refusal has it
+abbrev pub refused_part : Part → ReportPart
+refused_part shown.Events = name.Events
+refused_part shown.Inconsistent = name.Inconsistent
+refused_part shown.OnTrue = name.OnTrue
+refused_part shown.OnFalse = name.OnFalse
+
 -- the report is refused at the first part and line that the audit names
 pub record Rejected (conflicts : ℕ) (f : Form) (log : Logged) (r : Report) (out : List ℕ) (s : Status) : Type 0 where
   pub part : Part
   pub number : ℕ
   pub place : AuditPlace log f conflicts r part number
-  pub refused : Refuses (refusal.Part part number) out s
+  pub refused : Refuses (refusal.Part (refused_part part) number) out s
 
 -- with the report read and the size tested: it is accepted, or refused
 abbrev pub AuditOfReport : ℕ → Form → Logged → Report → List ℕ → Status → Type 0

@@ -10,10 +10,11 @@ use Rattle.report_text.specs.declared.report.Report.TheVariants as report
 use Rattle.report_text.specs.ReportText.{report_text}
 use Rattle.verdict.specs.Claims.{Claims}
 use Rattle.verdict.specs.Right.{IsRight, is_unknown, is_witness}
-use Rattle.skew_cli.specs.declared.status.Status.{Status}
-use Rattle.skew_cli.specs.declared.status.Status.TheVariants as status
-use Rattle.skew_cli.specs.Tests.{OnHosts, OnNodes, OnQuestion, OnSize}
-use Rattle.skew_cli.specs.Words.{Word}
+use Rattle.skew_answers.specs.declared.status.Status.{Status}
+use Rattle.skew_answers.specs.declared.status.Status.TheVariants as status
+use Rattle.skew_words.specs.Words.{Word}
+use Rattle.skew_cli.specs.ReportTests.{OnSize}
+use Rattle.skew_commands.specs.Tests.{OnHosts, OnNodes, OnQuestion}
 
 -- the status of the sections for true and for false: Unknown where one of them is, and else whether true alone, false alone or both have a witness
 abbrev pub IsVerdictsStatus : Section → Section → Status → Type 0

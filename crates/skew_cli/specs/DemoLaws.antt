@@ -1,10 +1,10 @@
 -- What the summaries of `demo` say of the values that its formula can have.
 use Rattle.std.specs.Prelude.{◌≡◌, ℕ, List}
 use Rattle.verdict.specs.Faults.{IsJudged}
-use Rattle.skew_cli.specs.declared.status.Status.{Status}
-use Rattle.skew_cli.specs.declared.status.Status.TheVariants as status
-use Rattle.skew_cli.specs.DemoFormula.{demo_formula}
-use Rattle.skew_cli.specs.DemoLog.{log_of_seed}
+use Rattle.skew_answers.specs.declared.status.Status.{Status}
+use Rattle.skew_answers.specs.declared.status.Status.TheVariants as status
+use Rattle.demo_log.specs.DemoFormula.{demo_formula}
+use Rattle.demo_log.specs.DemoLog.{log_of_seed}
 use Rattle.skew_cli.specs.DemoOutcome.{DemoOutcome}
 use Rattle.skew_cli.specs.Laws.{HasExactWitnesses, IsStatusOfValues}
 

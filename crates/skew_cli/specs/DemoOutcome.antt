@@ -8,12 +8,12 @@ use Rattle.report_text.specs.declared.report.Report.TheVariants as report
 use Rattle.report_text.specs.ReportText.{report_text, value_word}
 use Rattle.verdict.specs.Claims.{Claims}
 use Rattle.verdict.specs.Right.{IsRight}
-use Rattle.skew_cli.specs.declared.limits.TheConstants.{DEFAULT_CONFLICTS}
-use Rattle.skew_cli.specs.declared.status.Status.{Status}
+use Rattle.skew_words.specs.declared.limits.TheConstants.{DEFAULT_CONFLICTS}
+use Rattle.skew_answers.specs.declared.status.Status.{Status}
+use Rattle.demo_log.specs.DemoFormula.{demo_formula}
+use Rattle.demo_log.specs.DemoLog.{log_of_seed}
+use Rattle.skew_answers.specs.Texts.{line}
 use Rattle.skew_cli.specs.CheckOutcome.{IsReportStatus, is_undecided}
-use Rattle.skew_cli.specs.DemoFormula.{demo_formula}
-use Rattle.skew_cli.specs.DemoLog.{log_of_seed}
-use Rattle.skew_cli.specs.Texts.{line}
 
 -- what a summary says of a value by the section for it: a witness names the value, an unknown section names it with `?`, and a refuted one doesn't
 abbrev pub named_value : Bool → Section → List ℕ

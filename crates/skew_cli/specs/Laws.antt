@@ -13,20 +13,20 @@ use Rattle.verdict.specs.Claims.{Claims}
 use Rattle.verdict.specs.Faults.{IsJudged}
 use Rattle.verdict.specs.Right.{is_unknown, is_witness}
 use Rattle.verdict.specs.Unknown.{CanBeUnknown}
+use Rattle.skew_answers.specs.declared.status.Status.{Status}
+use Rattle.skew_answers.specs.declared.status.Status.TheVariants as status
+use Rattle.skew_answers.specs.Statuses.{IsVerdict}
+use Rattle.skew_answers.specs.Texts.{times_text}
+use Rattle.skew_words.specs.Words.{Word}
 use Rattle.skew_cli.specs.declared.limits.TheConstants.{REPORT_LIMIT}
-use Rattle.skew_cli.specs.declared.refusal.Named.TheVariants as named
-use Rattle.skew_cli.specs.declared.refusal.Refusal.TheVariants as refusal
-use Rattle.skew_cli.specs.declared.status.Status.{Status}
-use Rattle.skew_cli.specs.declared.status.Status.TheVariants as status
+use Rattle.skew_commands.specs.declared.refusal.Named.TheVariants as named
+use Rattle.skew_commands.specs.declared.refusal.Refusal.TheVariants as refusal
 use Rattle.skew_cli.specs.AuditOutcome.{AuditOutcome}
 use Rattle.skew_cli.specs.CheckOutcome.{CheckOutcome, Checked, is_undecided}
 use Rattle.skew_cli.specs.Outcome.{Says}
-use Rattle.skew_cli.specs.Reads.{IsQuestion}
-use Rattle.skew_cli.specs.Refusals.{Refuses}
-use Rattle.skew_cli.specs.ReplayOutcome.{ReplayOutcome, value_status, value_text}
-use Rattle.skew_cli.specs.Statuses.{IsVerdict}
-use Rattle.skew_cli.specs.Texts.{times_text}
-use Rattle.skew_cli.specs.Words.{Word}
+use Rattle.skew_commands.specs.Reads.{IsQuestion}
+use Rattle.skew_commands.specs.Refusals.{Refuses}
+use Rattle.skew_commands.specs.ReplayOutcome.{ReplayOutcome, value_status, value_text}
 
 -- no section of the report is unknown, and this holds of the value true and of the value false
 pub record Decides (r : Report) (OnTrue OnFalse : Type 0) : Type 0 where

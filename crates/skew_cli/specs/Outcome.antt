@@ -2,18 +2,18 @@
 use Rattle.std.specs.Prelude.{◌≡◌, ◌++◌, ℕ, List, codes, IsSome, MatchOption}
 use Rattle.mt_port.specs.Port.{Files, file_of}
 use Rattle.mt_port.specs.Whole.{WrotePrefix}
-use Rattle.skew_cli.specs.declared.status.Status.{Status}
-use Rattle.skew_cli.specs.declared.status.Status.TheVariants as status
-use Rattle.skew_cli.specs.Reads.{HoldsQuestion, HoldsThird, NoThird}
-use Rattle.skew_cli.specs.Statuses.{IsAnswer}
-use Rattle.skew_cli.specs.Texts.{line}
-use Rattle.skew_cli.specs.TimesOutcome.{TimesOutcome}
-use Rattle.skew_cli.specs.ReplayOutcome.{ReplayOutcome}
-use Rattle.skew_cli.specs.OrderOutcome.{OrderOutcome}
+use Rattle.skew_answers.specs.declared.status.Status.{Status}
+use Rattle.skew_answers.specs.declared.status.Status.TheVariants as status
+use Rattle.skew_answers.specs.Statuses.{IsAnswer}
+use Rattle.skew_answers.specs.Texts.{line}
+use Rattle.skew_words.specs.Words.{Audit, Check, Command, Demo, Order, Replay, Times, Word, command_of}
+use Rattle.skew_commands.specs.Reads.{HoldsQuestion, HoldsThird, NoThird}
+use Rattle.skew_commands.specs.TimesOutcome.{TimesOutcome}
+use Rattle.skew_commands.specs.ReplayOutcome.{ReplayOutcome}
+use Rattle.skew_commands.specs.OrderOutcome.{OrderOutcome}
 use Rattle.skew_cli.specs.CheckOutcome.{CheckOutcome}
 use Rattle.skew_cli.specs.AuditOutcome.{AuditOutcome}
 use Rattle.skew_cli.specs.DemoOutcome.{DemoOutcome}
-use Rattle.skew_cli.specs.Words.{Audit, Check, Command, Demo, Order, Replay, Times, Word, command_of}
 
 -- one line, with its status
 abbrev pub Says : List ℕ → Status → List ℕ → Status → Type 0
@@ -44,10 +44,6 @@ HoldsFiles files (Demo seed) = Unit {0}
 -- the files that the command of words comes to read are held
 abbrev pub HoldsNamed : List Word → Files → Type 0
 HoldsNamed words files = MatchOption (command_of words) (Unit {0}) (HoldsFiles files)
-
--- other files that agree with those that are held
-abbrev pub Agree : Files → Files → Type 0
-Agree held files = (name : Word) → IsSome (file_of held name) → file_of files name ≡ file_of held name
 
 -- how a call ended that is to write what is due: an answer wrote it, and where writing failed, the beginning of it was written
 pub record Ends (Due : List ℕ → Status → Type 0) (old now : List ℕ) (s : Status) : Type 0 where

@@ -6,23 +6,34 @@ ghost use Rattle.mt_model.specs.State.{unknown_host};
 ghost use Rattle.mt_port.specs.Port.{Rose};
 ghost use Rattle.mtl_parse.specs.FormulaOf.{FormulaOf};
 ghost use Rattle.report_text.specs.Spelled.{IsSpelled};
-ghost use Rattle.skew_cli.specs.AuditOutcome.{AuditOfLog, AuditOfReport, AuditOutcome};
-ghost use Rattle.skew_cli.specs.Reads.{HoldsQuestion, HoldsThird};
-ghost use Rattle.skew_cli.specs.Statuses.{IsVerdict};
-ghost use Rattle.skew_cli.specs.Stops.{Gives};
-ghost use Rattle.skew_cli.specs.Tests.{OnSize};
-ghost use Rattle.skew_cli.specs.Texts.{line};
+ghost use Rattle.skew_answers.specs.Statuses.{IsVerdict};
+ghost use Rattle.skew_answers.specs.Texts.{line};
+ghost use Rattle.skew_cli.specs.AuditOutcome.{AuditOfLog, AuditOfReport, AuditOutcome, refused_part};
+ghost use Rattle.skew_commands.specs.Reads.{HoldsQuestion, HoldsThird};
+ghost use Rattle.skew_commands.specs.Stops.{Gives};
+ghost use Rattle.skew_cli.specs.ReportTests.{OnSize};
 
-use crate::files;
 use crate::limits::REPORT_LIMIT;
-use crate::question::{Question, read_question};
-use crate::refusal::{Named, Refusal};
-use crate::reply::{Reply, Stop};
-use crate::status::Status;
+use crate::report_file;
 use mt_port::Shelf;
 use report_text::Report;
+use skew_answers::Status;
+use skew_commands::{Named, Question, Refusal, Reply, ReportPart, Stop, files, read_question};
 use std::alloc::{AllocError, Global};
-use verdict::{Audit, VerdictFault};
+use verdict::{Audit, Part, VerdictFault};
+
+// The refusal of a report at a part and a line.
+fn refused(part: Part, line: u32) -> Refusal
+    ensures { result ≡ Refusal.Part (refused_part part) line }
+{
+    let part = match part {
+        Part::Events => ReportPart::Events,
+        Part::Inconsistent => ReportPart::Inconsistent,
+        Part::OnTrue => ReportPart::OnTrue,
+        Part::OnFalse => ReportPart::OnFalse,
+    };
+    Refusal::Part { part, line }
+}
 
 // The reply to a report that is accepted.
 fn accepted(alloc: Global) -> Result<Reply, AllocError>
@@ -52,7 +63,7 @@ fn audit_of_report(
 {
     match verdict::audit(alloc, &question.log, &question.formula, conflicts, report) {
         Ok(Audit::Accepted) => Ok(accepted(alloc)?),
-        Ok(Audit::Refused { part, line }) => Err(Stop::Refused(Refusal::Part { part, line })),
+        Ok(Audit::Refused { part, line }) => Err(Stop::Refused(refused(part, line))),
         Err(VerdictFault::UnknownHost { .. } | VerdictFault::TooManyNodes) => unreachable!(),
         Err(VerdictFault::TooLarge { size }) => Err(Stop::Refused(Refusal::Size { size })),
         Err(VerdictFault::Memory) => Err(Stop::NoMemory),
@@ -78,7 +89,7 @@ fn audit_of_question<S: Shelf>(
     files::known_hosts(&question.text, &question.formula, &question.log)?;
     files::few_nodes(alloc, &question.formula)?;
     let file = files::file(alloc, shelf, report, REPORT_LIMIT, Named::Report)?;
-    let report = files::report(alloc, &file)?;
+    let report = report_file::report(alloc, &file)?;
     audit_of_report(alloc, conflicts, question, &report)
 }
 

@@ -8,20 +8,18 @@ ghost use Rattle.report_text.specs.Spelled.{IsSpelled};
 ghost use Rattle.verdict.specs.Claims.{Claims};
 ghost use Rattle.verdict.specs.Faults.{IsJudged};
 ghost use Rattle.verdict.specs.Right.{IsRight, is_witness};
-ghost use Rattle.skew_cli.specs.declared.limits.TheConstants.{MAX_CONFLICTS};
+ghost use Rattle.skew_words.specs.declared.limits.TheConstants.{MAX_CONFLICTS};
+ghost use Rattle.skew_answers.specs.Statuses.{IsVerdict};
 ghost use Rattle.skew_cli.specs.CheckOutcome.{CheckOfLog, CheckOutcome, IsReportStatus, IsVerdictsStatus, IsWitnessed};
-ghost use Rattle.skew_cli.specs.Reads.{HoldsQuestion, NoThird};
-ghost use Rattle.skew_cli.specs.Statuses.{IsVerdict};
-ghost use Rattle.skew_cli.specs.Stops.{Gives, RefusesFor, TellsLarge};
+ghost use Rattle.skew_commands.specs.Reads.{HoldsQuestion, NoThird};
+ghost use Rattle.skew_cli.specs.ReportTests.{TellsLarge};
+ghost use Rattle.skew_commands.specs.Stops.{Gives, RefusesFor};
 
-use crate::files;
-use crate::question::{Question, read_question};
-use crate::refusal::Refusal;
-use crate::reply::{Reply, Stop};
-use crate::status::Status;
 use mt_model::{Formula, Log};
 use mt_port::Shelf;
 use report_text::{Report, Section, print_report};
+use skew_answers::Status;
+use skew_commands::{Question, Refusal, Reply, Stop, files, read_question};
 use std::alloc::{AllocError, Global};
 use verdict::{VerdictFault, decide};
 

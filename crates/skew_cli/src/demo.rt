@@ -1,67 +1,23 @@
-ghost use Rattle.std.specs.Prelude.{◌≡◌, ◌++◌, codes, true, IfOk, IsErrOf, string_bytes};
+ghost use Rattle.std.specs.Prelude.{◌≡◌, ◌++◌, codes, IfOk, IsErrOf, string_bytes};
 ghost use Rattle.std.specs.Fmt.{decimal};
-ghost use Rattle.mt_model.specs.Form.{Eventually as eventually_of, Prop as prop_of, form_of};
-ghost use Rattle.mt_model.specs.Name.{is_name};
 ghost use Rattle.report_text.specs.Spelled.{IsSpelled};
-ghost use Rattle.skew_cli.specs.CheckOutcome.{is_undecided as leaves_unknown};
-ghost use Rattle.skew_cli.specs.DemoFormula.{answered as answered_form, demo_formula as demo_form, within_20};
+ghost use Rattle.skew_answers.specs.Statuses.{IsVerdict};
+ghost use Rattle.skew_answers.specs.Texts.{line};
+ghost use Rattle.verdict.specs.Claims.{Claims};
+ghost use Rattle.verdict.specs.Right.{IsRight};
+ghost use Rattle.demo_log.specs.DemoFormula.{demo_formula as demo_form};
+ghost use Rattle.demo_log.specs.DemoLog.{log_of_seed};
+ghost use Rattle.skew_words.specs.declared.limits.TheConstants.{DEFAULT_CONFLICTS};
+ghost use Rattle.skew_cli.specs.CheckOutcome.{IsReportStatus, IsWitnessed, is_undecided as leaves_unknown};
 ghost use Rattle.skew_cli.specs.DemoOutcome.{DemoOutcome, demo_text as text_of_demo, named_value as word_of_value, named_values as words_of_values, summary_text};
-ghost use Rattle.skew_cli.specs.Statuses.{IsVerdict};
-ghost use Rattle.skew_cli.specs.Stops.{Gives};
-ghost use Rattle.skew_cli.specs.Texts.{line};
+ghost use Rattle.skew_commands.specs.Stops.{Gives, RefusesFor};
 
 use crate::check::{report_on, report_status};
-use crate::generator::{demo_log, name};
-use crate::limits::DEFAULT_CONFLICTS;
-use crate::reply::{Reply, Stop};
-use mt_model::{Formula, Interval, Tree};
+use demo_log::{demo_formula, demo_log};
 use report_text::{Report, Section, print_report};
+use skew_commands::{Reply, Stop};
+use skew_words::DEFAULT_CONFLICTS;
 use std::alloc::{AllocError, Global};
-
-// A proposition of a host.
-fn proposition(alloc: Global, host: &str, proposition: &str) -> Result<Tree, AllocError>
-    requires host { is_name host.now ≡ true }
-    requires name { is_name proposition.now ≡ true }
-    ensures { IfOk result (λ tree. form_of tree ≡ prop_of host.now proposition.now) }
-{
-    Ok(Tree::Prop {
-        host: name(alloc, host)?,
-        name: name(alloc, proposition)?,
-    })
-}
-
-// `F[0,20] h1.q`
-fn soon(alloc: Global) -> Result<Tree, AllocError>
-    ensures { IfOk result (λ tree. form_of tree ≡ eventually_of within_20 (prop_of (codes "h1") (codes "q"))) }
-{
-    let within = Interval {
-        low: 0,
-        high: Some(20),
-    };
-    Ok(Tree::Eventually(within, Box::new(alloc, proposition(alloc, "h1", "q")?)?))
-}
-
-// `h0.p -> F[0,20] h1.q`
-fn answered(alloc: Global) -> Result<Tree, AllocError>
-    ensures { IfOk result (λ tree. form_of tree ≡ answered_form) }
-{
-    Ok(Tree::Implies(
-        Box::new(alloc, proposition(alloc, "h0", "p")?)?,
-        Box::new(alloc, soon(alloc)?)?,
-    ))
-}
-
-// `G (h0.p -> F[0,20] h1.q)`
-fn demo_formula(alloc: Global) -> Result<Formula, AllocError>
-    ensures { IfOk result (λ f. form_of f ≡ demo_form) }
-{
-    let always = Interval { low: 0, high: None };
-    let tree = Tree::Always(always, Box::new(alloc, answered(alloc)?)?);
-    match Formula::new(tree) {
-        Some(formula) => Ok(formula),
-        None => unreachable!(),
-    }
-}
 
 // What the summary says of a value by the section for it.
 fn named_value(value: bool, section: &Section) -> &'static str
@@ -150,6 +106,32 @@ fn demo_text(alloc: Global, seed: u64, report: &Report) -> Result<Vec<u8>, Alloc
     Ok(text)
 }
 
+// The summary of a report as a reply.
+fn demo_reply(alloc: Global, seed: u64, report: &Report) -> Result<Reply, AllocError>
+    requires spelled { IsSpelled report.now }
+    requires witnessed { IsWitnessed report.now }
+    ensures text { IfOk result (λ r. r.text.items ≡ text_of_demo seed report.now) }
+    ensures status { IfOk result (λ r. IsReportStatus report.now r.status) }
+    ensures verdict { IfOk result (λ r. IsVerdict r.status) }
+{
+    Ok(Reply {
+        text: demo_text(alloc, seed, report)?,
+        status: report_status(report),
+    })
+}
+
+// The report on the log of a seed.
+fn demo_report(alloc: Global, seed: u64) -> Result<Report, Stop>
+    ensures right { IfOk result (IsRight (log_of_seed seed) demo_form DEFAULT_CONFLICTS) }
+    ensures claims { IfOk result (Claims (log_of_seed seed) demo_form) }
+    ensures read { IsErrOf result Stop.ReadFailed → ⊥ }
+    ensures refused { RefusesFor result (λ r. ⊥) }
+{
+    let log = demo_log(alloc, seed)?;
+    let formula = demo_formula(alloc)?;
+    report_on(alloc, DEFAULT_CONFLICTS, &log, &formula)
+}
+
 /// What `demo` answers for a seed: the decision of `check` on the log of the seed, as a summary of three lines, with
 /// the report after them where a section is unknown. No file is read.
 pub fn demo(alloc: Global, seed: u64) -> Result<Reply, Stop>
@@ -157,11 +139,6 @@ pub fn demo(alloc: Global, seed: u64) -> Result<Reply, Stop>
     ensures verdict { IfOk result (λ r. IsVerdict r.status) }
     ensures read { IsErrOf result Stop.ReadFailed → ⊥ }
 {
-    let log = demo_log(alloc, seed)?;
-    let formula = demo_formula(alloc)?;
-    let report = report_on(alloc, DEFAULT_CONFLICTS, &log, &formula)?;
-    Ok(Reply {
-        text: demo_text(alloc, seed, &report)?,
-        status: report_status(&report),
-    })
+    let report = demo_report(alloc, seed)?;
+    Ok(demo_reply(alloc, seed, &report)?)
 }

@@ -1,5 +1,5 @@
+ghost use Rattle.demo_log.specs.DemoLog.{SeedsAreConsistent, SeedsHaveLogs};
 ghost use Rattle.skew_cli.specs.DemoLaws.{DemosAreExact, DemosAreJudged};
-ghost use Rattle.skew_cli.specs.DemoLog.{SeedsAreConsistent, SeedsHaveLogs};
 ghost use Rattle.skew_cli.specs.Laws.{AcceptedFilesAreTrue, ChecksAreAccepted, ChecksAreExact, ChecksAreJudged, UnknownIsBounded, WitnessesAreReplayed};
 
 use log_read::logs_are_valid;

@@ -1,28 +1,13 @@
 //! The limits of what the program takes, in one place.
 
 ghost use Rattle.std.specs.Prelude.{◌≡◌};
+ghost use Rattle.demo_log.specs.declared.limits.TheConstants.{MAX_SEED};
 ghost use Rattle.mtl_encode.specs.declared.size.TheConstants.{MAX_SIZE};
-
-/// The most bytes of a formula's file.
-pub const FORMULA_LIMIT: usize = 65_536;
-
-/// The most bytes of a log file.
-pub const LOG_LIMIT: usize = 1_048_576;
-
-/// The most bytes of a file of times.
-pub const TIMES_LIMIT: usize = 65_536;
+ghost use Rattle.skew_commands.specs.declared.limits.TheConstants.{FORMULA_LIMIT, LOG_LIMIT, TIMES_LIMIT};
+ghost use Rattle.skew_words.specs.declared.limits.TheConstants.{DEFAULT_CONFLICTS, MAX_CONFLICTS};
 
 /// The most bytes of a report file.
 pub const REPORT_LIMIT: usize = 1_073_741_824;
-
-/// The number of conflicts in each section of a report, where none is given.
-pub const DEFAULT_CONFLICTS: u32 = 200_000;
-
-/// The greatest number of conflicts that can be given.
-pub const MAX_CONFLICTS: u32 = 1_000_000;
-
-/// The greatest seed of the demo.
-pub const MAX_SEED: u64 = 18_446_744_073_709_551_615;
 
 /// The numbers that limit files, conflicts, seeds, and the size of a problem.
 pub fn limits_are_numbers()

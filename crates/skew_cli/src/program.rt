@@ -1,25 +1,21 @@
 ghost use Rattle.std.specs.Prelude.{◌≡◌, ◌⊎◌, ◌++◌, ◌≤◌, ℕ, List, true, None, IfOk, IfErr, IsErrOf, codes, map, string_bytes};
 ghost use Rattle.mt_port.specs.Port.{Files, Rose};
-ghost use Rattle.skew_cli.specs.Called.{HasFewConflicts, command_in};
-ghost use Rattle.skew_cli.specs.Outcome.{Agree, CommandOutcome, Ends, HoldsFiles, HoldsNamed, Outcome};
-ghost use Rattle.skew_cli.specs.Statuses.{IsAnswer, IsRefusal, IsVerdict};
-ghost use Rattle.skew_cli.specs.Refusals.{IsRefusalOf};
-ghost use Rattle.skew_cli.specs.Stops.{Gives, HasReason};
-ghost use Rattle.skew_cli.specs.Texts.{line};
-ghost use Rattle.skew_cli.specs.Words.{command_of};
+ghost use Rattle.skew_words.specs.Called.{HasFewConflicts, command_in};
+ghost use Rattle.skew_answers.specs.Statuses.{IsAnswer, IsRefusal, IsVerdict};
+ghost use Rattle.skew_answers.specs.Texts.{line};
+ghost use Rattle.skew_words.specs.Words.{command_of};
+ghost use Rattle.skew_commands.specs.Reads.{Agree};
+ghost use Rattle.skew_cli.specs.Outcome.{CommandOutcome, Ends, HoldsFiles, HoldsNamed, Outcome};
+ghost use Rattle.skew_commands.specs.Refusals.{IsRefusalOf};
+ghost use Rattle.skew_commands.specs.Stops.{Gives, HasReason};
 
-use crate::Status;
 use crate::audit::audit;
-use crate::call::Call;
 use crate::check::check;
 use crate::demo::demo;
-use crate::matches::call_of;
-use crate::order::order;
-use crate::replay::replay;
-use crate::reply::{Reply, Stop};
-use crate::times::times;
-use crate::words::spoken_of;
 use mt_port::{Failed, Shelf, Sink, write_all};
+use skew_answers::Status;
+use skew_commands::{Reply, Stop, order, replay, times};
+use skew_words::{Call, call_of, spoken_of};
 use std::alloc::Global;
 
 // Writes a text, and answers its status where that goes well.

@@ -19,7 +19,8 @@ none_before w n within nowhere =
     let under : k < n = omega arith in
     ap (is_byte 10) (get_or-take n w k 0 under) ∙ false_from_ne_true (is_byte 10 (get_or w k 0)) (nowhere k (omega arith) under))
 
-parts_cons : (x : List ℕ) (parts : List (List ℕ)) → 0 < length parts → lines_of_parts (x ∷ parts) ≡ strip_carriage_return x ∷ lines_of_parts parts
+-- lines after a first one
+pub parts_cons : (x : List ℕ) (parts : List (List ℕ)) → 0 < length parts → lines_of_parts (x ∷ parts) ≡ strip_carriage_return x ∷ lines_of_parts parts
 parts_cons x [] some = absurd (omega arith)
 parts_cons x (y ∷ more) some = refl
 

@@ -1,3 +1,4 @@
 pub mod TimesOf
 pub mod Faults
 pub use Rattle.mt_model.specs.Timing
+pub use Rattle.decimal.specs.Numbers

@@ -3,7 +3,7 @@ use Rattle.std.specs.Prelude.{ℕ, ◌+◌, ◌==◌, ◌⊎◌, ◌≡◌, List
 use Rattle.std.specs.List.{filter_map, position_from}
 use Rattle.std.specs.Str.Lines.{lines}
 use Rattle.mt_model.specs.declared.limits.TheConstants.{MAX_TIME}
-use Rattle.log_read.specs.Numbers.{signed_up_to}
+use Rattle.decimal.specs.Numbers.{signed_up_to}
 use Rattle.times_read.specs.declared.fault.TimesFault.{TimesFault}
 use Rattle.times_read.specs.declared.fault.TimesFault.TheVariants as fault
 

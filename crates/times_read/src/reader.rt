@@ -5,7 +5,7 @@ ghost use Rattle.mt_model.specs.declared.limits.TheConstants.{MAX_TIME};
 ghost use Rattle.times_read.specs.TimesOf.{Answers, time_in, times_of};
 
 use crate::TimesFault;
-use log_read::signed_number;
+use decimal::signed_number;
 use memchr::memchr;
 use mt_model::{MAX_TIME, Times};
 use std::alloc::Global;

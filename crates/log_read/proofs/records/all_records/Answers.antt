@@ -1,4 +1,4 @@
-use Rattle.std.proofs.Common.{Bor, List, ℕ, ◌≡◌, ◌∙◌, ap, sym, refl, inl, inr, Some, ◌∷◌, ◌++◌, []}
+use Rattle.std.proofs.Common.{Bor, List, ℕ, ◌≡◌, ◌∙◌, sym, refl, inl, inr, Some, ◌∷◌, ◌++◌, []}
 use Rattle.csv.specs.Reading.{Reached, default_config, strip_bom}
 use Rattle.csv.specs.Records.{fields_of}
 use Rattle.csv.specs.declared.parser.State.TheVariants as st
@@ -29,9 +29,9 @@ loop-row-preserved c =
     let inv = c.loop-row.invariant in
     let s = rw (c.in-Some.is, c.in-Ok.is) at ((c.next.ensures.steps inv.2 inv.0).0 inv.1) in
     let flexible = rw (c.in-Some.is, c.in-Ok.is) at (c.next.ensures.steps inv.2 inv.0).3 in
-    let pushed : c.push.new.self ≡ c.loop-row.list ++ fields_of c.in-Ok.row ∷ [] = c.in_ok-push-in-Ok.ensures.ok ∙ ap (λ f. c.loop-row.list ++ f ∷ []) c.in_ok-fields-in-Ok.ensures in
+    let kept : c.keep.new.list ≡ c.loop-row.list ++ fields_of c.in-Ok.row ∷ [] = c.in_ok-keep-in-Ok.ensures.ok in
     let m = rows-more (λ (s : Bor (List ℕ)). Some s.now) c.loop-row.row-iterator.rdr c.next.new.self.rdr (fields_of c.in-Ok.row) default_config st.StartRecord (strip_bom c.args.text.now) inv.5 c.loop-row.list inv.3 inv.6 inv.7 s.0 in
-    (s.0.3 ∙ inv.0, inl s.1, s.2, s.0.2 ∙ inv.3, flexible ∙ inv.4, m.0, m.1, rw (pushed) m.2)
+    (s.0.3 ∙ inv.0, inl s.1, s.2, s.0.2 ∙ inv.3, flexible ∙ inv.4, m.0, m.1, rw (kept) m.2)
 
 pub returns : goal.returns
 returns c =

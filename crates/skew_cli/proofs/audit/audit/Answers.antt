@@ -2,9 +2,9 @@ use Rattle.std.proofs.Common.{◌∙◌}
 use Rattle.std.proofs.lemmas.Result.{err_from_is_err_and}
 use Rattle.mt_model.specs.Form.{form_of}
 use Rattle.skew_cli.specs.AuditOutcome.{AuditOfLog}
-use Rattle.skew_cli.specs.Reads.{HoldsThird}
-use Rattle.skew_cli.proofs.Holding.{next-held, question-held}
-use Rattle.skew_cli.proofs.Outcomes.{question-given, question-stopped}
+use Rattle.skew_commands.specs.Reads.{HoldsThird}
+use Rattle.skew_commands.proofs.Holding.{next-held, question-held}
+use Rattle.skew_commands.proofs.Questions.{question-given, question-stopped}
 use Rattle.skew_cli.proofs.audit.audit.Goals as goal
 
 pub returns-in_err-question-clause-outcome : goal.returns-in_err-question-clause-outcome

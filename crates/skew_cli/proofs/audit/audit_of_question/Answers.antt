@@ -2,13 +2,13 @@ use Rattle.std.proofs.Common.{ℕ, List, Err}
 use Rattle.std.proofs.lemmas.Result.{err_from_is_err_and}
 use Rattle.mt_model.specs.Form.{Form, form_of}
 use Rattle.mt_model.specs.Log.{Logged}
+use Rattle.skew_answers.specs.declared.status.Status.{Status}
 use Rattle.skew_cli.specs.declared.limits.TheConstants.{REPORT_LIMIT}
-use Rattle.skew_cli.specs.declared.refusal.Named.TheVariants as named
-use Rattle.skew_cli.specs.declared.status.Status.{Status}
+use Rattle.skew_commands.specs.declared.refusal.Named.TheVariants as named
 use Rattle.skew_cli.specs.AuditOutcome.{AuditOfReport}
-use Rattle.skew_cli.specs.Stops.{TellsFaultyLine}
-use Rattle.skew_cli.specs.Tests.{OnReport, OnSize}
-use Rattle.skew_cli.proofs.Steps.{At, gives-weaker, reason-weaker, report-read, report-refused, third-given, third-too_long}
+use Rattle.skew_cli.specs.ReportTests.{TellsFaultyLine, OnReport, OnSize}
+use Rattle.skew_cli.proofs.ReportSteps.{report-read, report-refused}
+use Rattle.skew_commands.proofs.Steps.{At, gives-weaker, reason-weaker, third-given, third-too_long}
 use Rattle.skew_cli.proofs.audit.audit_of_question.Goals as goal
 
 -- what is answered for a report's file

@@ -16,7 +16,7 @@ returns-in-Ok-Refused-clause-outcome c =
     let audited = c.in-Ok-Refused.ensures in
     let part = c.in-Ok-Refused.part in
     let number = c.in-Ok-Refused.line in
-    audit-refused q.log (form_of q.formula) c.args.conflicts c.args.report.now audited.judged part number ((audited.refused part number).0 c.in-Ok-Refused.field-0-is)
+    rw c.refused.ensures (audit-refused q.log (form_of q.formula) c.args.conflicts c.args.report.now audited.judged part number ((audited.refused part number).0 c.in-Ok-Refused.field-0-is))
 
 pub returns-in-Err-TooLarge-clause-outcome : goal.returns-in-Err-TooLarge-clause-outcome
 returns-in-Err-TooLarge-clause-outcome c =

@@ -1,7 +1,7 @@
 use Rattle.std.proofs.lemmas.Result.{err_from_is_err_and}
 use Rattle.mt_model.specs.Form.{form_of}
 use Rattle.skew_cli.specs.CheckOutcome.{CheckOfLog}
-use Rattle.skew_cli.proofs.Outcomes.{question-given, question-stopped}
+use Rattle.skew_commands.proofs.Questions.{question-given, question-stopped}
 use Rattle.skew_cli.proofs.check.check.Goals as goal
 
 pub returns-in_err-question-clause-outcome : goal.returns-in_err-question-clause-outcome

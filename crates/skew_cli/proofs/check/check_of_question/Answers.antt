@@ -1,11 +1,12 @@
 use Rattle.std.proofs.lemmas.Result.{err_from_is_err_and}
 use Rattle.mt_model.specs.Form.{form_of}
+use Rattle.skew_answers.specs.Texts.{line}
 use Rattle.skew_cli.specs.CheckOutcome.{CheckOfLog, Checked}
-use Rattle.skew_cli.specs.Refusals.{status_of, text_of}
-use Rattle.skew_cli.specs.Stops.{TellsLarge}
-use Rattle.skew_cli.specs.Tests.{OnNodes, OnSize}
-use Rattle.skew_cli.specs.Texts.{line}
-use Rattle.skew_cli.proofs.Steps.{At, hosts-known, large-refused, nodes-few, reason-weaker, size-small}
+use Rattle.skew_commands.specs.Refusals.{status_of, text_of}
+use Rattle.skew_cli.specs.ReportTests.{TellsLarge, OnSize}
+use Rattle.skew_commands.specs.Tests.{OnNodes}
+use Rattle.skew_cli.proofs.ReportSteps.{large-refused, size-small}
+use Rattle.skew_commands.proofs.Steps.{At, hosts-known, nodes-few, reason-weaker}
 use Rattle.skew_cli.proofs.check.check_of_question.Goals as goal
 
 pub returns-in_err-report-clause-outcome : goal.returns-in_err-report-clause-outcome

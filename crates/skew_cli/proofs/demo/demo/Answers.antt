@@ -1,24 +1,37 @@
+use Rattle.std.proofs.Common.{ℕ}
 use Rattle.std.proofs.lemmas.Result.{err_from_is_err_and}
-use Rattle.mt_model.specs.Form.{form_of}
+use Rattle.mt_model.specs.Form.{Form}
+use Rattle.mt_model.specs.Log.{Logged}
+use Rattle.report_text.specs.declared.report.Report.{Report}
+use Rattle.report_text.specs.declared.report.Report.TheVariants as report
+use Rattle.verdict.specs.Right.{IsRight}
+use Rattle.demo_log.specs.DemoFormula.{demo_formula}
+use Rattle.demo_log.specs.DemoLog.{log_of_seed}
+use Rattle.skew_words.specs.declared.limits.TheConstants.{DEFAULT_CONFLICTS}
+use Rattle.skew_cli.specs.CheckOutcome.{IsWitnessed}
 use Rattle.skew_cli.specs.DemoOutcome.{DemoOutcome}
-use Rattle.skew_cli.specs.Stops.{TellsLarge}
-use Rattle.skew_cli.proofs.DemosExact.{demo-given, made-known, never-large}
-use Rattle.skew_cli.proofs.Steps.{At, reason-weaker}
+use Rattle.skew_commands.proofs.Steps.{At, reason-weaker}
 use Rattle.skew_cli.proofs.demo.demo.Goals as goal
-
-pub report_on-requires-clause-known : goal.report_on-requires-clause-known
-report_on-requires-clause-known c = made-known c.args.seed c.in_ok-log.log (form_of c.in_ok-formula.formula) c.in_ok-log.ensures.log c.in_ok-formula.ensures
 
 -- no test refuses the demo
 pub returns-in_err-report-clause-outcome : goal.returns-in_err-report-clause-outcome
 returns-in_err-report-clause-outcome c =
-    let p = err_from_is_err_and c.from_residual-in_err-report.result c.from_residual-in_err-report.ensures.1 in
-    let f = form_of c.in_ok-formula.formula in
-    rw (p.1, p.2) (reason-weaker c.in_err-report.field-0.0 (TellsLarge f c.in_ok-log.log) (At (DemoOutcome c.args.seed))
-    (λ r told. absurd (never-large c.args.seed c.in_ok-log.log f c.in_ok-log.ensures.log c.in_ok-formula.ensures r told))
-    c.in_err-report.ensures.refused)
+    let p = err_from_is_err_and c.from_residual.result c.from_residual.ensures.1 in
+    rw (p.1, p.2) (reason-weaker c.in_err-report.field-0.0 (λ r. ⊥) (At (DemoOutcome c.args.seed)) (λ r never. absurd never) c.in_err-report.ensures.refused)
 
 pub returns-clause-outcome : goal.returns-clause-outcome
-returns-clause-outcome c =
-    demo-given c.args.seed c.in_ok-log.log (form_of c.in_ok-formula.formula) c.in_ok-log.ensures.log c.in_ok-formula.ensures c.in_ok-report.report c.in_ok-demo_text.field-0.items c.report_status.result
-    c.in_ok-report.ensures.right c.in_ok-report.ensures.claims c.in_ok-demo_text.ensures c.report_status.ensures.status
+returns-clause-outcome c = record {
+  report = c.in_ok-report.report;
+  right = c.in_ok-report.ensures.right;
+  claims = c.in_ok-report.ensures.claims;
+  written = c.in_ok-demo_reply.ensures.text;
+  status = c.in_ok-demo_reply.ensures.status;
+}
+
+-- a right report has a witness, or is on a log that admits no timing
+right-witnessed : (log : Logged) (f : Form) (conflicts : ℕ) (r : Report) → IsRight log f conflicts r → IsWitnessed r
+right-witnessed log f conflicts (report.Inconsistent events steps) right = tt
+right-witnessed log f conflicts (report.Verdicts events on_true on_false) right = right.says.witnessed
+
+pub demo_reply-requires-clause-witnessed : goal.demo_reply-requires-clause-witnessed
+demo_reply-requires-clause-witnessed c = right-witnessed (log_of_seed c.args.seed) demo_formula DEFAULT_CONFLICTS c.in_ok-report.report c.in_ok-report.ensures.right

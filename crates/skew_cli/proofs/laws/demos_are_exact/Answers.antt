@@ -1,6 +1,6 @@
+use Rattle.demo_log.proofs.SeedLogs.{seeds-have-logs}
+use Rattle.demo_log.proofs.SeedsConsistent.{seeds-consistent}
 use Rattle.skew_cli.proofs.DemosExact.{demos-exact, demos-judged}
-use Rattle.skew_cli.proofs.SeedLogs.{seeds-have-logs}
-use Rattle.skew_cli.proofs.SeedsConsistent.{seeds-consistent}
 use Rattle.skew_cli.proofs.laws.demos_are_exact.Goals as goal
 
 pub returns : goal.returns

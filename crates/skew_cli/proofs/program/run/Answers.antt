@@ -1,6 +1,6 @@
 use Rattle.std.proofs.Common.{◌∙◌, ap, sym}
 use Rattle.std.specs.Prelude.{map, string_bytes}
-use Rattle.skew_cli.specs.Called.{command_in}
+use Rattle.skew_words.specs.Called.{command_in}
 use Rattle.skew_cli.proofs.Outcomes.{Ends-weaker, Outcome-command}
 use Rattle.skew_cli.proofs.program.run.Goals as goal
 

@@ -1,0 +1,11 @@
+ghost use Rattle.decimal.specs.Laws.{NumbersAreDecimal, SignedNumbersAreDecimal};
+
+/// Bytes write a number below a limit exactly where they are what is printed of it.
+pub fn numbers_are_decimal()
+    ensures decimal { NumbersAreDecimal }
+{}
+
+/// Bytes write a signed number up to a limit exactly where they are what is printed of it.
+pub fn signed_numbers_are_decimal()
+    ensures decimal { SignedNumbersAreDecimal }
+{}

@@ -1,0 +1,2 @@
+pub mod SeedLogs
+pub mod SeedsConsistent

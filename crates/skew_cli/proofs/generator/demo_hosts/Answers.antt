@@ -1,6 +1,0 @@
-use Rattle.skew_cli.specs.DemoLog.{demo_host}
-use Rattle.skew_cli.proofs.SeedLogs.{made-more}
-use Rattle.skew_cli.proofs.generator.demo_hosts.Goals as goal
-
-pub loop-place-preserved : goal.loop-place-preserved
-loop-place-preserved c = made-more demo_host c.loop-place.place c.loop-place.hosts c.push.new.self c.in_ok-demo_host.field-0 c.loop-place.invariant c.in_ok-demo_host.ensures c.in_ok-push.ensures.ok

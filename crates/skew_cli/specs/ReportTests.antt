@@ -1,0 +1,42 @@
+-- The tests that `check` and `audit` make beside those of a formula and a log: the size of a problem, and the file of a report.
+use Rattle.std.specs.Prelude.{◌≡◌, ◌⊎◌, ◌<◌, ◌≤◌, ℕ, List, length, nat_lt, MatchResult, Result, Err}
+use Rattle.std.specs.Bool.{MatchBool}
+use Rattle.mt_model.specs.Form.{Form}
+use Rattle.mt_model.specs.Log.{Logged}
+use Rattle.formula_arena.specs.Nodes.{nodes_of}
+use Rattle.formula_arena.specs.declared.arena.TheConstants.{MAX_NODES}
+use Rattle.mtl_encode.specs.Size.{size}
+use Rattle.mtl_encode.specs.declared.size.TheConstants.{MAX_SIZE}
+use Rattle.report_text.specs.declared.fault.ReportFault.{ReportFault}
+use Rattle.report_text.specs.declared.fault.ReportFault.TheVariants as report
+use Rattle.report_text.specs.declared.report.Report.{Report}
+use Rattle.report_text.specs.ReportOf.{ReportOf}
+use Rattle.skew_answers.specs.declared.status.Status.{Status}
+use Rattle.skew_commands.specs.declared.refusal.Refusal.{Refusal}
+use Rattle.skew_commands.specs.declared.refusal.Refusal.TheVariants as refusal
+use Rattle.skew_commands.specs.Refusals.{Refuses}
+
+-- the size of the problem of a formula and a log: refused where it is above the limit
+abbrev pub OnSize : Form → Logged → (List ℕ → Status → Type 0) → List ℕ → Status → Type 0
+OnSize f log next out s = MatchBool (nat_lt MAX_SIZE (size log (nodes_of f))) (Refuses (refusal.Size (size log (nodes_of f))) out s) (next out s)
+
+-- the refusal tells that a formula has too many nodes, or, where they are few, that the size of its problem is too large
+abbrev pub TellsLarge : Form → Logged → Refusal → Type 0
+TellsLarge f log r =
+    ((r ≡ refusal.Nodes) × (MAX_NODES < length (nodes_of f)))
+    ⊎ ((length (nodes_of f) ≤ MAX_NODES) × (r ≡ refusal.Size (size log (nodes_of f))) × (MAX_SIZE < size log (nodes_of f)))
+
+-- the refusal of a fault of a report file
+abbrev pub RefusesReport : ReportFault → List ℕ → Status → Type 0
+RefusesReport (report.Syntax number) = Refuses (refusal.Report number)
+RefusesReport report.Memory = λ out s. ⊥
+
+-- a report's file: refused at its first faulty line
+abbrev pub OnReport : List ℕ → (Report → List ℕ → Status → Type 0) → List ℕ → Status → Type 0
+OnReport bytes next out s = (reading : Result Report ReportFault) × ReportOf bytes reading × MatchResult reading (λ r. next r out s) (λ fault. RefusesReport fault out s)
+
+-- the refusal tells the first faulty line of a report file
+pub record TellsFaultyLine (bytes : List ℕ) (r : Refusal) : Type 0 where
+  pub number : ℕ
+  pub faulty : ReportOf bytes (Err (report.Syntax number))
+  pub told : r ≡ refusal.Report number

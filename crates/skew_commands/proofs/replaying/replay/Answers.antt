@@ -1,0 +1,35 @@
+use Rattle.std.proofs.Common.{◌∙◌}
+use Rattle.std.proofs.lemmas.Result.{err_from_is_err_and}
+use Rattle.mt_model.specs.Form.{form_of}
+use Rattle.skew_commands.specs.ReplayOutcome.{ReplayOfLog}
+use Rattle.skew_commands.specs.Reads.{HoldsThird}
+use Rattle.skew_commands.proofs.Holding.{next-held, question-held}
+use Rattle.skew_commands.proofs.Questions.{question-given, question-stopped}
+use Rattle.skew_commands.proofs.replaying.replay.Goals as goal
+
+pub returns-in_err-question-clause-outcome : goal.returns-in_err-question-clause-outcome
+returns-in_err-question-clause-outcome g c = λ tells.
+    let p = err_from_is_err_and c.from_residual.result c.from_residual.ensures.1 in
+    let held = g.S.Shelf.files c.args.shelf.now in
+    rw (p.1, p.2) (question-stopped held c.args.formula.now c.args.log.now (ReplayOfLog held c.args.times.now) c.in_err-question.field-0.0 (c.in_err-question.ensures.refused tells))
+
+pub returns-clause-outcome : goal.returns-clause-outcome
+returns-clause-outcome g c = λ tells.
+    let held = g.S.Shelf.files c.args.shelf.now in
+    let q = c.in_ok-question.question in
+    let given = rw c.in_ok-question.ensures.files at (c.replay_of_question.ensures.outcome (c.in_ok-question.ensures.telling ∙ tells)) in
+    question-given held c.args.formula.now c.args.log.now (ReplayOfLog held c.args.times.now) q.text.items (form_of q.formula) q.log c.replay_of_question.result (c.in_ok-question.ensures.read tells) given
+
+pub returns-in_err-question-clause-never : goal.returns-in_err-question-clause-never
+returns-in_err-question-clause-never g c = λ steady tells holds failed.
+    let p = err_from_is_err_and c.from_residual.result c.from_residual.ensures.1 in
+    let held = g.S.Shelf.files c.args.shelf.now in
+    c.in_err-question.ensures.never steady tells (question-held held c.args.formula.now c.args.log.now (HoldsThird held c.args.times.now) holds) (cc)
+
+pub returns-clause-never : goal.returns-clause-never
+returns-clause-never g c = λ steady tells holds failed.
+    let held = g.S.Shelf.files c.args.shelf.now in
+    let q = c.in_ok-question.question in
+    let f = form_of q.formula in
+    let next = next-held held c.args.formula.now c.args.log.now (HoldsThird held c.args.times.now) q.text.items f q.log (c.in_ok-question.ensures.read tells) holds in
+    c.replay_of_question.ensures.never (c.in_ok-question.ensures.steady steady) (c.in_ok-question.ensures.telling ∙ tells) (rw c.in_ok-question.ensures.files next) failed

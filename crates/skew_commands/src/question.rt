@@ -1,0 +1,52 @@
+//! A formula and a log, which several commands read first.
+
+ghost use Rattle.std.specs.Prelude.{◌≡◌, ◌^◌, ◌<◌, ◌≤◌, length, true, IfOk, IsErrOf, Ok};
+ghost use Rattle.mt_model.specs.Form.{form_of};
+ghost use Rattle.mt_port.specs.Port.{Rose};
+ghost use Rattle.mtl_parse.specs.FormulaOf.{FormulaOf};
+ghost use Rattle.skew_answers.specs.Texts.{line};
+ghost use Rattle.skew_commands.specs.Reads.{HoldsQuestion, IsQuestion, NoThird};
+ghost use Rattle.skew_commands.specs.Refusals.{status_of, text_of};
+ghost use Rattle.skew_commands.specs.Stops.{NoAnswer, RefusesFor};
+ghost use Rattle.skew_commands.specs.Tests.{OnQuestion};
+
+use crate::files;
+use crate::limits::{FORMULA_LIMIT, LOG_LIMIT};
+use crate::refusal::Named;
+use crate::reply::Stop;
+use mt_model::{Formula, Log};
+use mt_port::Shelf;
+use std::alloc::Global;
+
+/// A formula with the text that it was read from, and a log.
+#[derive(Drop)]
+pub struct Question {
+    pub text: Vec<u8>,
+    pub formula: Formula,
+    pub log: Log,
+}
+
+/// Reads the formula and the log of these names.
+pub fn read_question<S: Shelf>(
+    alloc: Global,
+    shelf: &mut S,
+    formula: &str,
+    log: &str,
+) -> Result<Question, Stop>
+    ensures short { IfOk result (λ q. length q.text.items < 2 ^ 31) }
+    ensures reads { IfOk result (λ q. FormulaOf q.text.items (Ok (form_of q.formula))) }
+    ensures read { IfOk result (λ q. S.tells shelf.old ≡ true → IsQuestion (S.files shelf.old) formula.now log.now q.text.items (form_of q.formula) q.log) }
+    ensures refused { S.tells shelf.old ≡ true → RefusesFor result (λ r. OnQuestion (S.files shelf.old) formula.now log.now NoAnswer (line (text_of r)) (status_of r)) }
+    ensures failed { IsErrOf result Stop.ReadFailed → Rose (S.faults shelf.old) (S.faults shelf.new) }
+    ensures never { S.steady shelf.old → S.tells shelf.old ≡ true → HoldsQuestion (S.files shelf.old) formula.now log.now NoThird → IsErrOf result Stop.ReadFailed → ⊥ }
+    ensures later { S.faults shelf.old ≤ S.faults shelf.new }
+    ensures steady { S.steady shelf.old → S.steady shelf.new }
+    ensures files { S.files shelf.new ≡ S.files shelf.old }
+    ensures telling { S.tells shelf.new ≡ S.tells shelf.old }
+{
+    let text = files::file(alloc, shelf, formula, FORMULA_LIMIT, Named::Formula)?;
+    let formula = files::formula(alloc, &text)?;
+    let file = files::file(alloc, shelf, log, LOG_LIMIT, Named::Log)?;
+    let log = files::log(alloc, &file)?;
+    Ok(Question { text, formula, log })
+}

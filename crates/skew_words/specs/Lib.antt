@@ -1,0 +1,5 @@
+pub mod Words
+pub mod Called
+pub mod NormalWords
+pub mod Matched
+pub use Rattle.decimal.specs.Numbers

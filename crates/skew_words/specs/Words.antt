@@ -1,0 +1,143 @@
+-- Which lists of words are commands.
+use Rattle.std.specs.Prelude.{ℕ, ◌==◌, ◌&&◌, nat_le, Bool, false, List, [], ◌∷◌, ◌++◌, Option, Some, None, option_map, option_and_then, unwrap_or, if◌then◌else◌, bytes_eq, codes, length, take, drop}
+use Rattle.std.specs.Str.Parse.{digits_value}
+use Rattle.decimal.specs.Numbers.{is_number}
+use Rattle.skew_words.specs.declared.limits.TheConstants.{DEFAULT_CONFLICTS, MAX_CONFLICTS}
+use Rattle.demo_log.specs.declared.limits.TheConstants.{MAX_SEED}
+
+-- a word of the command line, as its bytes
+abbrev pub Word : Type 0
+Word = List ℕ
+
+-- a command with the names of its files; `check` and `audit` have a number of conflicts too, and `demo` has a seed and no file
+pub data Command : Type 0 where
+  Times : (log : Word) → Command
+  Replay : (formula : Word) → (log : Word) → (times : Word) → Command
+  Order : (log : Word) → Command
+  Check : (conflicts : ℕ) → (formula : Word) → (log : Word) → Command
+  Audit : (conflicts : ℕ) → (formula : Word) → (log : Word) → (report : Word) → Command
+  Demo : (seed : ℕ) → Command
+
+-- a word that begins with `-` and is not `-` alone
+abbrev pub is_option : Word → Bool
+is_option [] = false
+is_option (b ∷ []) = false
+is_option (b ∷ c ∷ bs) = b == 45
+
+-- the operands of a command that takes no option: the words up to the first `--`, none of which is an option, and all words after it
+abbrev pub operands_of : List Word → Option (List Word)
+operands_of [] = Some []
+operands_of (word ∷ words) =
+    if bytes_eq word (codes "--") then Some words
+    else if is_option word then None
+    else option_map (λ rest. word ∷ rest) (operands_of words)
+
+-- the number of conflicts: a number from 1 to 1,000,000
+abbrev pub conflicts_of : Word → Option ℕ
+conflicts_of word =
+    if is_number word && nat_le 1 (digits_value 10 word) && nat_le (digits_value 10 word) MAX_CONFLICTS then Some (digits_value 10 word) else None
+
+-- what follows these bytes at the front of a word
+abbrev pub after : List ℕ → Word → Option Word
+after front word = if bytes_eq (take (length front) word) front then Some (drop (length front) word) else None
+
+-- the next word as the number of conflicts, and the words after it
+abbrev pub next_value : List Word → Option (ℕ × List Word)
+next_value [] = None
+next_value (value ∷ words) = option_map (λ n. (n, words)) (conflicts_of value)
+
+-- the number of conflicts that an option gives, and the words that it leaves: `--conflicts` takes the next word, `--conflicts=N` has the number in itself, and there is no other option
+abbrev pub option_value : Word → List Word → Option (ℕ × List Word)
+option_value option words =
+    if bytes_eq option (codes "--conflicts") then next_value words
+    else option_map (λ n. (n, words)) (option_and_then conflicts_of (after (codes "--conflicts=") option))
+
+-- the operands of a command that takes the option, and the number of conflicts where the option is given
+pub record Given : Type 0 where
+  pub operands : List Word
+  pub conflicts : Option ℕ
+
+-- operands without the option
+abbrev pub plain : List Word → Given
+plain operands = record { operands = operands; conflicts = None }
+
+-- what an option and the words after it give: none of these is an option again
+abbrev pub given_by : Word → List Word → Option Given
+given_by option words =
+    option_and_then (λ v. option_map (λ operands. record { operands = operands; conflicts = Some v.0 }) (operands_of v.1)) (option_value option words)
+
+-- what is given with these operands before the others
+abbrev pub with_front : List Word → Given → Given
+with_front front g = record { operands = front ++ g.operands; conflicts = g.conflicts }
+
+-- what the words give to a command that takes the option: up to the first `--` one of them may be the option
+abbrev pub given_of : List Word → Option Given
+given_of [] = Some (plain [])
+given_of (word ∷ words) =
+    if bytes_eq word (codes "--") then Some (plain words)
+    else if is_option word then given_by word words
+    else option_map (with_front (word ∷ [])) (given_of words)
+
+-- a name of a file: a word that is not empty
+abbrev pub file_name : Word → Option Word
+file_name [] = None
+file_name (b ∷ bs) = Some (b ∷ bs)
+
+-- `times` has one operand, the name of a log
+abbrev pub times_command : List Word → Option Command
+times_command (log ∷ []) = option_map Times (file_name log)
+times_command _ = None
+
+-- `replay` has three, the names of a formula, a log and a file of times
+abbrev pub replay_command : List Word → Option Command
+replay_command (formula ∷ log ∷ times ∷ []) = option_and_then (λ f. option_and_then (λ l. option_map (λ t. Replay f l t) (file_name times)) (file_name log)) (file_name formula)
+replay_command _ = None
+
+-- `order` has one operand, the name of a log
+abbrev pub order_command : List Word → Option Command
+order_command (log ∷ []) = option_map Order (file_name log)
+order_command _ = None
+
+-- `check` has two, the names of a formula and a log
+abbrev pub check_command : ℕ → List Word → Option Command
+check_command n (formula ∷ log ∷ []) = option_and_then (λ f. option_map (λ l. Check n f l) (file_name log)) (file_name formula)
+check_command n _ = None
+
+-- `audit` has three, the names of a formula, a log and a report
+abbrev pub audit_command : ℕ → List Word → Option Command
+audit_command n (formula ∷ log ∷ report ∷ []) = option_and_then (λ f. option_and_then (λ l. option_map (λ r. Audit n f l r) (file_name report)) (file_name log)) (file_name formula)
+audit_command n _ = None
+
+-- the seed of the demo: a number from 0 to 18,446,744,073,709,551,615
+abbrev pub seed_of : Word → Option ℕ
+seed_of word = if is_number word && nat_le (digits_value 10 word) MAX_SEED then Some (digits_value 10 word) else None
+
+-- `demo` has one operand, the seed
+abbrev pub demo_command : List Word → Option Command
+demo_command (seed ∷ []) = option_map Demo (seed_of seed)
+demo_command _ = None
+
+-- the number of conflicts that is given, or else 200,000
+abbrev pub conflicts_in : Given → ℕ
+conflicts_in g = unwrap_or g.conflicts DEFAULT_CONFLICTS
+
+-- the command of a first word and its operands, where it takes no option
+abbrev pub command_with : Word → List Word → Option Command
+command_with first operands =
+    if bytes_eq first (codes "times") then times_command operands
+    else if bytes_eq first (codes "replay") then replay_command operands
+    else if bytes_eq first (codes "order") then order_command operands
+    else if bytes_eq first (codes "demo") then demo_command operands
+    else None
+
+-- the command of a first word and the words after it
+abbrev pub command_after : Word → List Word → Option Command
+command_after first words =
+    if bytes_eq first (codes "check") then option_and_then (λ g. check_command (conflicts_in g) g.operands) (given_of words)
+    else if bytes_eq first (codes "audit") then option_and_then (λ g. audit_command (conflicts_in g) g.operands) (given_of words)
+    else option_and_then (command_with first) (operands_of words)
+
+-- the command that words are; no word at all is `times -`
+abbrev pub command_of : List Word → Option Command
+command_of [] = Some (Times (codes "-"))
+command_of (first ∷ words) = command_after first words

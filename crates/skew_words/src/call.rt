@@ -1,0 +1,35 @@
+/// A command with the names of its files, and the number of conflicts of each section of a report.
+#[derive(Clone, Copy)]
+pub enum Call<'a> {
+    /// An admissible timing of a log.
+    Times {
+        log: &'a str,
+    },
+    /// The truth of a formula on one timing of a log.
+    Replay {
+        formula: &'a str,
+        log: &'a str,
+        times: &'a str,
+    },
+    /// Happened-before of the events of a log.
+    Order {
+        log: &'a str,
+    },
+    /// The truth values of a formula over all timings of a log.
+    Check {
+        conflicts: u32,
+        formula: &'a str,
+        log: &'a str,
+    },
+    /// Whether a report is accepted.
+    Audit {
+        conflicts: u32,
+        formula: &'a str,
+        log: &'a str,
+        report: &'a str,
+    },
+    /// The truth values of the demo's formula over all timings of the log of a seed.
+    Demo {
+        seed: u64,
+    },
+}

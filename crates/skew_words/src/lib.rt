@@ -1,0 +1,16 @@
+//! Which words are which command, and reading them with `clap`.
+#![tactic(auto)]
+
+mod call;
+mod given;
+mod limits;
+mod matches;
+mod normal;
+mod numbers;
+mod operands;
+mod words;
+
+pub use call::Call;
+pub use limits::{DEFAULT_CONFLICTS, MAX_CONFLICTS, limits_are_numbers};
+pub use matches::call_of;
+pub use words::{Spoken, Verb, spoken_of};
