@@ -95,37 +95,56 @@ built() {
   fi
 }
 
-built tight_bench 8
+# A table with a log of $1 rows, which take turns on the hosts, each second one a receive of what the one before it
+# sends, and the question how far apart its first and its last row are.
+span() {
+  printf '[logs\n+line kind,host,time,name\n*4 +line host,h#,500,1\n'
+  for ((row = 0; row < $1; row++)); do
+    if ((row % 2)); then kind=recv; else kind=send; fi
+    printf '+line %s,h%d,%d,m%d\n' "$kind" $((row % 4)) $((100 * row)) $((row / 2))
+  done
+  printf '=read\n?span\n'
+}
+built text_table </dev/null
 printf '\n%-28s %12s  %s\n' "tight" "milliseconds" "least and greatest"
 for rows in 8 16 32 64; do
-  taken=$(least /dev/null ./crates/tight_bench/out/tight_bench "$rows")
-  printf '%-28s %12s  %s\n' "$rows rows" "$taken" "$(cat "$folder/answer")"
+  span "$rows" >"$folder/span"
+  taken=$(least "$folder/span" ./crates/text_table/out/text_table)
+  printf '%-28s %12s  %s\n' "$rows rows" "$taken" "$(tail -n 1 "$folder/answer" | cut -d ' ' -f 6-)"
 done
 
-built solve_bench 8 possible
+# What `logic_table` and `audit` answer to what is made for them.
+logic=./crates/logic_table/out/logic_table
+(cd crates/logic_table && rt run <stdin) >"$folder/build" 2>&1 || { cat "$folder/build" >&2; exit 2; }
+make() { python3 benches/inputs.py "$@"; }
+
 runs=3
 printf '\n%-28s %12s  %s\n' "solve" "milliseconds" "answer"
 for rows in 256 1023; do
   for kind in possible impossible crowded backward; do
-    taken=$(least /dev/null ./crates/solve_bench/out/solve_bench "$rows" "$kind")
-    printf '%-28s %12s  %s\n' "$((rows + 1)) nodes, $kind" "$taken" "$(cat "$folder/answer")"
+    make system "$rows" "$kind" >"$folder/table"
+    taken=$(least "$folder/table" "$logic")
+    answer=$(awk '$1 == "numbers" { print "potential of " NF - 1 " nodes" }
+      $1 == "cycle" { print "cycle of " NF - 1 " edges" }' "$folder/answer")
+    printf '%-28s %12s  %s\n' "$((rows + 1)) nodes, $kind" "$taken" "$answer"
   done
 done
 
-# A derivation of 100,000 Learn lines with ten hints each: each row does what the one above does, and more.
-built check_bench 6000 check
-runs=3
+# A derivation of 100,000 Learn lines with ten hints each, in a report: that it is of another log is told once
+# the whole report was read.
+make derivation 100000 "$folder"
 printf '\n%-28s %12s  %s\n' "100,000 learnt clauses" "milliseconds" "answer"
-for task in write read check; do
-  taken=$(least /dev/null ./crates/check_bench/out/check_bench 100000 "$task")
-  printf '%-28s %12s  %s\n' "$task" "$taken" "$(cat "$folder/answer")"
+for report in events.report report; do
+  taken=$(least /dev/null ./crates/skewcheck/out/skewcheck audit --conflicts 100000 "$folder/formula" "$folder/log" "$folder/$report")
+  printf '%-28s %12s  %s\n' "$([ "$report" = report ] && echo check || echo read)" "$taken" "$(cat "$folder/answer")"
 done
 
 # Problems: logs of more and more rows with one until, and the most untils that logs of 8 and of 16 rows may have.
-built encode_bench 8 1
 printf '\n%-28s %12s  %s\n' "encode" "milliseconds" "answer"
 for case in "8 1" "16 1" "32 1" "48 1" "64 1" "16 32" "8 255"; do
   read -r rows count <<<"$case"
-  taken=$(least /dev/null ./crates/encode_bench/out/encode_bench "$rows" "$count")
-  printf '%-28s %12s  %s\n' "$rows rows, $count joined" "$taken" "$(cat "$folder/answer")"
+  make problem "$rows" "$count" >"$folder/table"
+  taken=$(least "$folder/table" "$logic")
+  answer=$(grep -v '^[=*![]' "$folder/answer" | paste -s -d, | sed 's/,/, /')
+  printf '%-28s %12s  %s\n' "$rows rows, $count joined" "$taken" "$answer"
 done

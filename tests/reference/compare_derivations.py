@@ -1,8 +1,8 @@
-"""Compares the built program check_table with the second checker of derivations.
+"""Compares the built program logic_table with the second checker of derivations.
 
 Run as: python3 compare_derivations.py PROGRAM [--cases N] [--seed S]
 
-The program answers tables of derivations. They hold the derivations whose
+The program answers tables of derivations, a section of what it takes. They hold the derivations whose
 answers are written out by hand, and N that are made by chance, of which most
 are broken by an edit. The first difference is printed as a table of its own,
 ready to copy, and the end is 1.
@@ -10,7 +10,6 @@ ready to copy, and the end is 1.
 
 import os
 import random
-import subprocess
 import sys
 from typing import NamedTuple
 
@@ -20,9 +19,9 @@ import derivation_cases
 import derivations
 import edits
 import invent
-from tables import print_table, read_arguments
+from tables import answer_lines, print_table, read_arguments
 
-PATIENCE = 120  # seconds that one run of the program may take
+SECTION = "derivations"  # of the tables
 TABLE_MOST = 250_000  # bytes of one table, well below what the program takes
 EDITS = 20  # broken derivations for each right one
 
@@ -92,10 +91,7 @@ def tables(questions):
 
 def answers_of(program, table):
     """The answers of the program to a table, of which there may be too few."""
-    done = subprocess.run([program], input=table, capture_output=True, timeout=PATIENCE)
-    if done.returncode or done.stderr:
-        print(f"the program ended with {done.returncode} and wrote {done.stderr!r}")
-    *lines, _ = done.stdout.decode(errors="replace").split("\n")
+    lines = answer_lines(program, SECTION, table)
     return [line for line in lines if line[:1] not in ("=", "?")]
 
 
@@ -118,12 +114,12 @@ def compare_all(program, questions):
 def print_difference(question, answer):
     """Prints a question as a table of its own, with both answers."""
     print(f"difference: {question.title}: {question.answer} is expected, and {answer} came")
-    print_table(question.head + question.table())
+    print_table(SECTION, question.head + question.table())
 
 
 def main():
     """Compares, and ends with 0 where there is no difference and with 1 where there is one."""
-    arguments = read_arguments("compare check_table with the second checker", 4000, "random derivations")
+    arguments = read_arguments("compare logic_table with the second checker", 4000, "random derivations")
     program = os.path.abspath(arguments.program)
     questions = [*fixed_questions(), *random_questions(arguments.seed, arguments.cases)]
     count = compare_all(program, questions)

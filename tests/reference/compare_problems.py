@@ -1,8 +1,8 @@
-"""Compares the built program encode_table with a plain listing and with brute force.
+"""Compares the built program logic_table with a plain listing and with brute force.
 
 Run as: python3 compare_problems.py PROGRAM [--cases N] [--seed S]
 
-The program prints the problems of tables: small logs and formulas made by
+The program prints the problems of tables, a section of what it takes: small logs and formulas made by
 chance, each with both values. A problem must have the clause of each rule that
 has one, in a list of all rules; its edges must be those of the log's bounds;
 and its clauses must be satisfiable in just the admissible timings that give
@@ -13,7 +13,6 @@ ready to copy, and the end is 1.
 import itertools
 import os
 import random
-import subprocess
 import sys
 from collections import Counter
 from typing import NamedTuple
@@ -28,9 +27,9 @@ import reference
 from compare_derivations import head_of
 from derivations import Literal, Problem, Rule, RuleFault
 from generate import chance
-from tables import print_table, read_arguments
+from tables import answer_lines, print_table, read_arguments
 
-PATIENCE = 120  # seconds that one run of the program may take
+SECTION = "problems"  # of the tables
 PROBLEMS_A_TABLE = 20
 ROWS_MOST = 4
 NODES_MOST = 6
@@ -152,13 +151,10 @@ def variable_of(word):
     return int(word[1:])
 
 
-def answers_of(program, table):
-    """The lines of each answer of the program to a table, by the name of the question."""
-    done = subprocess.run([program], input=table, capture_output=True, timeout=PATIENCE)
-    if done.returncode or done.stderr:
-        print(f"the program ended with {done.returncode} and wrote {done.stderr!r}")
+def answers_of(program, section, table):
+    """The lines of each answer of the program to a section, by the name of the question."""
     answers, lines = {}, []
-    for line in done.stdout.decode(errors="replace").splitlines():
+    for line in answer_lines(program, section, table):
         if line[:1] == "?":
             lines = answers.setdefault(line[1:], [])
         elif line[:1] != "=":
@@ -360,7 +356,7 @@ def compare_all(program, asked):
     count = 0
     asked = iter(asked)
     while some := list(itertools.islice(asked, PROBLEMS_A_TABLE)):
-        answers = answers_of(program, b"".join(question.table() for question in some))
+        answers = answers_of(program, SECTION, b"".join(question.table() for question in some))
         for question in some:
             found = difference(question, answers.get(question.title))
             if found:
@@ -373,12 +369,12 @@ def compare_all(program, asked):
 def print_difference(question, found):
     """Prints a question as a table of its own, with what is wrong."""
     print(f"difference: {question.title}: {found}")
-    print_table(question.table())
+    print_table(SECTION, question.table())
 
 
 def main():
     """Compares, and ends with 0 where there is no difference and with 1 where there is one."""
-    arguments = read_arguments("compare encode_table with a plain listing", 400, "problems")
+    arguments = read_arguments("compare logic_table with a plain listing", 400, "problems")
     program = os.path.abspath(arguments.program)
     count = compare_all(program, questions(arguments.seed, arguments.cases))
     if count is None:

@@ -1,8 +1,8 @@
-"""Compares the built program search_table with what all admissible timings give.
+"""Compares the built program logic_table with what all admissible timings give.
 
 Run as: python3 compare_search.py PROGRAM [--cases N] [--seed S]
 
-The program searches the problems of tables: small logs and formulas made by
+The program searches the problems of tables, a section of what it takes: small logs and formulas made by
 chance, each with both values. A value that the formula has in some admissible
 timing has to be found, and any other one refuted; of a log without timings
 the program has to say so. Some searches have a budget of one to three
@@ -27,6 +27,7 @@ from compare_problems import answers_of
 from generate import chance
 from tables import print_table, read_arguments
 
+SECTION = "searches"  # of the tables
 SEARCHES_A_TABLE = 20
 SHARE_OPEN = 0.6  # of the formulas, at least, have both values in timings of their log
 SHARE_SMALL = 0.3  # of the searches have one of these budgets
@@ -83,7 +84,7 @@ def compare_all(program, asked):
     count = Counter()
     asked = iter(asked)
     while some := list(itertools.islice(asked, SEARCHES_A_TABLE)):
-        answers = answers_of(program, b"".join(question.table() for question in some))
+        answers = answers_of(program, SECTION, b"".join(question.table() for question in some))
         for question in some:
             answer = " ".join(answers.get(question.title, ["nothing"]))
             if answer not in question.allowed():
@@ -96,12 +97,12 @@ def compare_all(program, asked):
 def print_difference(question, answer):
     """Prints a question as a table of its own, with the answer that came."""
     print(f"difference: {question.title}: {answer}, not {' or '.join(question.allowed())}")
-    print_table(question.table())
+    print_table(SECTION, question.table())
 
 
 def main():
     """Compares, and ends with 0 where there is no difference and with 1 where there is one."""
-    arguments = read_arguments("compare search_table with all timings", 400, "searches")
+    arguments = read_arguments("compare logic_table with all timings", 400, "searches")
     program = os.path.abspath(arguments.program)
     count = compare_all(program, questions(arguments.seed, arguments.cases))
     if count is None:

@@ -1,12 +1,30 @@
-"""What comparisons over tables share: how a table is printed, and the words of the command line."""
+"""What comparisons over tables share: how one is answered and printed, and the words of the command line."""
 
 import argparse
+import subprocess
+
+PATIENCE = 120  # seconds that one run of the program may take
 
 
-def print_table(table):
-    """Prints a table, ready to copy."""
+def table_of(section, lines):
+    """A table of one section, which has these lines."""
+    return b"[%s]\n" % section.encode() + lines
+
+
+def answer_lines(program, section, lines):
+    """What the program answers to the lines of a section, of which there may be too few lines."""
+    table = table_of(section, lines)
+    done = subprocess.run([program], input=table, capture_output=True, timeout=PATIENCE)
+    if done.returncode or done.stderr:
+        print(f"the program ended with {done.returncode} and wrote {done.stderr!r}")
+    *answers, _ = done.stdout.decode(errors="replace").split("\n")
+    return [line for line in answers if line[:1] != "["]
+
+
+def print_table(section, lines):
+    """Prints a table of one section, ready to copy."""
     print("table = (")
-    for line in table.splitlines(keepends=True):
+    for line in table_of(section, lines).splitlines(keepends=True):
         print(f"    {line!r}")
     print(")", flush=True)
 

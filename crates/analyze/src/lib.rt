@@ -7,6 +7,3 @@ mod places;
 mod resolve;
 
 pub use conflict::{ClauseRefList, Learned, LitList, learn, refute};
-
-#[cfg(test)]
-mod tests;

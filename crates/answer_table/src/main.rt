@@ -20,12 +20,13 @@
 #![tactic(auto)]
 
 use log_read::write_log;
-use mt_port::{FileShelf, MemShelf, MemSink, StdSink, read_all, write_all};
-use skew_cli::{Status, demo_log, run};
+use mt_port::{MemShelf, MemSink};
+use skew_cli::{Status, demo_log};
 use std::alloc::Global;
 use std::process::ExitCode;
+use table_case::{Table, number_of, push_line, push_marked, text_of};
 
-/// The most bytes of the table, and of an answer.
+/// The most bytes of an answer.
 const LIMIT: usize = 1_048_576;
 
 // How many bytes go in one call, how many the sink takes in all, and which call on the files and which of the sink
@@ -64,6 +65,12 @@ struct Case {
     telling: Telling,
     words: Vec<String>,
     files: Files,
+}
+
+// The case that the lines belong to, which is answered where it ends.
+#[derive(Drop)]
+struct Cases {
+    last: Option<Case>,
 }
 
 fn word(alloc: Global, text: &str) -> Option<String> {
@@ -107,15 +114,15 @@ fn ran(
     let bad_writes = vec![in alloc; devices.bad_write].ok()?;
     let mut shelf = MemShelf::new(files, devices.piece, bad_reads);
     let mut sink = MemSink::new(alloc, devices.room, devices.piece, bad_writes).ok()?;
-    let status = run(alloc, words, &mut shelf, &mut sink);
+    let status = skew_cli::run(alloc, words, &mut shelf, &mut sink);
     Some((status, sink.bytes().to_vec(alloc).ok()?))
 }
 
 // Adds the status of words over files, and gives what is written.
 fn answer(alloc: Global, words: &Vec<String>, files: Files, out: &mut Vec<u8>) -> Option<Vec<u8>> {
     let (status, text) = ran(alloc, words, files, SOUND)?;
-    let line = format!(in alloc; "status {}\n", status.code()).ok()?;
-    out.extend_from_slice(line.as_bytes()).ok()?;
+    let line = format!(in alloc; "status {}", status.code()).ok()?;
+    push_line(out, line.as_bytes())?;
     Some(text)
 }
 
@@ -125,12 +132,9 @@ fn push_outlined(line: &[u8], out: &mut Vec<u8>) -> Option<()> {
     let first = words.next()?;
     if first == b"true".as_slice() || first == b"false".as_slice() {
         out.extend_from_slice(first).ok()?;
-        out.push(b' ').ok()?;
-        out.extend_from_slice(words.next()?).ok()?;
-        out.push(b'\n').ok()?;
+        push_marked(out, b' ', words.next()?)?;
     } else if [b"skewcheck".as_slice(), b"events", b"inconsistent", b"end"].contains(&first) {
-        out.extend_from_slice(line).ok()?;
-        out.push(b'\n').ok()?;
+        push_line(out, line)?;
     }
     Some(())
 }
@@ -148,8 +152,7 @@ fn push_false_section(report: &[u8], out: &mut Vec<u8>) -> Option<()> {
     for line in report.split(|byte| *byte == b'\n') {
         told = told || line.starts_with(b"false ");
         if told && !line.is_empty() {
-            out.extend_from_slice(line).ok()?;
-            out.push(b'\n').ok()?;
+            push_line(out, line)?;
         }
     }
     Some(())
@@ -181,8 +184,8 @@ fn push_failed_reads(
         };
         let (status, text) = ran(alloc, words, copied(alloc, files)?, devices)?;
         if status != Status::ReadFailed || !text.is_empty() {
-            let line = format!(in alloc; "reads {calls} status {}\n", status.code()).ok()?;
-            return out.extend_from_slice(line.as_bytes()).ok();
+            let line = format!(in alloc; "reads {calls} status {}", status.code()).ok()?;
+            return push_line(out, line.as_bytes());
         }
     }
     None
@@ -252,19 +255,18 @@ fn push_failed_writes(
         copied(alloc, files)?,
         Devices { room, ..SOUND },
     )?;
-    let line = format!(in alloc; "writes {room} status {}\n", status.code()).ok()?;
-    out.extend_from_slice(line.as_bytes()).ok()
+    let line = format!(in alloc; "writes {room} status {}", status.code()).ok()?;
+    push_line(out, line.as_bytes())
 }
 
 // Adds the log of a seed.
 fn push_demo_log(alloc: Global, seed: &[u8], out: &mut Vec<u8>) -> Option<()> {
-    let log = demo_log(alloc, str::from_utf8(seed).ok()?.parse().ok()?).ok()?;
+    let log = demo_log(alloc, number_of(text_of(seed)?)?).ok()?;
     if !log.plain() {
         return None;
     }
-    out.extend_from_slice(b"@ ").ok()?;
-    out.extend_from_slice(seed).ok()?;
-    out.push(b'\n').ok()?;
+    out.push(b'@').ok()?;
+    push_marked(out, b' ', seed)?;
     out.extend_from_slice(&write_log(alloc, &log).ok()?).ok()
 }
 
@@ -321,14 +323,6 @@ fn push_answer(alloc: Global, case: Case, out: &mut Vec<u8>) -> Option<()> {
     }
 }
 
-// Adds the answer of a case, if there is one.
-fn push_last(alloc: Global, case: Option<Case>, out: &mut Vec<u8>) -> Option<()> {
-    match case {
-        Some(case) => push_answer(alloc, case, out),
-        None => Some(()),
-    }
-}
-
 // What is told of the answer of a case that begins with a mark.
 fn told_after(mark: u8) -> Option<Telling> {
     match mark {
@@ -343,12 +337,11 @@ fn told_after(mark: u8) -> Option<Telling> {
 
 // Begins a case, whose words head its answer.
 fn begin(alloc: Global, telling: Telling, line: &[u8], out: &mut Vec<u8>) -> Option<Case> {
-    out.extend_from_slice(b"= ").ok()?;
-    out.extend_from_slice(line).ok()?;
-    out.push(b'\n').ok()?;
+    out.push(b'=').ok()?;
+    push_marked(out, b' ', line)?;
     Some(Case {
         telling,
-        words: words_of(alloc, str::from_utf8(line).ok()?)?,
+        words: words_of(alloc, text_of(line)?)?,
         files: Vec::new(alloc),
     })
 }
@@ -356,7 +349,7 @@ fn begin(alloc: Global, telling: Telling, line: &[u8], out: &mut Vec<u8>) -> Opt
 impl Case {
     // Adds a file without bytes.
     fn push_file(&mut self, alloc: Global, name: &[u8]) -> Option<()> {
-        let name = String::from_str(alloc, str::from_utf8(name).ok()?).ok()?;
+        let name = String::from_str(alloc, text_of(name)?).ok()?;
         self.files.push((name, Vec::new(alloc))).ok()
     }
 
@@ -370,7 +363,7 @@ impl Case {
     // Adds a text to the last file, so many times.
     fn push_repeated(&mut self, repeated: &[u8], end: &[u8]) -> Option<()> {
         let mut parts = repeated.split(|byte| *byte == b' ');
-        let count: usize = str::from_utf8(parts.next()?).ok()?.parse().ok()?;
+        let count: usize = number_of(text_of(parts.next()?)?)?;
         let text = parts.next()?;
         for _ in 0..count {
             self.push_text(text, end)?;
@@ -392,41 +385,44 @@ impl Case {
     }
 }
 
-// The answers of all cases.
-fn answers(alloc: Global, table: &[u8]) -> Option<Vec<u8>> {
-    let mut out = Vec::new(alloc);
-    let mut case: Option<Case> = None;
-    for line in table.split(|byte| *byte == b'\n') {
-        let Some((mark, text)) = line.split_first() else {
-            continue;
-        };
-        if let Some(telling) = told_after(*mark) {
-            push_last(alloc, case, &mut out)?;
-            case = Some(begin(alloc, telling, text, &mut out)?);
-        } else if *mark == b'@' {
-            push_last(alloc, case, &mut out)?;
-            case = None;
-            push_demo_log(alloc, text, &mut out)?;
-        } else if let Some(current) = &mut case {
-            current.push(alloc, *mark, text)?;
+impl Cases {
+    // Adds the answer of the last case, if there is one that isn't answered yet.
+    fn push_last(&mut self, alloc: Global, out: &mut Vec<u8>) -> Option<()> {
+        match self.last.take() {
+            Some(case) => push_answer(alloc, case, out),
+            None => Some(()),
         }
     }
-    push_last(alloc, case, &mut out)?;
-    Some(out)
+
+    // Takes in a line of the last case, if there is one.
+    fn push(&mut self, alloc: Global, mark: u8, text: &[u8]) -> Option<()> {
+        match &mut self.last {
+            Some(case) => case.push(alloc, mark, text),
+            None => Some(()),
+        }
+    }
+}
+
+impl Table for Cases {
+    fn take(&mut self, alloc: Global, mark: u8, text: &[u8], out: &mut Vec<u8>) -> Option<()> {
+        if let Some(telling) = told_after(mark) {
+            self.push_last(alloc, out)?;
+            self.last = Some(begin(alloc, telling, text, out)?);
+            Some(())
+        } else if mark == b'@' {
+            self.push_last(alloc, out)?;
+            push_demo_log(alloc, text, out)
+        } else {
+            self.push(alloc, mark, text)
+        }
+    }
+
+    fn end(&mut self, alloc: Global, out: &mut Vec<u8>) -> Option<()> {
+        self.push_last(alloc, out)
+    }
 }
 
 fn main(rt: HostRuntime) -> ExitCode {
-    let alloc = rt.alloc();
-    let mut shelf = FileShelf::new(&rt);
-    let Ok(table) = read_all(alloc, &mut shelf, "-", LIMIT) else {
-        return ExitCode::from(1);
-    };
-    let Some(text) = answers(alloc, &table) else {
-        return ExitCode::from(1);
-    };
-    let mut out = StdSink::new(&rt);
-    match write_all(&mut out, &text) {
-        Ok(()) => ExitCode::from(0),
-        Err(_) => ExitCode::from(1),
-    }
+    let mut cases = Cases { last: None };
+    table_case::run(&rt, &mut cases)
 }

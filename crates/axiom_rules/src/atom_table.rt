@@ -66,27 +66,3 @@ impl AtomTable {
         self.atoms.len() as u32
     }
 }
-
-#[cfg(test)]
-mod tests {
-    use super::*;
-    use std::test::Fail;
-
-    #[test]
-    fn equal_atoms_have_one_variable(rt: HostRuntime) -> Result<(), Fail> {
-        let mut table = AtomTable::new(rt.alloc());
-        let first = Atom::First { e: 0 };
-        let order = Atom::Order { e: 0, f: 1, c: -1 };
-        let variables = [
-            table.intern(first)?,
-            table.intern(order)?,
-            table.intern(first)?,
-        ];
-        for (var, n) in variables.iter().zip([0, 1, 0]) {
-            assert_eq!(rt; var.get(), n);
-        }
-        assert_eq!(rt; table.len(), 2);
-        assert_eq!(rt; table.atom(Var::new(1)), order);
-        Ok(())
-    }
-}

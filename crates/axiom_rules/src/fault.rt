@@ -30,24 +30,3 @@ impl From<AllocError> for RuleFault {
         RuleFault::Memory
     }
 }
-
-#[cfg(test)]
-mod tests {
-    use super::*;
-    use std::test::Fail;
-
-    #[test]
-    fn faults_have_texts(rt: HostRuntime) -> Result<(), Fail> {
-        let cases = [
-            (RuleFault::NoRule, "no rule of this number"),
-            (RuleFault::Range, "an argument that is out of range"),
-            (RuleFault::Kind, "a node of another kind"),
-            (RuleFault::Trivial, "a clause that says nothing"),
-            (RuleFault::Memory, "out of memory"),
-        ];
-        for (fault, text) in cases {
-            assert_eq!(rt; format!(in rt.alloc(); "{fault}")?.as_str(), text);
-        }
-        Ok(())
-    }
-}

@@ -81,34 +81,3 @@ fn start_of(ends: &[usize], place: usize) -> usize
 {
     if place == 0 { 0 } else { ends[place - 1] }
 }
-
-#[cfg(test)]
-mod tests {
-    use super::*;
-    use crate::Var;
-    use std::test::Fail;
-
-    #[test]
-    fn clauses_are_lent_as_they_were_added(rt: HostRuntime) -> Result<(), Fail> {
-        let p = Lit::new(Var::new(0), true);
-        let q = Lit::new(Var::new(7), false);
-        let r = Lit::new(Var::new(u32::MAX), true);
-        let mut db = Db::new(rt.alloc());
-        assert_eq!(rt; db.len(), 0);
-        let two = db.add(&[q, p])?;
-        let none = db.add(&[])?;
-        let one = db.add(&[r])?;
-        let mixed = [p.negated(), r, q.negated()];
-        let three = db.add(&mixed)?;
-        assert_eq!(rt; db.len(), 4);
-        assert_eq!(rt;
-            [two.get(), none.get(), one.get(), three.get()],
-            [0, 1, 2, 3]
-        );
-        assert_eq!(rt; db.lits(two), [q, p].as_slice());
-        assert!(rt; db.lits(none).is_empty());
-        assert_eq!(rt; db.lits(one), [r].as_slice());
-        assert_eq!(rt; db.lits(three), mixed.as_slice());
-        Ok(())
-    }
-}

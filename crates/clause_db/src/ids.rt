@@ -61,18 +61,3 @@ impl ClauseRef {
         self.0
     }
 }
-
-#[cfg(test)]
-mod tests {
-    use super::*;
-
-    #[test]
-    fn an_id_keeps_its_number(rt: HostRuntime) {
-        for n in [0, 7, u32::MAX] {
-            assert_eq!(rt; Var::new(n).get(), n);
-            assert_eq!(rt; ClauseRef::new(n).get(), n);
-        }
-        assert!(rt; Var::new(1) < Var::new(2));
-        assert!(rt; ClauseRef::new(1) < ClauseRef::new(2));
-    }
-}

@@ -46,18 +46,3 @@ impl Lit {
         }
     }
 }
-
-#[cfg(test)]
-mod tests {
-    use super::*;
-
-    #[test]
-    fn a_negated_literal_has_the_other_sense(rt: HostRuntime) {
-        for positive in [false, true] {
-            let lit = Lit::new(Var::new(7), positive);
-            assert_eq!(rt; lit.var(), Var::new(7));
-            assert_eq!(rt; lit.positive(), positive);
-            assert_eq!(rt; lit.negated(), Lit::new(Var::new(7), !positive));
-        }
-    }
-}

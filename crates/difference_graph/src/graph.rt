@@ -158,6 +158,3 @@ fn zeros(alloc: Global, count: usize) -> Result<Vec<i128>, AllocError>
     numbers.resize(count, 0)?;
     Ok(numbers)
 }
-
-#[cfg(test)]
-mod tests;

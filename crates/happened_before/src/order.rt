@@ -126,6 +126,3 @@ impl Order {
         self.hosts[e.get() as usize].get() as usize
     }
 }
-
-#[cfg(test)]
-mod tests;

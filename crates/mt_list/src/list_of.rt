@@ -72,25 +72,3 @@ impl<T: Drop> ListOf<T> {
         *self.items.allocator()
     }
 }
-
-#[cfg(test)]
-mod tests {
-    use super::*;
-    use std::test::Fail;
-
-    #[test]
-    fn items_stand_in_the_order_of_their_pushes(rt: HostRuntime) -> Result<(), Fail> {
-        let mut list = ListOf::new(rt.alloc());
-        assert_eq!(rt; list.len(), 0);
-        for item in [3u32, 1, 3] {
-            list.push(item)?;
-        }
-        assert_eq!(rt; list.as_slice(), [3, 1, 3].as_slice());
-        let mut other = ListOf::new(list.allocator());
-        other.push(7u32)?;
-        assert_eq!(rt; other.as_slice(), [7].as_slice());
-        let items = list.into_vec();
-        assert_eq!(rt; ListOf::from_vec(items).as_slice(), [3, 1, 3].as_slice());
-        Ok(())
-    }
-}

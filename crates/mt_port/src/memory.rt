@@ -286,6 +286,3 @@ impl Shelf for MemShelf {
         Ok(count)
     }
 }
-
-#[cfg(test)]
-mod tests;

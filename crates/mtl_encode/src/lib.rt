@@ -14,6 +14,3 @@ pub use encoding::encode;
 pub use laws::{meanings_satisfy_rules, rules_are_exact};
 pub use problem::Problem;
 pub use size::{MAX_SIZE, size_of};
-
-#[cfg(test)]
-mod tests;

@@ -183,6 +183,3 @@ fn extended(alloc: Global, places: &[u32], last: u32) -> Result<Vec<u32>, AllocE
     longer.push(last)?;
     Ok(longer)
 }
-
-#[cfg(test)]
-mod tests;

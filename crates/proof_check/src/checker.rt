@@ -115,6 +115,3 @@ impl Checker {
         check_lines(self.alloc, &self.rules, &mut self.clause, lines)
     }
 }
-
-#[cfg(test)]
-mod tests;

@@ -124,6 +124,3 @@ fn left_of(assumed: &BTreeSet<Literal>, clause: &[Literal]) -> Left
         Some(literal) => Left::Only(literal),
     }
 }
-
-#[cfg(test)]
-mod tests;

@@ -158,6 +158,3 @@ pub fn check_cycle(log: &Log, steps: &[Step]) -> Option<u32>
         Some(steps.len() as u32)
     }
 }
-
-#[cfg(test)]
-mod tests;

@@ -164,6 +164,3 @@ pub fn read_lines(alloc: Global, bytes: &[u8]) -> Result<Lines, LineFault>
     }
     Ok(lines)
 }
-
-#[cfg(test)]
-mod tests;

@@ -141,6 +141,3 @@ pub fn has_spelling(alloc: Global, line: &Line) -> Result<bool, AllocError>
         Line::Learn { lits, hints } => is_spelled_learn(alloc, lits.as_slice(), hints.as_slice()),
     }
 }
-
-#[cfg(test)]
-mod tests;

@@ -20,6 +20,3 @@ pub use laws::{
 pub use links::Links;
 pub use moves::Reached;
 pub use trail::Trail;
-
-#[cfg(test)]
-mod tests;

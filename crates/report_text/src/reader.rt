@@ -153,6 +153,3 @@ pub fn read_report(alloc: Global, bytes: &[u8]) -> Result<Report, ReportFault>
         Err(Stop::Memory) => Err(ReportFault::Memory),
     }
 }
-
-#[cfg(test)]
-mod tests;

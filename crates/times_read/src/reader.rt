@@ -70,6 +70,3 @@ pub fn read_times(alloc: Global, bytes: &[u8], count: usize) -> Result<Times, Ti
         }),
     }
 }
-
-#[cfg(test)]
-mod tests;

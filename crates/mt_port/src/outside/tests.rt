@@ -1,5 +1,5 @@
 use super::*;
-use crate::{ReadFault, read_all, write_all};
+use crate::{ReadFault, read_all};
 use std::fmt::Display;
 use std::test::Fail;
 
@@ -16,22 +16,6 @@ fn reads_a_real_file(rt: HostRuntime) -> Result<(), Fail> {
     assert_eq!(rt; text?.as_slice(), b"two\nlines\n".as_slice());
     assert!(rt; matches!(longer, Err(ReadFault::TooLong)));
     assert!(rt; matches!(missing, Err(ReadFault::Failed)));
-    Ok(())
-}
-
-#[test]
-fn opens_the_input_once(rt: HostRuntime) -> Result<(), Fail> {
-    let mut shelf = FileShelf::new(&rt);
-    shelf.open("-")?;
-    assert_eq!(rt; shelf.open("-"), Err(Failed));
-    Ok(())
-}
-
-#[test]
-fn writes_to_the_output(rt: HostRuntime) -> Result<(), Fail> {
-    let mut sink = StdSink::new(&rt);
-    assert_eq!(rt; sink.write(b""), Ok(0));
-    write_all(&mut sink, b"written by a test\n")?;
     Ok(())
 }
 

@@ -1,6 +1,0 @@
-use Rattle.std.proofs.Common.{◌≡◌, ◌++◌, take}
-use Rattle.proof_log.specs.Freshness.{learnt}
-use Rattle.fresh_check.proofs.known.add_learnt.Given as goal
-
-abbrev pub invariant-loop-line : goal.invariant-loop-line
-invariant-loop-line l = l.clauses.items ≡ l.fn.clauses.items ++ learnt (take l.line-index l.lines)

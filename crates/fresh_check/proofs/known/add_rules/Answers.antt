@@ -1,7 +1,0 @@
-use Rattle.std.proofs.Common.{arith}
-use Rattle.std.proofs.lemmas.Grind.{common_steps}
-use Rattle.std.proofs.lemmas.List.Elements.{filter_map-append}
-use Rattle.fresh_check.proofs.known.add_rules.Goals as goal
-
-pub loop-hint-preserved : goal.loop-hint-preserved
-loop-hint-preserved c = grind (arith, common_steps, filter_map-append)

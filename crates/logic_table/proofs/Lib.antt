@@ -1,0 +1,4 @@
+pub mod Answered
+pub mod FreshLines
+pub mod KnownClauses
+pub mod Halting

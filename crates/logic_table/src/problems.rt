@@ -1,0 +1,113 @@
+//! The section on problems.
+
+use crate::case::LogicCase;
+use crate::writing::{push_atom, push_items, push_sign};
+use axiom_rules::{AtomTable, Rule};
+use clause_db::{ClauseRef, Db, Lit, Var};
+use mtl_encode::{MAX_SIZE, Problem, encode, size_of};
+use neg_cycle::Edge;
+use std::alloc::Global;
+use table_case::{Parsed, push_marked, push_shown};
+
+fn push_atoms(alloc: Global, atoms: &AtomTable, out: &mut Vec<u8>) -> Option<()> {
+    for v in 0..atoms.len() {
+        out.extend_from_slice(b"atom ").ok()?;
+        push_atom(alloc, atoms.atom(Var::new(v)), out)?;
+    }
+    Some(())
+}
+
+fn push_edges(alloc: Global, edges: &[Edge], out: &mut Vec<u8>) -> Option<()> {
+    for edge in edges {
+        let ends = [i128::from(edge.from), i128::from(edge.to), edge.bound];
+        push_items(alloc, "edge", &ends, out)?;
+    }
+    Some(())
+}
+
+fn push_rule(alloc: Global, rule: &Rule, out: &mut Vec<u8>) -> Option<()> {
+    let [a, b, c, d] = rule.args;
+    push_items(alloc, "rule", &[u32::from(rule.number), a, b, c, d], out)
+}
+
+// Adds a line for each literal, its variable with the sign of its sense.
+fn push_clause(alloc: Global, lits: &[Lit], out: &mut Vec<u8>) -> Option<()> {
+    for lit in lits {
+        push_sign(lit.positive(), out)?;
+        push_shown(alloc, out, lit.var().get())?;
+    }
+    Some(())
+}
+
+fn push_clauses(alloc: Global, rules: &[Rule], db: &Db, out: &mut Vec<u8>) -> Option<()> {
+    for n in 0..db.len() {
+        push_rule(alloc, rules.get(n as usize)?, out)?;
+        push_clause(alloc, db.lits(ClauseRef::new(n)), out)?;
+    }
+    Some(())
+}
+
+// The problem of a log, the nodes of a formula and a value, if it isn't too large.
+fn encoded(alloc: Global, parsed: &Parsed, value: bool) -> Option<Problem> {
+    if size_of(&parsed.log, &parsed.arena) <= MAX_SIZE {
+        encode(alloc, &parsed.log, &parsed.arena, parsed.root, value).ok()
+    } else {
+        None
+    }
+}
+
+/// The problem of a case, if it isn't too large.
+pub fn problem_of(alloc: Global, case: &LogicCase) -> Option<Problem> {
+    encoded(alloc, &case.parsed(alloc)?, case.value())
+}
+
+// Adds the parts of a problem.
+fn push_problem(alloc: Global, problem: &Problem, out: &mut Vec<u8>) -> Option<()> {
+    push_items(alloc, "nodes", &[problem.nodes], out)?;
+    push_edges(alloc, problem.edges.as_slice(), out)?;
+    push_clauses(alloc, problem.rules.as_slice(), &problem.db, out)?;
+    push_atoms(alloc, &problem.atoms, out)
+}
+
+// Adds the parts of the problem of a case.
+fn push_problem_of(alloc: Global, case: &LogicCase, out: &mut Vec<u8>) -> Option<()> {
+    push_problem(alloc, &problem_of(alloc, case)?, out)
+}
+
+// Adds the size of the problem of a case.
+fn push_size(alloc: Global, case: &LogicCase, out: &mut Vec<u8>) -> Option<()> {
+    let Parsed { log, arena, .. } = case.parsed(alloc)?;
+    push_items(alloc, "size", &[size_of(&log, &arena)], out)
+}
+
+// Adds how many clauses and atoms the problem of a case has.
+fn push_counts(alloc: Global, case: &LogicCase, out: &mut Vec<u8>) -> Option<()> {
+    let problem = problem_of(alloc, case)?;
+    push_items(alloc, "clauses", &[problem.db.len()], out)?;
+    push_items(alloc, "atoms", &[problem.atoms.len()], out)
+}
+
+/// Takes in a line of the section, and adds what it asks for.
+pub fn take(
+    alloc: Global,
+    case: &mut LogicCase,
+    mark: u8,
+    text: &[u8],
+    out: &mut Vec<u8>,
+) -> Option<()> {
+    match mark {
+        b'?' => {
+            push_marked(out, mark, text)?;
+            push_problem_of(alloc, case, out)
+        }
+        b'*' => {
+            push_marked(out, mark, text)?;
+            push_size(alloc, case, out)
+        }
+        b'!' => {
+            push_marked(out, mark, text)?;
+            push_counts(alloc, case, out)
+        }
+        _ => case.take(alloc, mark, text, out),
+    }
+}
