@@ -11,7 +11,13 @@ pub mod AddingLemmas
 mod EachLemmas
 mod Lookups
 mod RowLemmas
+pub mod RowCases
+pub mod ChangeCases
+pub mod UnusedArguments
 pub mod OnceLemmas
+pub mod PartsMade
+pub mod RulesMade
+mod TableLemmas
 pub mod AtomLemmas
 pub mod ShapeLemmas
 pub mod RulesHold

@@ -2,19 +2,18 @@
 use Rattle.std.proofs.Common.{◌≡◌, ◌∙◌, sym, ap, refl, subst, ℕ, zero, suc, ◌<◌, Bool, true, false, not, ◌||◌, if◌then◌else◌, List, [], ◌∷◌, length, Option, Some, None, Ok, Err, ◌⊎◌, inl, inr, arith}
 use Rattle.std.specs.Prelude.{◌≢◌, Result, filter, slice_index_or}
 use Rattle.std.specs.List.{list_any}
-use Rattle.std.specs.Option.{option_map_or}
 use Rattle.std.proofs.lemmas.Bool.{and_from, cases_Bool}
 use Rattle.mt_model.proofs.Members.{Among, any_some}
 use Rattle.axiom_rules.specs.declared.fault.RuleFault.{RuleFault}
-use Rattle.axiom_rules.specs.declared.fault.RuleFault.TheVariants.{NoRule, Range, Trivial}
+use Rattle.axiom_rules.specs.declared.fault.RuleFault.TheVariants.{Trivial}
 use Rattle.axiom_rules.specs.declared.literal.Literal.{Literal}
 use Rattle.axiom_rules.specs.declared.part.Part.{Part}
-use Rattle.axiom_rules.specs.Clauses.{Row, are_there, row_of}
 use Rattle.axiom_rules.specs.Laws.{ClausesHaveAtomsOnce, HasAtomsOnce}
 use Rattle.axiom_rules.specs.Literals.{has_literal, negated, same_literal}
-use Rattle.axiom_rules.specs.Parts.{Written, clause_of_parts, clause_of_written, each_once, is_true, literals_in, opposes_itself}
+use Rattle.axiom_rules.specs.Parts.{clause_of_parts, each_once, is_true, literals_in, opposes_itself}
 use Rattle.axiom_rules.proofs.AddingLemmas.{atom-itself, once-among, opposes-from, stands}
 use Rattle.axiom_rules.proofs.BoolLemmas.{apart, was_false}
+use Rattle.axiom_rules.proofs.RowCases.{written-by}
 
 -- the atom of each literal is that of no later one
 abbrev Apart : List Literal → Type 0
@@ -78,7 +77,7 @@ once-apart (l ∷ ls) none = (
   apart-filter (λ x. not (same_literal x l)) (each_once ls) (once-apart ls (opposes-later l ls none)),
 )
 
-among-at : (ls : List Literal) (j : ℕ) (d : Literal) → j < length ls → Among ls (slice_index_or ls j d)
+pub among-at : (ls : List Literal) (j : ℕ) (d : Literal) → j < length ls → Among ls (slice_index_or ls j d)
 among-at [] j d low = absurd (omega arith)
 among-at (l ∷ ls) zero d low = inl refl
 among-at (l ∷ ls) (suc j) d low = inr (among-at ls j d (omega arith))
@@ -97,17 +96,5 @@ parts-once parts c is = go (list_any is_true parts) (opposes_itself (literals_in
     go false true none is = absurd (cc)
     go false false none is = let same : each_once (literals_in parts) ≡ c = cc in subst HasAtomsOnce same (atoms-once (each_once (literals_in parts)) (once-apart (literals_in parts) none))
 
-written-once : (w : Written) (c : List Literal) → clause_of_written w ≡ Ok c → HasAtomsOnce c
-written-once (Ok parts) c is = parts-once parts c is
-written-once (Err fault) c is = absurd (cc)
-
 pub clauses-once : ClausesHaveAtomsOnce
-clauses-once s rule c is = go (row_of rule.number) is
-  where
-    arguments : (row : Row) (there : Bool) → (if there then clause_of_written (row.writes s rule.args) else Err Range) ≡ Ok c → HasAtomsOnce c
-    arguments row true is = written-once (row.writes s rule.args) c is
-    arguments row false is = absurd (cc)
-
-    go : (o : Option Row) → option_map_or (λ row. if are_there s row.arguments rule.args then clause_of_written (row.writes s rule.args) else Err Range) o (Err NoRule) ≡ Ok c → HasAtomsOnce c
-    go None is = absurd (cc)
-    go (Some row) is = arguments row (are_there s row.arguments rule.args) is
+clauses-once s rule c is = let w = written-by s rule c is in parts-once w.parts c w.clause

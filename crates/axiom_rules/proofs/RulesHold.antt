@@ -27,9 +27,8 @@ use Rattle.axiom_rules.specs.declared.literal.Literal.{Literal}
 use Rattle.axiom_rules.specs.declared.part.Part.{Part}
 use Rattle.axiom_rules.specs.declared.part.Part.TheVariants.{Says, Known}
 use Rattle.axiom_rules.specs.declared.reach.Reach.{Reach}
-use Rattle.axiom_rules.specs.declared.rule.Argument.TheVariants.{ANode, AnEvent}
 use Rattle.axiom_rules.specs.declared.rule.Rule.{Rule}
-use Rattle.axiom_rules.specs.Clauses.{Row, are_there, clause_of, is_there, lasting_rows, of_event, of_events, of_node_event, of_node_event_change, of_node_events, of_node_three_events, of_nothing, row_of, rows}
+use Rattle.axiom_rules.specs.Clauses.{Row, clause_of, of_event, of_events, of_node_event, of_node_event_change, of_node_events, of_node_three_events, row_of}
 use Rattle.axiom_rules.specs.Holds.{clause_holds, gap, is_near, means}
 use Rattle.axiom_rules.specs.Laws.{RulesHold}
 use Rattle.axiom_rules.specs.Parts.{Written, after, clause_of_written, not_after}
@@ -43,6 +42,7 @@ use Rattle.axiom_rules.proofs.FrameRules.{gap_parts, gap_without_span, reached, 
 use Rattle.axiom_rules.proofs.MeaningLemmas.{F, at_row, from, is_from-says, is_not_from-says, is_not_up_to-says, is_up_to-says, means-gap, means-node, means-reaches, means-span, means-wit, met_after-says, near-ahead, near-parts, not_met_after-says, row_at, told, tree_of, up_to}
 use Rattle.axiom_rules.proofs.Orders.{first_of, order-met, order-rows}
 use Rattle.axiom_rules.proofs.PartLemmas.{any-map, clause_from_parts, not_after_is, not_order-says, order-says, part_holds}
+use Rattle.axiom_rules.proofs.RowCases.{OfRow, row-case, row-of-change, row-of-event, row-of-events, row-of-node, row-of-nothing, row-of-three, row-of-two, written-by}
 use Rattle.axiom_rules.proofs.ShapeLemmas.{index_or-there}
 use Rattle.axiom_rules.proofs.TimingLemmas.{times-rise}
 use Rattle.axiom_rules.proofs.TreeLemmas.{child-number}
@@ -365,172 +365,53 @@ module _ (log : Logged) (t : List ℤ) (trees : List Form) (root : ℕ) (value :
           let place = place-of_first t e in_ (λ x low. let h = first-at e x (was_true _ no) low in omega (arith, ints)) in
           of-sense value (M (Node root e)) (ap (λ i. truth log t i (tree_at trees root)) place ∙ gives))
 
-      -- a row holds: what it writes does, for arguments that are there
+      in-timing : (e : ℕ) → e < length log.rows → e < length t
+      in-timing e low = omega (arith, low, count)
+
+      -- what a row writes holds, for arguments that are there
       abbrev RowHolds : Row → Type 0
-      RowHolds row = (args : List ℕ) → are_there s row.arguments args ≡ true → Right (row.writes s args)
-
-      event-low : (e : ℕ) → nat_lt e (length log.rows) ≡ true → e < length t
-      event-low e h = let low = below-of e (length log.rows) h in omega (arith, low, count)
-
-      and-later : (a : Bool) → (a && false) ≡ true → ⊥
-      and-later true h = absurd (cc)
-      and-later false h = absurd (cc)
-
-      no_args : (write : Sought → Written) → Right (write s) → RowHolds (of_nothing write)
-      no_args write h args there = h
+      RowHolds row = OfRow s Right row
 
       one_event : (write : Sought → ℕ → Written) → ((e : ℕ) → e < length t → Right (write s e)) → RowHolds (of_event write)
-      one_event write h [] there = absurd (cc)
-      one_event write h (e ∷ args) there = h e (event-low e (and_parts _ _ there).0)
+      one_event write h = row-of-event s Right write (λ e low. h e (in-timing e low))
 
       two_events : (write : Sought → ℕ → ℕ → Written) → ((e x : ℕ) → e < length t → x < length t → Right (write s e x)) → RowHolds (of_events write)
-      two_events write h [] there = absurd (cc)
-      two_events write h (e ∷ []) there = absurd (and-later _ there)
-      two_events write h (e ∷ x ∷ args) there = let p = and_parts _ _ there in let q = and_parts _ _ p.1 in h e x (event-low e p.0) (event-low x q.0)
+      two_events write h = row-of-events s Right write (λ e x low-e low-x. h e x (in-timing e low-e) (in-timing x low-x))
 
       node_event : (write : Sought → ℕ → ℕ → Written) → ((k e : ℕ) → k < length trees → e < length t → Right (write s k e)) → RowHolds (of_node_event write)
-      node_event write h [] there = absurd (cc)
-      node_event write h (k ∷ []) there = absurd (and-later _ there)
-      node_event write h (k ∷ e ∷ args) there = let p = and_parts _ _ there in let q = and_parts _ _ p.1 in h k e (below-of k (length trees) p.0) (event-low e q.0)
+      node_event write h = row-of-node s Right write (λ k e low-k low-e. h k e low-k (in-timing e low-e))
 
       node_events : (write : Sought → ℕ → ℕ → ℕ → Written) → ((k i j : ℕ) → k < length trees → i < length t → j < length t → Right (write s k i j)) → RowHolds (of_node_events write)
-      node_events write h [] there = absurd (cc)
-      node_events write h (k ∷ []) there = absurd (and-later _ there)
-      node_events write h (k ∷ i ∷ []) there = absurd (and-later _ (and_parts _ _ there).1)
-      node_events write h (k ∷ i ∷ j ∷ args) there =
-          let p = and_parts _ _ there in let q = and_parts _ _ p.1 in let r = and_parts _ _ q.1 in
-          h k i j (below-of k (length trees) p.0) (event-low i q.0) (event-low j r.0)
+      node_events write h = row-of-two s Right write (λ k i j low-k low-i low-j. h k i j low-k (in-timing i low-i) (in-timing j low-j))
 
       node_three_events : (write : Sought → ℕ → ℕ → ℕ → ℕ → Written) → ((k i j m : ℕ) → k < length trees → i < length t → j < length t → m < length t → Right (write s k i j m)) → RowHolds (of_node_three_events write)
-      node_three_events write h [] there = absurd (cc)
-      node_three_events write h (k ∷ []) there = absurd (and-later _ there)
-      node_three_events write h (k ∷ i ∷ []) there = absurd (and-later _ (and_parts _ _ there).1)
-      node_three_events write h (k ∷ i ∷ j ∷ []) there = let p = and_parts (is_there s ANode k) _ there in let q = and_parts (is_there s AnEvent i) (is_there s AnEvent j && false) p.1 in absurd (and-later (is_there s AnEvent j) q.1)
-      node_three_events write h (k ∷ i ∷ j ∷ m ∷ args) there =
-          let p = and_parts _ _ there in let q = and_parts _ _ p.1 in let r = and_parts _ _ q.1 in let u = and_parts _ _ r.1 in
-          h k i j m (below-of k (length trees) p.0) (event-low i q.0) (event-low j r.0) (event-low m u.0)
+      node_three_events write h = row-of-three s Right write (λ k i j m low-k low-i low-j low-m. h k i j m low-k (in-timing i low-i) (in-timing j low-j) (in-timing m low-m))
 
       node_event_change : (write : Sought → ℕ → ℕ → ℕ → Written) → ((k e place : ℕ) → k < length trees → e < length t → Right (write s k e place)) → RowHolds (of_node_event_change write)
-      node_event_change write h [] there = absurd (cc)
-      node_event_change write h (k ∷ []) there = absurd (and-later _ there)
-      node_event_change write h (k ∷ e ∷ []) there = absurd (and-later _ (and_parts _ _ there).1)
-      node_event_change write h (k ∷ e ∷ place ∷ args) there = let p = and_parts _ _ there in let q = and_parts _ _ p.1 in h k e place (below-of k (length trees) p.0) (event-low e q.0)
-
-      -- each of some rows holds
-      abbrev RowsHold : List Row → Type 0
-      RowsHold [] = Unit {0}
-      RowsHold (row ∷ more) = RowHolds row × RowsHold more
-
-      lasting-hold : 0 < length t → RowsHold lasting_rows
-      lasting-hold some = (
-        node_event rule.rule_1 right_1,
-        (
-          node_event_change rule.rule_2 right_2,
-          (
-            node_event rule.rule_3 right_3,
-            (
-              node_event rule.rule_4 right_4,
-              (
-                node_event rule.rule_5 right_5,
-                (
-                  node_event rule.rule_6 right_6,
-                  (
-                    node_event rule.rule_7 right_7,
-                    (
-                      node_event rule.rule_8 right_8,
-                      (
-                        two_events rule.rule_9 right_9,
-                        (
-                          one_event rule.rule_10 right_10,
-                          (
-                            no_args rule.rule_11 (right_11 some),
-                            (
-                              node_events rule.rule_12 right_12,
-                              (
-                                node_events rule.rule_13 right_13,
-                                (
-                                  node_events rule.rule_14 right_14,
-                                  (
-                                    node_events rule.rule_15 right_15,
-                                    (
-                                      node_events rule.rule_16 right_16,
-                                      (
-                                        node_event rule.rule_17 right_17,
-                                        (
-                                          node_events rule.rule_18 right_18,
-                                          (node_three_events rule.rule_19 right_19, (node_events rule.rule_20 right_20, (node_three_events rule.rule_21 right_21, (node_events rule.rule_22 right_22, (node_events rule.rule_23 right_23, tt))))),
-                                        ),
-                                      ),
-                                    ),
-                                  ),
-                                ),
-                              ),
-                            ),
-                          ),
-                        ),
-                      ),
-                    ),
-                  ),
-                ),
-              ),
-            ),
-          ),
-        ),
-      )
-
-      rows-more : (xs ys : List Row) → RowsHold xs → RowsHold ys → RowsHold (xs ++ ys)
-      rows-more [] ys a b = b
-      rows-more (x ∷ xs) ys a b = (a.0, rows-more xs ys a.1 b)
-
-      row-holds : (xs : List Row) (n : ℕ) (row : Row) → RowsHold xs → slice_get xs n ≡ Some row → RowHolds row
-      row-holds [] n row h there = absurd (cc)
-      row-holds (x ∷ xs) zero row h there = let same : x ≡ row = cc in subst RowHolds same h.0
-      row-holds (x ∷ xs) (suc n) row h there = row-holds xs n row h.1 there
-
-      -- the clause of what a row writes holds
-      clause-right : (row : Row) (args : List ℕ) (c : List Literal) → RowHolds row → (if are_there s row.arguments args then clause_of_written (row.writes s args) else Err Range) ≡ Ok c → clause_holds log t trees c ≡ true
-      clause-right row args c h is = go (are_there s row.arguments args) refl is
-        where
-          written : (w : Written) → Right w → clause_of_written w ≡ Ok c → clause_holds log t trees c ≡ true
-          written (Ok parts) right is = clause_from_parts M parts c is right
-          written (Err fault) right is = absurd (cc)
-
-          go : (b : Bool) → are_there s row.arguments args ≡ b → (if b then clause_of_written (row.writes s args) else Err Range) ≡ Ok c → clause_holds log t trees c ≡ true
-          go true there is = written (row.writes s args) (h args there) is
-          go false there is = absurd (cc)
-
-      row-right : (rule : Rule) (c : List Literal) → ((row : Row) → row_of rule.number ≡ Some row → RowHolds row) → clause_of s rule ≡ Ok c → clause_holds log t trees c ≡ true
-      row-right rule c h is = go (row_of rule.number) refl is
-        where
-          go : (o : Option Row) → row_of rule.number ≡ o → option_map_or (λ row. if are_there s row.arguments rule.args then clause_of_written (row.writes s rule.args) else Err Range) o (Err NoRule) ≡ Ok c → clause_holds log t trees c ≡ true
-          go None there is = absurd (cc)
-          go (Some row) there is = clause-right row rule.args c (h row there) is
+      node_event_change write h = row-of-change s Right write (λ k e place low-k low-e. h k e place low-k (in-timing e low-e))
 
       some-rows : 0 < length t
       some-rows = omega (arith, count, valid.some_rows)
 
-      rows-left : (xs ys : List Row) (n : ℕ) → n < length xs → slice_get (xs ++ ys) n ≡ slice_get xs n
-      rows-left [] ys n less = absurd (omega arith)
-      rows-left (x ∷ xs) ys zero less = refl
-      rows-left (x ∷ xs) ys (suc n) less = rows-left xs ys n (omega arith)
+      -- each row holds, that of rule 24 where the value sought is given
+      rows-hold : (number : ℕ) (row : Row) → row_of number ≡ Some row → (number ≡ 24 → truth log t 0 (tree_at trees root) ≡ value) → RowHolds row
+      rows-hold = row-case (λ n row. (n ≡ 24 → truth log t 0 (tree_at trees root) ≡ value) → RowHolds row) (
+        (λ g. node_event rule.rule_1 right_1), ((λ g. node_event_change rule.rule_2 right_2), ((λ g. node_event rule.rule_3 right_3), ((λ g. node_event rule.rule_4 right_4), ((λ g. node_event rule.rule_5 right_5),
+        ((λ g. node_event rule.rule_6 right_6), ((λ g. node_event rule.rule_7 right_7), ((λ g. node_event rule.rule_8 right_8), ((λ g. two_events rule.rule_9 right_9), ((λ g. one_event rule.rule_10 right_10),
+        ((λ g. row-of-nothing s Right rule.rule_11 (right_11 some-rows)), ((λ g. node_events rule.rule_12 right_12), ((λ g. node_events rule.rule_13 right_13), ((λ g. node_events rule.rule_14 right_14), ((λ g. node_events rule.rule_15 right_15),
+        ((λ g. node_events rule.rule_16 right_16), ((λ g. node_event rule.rule_17 right_17), ((λ g. node_events rule.rule_18 right_18), ((λ g. node_three_events rule.rule_19 right_19), ((λ g. node_events rule.rule_20 right_20),
+        ((λ g. node_three_events rule.rule_21 right_21), ((λ g. node_events rule.rule_22 right_22), ((λ g. node_events rule.rule_23 right_23), ((λ g. one_event rule.rule_24 (λ e in_. right_24 e in_ (g refl))), tt))))))))))))))))))))))),
+      )
 
-      lasting-row : (n : ℕ) (row : Row) → n < 24 → row_of n ≡ Some row → RowHolds row
-      lasting-row zero row less there = absurd (cc)
-      lasting-row (suc n) row less there = row-holds lasting_rows n row (lasting-hold some-rows) (sym (rows-left lasting_rows (of_event rule.rule_24 ∷ []) n (omega arith)) ∙ there)
-
-      any-row : truth log t 0 (tree_at trees root) ≡ value → (n : ℕ) (row : Row) → row_of n ≡ Some row → RowHolds row
-      any-row gives zero row there = absurd (cc)
-      any-row gives (suc n) row there = row-holds rows n row (rows-more lasting_rows (of_event rule.rule_24 ∷ []) (lasting-hold some-rows) (one_event rule.rule_24 (λ e in_. right_24 e in_ gives), tt)) there
-
-      pub lasting-right : (rule : Rule) (c : List Literal) → rule.number < 24 → clause_of s rule ≡ Ok c → clause_holds log t trees c ≡ true
-      lasting-right rule c less is = row-right rule c (λ row there. lasting-row rule.number row less there) is
-
-      pub sought-right : (rule : Rule) (c : List Literal) → truth log t 0 (tree_at trees root) ≡ value → clause_of s rule ≡ Ok c → clause_holds log t trees c ≡ true
-      sought-right rule c gives is = row-right rule c (λ row there. any-row gives rule.number row there) is
+      pub rule-right : (rule : Rule) (c : List Literal) → (rule.number ≡ 24 → truth log t 0 (tree_at trees root) ≡ value) → clause_of s rule ≡ Ok c → clause_holds log t trees c ≡ true
+      rule-right rule c gives is =
+          let w = written-by s rule c is in
+          let right : Right (Ok w.parts) = subst Right w.written (rows-hold rule.number w.row w.at gives rule.args w.there) in
+          clause_from_parts M w.parts c w.clause right
 
 pub rules-hold : CoresAreCores → NodesAreSubtrees → TruthOfCore → BeforeIsNotLater → RulesHold
 rules-hold cores nodes core before = record {
-  lasting = λ log t f v rule c valid ok less is. lasting-right log t (nodes_of f) (length (nodes_of f) - 1) v ok.count cores.equality (nodes.children_first f) valid ok before rule c less is;
-  sought_value = λ log t f v rule c valid ok gives is. sought-right log t (nodes_of f) (length (nodes_of f) - 1) v ok.count cores.equality (nodes.children_first f) valid ok before rule c
-      (ap (λ tree. truth log t 0 tree) (nodes.root f).1 ∙ core.at_position log t 0 f ∙ gives) is;
+  lasting = λ log t f v rule c valid ok lasts is. rule-right log t (nodes_of f) (length (nodes_of f) - 1) v ok.count cores.equality (nodes.children_first f) valid ok before rule c (λ one. absurd (lasts one)) is;
+  sought_value = λ log t f v rule c valid ok gives is. rule-right log t (nodes_of f) (length (nodes_of f) - 1) v ok.count cores.equality (nodes.children_first f) valid ok before rule c
+      (λ one. ap (λ tree. truth log t 0 tree) (nodes.root f).1 ∙ core.at_position log t 0 f ∙ gives) is;
 }

@@ -1,6 +1,6 @@
 -- The clause of a rule, by its number and its arguments.
-use Rattle.std.specs.Prelude.{ℕ, zero, suc, ◌==◌, nat_lt, Bool, true, false, ◌&&◌, if◌then◌else◌, List, [], ◌∷◌, ◌++◌, length, Option, None, Result, Err, slice_get, slice_index_or}
-use Rattle.std.specs.Option.{option_map_or}
+use Rattle.std.specs.Prelude.{ℕ, zero, suc, ◌==◌, nat_lt, Bool, true, false, ◌&&◌, if◌then◌else◌, List, [], ◌∷◌, ◌++◌, length, count_by, Option, Some, None, Result, Err, slice_get, slice_index_or}
+use Rattle.std.specs.Option.{option_flatten, option_map_or}
 use Rattle.axiom_rules.specs.declared.fault.RuleFault.{RuleFault}
 use Rattle.axiom_rules.specs.declared.fault.RuleFault.TheVariants.{NoRule, Range}
 use Rattle.axiom_rules.specs.declared.literal.Literal.{Literal}
@@ -43,21 +43,29 @@ of_node_three_events write = record { arguments = ANode ∷ AnEvent ∷ AnEvent 
 abbrev pub of_node_event_change : (Sought → ℕ → ℕ → ℕ → Written) → Row
 of_node_event_change write = record { arguments = ANode ∷ AnEvent ∷ AChange ∷ Unused ∷ []; writes = λ s args. write s (arg args 0) (arg args 1) (arg args 2) }
 
--- the rules 1 to 23, which are about all timings, and rule 24, which is about the value sought
-abbrev pub lasting_rows : List Row
-lasting_rows =
-    of_node_event rule_1 ∷ of_node_event_change rule_2 ∷ of_node_event rule_3 ∷ of_node_event rule_4 ∷ of_node_event rule_5 ∷ of_node_event rule_6 ∷ of_node_event rule_7 ∷ of_node_event rule_8
-    ∷ of_events rule_9 ∷ of_event rule_10 ∷ of_nothing rule_11
-    ∷ of_node_events rule_12 ∷ of_node_events rule_13 ∷ of_node_events rule_14 ∷ of_node_events rule_15 ∷ of_node_events rule_16 ∷ of_node_event rule_17 ∷ of_node_events rule_18
-    ∷ of_node_three_events rule_19 ∷ of_node_events rule_20 ∷ of_node_three_events rule_21 ∷ of_node_events rule_22 ∷ of_node_events rule_23 ∷ []
+-- the rows by their numbers, which count from 1; None where no rule has the number
+abbrev pub rows : List (Option Row)
+rows =
+    Some (of_node_event rule_1) ∷ Some (of_node_event_change rule_2) ∷ Some (of_node_event rule_3) ∷ Some (of_node_event rule_4) ∷ Some (of_node_event rule_5) ∷ Some (of_node_event rule_6) ∷ Some (of_node_event rule_7) ∷ Some (of_node_event rule_8)
+    ∷ Some (of_events rule_9) ∷ Some (of_event rule_10) ∷ Some (of_nothing rule_11)
+    ∷ Some (of_node_events rule_12) ∷ Some (of_node_events rule_13) ∷ Some (of_node_events rule_14) ∷ Some (of_node_events rule_15) ∷ Some (of_node_events rule_16) ∷ Some (of_node_event rule_17) ∷ Some (of_node_events rule_18)
+    ∷ Some (of_node_three_events rule_19) ∷ Some (of_node_events rule_20) ∷ Some (of_node_three_events rule_21) ∷ Some (of_node_events rule_22) ∷ Some (of_node_events rule_23) ∷ Some (of_event rule_24) ∷ []
 
-abbrev pub rows : List Row
-rows = lasting_rows ++ of_event rule_24 ∷ []
-
--- the row of a number, which counts from 1
+-- the row of a number
 abbrev pub row_of : ℕ → Option Row
 row_of zero = None
-row_of (suc n) = slice_get rows n
+row_of (suc n) = option_flatten (slice_get rows n)
+
+-- whether an argument is used
+abbrev pub is_used : Argument → Bool
+is_used ANode = true
+is_used AnEvent = true
+is_used AChange = true
+is_used Unused = false
+
+-- how many arguments the rule of a number uses, which are its first ones; none where there is no such rule
+abbrev pub argument_count : ℕ → ℕ
+argument_count number = option_map_or (λ row. count_by is_used row.arguments) (row_of number) 0
 
 -- a node or an event is there, and an argument that is not used is 0; a change is looked for by the rule
 abbrev pub is_there : Sought → Argument → ℕ → Bool

@@ -1,9 +1,9 @@
 //! Clauses that grow out of the parts that a rule writes.
 
-ghost use Rattle.std.specs.Prelude.{◌≡◌, ◌++◌, [], ◌∷◌, map, OnOk};
-ghost use Rattle.std.specs.List.{range_with_len};
+ghost use Rattle.std.specs.Prelude.{◌≡◌, ◌++◌, [], ◌∷◌, map, true, OnOk};
+ghost use Rattle.std.specs.List.{list_all, range_with_len};
 ghost use Rattle.axiom_rules.specs.Adding.{Answers, with_literal, with_part, with_parts};
-ghost use Rattle.axiom_rules.specs.Each.{part_at};
+ghost use Rattle.axiom_rules.specs.Each.{AreBefore, IsNew, is_other, part_at};
 ghost use Rattle.axiom_rules.specs.Literals.{has_literal, same_literal};
 ghost use Rattle.axiom_rules.specs.Parts.{clause_of_parts};
 
@@ -96,12 +96,25 @@ fn add_all(clause: &mut Clause, parts: &[Part]) -> Result<(), RuleFault>
     Ok(())
 }
 
-// Adds a part for each of so many events.
+// Adds a part that speaks of no atom of the clause, without looking for one.
+fn add_new(clause: &mut Clause, part: Part) -> Result<(), RuleFault>
+    requires { IsNew clause.old.items part }
+    ensures { Answers (with_part clause.old.items part) result clause.new.items }
+{
+    match part {
+        Part::Says(literal) => Ok(push(clause, literal)?),
+        Part::Known(true) => Err(RuleFault::Trivial),
+        Part::Known(false) => Ok(()),
+    }
+}
+
+// Adds a part for each of so many events to a clause without literals of that kind.
 fn add_each(clause: &mut Clause, events: u32, each: Each) -> Result<(), RuleFault>
+    requires { AreBefore each 0 clause.old.items }
     ensures { Answers (with_parts clause.old.items (map (part_at each) (range_with_len 0 events))) result clause.new.items }
 {
     for x in 0..events {
-        add(clause, each.at(x))?;
+        add_new(clause, each.at(x))?;
     }
     Ok(())
 }
@@ -115,7 +128,8 @@ pub fn write(clause: &mut Clause, parts: &[Part]) -> Result<(), RuleFault>
     add_all(clause, parts)
 }
 
-/// Makes a clause that of parts and a part for each of so many events.
+/// Makes a clause that of parts and a part for each of so many events, in a time that grows with their number: the
+/// parts for events are looked for nowhere, since each has an atom of its own, of a kind that the others don't have.
 #[tactic(auto, using(crate::proofs::AddingLemmas::clause_fault))]
 pub fn write_each(
     clause: &mut Clause,
@@ -123,6 +137,7 @@ pub fn write_each(
     events: u32,
     each: Each,
 ) -> Result<(), RuleFault>
+    requires { list_all (is_other each) parts.now ≡ true }
     ensures { Answers (clause_of_parts (parts.now ++ map (part_at each) (range_with_len 0 events))) result clause.new.items }
 {
     clause.clear();

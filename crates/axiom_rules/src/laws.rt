@@ -1,4 +1,4 @@
-ghost use Rattle.axiom_rules.specs.Laws.{ClausesHaveAtomsOnce, RulesHold};
+ghost use Rattle.axiom_rules.specs.Laws.{ClausesHaveAtomsOnce, RulesAreWithinTable, RulesHold};
 
 use formula_arena::{cores_are_cores, nodes_are_subtrees, truth_of_core};
 use mt_model::before_is_not_later;
@@ -17,4 +17,10 @@ pub fn rules_hold()
 /// In the clause of a rule no atom stands twice.
 pub fn clauses_have_atoms_once()
     ensures { ClausesHaveAtomsOnce }
+{}
+
+/// A rule that has a clause has a number of the table and 0 for each argument that it doesn't use. Its clause has
+/// at most five literals more than the log has rows, and its order atoms are over rows of the log.
+pub fn rules_are_within_table()
+    ensures { RulesAreWithinTable }
 {}

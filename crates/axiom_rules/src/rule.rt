@@ -1,5 +1,5 @@
-ghost use Rattle.std.specs.Prelude.{◌≡◌, option_map};
-ghost use Rattle.axiom_rules.specs.Clauses.{row_of};
+ghost use Rattle.std.specs.Prelude.{◌≡◌, ◌≤◌, count_by, option_map};
+ghost use Rattle.axiom_rules.specs.Clauses.{argument_count as argument_count_of, is_used as is_used_argument, row_of};
 
 use mt_list::ListOf;
 
@@ -71,32 +71,35 @@ const NODE_THREE_EVENTS: [Argument; 4] = [
     Argument::AnEvent,
 ];
 
-// What the arguments of rule 1 are, of rule 2 and so on.
-const ARGUMENTS: [[Argument; 4]; 24] = [
-    NODE_EVENT,
-    NODE_EVENT_CHANGE,
-    NODE_EVENT,
-    NODE_EVENT,
-    NODE_EVENT,
-    NODE_EVENT,
-    NODE_EVENT,
-    NODE_EVENT,
-    EVENTS,
-    EVENT,
-    NOTHING,
-    NODE_EVENTS,
-    NODE_EVENTS,
-    NODE_EVENTS,
-    NODE_EVENTS,
-    NODE_EVENTS,
-    NODE_EVENT,
-    NODE_EVENTS,
-    NODE_THREE_EVENTS,
-    NODE_EVENTS,
-    NODE_THREE_EVENTS,
-    NODE_EVENTS,
-    NODE_EVENTS,
-    EVENT,
+/// The greatest number that a rule has.
+pub const MAX_RULE: u8 = 24;
+
+// What the arguments of rule 1 are, of rule 2 and so on, where there is one of the number.
+const ARGUMENTS: [Option<[Argument; 4]>; MAX_RULE as usize] = [
+    Some(NODE_EVENT),
+    Some(NODE_EVENT_CHANGE),
+    Some(NODE_EVENT),
+    Some(NODE_EVENT),
+    Some(NODE_EVENT),
+    Some(NODE_EVENT),
+    Some(NODE_EVENT),
+    Some(NODE_EVENT),
+    Some(EVENTS),
+    Some(EVENT),
+    Some(NOTHING),
+    Some(NODE_EVENTS),
+    Some(NODE_EVENTS),
+    Some(NODE_EVENTS),
+    Some(NODE_EVENTS),
+    Some(NODE_EVENTS),
+    Some(NODE_EVENT),
+    Some(NODE_EVENTS),
+    Some(NODE_THREE_EVENTS),
+    Some(NODE_EVENTS),
+    Some(NODE_THREE_EVENTS),
+    Some(NODE_EVENTS),
+    Some(NODE_EVENTS),
+    Some(EVENT),
 ];
 
 /// What the arguments of the rule of a number are, where there is one.
@@ -106,6 +109,31 @@ pub fn arguments_of(number: u8) -> Option<[Argument; 4]>
     if number == 0 {
         None
     } else {
-        ARGUMENTS.get(number as usize - 1).copied()
+        ARGUMENTS.get(number as usize - 1).copied().flatten()
+    }
+}
+
+// Whether an argument is used.
+fn is_used(argument: Argument) -> bool
+    ensures { result ≡ is_used_argument argument }
+{
+    argument != Argument::Unused
+}
+
+// How many of these are used.
+fn used(arguments: &[Argument]) -> usize
+    ensures count { result ≡ count_by is_used_argument arguments.now }
+{
+    arguments.iter().filter(|argument| is_used(**argument)).count()
+}
+
+/// How many arguments the rule of a number uses, which are its first ones; none where there is no such rule.
+pub fn argument_count(number: u8) -> usize
+    ensures count { result ≡ argument_count_of number }
+    ensures at_most { result ≤ 4 }
+{
+    match arguments_of(number) {
+        Some(arguments) => used(&arguments),
+        None => 0,
     }
 }

@@ -10,7 +10,6 @@ pub mod Denied
 pub mod Stuck
 pub mod Refusals
 pub mod Descents
-pub mod RuleAtoms
 pub mod RuleSpelling
 pub mod NodeIntervals
 pub mod SoughtNodes

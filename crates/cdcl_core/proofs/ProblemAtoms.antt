@@ -24,15 +24,14 @@ use Rattle.axiom_rules.specs.declared.rule.Rule.{Rule}
 use Rattle.axiom_rules.specs.Clauses.{clause_of}
 use Rattle.axiom_rules.specs.NodeShapes.{reach_in, shape_at}
 use Rattle.axiom_rules.specs.Sought.{Sought, sought_of}
+use Rattle.axiom_rules.proofs.RulesMade.{AreBounds, BothWays, IsMadeOf, IsReach, atoms-made}
 use Rattle.hint_refutation.proofs.Lists.{any_found}
 use Rattle.proof_log.specs.Derivations.{is_event, is_in_range, is_reach}
 use Rattle.mtl_encode.specs.declared.problem.Problem.{Problem}
 use Rattle.mtl_encode.specs.Problems.{Fits, StandsIn}
-use Rattle.mtl_encode.proofs.OrdersInRange.{IsInRange, orders-in-range}
 use Rattle.mtl_encode.proofs.RangeLemmas.{among-at}
 use Rattle.cdcl_core.specs.Orders.{IsOrderAmong}
-use Rattle.cdcl_core.proofs.RuleAtoms.{AreBounds, BothWays, IsKnown, IsReach, atoms-known}
-use Rattle.cdcl_core.proofs.SoughtNodes.{interval-at, sought-whole}
+use Rattle.cdcl_core.proofs.SoughtNodes.{interval-at, sought-nodes}
 
 -- nothing is asked of a bound
 abbrev Anything : ℤ → Type 0
@@ -65,33 +64,34 @@ fits-atoms P s p fits each k d low =
 three-in-range : (s : Sought) (k i j : ℕ) → IsReach s k × (i < length s.log.rows) × (j < length s.log.rows) → (is_reach s k && is_event s i && is_event s j) ≡ true
 three-in-range s k i j known = and_from (is_reach s k && is_event s i) (is_event s j) (and_from (is_reach s k) (is_event s i) known.0 (lt-ltb i (length s.log.rows) known.1)) (lt-ltb j (length s.log.rows) known.2)
 
-in-range-known : (s : Sought) (B : ℤ → Type 0) (a : Atom) → IsKnown s B a → IsInRange s a → IsTrue (is_in_range s a)
-in-range-known s B (Order e f c) known rows = and_from (nat_lt e (length s.log.rows)) (nat_lt f (length s.log.rows)) (lt-ltb e (length s.log.rows) rows.0) (lt-ltb f (length s.log.rows) rows.1)
-in-range-known s B (Node k e) known rows = and_from (nat_lt k (length s.trees)) (nat_lt e (length s.log.rows)) (lt-ltb k (length s.trees) known.0) (lt-ltb e (length s.log.rows) known.1)
-in-range-known s B (First e) known rows = lt-ltb e (length s.log.rows) known
-in-range-known s B (Wit k i j) known rows = three-in-range s k i j known
-in-range-known s B (Span k i j) known rows = three-in-range s k i j known
-in-range-known s B (Gap k i m) known rows = three-in-range s k i m known
+-- below the number of the nodes
+abbrev IsNode : Sought → ℕ → Type 0
+IsNode s k = k < length s.trees
 
-among-known : (s : Sought) (a : Atom) → IsKnown s (IsWithin MAX_ORDER) a → IsInRange s a → IsOrderAmong (length s.log.rows + 1) a
-among-known s (Order e f c) known rows = record { smaller_first = known.0; second = let low = rows.1 in omega (arith, low); bound = known.1.bound; negated = known.1.negated }
-among-known s (Node k e) known rows = tt
-among-known s (First e) known rows = tt
-among-known s (Wit k i j) known rows = tt
-among-known s (Span k i j) known rows = tt
-among-known s (Gap k i m) known rows = tt
+in-range-made : (s : Sought) (B : ℤ → Type 0) (a : Atom) → IsMadeOf s (IsNode s) B a → IsTrue (is_in_range s a)
+in-range-made s B (Order e f c) made = and_from (nat_lt e (length s.log.rows)) (nat_lt f (length s.log.rows)) (lt-ltb e (length s.log.rows) (omega (arith, made.0, made.1))) (lt-ltb f (length s.log.rows) made.1)
+in-range-made s B (Node k e) made = and_from (nat_lt k (length s.trees)) (nat_lt e (length s.log.rows)) (lt-ltb k (length s.trees) made.0) (lt-ltb e (length s.log.rows) made.1)
+in-range-made s B (First e) made = lt-ltb e (length s.log.rows) made
+in-range-made s B (Wit k i j) made = three-in-range s k i j made
+in-range-made s B (Span k i j) made = three-in-range s k i j made
+in-range-made s B (Gap k i m) made = three-in-range s k i m made
+
+among-made : (s : Sought) (a : Atom) → IsMadeOf s (IsNode s) (IsWithin MAX_ORDER) a → IsOrderAmong (length s.log.rows + 1) a
+among-made s (Order e f c) made = record { smaller_first = made.0; second = let low = made.1 in omega (arith, low); bound = made.2.bound; negated = made.2.negated }
+among-made s (Node k e) made = tt
+among-made s (First e) made = tt
+among-made s (Wit k i j) made = tt
+among-made s (Span k i j) made = tt
+among-made s (Gap k i m) made = tt
 
 module _ (cores : CoresAreCores) (law : NodesAreSubtrees) (log : Logged) (f : Form) (v : Bool) (p : Problem) (fits : Fits (sought_of log f v) p) where
   abbrev s : Sought
   s = sought_of log f v
 
-  rows-known : All (IsInRange s) p.atoms
-  rows-known = fits-atoms (IsInRange s) s p fits (orders-in-range s)
-
   -- the atoms are in range
   pub atoms-in-range : All (λ a. IsTrue (is_in_range s a)) p.atoms
-  atoms-in-range k d low = in-range-known s Anything (slice_index_or p.atoms k d)
-      (fits-atoms (IsKnown s Anything) s p fits (atoms-known s Anything (sought-whole cores law log f v) anything) k d low) (rows-known k d low)
+  atoms-in-range k d low = in-range-made s Anything (slice_index_or p.atoms k d)
+      (fits-atoms (IsMadeOf s (IsNode s) Anything) s p fits (atoms-made s (IsNode s) Anything (sought-nodes cores law log f v) anything) k d low)
     where
       both : (c : ℤ) → BothWays Anything c
       both c = record { bound = tt; negated = tt }
@@ -101,8 +101,8 @@ module _ (cores : CoresAreCores) (law : NodesAreSubtrees) (log : Logged) (f : Fo
 
   -- order atoms are differences of two nodes within the limits, where the formula is within its own
   pub orders-among : IsFormula f → All (IsOrderAmong p.nodes) p.atoms
-  orders-among valid k d low = rw fits.nodes (among-known s (slice_index_or p.atoms k d)
-      (fits-atoms (IsKnown s (IsWithin MAX_ORDER)) s p fits (atoms-known s (IsWithin MAX_ORDER) (sought-whole cores law log f v) within) k d low) (rows-known k d low))
+  orders-among valid k d low = rw fits.nodes (among-made s (slice_index_or p.atoms k d)
+      (fits-atoms (IsMadeOf s (IsNode s) (IsWithin MAX_ORDER)) s p fits (atoms-made s (IsNode s) (IsWithin MAX_ORDER) (sought-nodes cores law log f v) within) k d low))
     where
       is : (k : ℕ) (u : Reach) → reach_in (shape_at s k) ≡ Some u → is_interval u.interval ≡ true
       is k u at = interval-at cores law log f is_interval valid.intervals v k u at

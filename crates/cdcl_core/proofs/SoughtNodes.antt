@@ -11,12 +11,37 @@ use Rattle.formula_arena.specs.Subtrees.{children_of}
 use Rattle.axiom_rules.specs.declared.reach.Reach.{Reach}
 use Rattle.axiom_rules.specs.declared.shape.Shape.{Shape}
 use Rattle.axiom_rules.specs.declared.shape.Shape.TheVariants as shape
-use Rattle.axiom_rules.specs.NodeShapes.{changes_named, number_of, reach_in, shape_at, shape_of}
+use Rattle.axiom_rules.specs.NodeShapes.{changes_named, number_of, operand_in, reach_in, shape_at, shape_of, sides_in}
 use Rattle.axiom_rules.specs.Shapes.{IsOver}
 use Rattle.axiom_rules.specs.Sought.{sought_of}
+use Rattle.axiom_rules.proofs.RulesMade.{AreNodes}
 use Rattle.axiom_rules.proofs.TreeLemmas.{number-at}
 use Rattle.cdcl_core.proofs.NodeIntervals.{Pass, node-passes, since-passes, until-passes}
-use Rattle.cdcl_core.proofs.RuleAtoms.{IsWhole}
+
+-- the numbers in shapes that are over so many nodes
+operand-low : (n : ℕ) (o : Option Shape) (a : ℕ) → ((of : Shape) → o ≡ Some of → IsOver n of) → operand_in o ≡ Some a → a < n
+operand-low n None a over is = absurd (cc)
+operand-low n (Some shape.True) a over is = absurd (cc)
+operand-low n (Some (shape.Prop host name changes)) a over is = absurd (cc)
+operand-low n (Some (shape.Not b)) a over is = let same : b ≡ a = cc in subst (λ x. x < n) same (over (shape.Not b) refl)
+operand-low n (Some (shape.And b c)) a over is = absurd (cc)
+operand-low n (Some (shape.Reach r)) a over is = absurd (cc)
+
+sides-low : (n : ℕ) (o : Option Shape) (sides : ℕ × ℕ) → ((of : Shape) → o ≡ Some of → IsOver n of) → sides_in o ≡ Some sides → (sides.0 < n) × (sides.1 < n)
+sides-low n None sides over is = absurd (cc)
+sides-low n (Some shape.True) sides over is = absurd (cc)
+sides-low n (Some (shape.Prop host name changes)) sides over is = absurd (cc)
+sides-low n (Some (shape.Not b)) sides over is = absurd (cc)
+sides-low n (Some (shape.And b c)) sides over is = let same : (b, c) ≡ sides = cc in subst (λ (x : ℕ × ℕ). (x.0 < n) × (x.1 < n)) same (over (shape.And b c) refl)
+sides-low n (Some (shape.Reach r)) sides over is = absurd (cc)
+
+reach-low : (n : ℕ) (o : Option Shape) (u : Reach) → ((of : Shape) → o ≡ Some of → IsOver n of) → reach_in o ≡ Some u → (u.left < n) × (u.right < n)
+reach-low n None u over is = absurd (cc)
+reach-low n (Some shape.True) u over is = absurd (cc)
+reach-low n (Some (shape.Prop host name changes)) u over is = absurd (cc)
+reach-low n (Some (shape.Not b)) u over is = absurd (cc)
+reach-low n (Some (shape.And b c)) u over is = absurd (cc)
+reach-low n (Some (shape.Reach r)) u over is = let same : r ≡ u = cc in subst (λ (x : Reach). (x.left < n) × (x.right < n)) same (over (shape.Reach r) refl)
 
 -- the nodes of a formula name each other
 module _ (cores : CoresAreCores) (law : NodesAreSubtrees) (log : Logged) (f : Form) where
@@ -52,14 +77,20 @@ module _ (cores : CoresAreCores) (law : NodesAreSubtrees) (log : Logged) (f : Fo
   shape-over k (Once I g) of low at is = absurd (cc)
   shape-over k (Historically I g) of low at is = absurd (cc)
 
-  pub sought-whole : (v : Bool) → IsWhole (sought_of log f v)
-  sought-whole v = record {
-    over = λ k of is. go k of (slice_get trees k) refl is;
+  pub sought-nodes : (v : Bool) → AreNodes (sought_of log f v) (λ k. k < length trees)
+  sought-nodes v = record {
+    each = λ k low. low;
+    operand = λ k a is. operand-low (length trees) (shape_at (sought_of log f v) k) a (over k) is;
+    sides = λ k both is. sides-low (length trees) (shape_at (sought_of log f v) k) both (over k) is;
+    children = λ k u is. reach-low (length trees) (shape_at (sought_of log f v) k) u (over k) is;
     root = let some = (law.root f).0 in omega (arith, some);
   } where
     go : (k : ℕ) (of : Shape) (o : Option Form) → slice_get trees k ≡ o → option_and_then (shape_of log trees) o ≡ Some of → IsOver (length trees) of
     go k of None at is = absurd (cc)
     go k of (Some g) at is = shape-over k g of (slice_get_within trees k g at) (get_or_from_slice_get trees k g True at) is
+
+    over : (k : ℕ) (of : Shape) → shape_at (sought_of log f v) k ≡ Some of → IsOver (length trees) of
+    over k of is = go k of (slice_get trees k) refl is
 
   -- the interval of an until or since node is one of the formula's
   module _ (p : Interval → Bool) (passes : Pass p f) where

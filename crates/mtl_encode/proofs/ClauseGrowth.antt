@@ -15,8 +15,8 @@ use Rattle.axiom_rules.specs.declared.rule.Rule.{Rule}
 use Rattle.axiom_rules.specs.Clauses.{clause_of}
 use Rattle.axiom_rules.specs.Sought.{Sought}
 use Rattle.axiom_rules.proofs.ShapeLemmas.{slice-end}
+use Rattle.axiom_rules.proofs.RulesMade.{few-literals}
 use Rattle.mtl_encode.proofs.AtomGrowth.{Keeps, all-atoms, keeps-atoms, longer-atoms, read-kept}
-use Rattle.mtl_encode.proofs.ClauseLengths.{clause-short}
 use Rattle.mtl_encode.proofs.RangeLemmas.{part-short, place-of}
 use Rattle.mtl_encode.specs.declared.clauses.Clauses.{Clauses}
 use Rattle.mtl_encode.specs.Growth.{AreClauses, Gains, HasRoom, most_literals, with_atoms}
@@ -69,7 +69,7 @@ module _ (s : Sought) (old new : Clauses) (rule : Rule) (clause : List Literal) 
 
   few-one : length new.atoms ≤ most_literals * length new.rules
   few-one = rw (atoms, rules) (
-      let short = clause-short s rule clause of_rule in
+      let short = few-literals s rule clause of_rule in
       let count = length-append old.rules (rule ∷ []) in
       omega (arith, held.few, held.rows, short, longer-atoms clause old.atoms, count))
 

@@ -16,14 +16,16 @@ use Rattle.axiom_rules.specs.declared.part.Part.{Part}
 use Rattle.axiom_rules.specs.declared.rule.Argument.{Argument}
 use Rattle.axiom_rules.specs.declared.rule.Argument.TheVariants.{ANode, AnEvent, AChange, Unused}
 use Rattle.axiom_rules.specs.declared.rule.Rule.{Rule}
-use Rattle.axiom_rules.specs.Clauses.{Row, are_there, clause_of, is_there, of_event, of_events, of_node_event, of_node_event_change, of_node_events, of_node_three_events, of_nothing, row_of, rows}
+use Rattle.axiom_rules.specs.declared.rule.TheConstants.{MAX_RULE}
+use Rattle.axiom_rules.specs.Clauses.{Row, are_there, clause_of, is_there, of_event, of_events, of_node_event, of_node_event_change, of_node_events, of_node_three_events, of_nothing, row_of}
 use Rattle.axiom_rules.specs.NodeShapes.{changes_in, changes_named, shape_at, shape_of}
 use Rattle.axiom_rules.specs.Parts.{Written, clause_of_written}
-use Rattle.axiom_rules.specs.Rules.{of_kind, rule_1, rule_2, rule_3, rule_4, rule_5, rule_6, rule_7, rule_8, rule_9, rule_10, rule_11, rule_12, rule_13, rule_14, rule_15, rule_16, rule_17, rule_18, rule_19, rule_20, rule_21, rule_22, rule_23, rule_24}
+use Rattle.axiom_rules.specs.Rules.{of_kind, rule_2}
 use Rattle.axiom_rules.specs.Sought.{Sought}
+use Rattle.axiom_rules.proofs.ChangeCases.{changes-case}
+use Rattle.axiom_rules.proofs.RowCases.{four, shape-case, written-by}
+use Rattle.axiom_rules.proofs.UnusedArguments.{number-low}
 use Rattle.mtl_encode.proofs.RangeLemmas.{Apart, among-at, among-flat, apart-flat, apart-pairs, flat-among, place-of}
-use Rattle.mtl_encode.proofs.ChangeCases.{changes-case}
-use Rattle.mtl_encode.proofs.RowCases.{row-case}
 use Rattle.mtl_encode.specs.Instances.{count_of, instances, kept, of_number, rule_at, with_none, with_one, with_three, with_two}
 use Rattle.mtl_encode.specs.Listing.{HasClause, ListsRules}
 
@@ -126,25 +128,9 @@ module _ (s : Sought) where
   below AChange n other is = absurd (other refl)
   below Unused n other is = grind (arith, nat_tests)
 
-  -- four arguments that are there
-  pub four : (p q r t : Argument) (args : List ℕ) → are_there s (p ∷ q ∷ r ∷ t ∷ []) args ≡ true
-      → (a b c d : ℕ) × (args ≡ a ∷ b ∷ c ∷ d ∷ []) × (is_there s p a ≡ true) × (is_there s q b ≡ true) × (is_there s r c ≡ true) × (is_there s t d ≡ true)
-  four p q r t [] is = absurd (cc)
-  four p q r t (a ∷ []) is = let past = (and_parts (is_there s p a) false is).1 in absurd (cc)
-  four p q r t (a ∷ b ∷ []) is = let past = (and_parts (is_there s q b) false (and_parts (is_there s p a) _ is).1).1 in absurd (cc)
-  four p q r t (a ∷ b ∷ c ∷ []) is = let past = (and_parts (is_there s r c) false (and_parts (is_there s q b) _ (and_parts (is_there s p a) _ is).1).1).1 in absurd (cc)
-  four p q r t (a ∷ b ∷ c ∷ d ∷ []) is =
-      let one = and_parts (is_there s p a) _ is in
-      let two = and_parts (is_there s q b) _ one.1 in
-      let three = and_parts (is_there s r c) _ two.1 in
-      let last = and_parts (is_there s t d) _ three.1 in
-      (a, b, c, d, refl, one.0, two.0, three.0, last.0)
-  four p q r t (a ∷ b ∷ c ∷ d ∷ e ∷ args) is =
-      let past = (and_parts (is_there s t d) false (and_parts (is_there s r c) _ (and_parts (is_there s q b) _ (and_parts (is_there s p a) _ is).1).1).1).1 in absurd (cc)
-
   no-change : (p q r t : Argument) (write : Sought → List ℕ → Written) → (p ≡ AChange → ⊥) → (q ≡ AChange → ⊥) → (r ≡ AChange → ⊥) → (t ≡ AChange → ⊥) → AreBelow (record { arguments = p ∷ q ∷ r ∷ t ∷ []; writes = write })
   no-change p q r t write hp hq hr ht args parts is written =
-      let (a, b, c, d, args-are, in-a, in-b, in-c, in-d) = four p q r t args is in
+      let (a, b, c, d, args-are, in-a, in-b, in-c, in-d) = four s p q r t args is in
       (a, b, c, d, args-are, below p a hp in-a, below q b hq in-b, below r c hr in-c, below t d ht in-d)
 
   node-event : (w : Sought → ℕ → ℕ → Written) → AreBelow (of_node_event w)
@@ -192,43 +178,23 @@ module _ (s : Sought) where
 
   event-change : AreBelow (of_node_event_change rule_2)
   event-change args parts is written =
-      let (a, b, c, d, args-are, in-a, in-b, in-c, in-d) = four ANode AnEvent AChange Unused args is in
+      let (a, b, c, d, args-are, in-a, in-b, in-c, in-d) = four s ANode AnEvent AChange Unused args is in
       let low = change-below a b c parts (rw args-are at written) in
       (a, b, c, d, args-are, below ANode a (λ h. absurd (cc)) in-a, below AnEvent b (λ h. absurd (cc)) in-b, low, below Unused d (λ h. absurd (cc)) in-d)
 
-  rows-below : AllByRecursion AreBelow rows
-  rows-below = (node-event rule_1, (event-change, (node-event rule_3, (node-event rule_4, (node-event rule_5, (node-event rule_6, (node-event rule_7, (node-event rule_8, (two-events rule_9, (one-event rule_10, (no-argument rule_11, (node-events rule_12, (node-events rule_13, (node-events rule_14, (node-events rule_15, (node-events rule_16, (node-event rule_17, (node-events rule_18, (three-events rule_19, (node-events rule_20, (three-events rule_21, (node-events rule_22, (node-events rule_23, (one-event rule_24, tt))))))))))))))))))))))))
-
-  of-row : (number : ℕ) (row : Row) (args : List ℕ) (c : List Literal) → row_of number ≡ Some row → clause_of s (record { number = number; args = args }) ≡ Ok c
-      → (are_there s row.arguments args ≡ true) × ((parts : List Part) × (row.writes s args ≡ Ok parts))
-  of-row number row args c at is = go (are_there s row.arguments args) refl (rw at at is)
-    where
-      written : (w : Written) → clause_of_written w ≡ Ok c → (parts : List Part) × (w ≡ Ok parts)
-      written (Ok parts) is = (parts, refl)
-      written (Err fault) is = absurd (cc)
-
-      go : (b : Bool) → are_there s row.arguments args ≡ b → (if b then clause_of_written (row.writes s args) else Err Range) ≡ Ok c
-          → (are_there s row.arguments args ≡ true) × ((parts : List Part) × (row.writes s args ≡ Ok parts))
-      go true there is = (there, written (row.writes s args) is)
-      go false there is = absurd (cc)
-
-  number-low : (number : ℕ) (row : Row) → row_of number ≡ Some row → number < 25
-  number-low zero row at = omega arith
-  number-low (suc n) row at = let low : n < 24 = slice_get_within rows n row at in omega (arith, low)
+  rows-below : (number : ℕ) (row : Row) → row_of number ≡ Some row → AreBelow row
+  rows-below = shape-case AreBelow no-argument one-event two-events node-event node-events three-events event-change
 
   -- a rule that has a clause stands among all
   pub every : (rule : Rule) (c : List Literal) → clause_of s rule ≡ Ok c → Among (instances s) rule
-  every rule c is = go (row_of rule.number) refl is
-    where
-      go : (o : Option Row) → row_of rule.number ≡ o → option_map_or (λ row. if are_there s row.arguments rule.args then clause_of_written (row.writes s rule.args) else Err Range) o (Err NoRule) ≡ Ok c → Among (instances s) rule
-      go None at is-now = absurd (cc)
-      go (Some row) at is-now =
-          let (there, (parts, written)) = of-row rule.number row rule.args c at is in
-          let (a, b, p, d, args-are, low-a, low-b, low-p, low-d) = row-case AreBelow rows-below rule.number row at rule.args parts there written in
-          let same : rule_at rule.number a b p d ≡ rule = ap (λ args. let r : Rule = record { number = rule.number; args = args } in r) (sym args-are) in
-          let has = none-has s rule.number (map (count_of s) row.arguments) a b p d c (subst (λ (r : Rule). clause_of s r ≡ Ok c) (sym same) is) low-a low-b low-p low-d in
-          among-flat (of_number s) 0 25 rule.number rule (omega arith) (omega (arith, number-low rule.number row at)) (subst (λ (o : Option Row). Among (option_map_or (λ row. with_none s rule.number (map (count_of s) row.arguments)) o []) rule) (sym at)
-          (subst (λ (r : Rule). Among (with_none s rule.number (map (count_of s) row.arguments)) r) same has))
+  every rule c is =
+      let w = written-by s rule c is in
+      let (a, b, p, d, args-are, low-a, low-b, low-p, low-d) = rows-below rule.number w.row w.at rule.args w.parts w.there w.written in
+      let same : rule_at rule.number a b p d ≡ rule = ap (λ args. let r : Rule = record { number = rule.number; args = args } in r) (sym args-are) in
+      let has = none-has s rule.number (map (count_of s) w.row.arguments) a b p d c (subst (λ (r : Rule). clause_of s r ≡ Ok c) (sym same) is) low-a low-b low-p low-d in
+      among-flat (of_number s) 0 (MAX_RULE + 1) rule.number rule (omega arith) (omega (arith, number-low rule.number w.row w.at))
+      (subst (λ (o : Option Row). Among (option_map_or (λ row. with_none s rule.number (map (count_of s) row.arguments)) o []) rule) (sym w.at)
+      (subst (λ (r : Rule). Among (with_none s rule.number (map (count_of s) w.row.arguments)) r) same has))
 
   number-is : (number : ℕ) (r : Rule) → Among (of_number s number) r → (number ≡ r.number) × HasClause s r
   number-is number r in_ = go (row_of number) in_
@@ -245,12 +211,12 @@ module _ (s : Sought) where
       go (Some row) = none-apart s number (map (count_of s) row.arguments)
 
   only : (r : Rule) → Among (instances s) r → HasClause s r
-  only r in_ = let (number, low, high, at) = flat-among (of_number s) 0 25 r in_ in (number-is number r at).1
+  only r in_ = let (number, low, high, at) = flat-among (of_number s) 0 (MAX_RULE + 1) r in_ in (number-is number r at).1
 
   -- the rules that have a clause are listed
   pub instances-listed : ListsRules s (instances s)
   instances-listed = record {
     only = λ k d low. only (slice_index_or (instances s) k d) (among-at (instances s) k d low);
-    once = apart-pairs (instances s) (apart-flat (of_number s) (λ r. r.number) number-apart (λ number r in_. sym (number-is number r in_).0) 0 25);
+    once = apart-pairs (instances s) (apart-flat (of_number s) (λ r. r.number) number-apart (λ number r in_. sym (number-is number r in_).0) 0 (MAX_RULE + 1));
     every = λ rule c is. place-of (instances s) rule (every rule c is);
   }

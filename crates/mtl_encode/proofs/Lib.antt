@@ -2,15 +2,10 @@ pub mod RangeLemmas
 pub mod AtomGrowth
 pub mod Cubes
 pub mod SizeLemmas
-pub mod RowCases
-pub mod ChangeCases
-pub mod ClauseLengths
 pub mod ClauseGrowth
 pub mod KeptRules
 pub mod ReachRules
 pub mod InstanceCounts
-pub mod RuleParts
-pub mod OrdersInRange
 pub mod ModelLemmas
 mod ClauseUses
 mod PartUses

@@ -24,12 +24,13 @@ use Rattle.axiom_rules.specs.declared.literal.Literal.{Literal}
 use Rattle.axiom_rules.specs.declared.rule.Rule.{Rule}
 use Rattle.axiom_rules.specs.Atoms.{AreOnce, IsVar}
 use Rattle.axiom_rules.specs.Clauses.{clause_of}
+use Rattle.axiom_rules.specs.Laws.{IsOfRows}
 use Rattle.axiom_rules.specs.Literals.{same_atom}
 use Rattle.axiom_rules.specs.Sought.{Sought, sought_of}
 use Rattle.axiom_rules.proofs.AddingLemmas.{atom-itself}
 use Rattle.axiom_rules.proofs.PartLemmas.{atoms_same}
+use Rattle.axiom_rules.proofs.RulesMade.{orders-of-rows}
 use Rattle.mtl_encode.proofs.AtomGrowth.{parts-read, read-at, read-atom, read-count}
-use Rattle.mtl_encode.proofs.OrdersInRange.{IsInRange, orders-in-range}
 use Rattle.mtl_encode.proofs.RangeLemmas.{among-at}
 use Rattle.mtl_encode.specs.declared.problem.Problem.{Problem}
 use Rattle.mtl_encode.specs.Exact.{AgreesWith, RulesAreExact, SatisfiesRules, clause_is_true, literal_is_true}
@@ -110,8 +111,8 @@ module _ (s : Sought) (p : Problem) (values : List Bool) (numbers : List ℤ) (f
       let read = read-at p.atoms lits occurs.clause j (record { var = 0; positive = true }) l h.read (omega (arith, low, read-count p.atoms lits occurs.clause h.read)) in
       let var : IsVar p.atoms lit.var (Order e f c) = (read-atom p.atoms lit (slice_index_or occurs.clause j l) read).0 ∙ ap (λ (x : Literal). Some x.atom) at ∙ ap (λ (x : Atom). Some x) is in
       let in_ : Among occurs.clause l = subst (Among occurs.clause) at (among-at occurs.clause j l low) in
-      let range : IsInRange s (Order e f c) = subst (IsInRange s) is (orders-in-range s occurs.rule occurs.clause l occurs.is_clause in_) in
-      let time-e = time-of-node numbers e (omega (arith, range.0, model.numbers_count, fits.nodes)) in
+      let range : IsOfRows s (Order e f c) = subst (IsOfRows s) is (orders-of-rows s occurs.rule occurs.clause l occurs.is_clause in_) in
+      let time-e = time-of-node numbers e (omega (arith, range.0, range.1, model.numbers_count, fits.nodes)) in
       let time-f = time-of-node numbers f (omega (arith, range.1, model.numbers_count, fits.nodes)) in
       let difference : time_of (times_of numbers) e -ℤ time_of (times_of numbers) f ≡ number_of numbers (e + 1) -ℤ number_of numbers (f + 1) =
       rw (time-e, time-f) (same-difference (number_of numbers (e + 1)) (number_of numbers (f + 1)) (number_of numbers 0)) in

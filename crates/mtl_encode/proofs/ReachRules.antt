@@ -1,18 +1,17 @@
 -- The rules 12 to 23 have no clause for a node that is no until and no since.
-use Rattle.std.proofs.Common.{◌≡◌, refl, ℕ, zero, suc, ◌<◌, Bool, true, false, if◌then◌else◌, List, [], ◌∷◌, drop, Option, Some, None, Err}
+use Rattle.std.proofs.Common.{◌≡◌, refl, ℕ, zero, suc, ◌<◌, Bool, true, false, if◌then◌else◌, arith, List, [], ◌∷◌, Option, Some, None, Err}
 use Rattle.std.specs.Prelude.{Result, is_ok, option_and_then, slice_get, slice_index}
-use Rattle.std.specs.List.{AllByRecursion}
 use Rattle.mt_model.specs.Form.{Form, True, False, Prop, Not, And, Or, Implies, Until, Since, Eventually, Always, Once, Historically}
 use Rattle.formula_arena.specs.Nodes.{tree_at}
 use Rattle.axiom_rules.specs.declared.fault.RuleFault.TheVariants.{Kind, Range}
 use Rattle.axiom_rules.specs.declared.literal.Literal.{Literal}
 use Rattle.axiom_rules.specs.declared.fault.RuleFault.{RuleFault}
-use Rattle.axiom_rules.specs.Clauses.{Row, are_there, lasting_rows, row_of}
+use Rattle.axiom_rules.specs.Clauses.{Row, are_there, row_of}
 use Rattle.axiom_rules.specs.NodeShapes.{reach_in, shape_at, shape_of}
 use Rattle.axiom_rules.specs.Parts.{clause_of_written}
 use Rattle.axiom_rules.specs.Sought.{Sought}
+use Rattle.axiom_rules.proofs.RowCases.{row-case}
 use Rattle.mtl_encode.proofs.RangeLemmas.{flat-nothing}
-use Rattle.mtl_encode.proofs.RowCases.{lasting-case}
 use Rattle.mtl_encode.specs.Instances.{kept, rule_at, with_one, with_three, with_two}
 use Rattle.mtl_encode.specs.Size.{is_reach}
 
@@ -21,8 +20,8 @@ module _ (s : Sought) (k : ℕ) (none : reach_in (shape_at s k) ≡ None) where
   abbrev IsOfReach : Row → Type 0
   IsOfReach row = (b c d : ℕ) → row.writes s (k ∷ b ∷ c ∷ d ∷ []) ≡ Err Kind
 
-  reach-rows : AllByRecursion IsOfReach (drop 11 lasting_rows)
-  reach-rows = ((λ b c d. rw none refl), ((λ b c d. rw none refl), ((λ b c d. rw none refl), ((λ b c d. rw none refl), ((λ b c d. rw none refl), ((λ b c d. rw none refl), ((λ b c d. rw none refl), ((λ b c d. rw none refl), ((λ b c d. rw none refl), ((λ b c d. rw none refl), ((λ b c d. rw none refl), ((λ b c d. rw none refl), tt))))))))))))
+  reach-rows : (number : ℕ) (row : Row) → row_of number ≡ Some row → 11 < number → number < 24 → IsOfReach row
+  reach-rows = row-case (λ n row. 11 < n → n < 24 → IsOfReach row) ((λ low high. absurd (omega (arith, low))), ((λ low high. absurd (omega (arith, low))), ((λ low high. absurd (omega (arith, low))), ((λ low high. absurd (omega (arith, low))), ((λ low high. absurd (omega (arith, low))), ((λ low high. absurd (omega (arith, low))), ((λ low high. absurd (omega (arith, low))), ((λ low high. absurd (omega (arith, low))), ((λ low high. absurd (omega (arith, low))), ((λ low high. absurd (omega (arith, low))), ((λ low high. absurd (omega (arith, low))), ((λ low high b c d. rw none refl), ((λ low high b c d. rw none refl), ((λ low high b c d. rw none refl), ((λ low high b c d. rw none refl), ((λ low high b c d. rw none refl), ((λ low high b c d. rw none refl), ((λ low high b c d. rw none refl), ((λ low high b c d. rw none refl), ((λ low high b c d. rw none refl), ((λ low high b c d. rw none refl), ((λ low high b c d. rw none refl), ((λ low high b c d. rw none refl), ((λ low high. absurd (omega (arith, high))), tt))))))))))))))))))))))))
 
   kept-nothing : (number b c d : ℕ) → 11 < number → number < 24 → kept s (rule_at number k b c d) ≡ []
   kept-nothing number b c d low high = go (row_of number) refl
@@ -34,7 +33,7 @@ module _ (s : Sought) (k : ℕ) (none : reach_in (shape_at s k) ≡ None) where
 
       go : (o : Option Row) → row_of number ≡ o → kept s (rule_at number k b c d) ≡ []
       go None at = rw at refl
-      go (Some row) at = rw (at, arguments row (are_there s row.arguments (k ∷ b ∷ c ∷ d ∷ [])) (lasting-case IsOfReach reach-rows number row low high at b c d)) refl
+      go (Some row) at = rw (at, arguments row (are_there s row.arguments (k ∷ b ∷ c ∷ d ∷ [])) (reach-rows number row at low high b c d)) refl
 
   pub one-nothing : (number : ℕ) (counts : List ℕ) → 11 < number → number < 24 → with_one s number counts k ≡ []
   one-nothing number counts low high =

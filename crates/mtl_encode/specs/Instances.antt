@@ -1,10 +1,11 @@
 -- The rules that have a clause, in the order of their numbers and their arguments.
-use Rattle.std.specs.Prelude.{ℕ, if◌then◌else◌, List, [], ◌∷◌, length, map, is_ok, slice_index}
+use Rattle.std.specs.Prelude.{ℕ, ◌+◌, if◌then◌else◌, List, [], ◌∷◌, length, map, is_ok, slice_index}
 use Rattle.std.specs.List.{flat_map, range_with_len}
 use Rattle.std.specs.Option.{option_map_or}
 use Rattle.axiom_rules.specs.declared.rule.Argument.{Argument}
 use Rattle.axiom_rules.specs.declared.rule.Argument.TheVariants.{ANode, AnEvent, AChange, Unused}
 use Rattle.axiom_rules.specs.declared.rule.Rule.{Rule}
+use Rattle.axiom_rules.specs.declared.rule.TheConstants.{MAX_RULE}
 use Rattle.axiom_rules.specs.Clauses.{clause_of, row_of}
 use Rattle.axiom_rules.specs.Sought.{Sought}
 
@@ -41,6 +42,6 @@ module _ (s : Sought) (number : ℕ) (counts : List ℕ) where
 abbrev pub of_number : Sought → ℕ → List Rule
 of_number s number = option_map_or (λ row. with_none s number (map (count_of s) row.arguments)) (row_of number) []
 
--- all rules that have a clause; none has the number 0
+-- all rules that have a clause
 abbrev pub instances : Sought → List Rule
-instances s = flat_map (of_number s) (range_with_len 0 25)
+instances s = flat_map (of_number s) (range_with_len 0 (MAX_RULE + 1))

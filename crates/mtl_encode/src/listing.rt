@@ -5,7 +5,7 @@ ghost use Rattle.mtl_encode.specs.Growth.{AreClauses, Gains, HasRoom};
 ghost use Rattle.mtl_encode.specs.Instances.{count_of as count_of_argument, instances, of_number, with_none, with_one, with_three, with_two};
 
 use crate::clauses::Clauses;
-use axiom_rules::{Argument, Rule, Rules, arguments_of};
+use axiom_rules::{Argument, MAX_RULE, Rule, Rules, arguments_of};
 use std::alloc::{AllocError, Global};
 
 // One more than the greatest argument of its kind.
@@ -146,7 +146,7 @@ impl Clauses {
         requires room { HasRoom (length self.old.rules + length (instances rules.now)) }
         ensures { OnOk result (Gains rules.now self.old self.new (instances rules.now)) }
     {
-        for number in 0..25 {
+        for number in 0..MAX_RULE + 1 {
             self.add_number(alloc, rules, nodes, number)?;
         }
         Ok(())

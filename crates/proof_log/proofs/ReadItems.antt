@@ -18,13 +18,14 @@ use Rattle.axiom_rules.specs.declared.literal.Atom.{Atom}
 use Rattle.axiom_rules.specs.declared.literal.Atom.TheVariants as atom
 use Rattle.axiom_rules.specs.declared.literal.Literal.{Literal}
 use Rattle.axiom_rules.specs.declared.rule.Rule.{Rule}
-use Rattle.axiom_rules.specs.Clauses.{Row, rows}
+use Rattle.axiom_rules.specs.Clauses.{argument_count}
 use Rattle.axiom_rules.specs.Literals.{no, order_literal, yes}
+use Rattle.axiom_rules.proofs.UnusedArguments.{at-most-four}
 use Rattle.proof_log.specs.declared.item.Constraint.{Constraint}
 use Rattle.proof_log.specs.declared.line.Hint.TheVariants as hint
 use Rattle.proof_log.specs.LinesText.{Word, atom_words, hint_words, literal_words, number_words, order_words, rule_words, signed_word, step_words}
 use Rattle.proof_log.specs.Reading.{Reading, argument_in, arguments_in, atom_in, bound_in, byte_in, constraint_in, counted_in, hint_in, items_in, literal_in, literal_of, literal_with, made, number_in, rule_in, signed_in, step_in, step_of, three_in, two_in}
-use Rattle.proof_log.specs.Spelled.{IsNumber, IsOrder, IsSpelledAtom, IsSpelledHint, IsSpelledLiteral, IsSpelledRule, IsSpelledStep, argument_count, is_used}
+use Rattle.proof_log.specs.Spelled.{IsNumber, IsOrder, IsSpelledAtom, IsSpelledHint, IsSpelledLiteral, IsSpelledRule, IsSpelledStep}
 use Rattle.proof_log.proofs.Giving.{IsRead, gives-after, gives-if, gives-made, gives-map, gives-named, gives-then, gives-weaker}
 
 -- the words of a number, of two, of three and of a constraint without its name
@@ -263,24 +264,6 @@ module _ (count : ℕ) (few : count ≤ 4) where
       second a ra =
           gives-then (λ (b : ℕ × List Word). option_and_then (λ (c : ℕ × List Word). made (λ (d : ℕ). a.0 ∷ b.0 ∷ c.0 ∷ d ∷ []) (argument_in (nat_lt 3 count) c.1)) (argument_in (nat_lt 2 count) b.1)) (argument_in (nat_lt 1 count) a.1) (ArgumentRead 1 a.1) (AllRead all)
           (λ b rb. third a b ra rb) (argument-read (nat_lt 1 count) a.1)
-
--- no rule uses more than four arguments
-few-used : (xs : List Row) → list_all (λ row. nat_le (count_by is_used row.arguments) 4) xs ≡ true → (n : ℕ) → option_map_or (λ row. count_by is_used row.arguments) (slice_get xs n) 0 ≤ 4
-few-used [] all n = omega arith
-few-used (x ∷ xs) all zero = first (nat_le (count_by is_used x.arguments) 4) (list_all (λ row. nat_le (count_by is_used row.arguments) 4) xs) refl all
-  where
-    first : (a b : Bool) → nat_le (count_by is_used x.arguments) 4 ≡ a → (a && b) ≡ true → count_by is_used x.arguments ≤ 4
-    first true b test h = grind (arith, nat_tests)
-    first false b test h = cc
-few-used (x ∷ xs) all (suc n) = few-used xs (later (nat_le (count_by is_used x.arguments) 4) (list_all (λ row. nat_le (count_by is_used row.arguments) 4) xs) all) n
-  where
-    later : (a b : Bool) → (a && b) ≡ true → b ≡ true
-    later true b h = h
-    later false b h = cc
-
-pub at-most-four : (number : ℕ) → argument_count number ≤ 4
-at-most-four zero = omega arith
-at-most-four (suc n) = few-used rows refl n
 
 abbrev rule_of : ℕ → List ℕ → Rule
 rule_of number args = record { number = number; args = args }

@@ -17,14 +17,16 @@ use Rattle.axiom_rules.specs.declared.literal.Atom.TheVariants as atom
 use Rattle.axiom_rules.specs.declared.literal.Literal.{Literal}
 use Rattle.axiom_rules.specs.declared.rule.Rule.{Rule}
 use Rattle.axiom_rules.specs.Literals.{no, order_literal, yes}
+use Rattle.axiom_rules.specs.Clauses.{argument_count}
+use Rattle.axiom_rules.proofs.UnusedArguments.{at-most-four}
 use Rattle.proof_log.specs.declared.item.Constraint.{Constraint}
 use Rattle.proof_log.specs.declared.line.Hint.{Hint}
 use Rattle.proof_log.specs.declared.line.Hint.TheVariants as hint
 use Rattle.proof_log.specs.LinesText.{Word, atom_words, hint_words, literal_words, number_words, order_words, rule_words, step_words}
 use Rattle.proof_log.specs.Reading.{Reading, argument_in, arguments_in, bound_in, byte_in, constraint_in, counted_in, hint_in, items_in, literal_in, literal_of, literal_with, made, number_in, rule_in, step_in, step_of, three_in, two_in}
-use Rattle.proof_log.specs.Spelled.{IsNumber, IsOrder, IsSpelledAtom, IsSpelledHint, IsSpelledLiteral, IsSpelledRule, IsSpelledStep, argument_count, used_arguments}
+use Rattle.proof_log.specs.Spelled.{IsNumber, IsOrder, IsSpelledAtom, IsSpelledHint, IsSpelledLiteral, IsSpelledRule, IsSpelledStep, used_arguments}
 use Rattle.proof_log.proofs.Giving.{made-back}
-use Rattle.proof_log.proofs.ReadItems.{at-most-four, bound-twice}
+use Rattle.proof_log.proofs.ReadItems.{bound-twice}
 
 abbrev before : {X : Type 0} → List Word → X → X × List Word
 before rest x = (x, rest)

@@ -11,13 +11,13 @@ use Rattle.axiom_rules.specs.declared.literal.Atom.TheVariants as atom
 use Rattle.axiom_rules.specs.declared.literal.Literal.{Literal}
 use Rattle.axiom_rules.specs.declared.rule.Rule.{Rule}
 use Rattle.axiom_rules.specs.Literals.{order_literal}
+use Rattle.axiom_rules.specs.Clauses.{argument_count}
 use Rattle.proof_log.specs.declared.line.Hint.{Hint}
 use Rattle.proof_log.specs.declared.line.Hint.TheVariants as hint
 use Rattle.proof_log.specs.declared.line.Line.{Line}
 use Rattle.proof_log.specs.declared.line.Line.TheVariants as line
 use Rattle.proof_log.specs.declared.item.Constraint.{Constraint}
 use Rattle.proof_log.specs.LinesText.{Word, space}
-use Rattle.proof_log.specs.Spelled.{argument_count}
 
 -- the words after a word, from the space that ends it on
 abbrev pub words_after : List ℕ → List Word

@@ -1,6 +1,5 @@
 -- Which steps, literals, hints and lines have a spelling.
-use Rattle.std.specs.Prelude.{◌≡◌, ◌≢◌, ◌^◌, ◌<◌, ℕ, Bool, true, false, List, length, take, drop, All, AllPairs, ℤ, ◌-ℤ◌, neg_ℤ, pos, count_by}
-use Rattle.std.specs.Option.{option_map_or}
+use Rattle.std.specs.Prelude.{◌≡◌, ◌≢◌, ◌^◌, ◌<◌, ℕ, Bool, true, false, List, length, take, drop, All, AllPairs, ℤ, ◌-ℤ◌, neg_ℤ, pos}
 use Rattle.mt_model.specs.declared.limits.TheConstants.{MAX_ORDER}
 use Rattle.mt_model.specs.declared.step.Step.{Step}
 use Rattle.mt_model.specs.declared.step.Step.TheVariants as step
@@ -8,10 +7,8 @@ use Rattle.mt_model.specs.Log.{IsWithin}
 use Rattle.axiom_rules.specs.declared.literal.Atom.{Atom}
 use Rattle.axiom_rules.specs.declared.literal.Atom.TheVariants as atom
 use Rattle.axiom_rules.specs.declared.literal.Literal.{Literal}
-use Rattle.axiom_rules.specs.declared.rule.Argument.{Argument}
-use Rattle.axiom_rules.specs.declared.rule.Argument.TheVariants.{ANode, AnEvent, AChange, Unused}
 use Rattle.axiom_rules.specs.declared.rule.Rule.{Rule}
-use Rattle.axiom_rules.specs.Clauses.{row_of}
+use Rattle.axiom_rules.specs.Clauses.{argument_count}
 use Rattle.proof_log.specs.declared.line.Hint.{Hint}
 use Rattle.proof_log.specs.declared.line.Hint.TheVariants as hint
 use Rattle.proof_log.specs.declared.line.Line.{Line}
@@ -60,17 +57,6 @@ IsSpelledAtom positive (atom.Gap k i m) = IsNumber k × IsNumber i × IsNumber m
 -- a literal has a spelling
 abbrev pub IsSpelledLiteral : Literal → Type 0
 IsSpelledLiteral l = IsSpelledAtom l.positive l.atom
-
--- whether an argument is used
-abbrev pub is_used : Argument → Bool
-is_used ANode = true
-is_used AnEvent = true
-is_used AChange = true
-is_used Unused = false
-
--- how many arguments the rule of a number uses, which are its first ones; none where there is no such rule
-abbrev pub argument_count : ℕ → ℕ
-argument_count number = option_map_or (λ row. count_by is_used row.arguments) (row_of number) 0
 
 -- the arguments that a rule uses, and those that it doesn't
 abbrev pub used_arguments : Rule → List ℕ

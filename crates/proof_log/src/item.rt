@@ -5,10 +5,9 @@ ghost use Rattle.mt_model.specs.declared.limits.TheConstants.{MAX_ORDER};
 ghost use Rattle.mt_model.specs.Log.{IsWithin};
 ghost use Rattle.proof_log.specs.Reading.{argument_in, arguments_in, atom_in, bound_in, byte_in, constraint_in, hint_in, literal_in, literal_of, made, number_in, rule_in, signed_in, step_in, step_of, three_in, two_in, words_after};
 
-use crate::arguments::argument_count;
 use crate::line::Hint;
 use crate::word::next_word;
-use axiom_rules::{Atom, Literal, Rule, order_literal};
+use axiom_rules::{Atom, Literal, Rule, argument_count, order_literal};
 use decimal::{number, signed_number};
 use mt_model::{MAX_ORDER, Step};
 
@@ -183,7 +182,7 @@ fn next_argument(used: bool, words: &[u8]) -> Option<(u32, &[u8])>
     }
 }
 
-fn next_arguments(count: u8, words: &[u8]) -> Option<([u32; 4], &[u8])>
+fn next_arguments(count: usize, words: &[u8]) -> Option<([u32; 4], &[u8])>
     ensures { MatchOption result (arguments_in count (words_after words.now) ≡ None) (λ r. arguments_in count (words_after words.now) ≡ Some (r.0, words_after r.1.now)) }
 {
     let (a, rest) = next_argument(count > 0, words)?;

@@ -1,7 +1,6 @@
 //! Derivations: lines that each have a clause, their text both ways, and what makes a line right.
 #![tactic(auto)]
 
-mod arguments;
 mod atoms;
 mod fault;
 mod item;

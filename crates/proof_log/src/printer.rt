@@ -6,9 +6,8 @@ ghost use Rattle.std.specs.List.{flat_map, join_with_byte};
 ghost use Rattle.proof_log.specs.LinesText.{atom_words, hint_words, line_text, line_words, lines_text, literal_words, number_words, order_words, rule_words, signed_word, space, spaced, step_words};
 ghost use Rattle.proof_log.specs.Spelled.{IsSpelled, IsSpelledAtom, IsSpelledHint, IsSpelledLearn, IsSpelledLiteral, IsSpelledRule};
 
-use crate::arguments::argument_count;
 use crate::line::{Hint, Line};
-use axiom_rules::{Atom, Literal, Rule};
+use axiom_rules::{Atom, Literal, Rule, argument_count};
 use mt_model::Step;
 use std::alloc::{AllocError, Global};
 
@@ -106,7 +105,7 @@ fn push_literal(alloc: Global, text: &mut Vec<u8>, literal: Literal) -> Result<(
 fn push_rule(alloc: Global, text: &mut Vec<u8>, rule: &Rule) -> Result<(), AllocError>
     ensures { OnOk result (text.new.items ≡ text.old.items ++ spaced (rule_words rule.now)) }
 {
-    let count = argument_count(rule.number) as usize;
+    let count = argument_count(rule.number);
     push_number(alloc, text, rule.number as u32)?;
     push_numbers(alloc, text, &rule.args[..count])
 }

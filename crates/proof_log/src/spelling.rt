@@ -4,10 +4,9 @@ ghost use Rattle.std.specs.Prelude.{◌≡◌, ◌≤◌, ◌↔◌, length, dro
 ghost use Rattle.mt_model.specs.Log.{IsWithin};
 ghost use Rattle.proof_log.specs.Spelled.{IsNumber, IsOrder, IsOrderAtom, IsSpelled, IsSpelledCycle, IsSpelledHint, IsSpelledLearn, IsSpelledLiteral, IsSpelledRule, IsSpelledStep, written_bound};
 
-use crate::arguments::argument_count;
 use crate::atoms::has_atoms_once;
 use crate::line::{Hint, Line};
-use axiom_rules::{Atom, Literal, Rule};
+use axiom_rules::{Atom, Literal, Rule, argument_count};
 use mt_model::{MAX_ORDER, Step};
 use std::alloc::{AllocError, Global};
 
@@ -83,7 +82,7 @@ fn are_zero_from(numbers: &[u32], place: usize) -> bool
 fn is_spelled_rule(rule: &Rule) -> bool
     ensures { IsTrue result ↔ IsSpelledRule rule.now }
 {
-    let used = argument_count(rule.number) as usize;
+    let used = argument_count(rule.number);
     are_zero_from(&rule.args, used)
 }
 

@@ -2,7 +2,8 @@ use Rattle.std.proofs.Common.{rules, ◌≡◌, ◌<◌, length, Bool}
 use Rattle.std.specs.Prelude.{All, IsTrue}
 use Rattle.std.proofs.lemmas.List.Elements.{All-take}
 use Rattle.axiom_rules.specs.declared.rule.Rule.{Rule}
-use Rattle.proof_log.specs.Spelled.{IsNumber, IsSpelledRule, argument_count, unused_arguments}
+use Rattle.axiom_rules.specs.Clauses.{argument_count}
+use Rattle.proof_log.specs.Spelled.{IsNumber, IsSpelledRule, unused_arguments}
 use Rattle.proof_log.proofs.spelling.is_spelled_rule.Goals as goal
 
 both : (r : Rule) (b : Bool) → r.number < 256 → length r.args ≡ 4 → All IsNumber r.args

@@ -1,0 +1,270 @@
+-- What the atoms of rules are made of, and how long clauses are: one lemma a rule.
+use Rattle.std.proofs.Common.{◌≡◌, ap, refl, subst, ℕ, zero, suc, ◌+◌, ◌==◌, ◌<◌, ◌≤◌, Bool, true, false, if◌then◌else◌, List, [], length, Option, Some, None, Ok, arith, ℤ, pos, ◌-ℤ◌, neg_ℤ}
+use Rattle.std.specs.Prelude.{int_le, is_some, nat_lt, option_and_then, option_map, slice_get}
+use Rattle.std.specs.List.{AllByRecursion, cons_option, filter_map, range_with_len}
+use Rattle.std.specs.Option.{option_map_or}
+use Rattle.std.proofs.lemmas.Bool.Decides.{nat_tests}
+use Rattle.std.proofs.lemmas.Int.{ints}
+use Rattle.mt_model.specs.State.{Change, change_at, changes_of, effect_of, host_named}
+use Rattle.mt_model.specs.Timing.{host_of}
+use Rattle.mt_model.proofs.Members.{Among}
+use Rattle.axiom_rules.specs.declared.fault.RuleFault.TheVariants.{Kind, NoRule, Range}
+use Rattle.axiom_rules.specs.declared.literal.Atom.{Atom}
+use Rattle.axiom_rules.specs.declared.literal.Atom.TheVariants.{Order, Node, First, Wit, Span, Gap}
+use Rattle.axiom_rules.specs.declared.literal.Literal.{Literal}
+use Rattle.axiom_rules.specs.declared.part.Part.{Part}
+use Rattle.axiom_rules.specs.declared.part.Part.TheVariants.{Says, Known}
+use Rattle.axiom_rules.specs.declared.reach.Reach.{Reach}
+use Rattle.axiom_rules.specs.declared.rule.Rule.{Rule}
+use Rattle.axiom_rules.specs.Clauses.{Row, clause_of, of_event, of_events, of_node_event, of_node_event_change, of_node_events, of_node_three_events, of_nothing, row_of}
+use Rattle.axiom_rules.specs.Laws.{IsOfRows}
+use Rattle.axiom_rules.specs.Literals.{no, yes}
+use Rattle.axiom_rules.specs.NodeShapes.{changes_in, changes_named, operand_in, reach_in, shape_at, sides_in}
+use Rattle.axiom_rules.specs.Parts.{not_after, order}
+use Rattle.axiom_rules.specs.Rules.{has_come, is, is_not_up_to, met_order, not_met_order, rule_1, rule_2, rule_3, rule_4, rule_5, rule_6, rule_7, rule_8, rule_9, rule_10, rule_11, rule_12, rule_13, rule_14, rule_15, rule_16, rule_17, rule_18, rule_19, rule_20, rule_21, rule_22, rule_23, rule_24}
+use Rattle.axiom_rules.specs.Sought.{Sought}
+use Rattle.axiom_rules.proofs.ChangeCases.{changes-case}
+use Rattle.axiom_rules.proofs.PartsMade.{IsMade, OfPart, clause-short, of-1, of-2, of-3, of-4, of-5, of-clause, of-each, of-first-and-each, of-if, of-kind, of-option}
+use Rattle.axiom_rules.proofs.RowCases.{OfRow, holds-at, row-case, row-of-change, row-of-event, row-of-events, row-of-node, row-of-nothing, row-of-three, row-of-two, written-by}
+
+-- something holds of a bound and of that of the negated order
+pub record BothWays (B : ℤ → Type 0) (c : ℤ) : Type 0 where
+  pub bound : B c
+  pub negated : B (neg_ℤ c -ℤ pos 1)
+
+turned : (B : ℤ → Type 0) (c : ℤ) → BothWays B c → BothWays B (neg_ℤ c -ℤ pos 1)
+turned B c both = record { bound = both.negated; negated = let same : c ≡ neg_ℤ (neg_ℤ c -ℤ pos 1) -ℤ pos 1 = omega (arith, ints) in subst B same both.bound }
+
+-- something holds of the nodes that there are, of those that nodes name, and of the root
+pub record AreNodes (s : Sought) (N : ℕ → Type 0) : Type 0 where
+  pub each : (k : ℕ) → k < length s.trees → N k
+  pub operand : (k a : ℕ) → operand_in (shape_at s k) ≡ Some a → N a
+  pub sides : (k : ℕ) (both : ℕ × ℕ) → sides_in (shape_at s k) ≡ Some both → N both.0 × N both.1
+  pub children : (k : ℕ) (u : Reach) → reach_in (shape_at s k) ≡ Some u → N u.left × N u.right
+  pub root : N s.root
+
+-- something holds both ways of 0, of the negated lower bounds of the intervals, and of their upper bounds
+pub record AreBounds (s : Sought) (B : ℤ → Type 0) : Type 0 where
+  pub zero : BothWays B (pos 0)
+  pub low : (k : ℕ) (u : Reach) → reach_in (shape_at s k) ≡ Some u → BothWays B (neg_ℤ (pos u.interval.low))
+  pub high : (k : ℕ) (u : Reach) (b : ℕ) → reach_in (shape_at s k) ≡ Some u → u.interval.high ≡ Some b → BothWays B (pos b)
+
+-- an until or since node
+abbrev pub IsReach : Sought → ℕ → Type 0
+IsReach s k = is_some (reach_in (shape_at s k)) ≡ true
+
+-- an atom names nodes of which something holds, and events that there are; an order has its smaller event first, and something holds both ways of its bound
+abbrev pub IsMadeOf : (s : Sought) (N : ℕ → Type 0) (B : ℤ → Type 0) → Atom → Type 0
+IsMadeOf s N B (Order e f c) = (e < f) × (f < length s.log.rows) × BothWays B c
+IsMadeOf s N B (Node k e) = N k × (e < length s.log.rows)
+IsMadeOf s N B (First e) = e < length s.log.rows
+IsMadeOf s N B (Wit k i j) = IsReach s k × (i < length s.log.rows) × (j < length s.log.rows)
+IsMadeOf s N B (Span k i j) = IsReach s k × (i < length s.log.rows) × (j < length s.log.rows)
+IsMadeOf s N B (Gap k i m) = IsReach s k × (i < length s.log.rows) × (m < length s.log.rows)
+
+module _ (s : Sought) where
+  -- a change is of a row of the log
+  abbrev IsOfRow : Change → Type 0
+  IsOfRow c = c.row < length s.log.rows
+
+  change-in : (h : ℕ) (name : List ℕ) (e : ℕ) → e < length s.log.rows → (rest : List Change) → AllByRecursion IsOfRow rest → AllByRecursion IsOfRow (cons_option (change_at s.log h name e) rest)
+  change-in h name e low rest all = go (host_of s.log e == h) (option_and_then (λ r. effect_of name r.act) (slice_get s.log.rows e))
+    where
+      go : (own : Bool) (made : Option Bool) → AllByRecursion IsOfRow (cons_option (let o : Option Change = (if own then option_map (λ sets. record { row = e; sets = sets }) made else None) in o) rest)
+      go true None = all
+      go true (Some sets) = (low, all)
+      go false made = all
+
+  changes-from : (h : ℕ) (name : List ℕ) (a n : ℕ) → a + n ≤ length s.log.rows → AllByRecursion IsOfRow (filter_map (change_at s.log h name) (range_with_len a n))
+  changes-from h name a zero within = tt
+  changes-from h name a (suc n) within = change-in h name a (omega arith) (filter_map (change_at s.log h name) (range_with_len (a + 1) n)) (changes-from h name (a + 1) n (omega arith))
+
+  named-in : (host name : List ℕ) → AllByRecursion IsOfRow (changes_named s.log host name)
+  named-in host name = go (host_named s.log host)
+    where
+      go : (o : Option ℕ) → AllByRecursion IsOfRow (option_map_or (λ h. changes_of s.log h name) o [])
+      go None = tt
+      go (Some h) = changes-from h name 0 (length s.log.rows) (omega arith)
+
+  -- the changes of a proposition are
+  changes-in : (k : ℕ) (changes : List Change) → changes_in (shape_at s k) ≡ Some changes → AllByRecursion IsOfRow changes
+  changes-in k = changes-case s (AllByRecursion IsOfRow) named-in (slice_get s.trees k)
+
+module _ (s : Sought) (N : ℕ → Type 0) (B : ℤ → Type 0) (nodes : AreNodes s N) (bounds : AreBounds s B) where
+  abbrev P : Atom → Type 0
+  P a = IsMadeOf s N B a
+
+  abbrev IsRow : Row → Type 0
+  IsRow row = OfRow s (IsMade s P) row
+
+  -- what an order says
+  order-made : (e f : ℕ) (c : ℤ) → e < length s.log.rows → f < length s.log.rows → BothWays B c → OfPart P (order e f c)
+  order-made e f c low-e low-f both = go (e == f) (nat_lt e f) refl refl
+    where
+      greater : (same less : Bool) → e == f ≡ same → nat_lt e f ≡ less → same ≡ false → less ≡ false → f < e
+      greater same less is-same is-less not-same not-less = grind (arith, nat_tests)
+
+      smaller : nat_lt e f ≡ true → e < f
+      smaller is = grind (arith, nat_tests)
+
+      literal : (less : Bool) → e == f ≡ false → nat_lt e f ≡ less → P (let l : Literal = (if less then yes (Order e f c) else no (Order f e (neg_ℤ c -ℤ pos 1))) in l).atom
+      literal true apart is = (smaller is, low-f, both)
+      literal false apart is = (greater false false apart is refl refl, low-e, turned B c both)
+
+      go : (same less : Bool) → e == f ≡ same → nat_lt e f ≡ less → OfPart P (let p : Part = (if same then Known (int_le (pos 0) c) else Says (if less then yes (Order e f c) else no (Order f e (neg_ℤ c -ℤ pos 1)))) in p)
+      go true less is-same is-less = tt
+      go false less is-same is-less = literal less is-same is-less
+
+  met-made : (back : Bool) (e f : ℕ) (c : ℤ) → e < length s.log.rows → f < length s.log.rows → BothWays B c → OfPart P (met_order back e f c)
+  met-made true e f c low-e low-f both = order-made f e c low-f low-e both
+  met-made false e f c low-e low-f both = order-made e f c low-e low-f both
+
+  not-met-made : (back : Bool) (e f : ℕ) (c : ℤ) → e < length s.log.rows → f < length s.log.rows → BothWays B c → OfPart P (not_met_order back e f c)
+  not-met-made true e f c low-e low-f both = order-made e f (neg_ℤ c -ℤ pos 1) low-e low-f (turned B c both)
+  not-met-made false e f c low-e low-f both = order-made f e (neg_ℤ c -ℤ pos 1) low-f low-e (turned B c both)
+
+  come-made : (changes : List Change) (place e : ℕ) → AllByRecursion (IsOfRow s) changes → e < length s.log.rows → OfPart P (has_come changes place e)
+  come-made changes place e all low = go (slice_get changes place) refl
+    where
+      go : (o : Option Change) → slice_get changes place ≡ o → OfPart P (option_map_or (λ c. not_after c.row e) o (Known false))
+      go None at = tt
+      go (Some c) at = order-made c.row e (pos 0) (holds-at (IsOfRow s) changes place c all at) low bounds.zero
+
+  far-made : (back : Bool) (high : Option ℕ) (i j : ℕ) → i < length s.log.rows → j < length s.log.rows → ((b : ℕ) → high ≡ Some b → BothWays B (pos b)) → OfPart P (option_map_or (λ b. is_not_up_to back b i j) high (Known false))
+  far-made back None i j low-i low-j each = tt
+  far-made back (Some b) i j low-i low-j each = not-met-made back j i (pos b) low-j low-i (each b refl)
+
+  reach : (k : ℕ) (u : Reach) → reach_in (shape_at s k) ≡ Some u → IsReach s k
+  reach k u is = ap is_some is
+
+  zero-turned : BothWays B (neg_ℤ (pos 0) -ℤ pos 1)
+  zero-turned = turned B (pos 0) bounds.zero
+
+  made-1 : IsRow (of_node_event rule_1)
+  made-1 = row-of-node s (IsMade s P) rule_1 (λ k e low-k low. of-kind s P _ _ (λ (changes : List Change) is. of-2 s P _ _ (nodes.each k low-k, low) (come-made changes 0 e (changes-in s k changes is) low)))
+
+  made-2 : IsRow (of_node_event_change rule_2)
+  made-2 = row-of-change s (IsMade s P) rule_2 (λ k e p low-k low. of-kind s P _ _ (λ (changes : List Change) is. of-option s P (slice_get changes p) _ Range (λ (c : Change) at.
+      let all = changes-in s k changes is in
+      of-3 s P _ _ _ (order-made e c.row (neg_ℤ (pos 0) -ℤ pos 1) low (holds-at (IsOfRow s) changes p c all at) zero-turned) (come-made changes (p + 1) e all low) (nodes.each k low-k, low))))
+
+  made-3 : IsRow (of_node_event rule_3)
+  made-3 = row-of-node s (IsMade s P) rule_3 (λ k e low-k low. of-if s P _ _ Kind (of-1 s P _ (nodes.each k low-k, low)))
+
+  made-4 : IsRow (of_node_event rule_4)
+  made-4 = row-of-node s (IsMade s P) rule_4 (λ k e low-k low. of-kind s P _ _ (λ a is. of-2 s P _ _ (nodes.each k low-k, low) (nodes.operand k a is, low)))
+
+  made-5 : IsRow (of_node_event rule_5)
+  made-5 = row-of-node s (IsMade s P) rule_5 (λ k e low-k low. of-kind s P _ _ (λ a is. of-2 s P _ _ (nodes.each k low-k, low) (nodes.operand k a is, low)))
+
+  made-6 : IsRow (of_node_event rule_6)
+  made-6 = row-of-node s (IsMade s P) rule_6 (λ k e low-k low. of-kind s P _ _ (λ both is. of-2 s P _ _ (nodes.each k low-k, low) ((nodes.sides k both is).0, low)))
+
+  made-7 : IsRow (of_node_event rule_7)
+  made-7 = row-of-node s (IsMade s P) rule_7 (λ k e low-k low. of-kind s P _ _ (λ both is. of-2 s P _ _ (nodes.each k low-k, low) ((nodes.sides k both is).1, low)))
+
+  made-8 : IsRow (of_node_event rule_8)
+  made-8 = row-of-node s (IsMade s P) rule_8 (λ k e low-k low. of-kind s P _ _ (λ both is. of-3 s P _ _ _ (nodes.each k low-k, low) ((nodes.sides k both is).0, low) ((nodes.sides k both is).1, low)))
+
+  made-9 : IsRow (of_events rule_9)
+  made-9 = row-of-events s (IsMade s P) rule_9 (λ e x low low-x. of-2 s P _ _ low (order-made e x (pos 0) low low-x bounds.zero))
+
+  made-10 : IsRow (of_event rule_10)
+  made-10 = row-of-event s (IsMade s P) rule_10 (λ e low. of-first-and-each s P _ _ low (λ x low-x. order-made x e (neg_ℤ (pos 0) -ℤ pos 1) low-x low zero-turned))
+
+  made-11 : IsRow (of_nothing rule_11)
+  made-11 = row-of-nothing s (IsMade s P) rule_11 (of-each s P (λ e. is (First e)) (λ x low. low))
+
+  made-12 : IsRow (of_node_events rule_12)
+  made-12 = row-of-two s (IsMade s P) rule_12 (λ k i j low-k low-i low-j. of-kind s P _ _ (λ (u : Reach) is. of-2 s P _ _ (reach k u is, low-i, low-j) (met-made u.back i j (neg_ℤ (pos u.interval.low)) low-i low-j (bounds.low k u is))))
+
+  made-13 : IsRow (of_node_events rule_13)
+  made-13 = row-of-two s (IsMade s P) rule_13 (λ k i j low-k low-i low-j. of-kind s P _ _ (λ (u : Reach) is. of-option s P u.interval.high _ NoRule (λ b at.
+      of-2 s P _ _ (reach k u is, low-i, low-j) (met-made u.back j i (pos b) low-j low-i (bounds.high k u b is at)))))
+
+  made-14 : IsRow (of_node_events rule_14)
+  made-14 = row-of-two s (IsMade s P) rule_14 (λ k i j low-k low-i low-j. of-kind s P _ _ (λ (u : Reach) is. of-2 s P _ _ (reach k u is, low-i, low-j) ((nodes.children k u is).1, low-j)))
+
+  made-15 : IsRow (of_node_events rule_15)
+  made-15 = row-of-two s (IsMade s P) rule_15 (λ k i j low-k low-i low-j. of-kind s P _ _ (λ (u : Reach) is. of-2 s P _ _ (reach k u is, low-i, low-j) (reach k u is, low-i, low-j)))
+
+  made-16 : IsRow (of_node_events rule_16)
+  made-16 = row-of-two s (IsMade s P) rule_16 (λ k i j low-k low-i low-j. of-kind s P _ _ (λ (u : Reach) is.
+      of-5 s P _ _ _ _ _ (reach k u is, low-i, low-j) (not-met-made u.back i j (neg_ℤ (pos u.interval.low)) low-i low-j (bounds.low k u is))
+      (far-made u.back u.interval.high i j low-i low-j (λ b at. bounds.high k u b is at)) ((nodes.children k u is).1, low-j) (reach k u is, low-i, low-j)))
+
+  made-17 : IsRow (of_node_event rule_17)
+  made-17 = row-of-node s (IsMade s P) rule_17 (λ k i low-k low-i. of-kind s P _ _ (λ (u : Reach) is. of-first-and-each s P _ _ (nodes.each k low-k, low-i) (λ x low-x. (reach k u is, low-i, low-x))))
+
+  made-18 : IsRow (of_node_events rule_18)
+  made-18 = row-of-two s (IsMade s P) rule_18 (λ k i j low-k low-i low-j. of-kind s P _ _ (λ (u : Reach) is. of-2 s P _ _ (nodes.each k low-k, low-i) (reach k u is, low-i, low-j)))
+
+  made-19 : IsRow (of_node_three_events rule_19)
+  made-19 = row-of-three s (IsMade s P) rule_19 (λ k i j m low-k low-i low-j low-m. of-kind s P _ _ (λ (u : Reach) is.
+      of-4 s P _ _ _ _ (reach k u is, low-i, low-j) (not-met-made u.back i m (pos 0) low-i low-m bounds.zero) (met-made u.back j m (pos 0) low-j low-m bounds.zero) ((nodes.children k u is).0, low-m)))
+
+  made-20 : IsRow (of_node_events rule_20)
+  made-20 = row-of-two s (IsMade s P) rule_20 (λ k i j low-k low-i low-j. of-kind s P _ _ (λ (u : Reach) is. of-first-and-each s P _ _ (reach k u is, low-i, low-j) (λ x low-x. (reach k u is, low-i, low-x))))
+
+  made-21 : IsRow (of_node_three_events rule_21)
+  made-21 = row-of-three s (IsMade s P) rule_21 (λ k i j m low-k low-i low-j low-m. of-kind s P _ _ (λ (u : Reach) is.
+      of-3 s P _ _ _ (reach k u is, low-i, low-m) (not-met-made u.back j m (pos 0) low-j low-m bounds.zero) (reach k u is, low-i, low-j)))
+
+  made-22 : IsRow (of_node_events rule_22)
+  made-22 = row-of-two s (IsMade s P) rule_22 (λ k i m low-k low-i low-m. of-kind s P _ _ (λ (u : Reach) is. of-2 s P _ _ (reach k u is, low-i, low-m) (met-made u.back i m (pos 0) low-i low-m bounds.zero)))
+
+  made-23 : IsRow (of_node_events rule_23)
+  made-23 = row-of-two s (IsMade s P) rule_23 (λ k i m low-k low-i low-m. of-kind s P _ _ (λ (u : Reach) is. of-2 s P _ _ (reach k u is, low-i, low-m) ((nodes.children k u is).0, low-m)))
+
+  made-24 : IsRow (of_event rule_24)
+  made-24 = row-of-event s (IsMade s P) rule_24 (λ e low. of-2 s P _ _ low (nodes.root, low))
+
+  rows-made : (number : ℕ) (row : Row) → row_of number ≡ Some row → IsRow row
+  rows-made = row-case (λ n row. IsRow row) (
+    made-1, (made-2, (made-3, (made-4, (made-5, (made-6, (made-7, (made-8, (made-9, (made-10, (made-11, (made-12, (made-13, (made-14, (made-15, (made-16, (made-17, (made-18, (made-19, (made-20, (made-21, (made-22, (made-23, (made-24, tt))))))))))))))))))))))),
+  )
+
+  -- the atoms in the clause of a rule are made of these
+  pub atoms-made : (rule : Rule) (c : List Literal) (l : Literal) → clause_of s rule ≡ Ok c → Among c l → IsMadeOf s N B l.atom
+  atoms-made rule c l is in_ =
+      let w = written-by s rule c is in
+      of-clause P w.parts c l w.clause (rows-made rule.number w.row w.at rule.args w.there w.parts w.written).0 in_
+
+  -- a clause has at most as many literals as the log has rows, and five
+  literals-few : (rule : Rule) (c : List Literal) → clause_of s rule ≡ Ok c → length c ≤ length s.log.rows + 5
+  literals-few rule c is =
+      let w = written-by s rule c is in
+      omega (arith, clause-short w.parts c w.clause, (rows-made rule.number w.row w.at rule.args w.there w.parts w.written).1)
+
+module _ (s : Sought) where
+  -- nothing is asked of nodes and of bounds
+  abbrev Any-node : ℕ → Type 0
+  Any-node k = Unit {0}
+
+  abbrev Any-bound : ℤ → Type 0
+  Any-bound c = Unit {0}
+
+  any-nodes : AreNodes s Any-node
+  any-nodes = record { each = λ k low. tt; operand = λ k a is. tt; sides = λ k both is. (tt, tt); children = λ k u is. (tt, tt); root = tt }
+
+  both : (c : ℤ) → BothWays Any-bound c
+  both c = record { bound = tt; negated = tt }
+
+  any-bounds : AreBounds s Any-bound
+  any-bounds = record { zero = both (pos 0); low = λ k u is. both (neg_ℤ (pos u.interval.low)); high = λ k u b is at. both (pos b) }
+
+  -- a clause has at most as many literals as the log has rows, and five
+  pub few-literals : (rule : Rule) (c : List Literal) → clause_of s rule ≡ Ok c → length c ≤ length s.log.rows + 5
+  few-literals = literals-few s Any-node Any-bound any-nodes any-bounds
+
+  -- an order atom is over two rows of the log, the smaller first
+  pub orders-of-rows : (rule : Rule) (c : List Literal) (l : Literal) → clause_of s rule ≡ Ok c → Among c l → IsOfRows s l.atom
+  orders-of-rows rule c l is in_ = go l.atom (atoms-made s Any-node Any-bound any-nodes any-bounds rule c l is in_)
+    where
+      go : (a : Atom) → IsMadeOf s Any-node Any-bound a → IsOfRows s a
+      go (Order e f c) made = (made.0, made.1)
+      go (Node k e) made = tt
+      go (First e) made = tt
+      go (Wit k i j) made = tt
+      go (Span k i j) made = tt
+      go (Gap k i m) made = tt
