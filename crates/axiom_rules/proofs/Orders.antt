@@ -5,7 +5,9 @@ use Rattle.std.proofs.lemmas.Int.{ints}
 use Rattle.mt_model.specs.Frame.{Frame, turned}
 use Rattle.mt_model.specs.Truth.{rows_in}
 use Rattle.mt_model.proofs.Members.{Among}
-use Rattle.axiom_rules.specs.Holds.{met}
+use Rattle.formula_arena.specs.Directions.{met}
+use Rattle.formula_arena.specs.declared.direction.Direction.{Direction}
+use Rattle.formula_arena.specs.declared.direction.Direction.TheVariants.{Ahead, Behind}
 
 -- of two points one is not after the other, and that goes along
 pub record IsOrder {X : Type 0} (F : Frame X) : Type 0 where
@@ -21,9 +23,9 @@ order-rows t = record {
   along = λ x y z a b. grind (arith, ints);
 }
 
-pub order-met : (back : Bool) (t : List ℤ) → IsOrder (met back (rows_in t))
-order-met false t = order-rows t
-order-met true t = order-turned (rows_in t) (order-rows t)
+pub order-met : (direction : Direction) (t : List ℤ) → IsOrder (met direction (rows_in t))
+order-met Ahead t = order-rows t
+order-met Behind t = order-turned (rows_in t) (order-rows t)
 
 module _ {X : Type 0} (F : Frame X) (o : IsOrder F) (p : X → Bool) where
   itself : (x : X) → F.not_after x x ≡ true

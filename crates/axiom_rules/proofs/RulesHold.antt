@@ -20,6 +20,9 @@ use Rattle.mt_model.proofs.PositionLemmas.{below, place-of_first, within_has}
 use Rattle.formula_arena.specs.Laws.{CoresAreCores, NodesAreSubtrees, TruthOfCore}
 use Rattle.formula_arena.specs.Nodes.{StandsBefore, nodes_of, tree_at}
 use Rattle.formula_arena.specs.Subtrees.{children_of, same_form}
+use Rattle.formula_arena.specs.Directions.{is_near}
+use Rattle.formula_arena.specs.declared.direction.Direction.{Direction}
+use Rattle.formula_arena.specs.declared.direction.Direction.TheVariants.{Ahead, Behind}
 use Rattle.axiom_rules.specs.declared.fault.RuleFault.TheVariants.{NoRule, Range, Kind}
 use Rattle.axiom_rules.specs.declared.literal.Atom.{Atom}
 use Rattle.axiom_rules.specs.declared.literal.Atom.TheVariants.{First, Gap, Node, Span, Wit}
@@ -29,17 +32,18 @@ use Rattle.axiom_rules.specs.declared.part.Part.TheVariants.{Says, Known}
 use Rattle.axiom_rules.specs.declared.reach.Reach.{Reach}
 use Rattle.axiom_rules.specs.declared.rule.Rule.{Rule}
 use Rattle.axiom_rules.specs.Clauses.{Row, clause_of, of_event, of_events, of_node_event, of_node_event_change, of_node_events, of_node_three_events, row_of}
-use Rattle.axiom_rules.specs.Holds.{clause_holds, gap, is_near, means}
+use Rattle.axiom_rules.specs.Holds.{clause_holds, gap, means}
 use Rattle.axiom_rules.specs.Laws.{RulesHold}
 use Rattle.axiom_rules.specs.Parts.{Written, after, clause_of_written, not_after}
 use Rattle.axiom_rules.specs.Rules as rule
+use Rattle.axiom_rules.specs.Shapes.{reach_over}
 use Rattle.axiom_rules.specs.Sought.{Sought}
 use Rattle.axiom_rules.specs.NodeShapes.{changes_in, is_constant, operand_in, reach_in, sides_in, number_of, shape_of, shape_at}
 use Rattle.axiom_rules.specs.Rules.{of_kind, for_each_event, has_come, is, is_not, is_not_up_to}
 use Rattle.axiom_rules.proofs.BoolLemmas.{any_1, any_2, any_3, any_4, any_5, any_rest, apart, failing, not_false, was_true}
 use Rattle.axiom_rules.proofs.ChangeLemmas.{Falls, changes-fall, first-none, first_passes, is_by, last-at}
 use Rattle.axiom_rules.proofs.FrameRules.{gap_parts, gap_without_span, reached, reaches_from, span_at, span_to_gap, witness_from, witness_parts}
-use Rattle.axiom_rules.proofs.MeaningLemmas.{F, at_row, from, is_from-says, is_not_from-says, is_not_up_to-says, is_up_to-says, means-gap, means-node, means-reaches, means-span, means-wit, met_after-says, near-ahead, near-parts, not_met_after-says, row_at, told, tree_of, up_to}
+use Rattle.axiom_rules.proofs.MeaningLemmas.{F, at_row, from, is_from-says, is_not_from-says, is_not_up_to-says, is_up_to-says, means-gap, means-node, means-reaches, means-span, means-wit, met_after-says, near-ahead, near-parts, not_met_after-says, row_at, told, up_to}
 use Rattle.axiom_rules.proofs.Orders.{first_of, order-met, order-rows}
 use Rattle.axiom_rules.proofs.PartLemmas.{any-map, clause_from_parts, not_after_is, not_order-says, order-says, part_holds}
 use Rattle.axiom_rules.proofs.RowCases.{OfRow, row-case, row-of-change, row-of-event, row-of-events, row-of-node, row-of-nothing, row-of-three, row-of-two, written-by}
@@ -109,12 +113,12 @@ module _ (log : Logged) (t : List ℤ) (trees : List Form) (root : ℕ) (value :
         go _ at = tt
 
     by_reach : (k : ℕ) (write : Reach → Written) → k < length trees
-        → ((back : Bool) (I : Interval) (f g : Form) (l r : ℕ) → tree_at trees k ≡ tree_of back I f g → tree_at trees l ≡ f → tree_at trees r ≡ g → Right (write (record { back = back; interval = I; left = l; right = r }))) → Right (of_kind (reach_in (shape_at s k)) write)
+        → ((direction : Direction) (I : Interval) (f g : Form) (l r : ℕ) → tree_at trees k ≡ reach_over direction I f g → tree_at trees l ≡ f → tree_at trees r ≡ g → Right (write (record { direction = direction; interval = I; left = l; right = r }))) → Right (of_kind (reach_in (shape_at s k)) write)
     by_reach k write low h = subst (λ o. Right (of_kind (reach_in o) write)) (shape-there k low) (go (tree_at trees k) refl)
       where
         go : (tree : Form) → tree_at trees k ≡ tree → Right (of_kind (reach_in (shape_of log trees tree)) write)
-        go (Until I f g) at = h false I f g (number_of trees f) (number_of trees g) at (child-number same trees children_first k 0 (Until I f g) f low at (omega arith) refl) (child-number same trees children_first k 1 (Until I f g) g low at (omega arith) refl)
-        go (Since I f g) at = h true I f g (number_of trees f) (number_of trees g) at (child-number same trees children_first k 0 (Since I f g) f low at (omega arith) refl) (child-number same trees children_first k 1 (Since I f g) g low at (omega arith) refl)
+        go (Until I f g) at = h Ahead I f g (number_of trees f) (number_of trees g) at (child-number same trees children_first k 0 (Until I f g) f low at (omega arith) refl) (child-number same trees children_first k 1 (Until I f g) g low at (omega arith) refl)
+        go (Since I f g) at = h Behind I f g (number_of trees f) (number_of trees g) at (child-number same trees children_first k 0 (Since I f g) f low at (omega arith) refl) (child-number same trees children_first k 1 (Since I f g) g low at (omega arith) refl)
         go _ at = tt
 
     -- a part for each event holds where it does for one
@@ -173,7 +177,7 @@ module _ (log : Logged) (t : List ℤ) (trees : List Form) (root : ℕ) (value :
 
     -- of an until or since node
     module _ (k : ℕ) (low : k < length trees) where
-      module _ (back : Bool) (I : Interval) (f g : Form) (l r : ℕ) (at : tree_at trees k ≡ tree_of back I f g) (left : tree_at trees l ≡ f) (right : tree_at trees r ≡ g) where
+      module _ (direction : Direction) (I : Interval) (f g : Form) (l r : ℕ) (at : tree_at trees k ≡ reach_over direction I f g) (left : tree_at trees l ≡ f) (right : tree_at trees r ≡ g) where
         abbrev L : ℕ → Bool
         L e = told log t trees f e
 
@@ -181,19 +185,19 @@ module _ (log : Logged) (t : List ℤ) (trees : List Form) (root : ℕ) (value :
         R e = told log t trees g e
 
         abbrev near : ℕ → ℕ → Bool
-        near = is_near back (rows_in t) I
+        near = is_near direction (rows_in t) I
 
         abbrev O : Frame ℕ
-        O = F log t trees back
+        O = F log t trees direction
 
         is-wit : (i j : ℕ) → i < length t → j < length t → M (Wit k i j) ≡ witness O near L R i j
-        is-wit i j a b = means-wit log t trees k back I f g at i j a b
+        is-wit i j a b = means-wit log t trees k direction I f g at i j a b
 
         is-span : (i j : ℕ) → i < length t → j < length t → M (Span k i j) ≡ span O L i j
-        is-span i j a b = means-span log t trees k back I f g at i j a b
+        is-span i j a b = means-span log t trees k direction I f g at i j a b
 
         is-gap : (i m : ℕ) → i < length t → m < length t → M (Gap k i m) ≡ gap O L i m
-        is-gap i m a b = means-gap log t trees k back I f g at i m a b
+        is-gap i m a b = means-gap log t trees k direction I f g at i m a b
 
         wit-parts : (i j : ℕ) → i < length t → j < length t → M (Wit k i j) ≡ true → (near i j ≡ true) × (R j ≡ true) × (span O L i j ≡ true)
         wit-parts i j a b h = witness_parts O near L R i j (sym (is-wit i j a b) ∙ h)
@@ -201,17 +205,17 @@ module _ (log : Logged) (t : List ℤ) (trees : List Form) (root : ℕ) (value :
         the-gap : (i m : ℕ) → i < length t → m < length t → M (Gap k i m) ≡ true → gap O L i m ≡ true
         the-gap i m a b h = sym (is-gap i m a b) ∙ h
 
-        parts_12 : (i j : ℕ) → i < length t → j < length t → list_any (part_holds M) (is_not (Wit k i j) ∷ rule.is_from back I i j ∷ []) ≡ true
+        parts_12 : (i j : ℕ) → i < length t → j < length t → list_any (part_holds M) (is_not (Wit k i j) ∷ rule.is_from direction I i j ∷ []) ≡ true
         parts_12 i j a b = any_2 _ _ (λ no.
-            let near_it = sym (near-parts log t trees back I i j) ∙ (wit-parts i j a b (was_true _ no)).0 in
-            is_from-says log t trees back I i j ∙ (and_parts (from log t trees back I i j) (up_to log t trees back I.high i j) near_it).0)
+            let near_it = sym (near-parts log t trees direction I i j) ∙ (wit-parts i j a b (was_true _ no)).0 in
+            is_from-says log t trees direction I i j ∙ (and_parts (from log t trees direction I i j) (up_to log t trees direction I.high i j) near_it).0)
 
-        parts_13 : (i j : ℕ) → i < length t → j < length t → (high : Option ℕ) → I.high ≡ high → Right (option_map_or (λ b. Ok (is_not (Wit k i j) ∷ rule.is_up_to back b i j ∷ [])) high (Err NoRule))
+        parts_13 : (i j : ℕ) → i < length t → j < length t → (high : Option ℕ) → I.high ≡ high → Right (option_map_or (λ b. Ok (is_not (Wit k i j) ∷ rule.is_up_to direction b i j ∷ [])) high (Err NoRule))
         parts_13 i j a b None none = tt
         parts_13 i j a b (Some bound) some = any_2 _ _ (λ no.
-            let near_it = sym (near-parts log t trees back I i j) ∙ (wit-parts i j a b (was_true _ no)).0 in
-            let far : up_to log t trees back I.high i j ≡ true = (and_parts (from log t trees back I i j) (up_to log t trees back I.high i j) near_it).1 in
-            is_up_to-says log t trees back bound i j ∙ (rw some at far))
+            let near_it = sym (near-parts log t trees direction I i j) ∙ (wit-parts i j a b (was_true _ no)).0 in
+            let far : up_to log t trees direction I.high i j ≡ true = (and_parts (from log t trees direction I i j) (up_to log t trees direction I.high i j) near_it).1 in
+            is_up_to-says log t trees direction bound i j ∙ (rw some at far))
 
         parts_14 : (i j : ℕ) → i < length t → j < length t → list_any (part_holds M) (is_not (Wit k i j) ∷ is (Node r j) ∷ []) ≡ true
         parts_14 i j a b = any_2 _ _ (λ no. node-is r j g b right ∙ (wit-parts i j a b (was_true _ no)).1)
@@ -219,18 +223,18 @@ module _ (log : Logged) (t : List ℤ) (trees : List Form) (root : ℕ) (value :
         parts_15 : (i j : ℕ) → i < length t → j < length t → list_any (part_holds M) (is_not (Wit k i j) ∷ is (Span k i j) ∷ []) ≡ true
         parts_15 i j a b = any_2 _ _ (λ no. is-span i j a b ∙ (wit-parts i j a b (was_true _ no)).2)
 
-        far_part : (i j : ℕ) (high : Option ℕ) → part_holds M (option_map_or (λ b. is_not_up_to back b i j) high (Known false)) ≡ false → up_to log t trees back high i j ≡ true
+        far_part : (i j : ℕ) (high : Option ℕ) → part_holds M (option_map_or (λ b. is_not_up_to direction b i j) high (Known false)) ≡ false → up_to log t trees direction high i j ≡ true
         far_part i j None fails = refl
-        far_part i j (Some bound) fails = was_true _ (sym (is_not_up_to-says log t trees back bound i j) ∙ fails)
+        far_part i j (Some bound) fails = was_true _ (sym (is_not_up_to-says log t trees direction bound i j) ∙ fails)
 
         parts_16 : (i j : ℕ) → i < length t → j < length t
-            → list_any (part_holds M) (is (Wit k i j) ∷ rule.is_not_from back I i j ∷ option_map_or (λ b. is_not_up_to back b i j) I.high (Known false) ∷ is_not (Node r j) ∷ is_not (Span k i j) ∷ []) ≡ true
+            → list_any (part_holds M) (is (Wit k i j) ∷ rule.is_not_from direction I i j ∷ option_map_or (λ b. is_not_up_to direction b i j) I.high (Known false) ∷ is_not (Node r j) ∷ is_not (Span k i j) ∷ []) ≡ true
         parts_16 i j a b = any_5 _ _ _ _ _ (λ none low_ok high_ok right_ok. elim (cases_Bool (M (Span k i j))) [
           | inr fails ↦ not_false _ fails
           | inl spans ↦
-              let from_it : from log t trees back I i j ≡ true = was_true _ (sym (is_not_from-says log t trees back I i j) ∙ low_ok) in
+              let from_it : from log t trees direction I i j ≡ true = was_true _ (sym (is_not_from-says log t trees direction I i j) ∙ low_ok) in
               let far_it = far_part i j I.high high_ok in
-              let near_it : near i j ≡ true = near-parts log t trees back I i j ∙ (rw (from_it, far_it) refl) in
+              let near_it : near i j ≡ true = near-parts log t trees direction I i j ∙ (rw (from_it, far_it) refl) in
               let there : R j ≡ true = sym (node-is r j g b right) ∙ was_true _ right_ok in
               let wit = is-wit i j a b ∙ witness_from O near L R i j near_it there (sym (is-span i j a b) ∙ spans) in
               absurd (apart (M (Wit k i j)) wit none)
@@ -238,79 +242,79 @@ module _ (log : Logged) (t : List ℤ) (trees : List Form) (root : ℕ) (value :
 
         parts_17 : (i : ℕ) → i < length t → list_any (part_holds M) (is_not (Node k i) ∷ for_each_event s (λ j. is (Wit k i j))) ≡ true
         parts_17 i a = any_rest _ _ (λ no.
-            let reaching = sym (means-reaches log t trees k back I f g at i a) ∙ was_true _ no in
+            let reaching = sym (means-reaches log t trees k direction I f g at i a) ∙ was_true _ no in
             let (j, there, wit) = any_some (λ y. witness O near L R i y) O.points (reached O near L R i reaching) in
-            let b = row_at log t trees back j there in
+            let b = row_at log t trees direction j there in
             some-event (λ j. is (Wit k i j)) j b (is-wit i j a b ∙ wit))
 
         parts_18 : (i j : ℕ) → i < length t → j < length t → list_any (part_holds M) (is (Node k i) ∷ is_not (Wit k i j) ∷ []) ≡ true
         parts_18 i j a b = any_2 _ _ (λ no. elim (cases_Bool (M (Wit k i j))) [
           | inr none ↦ not_false _ none
           | inl wit ↦
-              let ahead = near-ahead log t trees back I i j (wit-parts i j a b wit).0 in
-              let reaching = means-reaches log t trees k back I f g at i a ∙ reaches_from O near L R i j (at_row log t trees back j b) ahead (sym (is-wit i j a b) ∙ wit) in
+              let ahead = near-ahead log t trees direction I i j (wit-parts i j a b wit).0 in
+              let reaching = means-reaches log t trees k direction I f g at i a ∙ reaches_from O near L R i j (at_row log t trees direction j b) ahead (sym (is-wit i j a b) ∙ wit) in
               absurd (apart (M (Node k i)) reaching no)
         ])
 
-        parts_19 : (i j m : ℕ) → i < length t → j < length t → m < length t → list_any (part_holds M) (is_not (Span k i j) ∷ rule.met_after back i m ∷ rule.not_met_after back j m ∷ is (Node l m) ∷ []) ≡ true
+        parts_19 : (i j m : ℕ) → i < length t → j < length t → m < length t → list_any (part_holds M) (is_not (Span k i j) ∷ rule.met_after direction i m ∷ rule.not_met_after direction j m ∷ is (Node l m) ∷ []) ≡ true
         parts_19 i j m a b c = any_4 _ _ _ _ (λ no early late.
             let spans = sym (is-span i j a b) ∙ was_true _ no in
-            let begun : O.not_after i m ≡ true = was_true _ (sym (met_after-says log t trees back i m) ∙ early) in
-            let before : O.not_after j m ≡ false = sym (not_met_after-says log t trees back j m) ∙ late in
-            node-is l m f c left ∙ span_at O L i j m spans (at_row log t trees back m c) begun before)
+            let begun : O.not_after i m ≡ true = was_true _ (sym (met_after-says log t trees direction i m) ∙ early) in
+            let before : O.not_after j m ≡ false = sym (not_met_after-says log t trees direction j m) ∙ late in
+            node-is l m f c left ∙ span_at O L i j m spans (at_row log t trees direction m c) begun before)
 
         parts_20 : (i j : ℕ) → i < length t → j < length t → list_any (part_holds M) (is (Span k i j) ∷ for_each_event s (λ m. is (Gap k i m))) ≡ true
         parts_20 i j a b = any_rest _ _ (λ no.
-            let (m, there, broken) = any_some (λ z. gap O L i z) O.points (gap_without_span O L (order-met back t) i j (sym (is-span i j a b) ∙ no)) in
-            let c = row_at log t trees back m there in
+            let (m, there, broken) = any_some (λ z. gap O L i z) O.points (gap_without_span O L (order-met direction t) i j (sym (is-span i j a b) ∙ no)) in
+            let c = row_at log t trees direction m there in
             some-event (λ m. is (Gap k i m)) m c (is-gap i m a c ∙ broken))
 
-        parts_21 : (i j m : ℕ) → i < length t → j < length t → m < length t → list_any (part_holds M) (is_not (Gap k i m) ∷ rule.met_after back j m ∷ is (Span k i j) ∷ []) ≡ true
+        parts_21 : (i j m : ℕ) → i < length t → j < length t → m < length t → list_any (part_holds M) (is_not (Gap k i m) ∷ rule.met_after direction j m ∷ is (Span k i j) ∷ []) ≡ true
         parts_21 i j m a b c = any_3 _ _ _ (λ no early.
-            let up : O.not_after j m ≡ true = was_true _ (sym (met_after-says log t trees back j m) ∙ early) in
-            is-span i j a b ∙ span_to_gap O L (order-met back t) i j m (the-gap i m a c (was_true _ no)) up)
+            let up : O.not_after j m ≡ true = was_true _ (sym (met_after-says log t trees direction j m) ∙ early) in
+            is-span i j a b ∙ span_to_gap O L (order-met direction t) i j m (the-gap i m a c (was_true _ no)) up)
 
-        parts_22 : (i m : ℕ) → i < length t → m < length t → list_any (part_holds M) (is_not (Gap k i m) ∷ rule.not_met_after back i m ∷ []) ≡ true
-        parts_22 i m a c = any_2 _ _ (λ no. not_met_after-says log t trees back i m ∙ (gap_parts O L i m (the-gap i m a c (was_true _ no))).0)
+        parts_22 : (i m : ℕ) → i < length t → m < length t → list_any (part_holds M) (is_not (Gap k i m) ∷ rule.not_met_after direction i m ∷ []) ≡ true
+        parts_22 i m a c = any_2 _ _ (λ no. not_met_after-says log t trees direction i m ∙ (gap_parts O L i m (the-gap i m a c (was_true _ no))).0)
 
         parts_23 : (i m : ℕ) → i < length t → m < length t → list_any (part_holds M) (is_not (Gap k i m) ∷ is_not (Node l m) ∷ []) ≡ true
         parts_23 i m a c = any_2 _ _ (λ no. not_false _ (node-is l m f c left ∙ (gap_parts O L i m (the-gap i m a c (was_true _ no))).1))
 
     right_12 : (k i j : ℕ) → k < length trees → i < length t → j < length t → Right (rule.rule_12 s k i j)
-    right_12 k i j low a b = by_reach k (λ u. Ok (is_not (Wit k i j) ∷ rule.is_from u.back u.interval i j ∷ [])) low (λ back I f g l r at left right. parts_12 k low back I f g l r at left right i j a b)
+    right_12 k i j low a b = by_reach k (λ u. Ok (is_not (Wit k i j) ∷ rule.is_from u.direction u.interval i j ∷ [])) low (λ direction I f g l r at left right. parts_12 k low direction I f g l r at left right i j a b)
 
     right_13 : (k i j : ℕ) → k < length trees → i < length t → j < length t → Right (rule.rule_13 s k i j)
-    right_13 k i j low a b = by_reach k (λ u. option_map_or (λ b. Ok (is_not (Wit k i j) ∷ rule.is_up_to u.back b i j ∷ [])) u.interval.high (Err NoRule)) low (λ back I f g l r at left right. parts_13 k low back I f g l r at left right i j a b I.high refl)
+    right_13 k i j low a b = by_reach k (λ u. option_map_or (λ b. Ok (is_not (Wit k i j) ∷ rule.is_up_to u.direction b i j ∷ [])) u.interval.high (Err NoRule)) low (λ direction I f g l r at left right. parts_13 k low direction I f g l r at left right i j a b I.high refl)
 
     right_14 : (k i j : ℕ) → k < length trees → i < length t → j < length t → Right (rule.rule_14 s k i j)
-    right_14 k i j low a b = by_reach k (λ u. Ok (is_not (Wit k i j) ∷ is (Node u.right j) ∷ [])) low (λ back I f g l r at left right. parts_14 k low back I f g l r at left right i j a b)
+    right_14 k i j low a b = by_reach k (λ u. Ok (is_not (Wit k i j) ∷ is (Node u.right j) ∷ [])) low (λ direction I f g l r at left right. parts_14 k low direction I f g l r at left right i j a b)
 
     right_15 : (k i j : ℕ) → k < length trees → i < length t → j < length t → Right (rule.rule_15 s k i j)
-    right_15 k i j low a b = by_reach k (λ u. Ok (is_not (Wit k i j) ∷ is (Span k i j) ∷ [])) low (λ back I f g l r at left right. parts_15 k low back I f g l r at left right i j a b)
+    right_15 k i j low a b = by_reach k (λ u. Ok (is_not (Wit k i j) ∷ is (Span k i j) ∷ [])) low (λ direction I f g l r at left right. parts_15 k low direction I f g l r at left right i j a b)
 
     right_16 : (k i j : ℕ) → k < length trees → i < length t → j < length t → Right (rule.rule_16 s k i j)
-    right_16 k i j low a b = by_reach k (λ u. Ok (is (Wit k i j) ∷ rule.is_not_from u.back u.interval i j ∷ option_map_or (λ b. is_not_up_to u.back b i j) u.interval.high (Known false) ∷ is_not (Node u.right j) ∷ is_not (Span k i j) ∷ [])) low (λ back I f g l r at left right. parts_16 k low back I f g l r at left right i j a b)
+    right_16 k i j low a b = by_reach k (λ u. Ok (is (Wit k i j) ∷ rule.is_not_from u.direction u.interval i j ∷ option_map_or (λ b. is_not_up_to u.direction b i j) u.interval.high (Known false) ∷ is_not (Node u.right j) ∷ is_not (Span k i j) ∷ [])) low (λ direction I f g l r at left right. parts_16 k low direction I f g l r at left right i j a b)
 
     right_17 : (k i : ℕ) → k < length trees → i < length t → Right (rule.rule_17 s k i)
-    right_17 k i low a = by_reach k (λ u. Ok (is_not (Node k i) ∷ for_each_event s (λ j. is (Wit k i j)))) low (λ back I f g l r at left right. parts_17 k low back I f g l r at left right i a)
+    right_17 k i low a = by_reach k (λ u. Ok (is_not (Node k i) ∷ for_each_event s (λ j. is (Wit k i j)))) low (λ direction I f g l r at left right. parts_17 k low direction I f g l r at left right i a)
 
     right_18 : (k i j : ℕ) → k < length trees → i < length t → j < length t → Right (rule.rule_18 s k i j)
-    right_18 k i j low a b = by_reach k (λ u. Ok (is (Node k i) ∷ is_not (Wit k i j) ∷ [])) low (λ back I f g l r at left right. parts_18 k low back I f g l r at left right i j a b)
+    right_18 k i j low a b = by_reach k (λ u. Ok (is (Node k i) ∷ is_not (Wit k i j) ∷ [])) low (λ direction I f g l r at left right. parts_18 k low direction I f g l r at left right i j a b)
 
     right_19 : (k i j m : ℕ) → k < length trees → i < length t → j < length t → m < length t → Right (rule.rule_19 s k i j m)
-    right_19 k i j m low a b c = by_reach k (λ u. Ok (is_not (Span k i j) ∷ rule.met_after u.back i m ∷ rule.not_met_after u.back j m ∷ is (Node u.left m) ∷ [])) low (λ back I f g l r at left right. parts_19 k low back I f g l r at left right i j m a b c)
+    right_19 k i j m low a b c = by_reach k (λ u. Ok (is_not (Span k i j) ∷ rule.met_after u.direction i m ∷ rule.not_met_after u.direction j m ∷ is (Node u.left m) ∷ [])) low (λ direction I f g l r at left right. parts_19 k low direction I f g l r at left right i j m a b c)
 
     right_20 : (k i j : ℕ) → k < length trees → i < length t → j < length t → Right (rule.rule_20 s k i j)
-    right_20 k i j low a b = by_reach k (λ u. Ok (is (Span k i j) ∷ for_each_event s (λ m. is (Gap k i m)))) low (λ back I f g l r at left right. parts_20 k low back I f g l r at left right i j a b)
+    right_20 k i j low a b = by_reach k (λ u. Ok (is (Span k i j) ∷ for_each_event s (λ m. is (Gap k i m)))) low (λ direction I f g l r at left right. parts_20 k low direction I f g l r at left right i j a b)
 
     right_21 : (k i j m : ℕ) → k < length trees → i < length t → j < length t → m < length t → Right (rule.rule_21 s k i j m)
-    right_21 k i j m low a b c = by_reach k (λ u. Ok (is_not (Gap k i m) ∷ rule.met_after u.back j m ∷ is (Span k i j) ∷ [])) low (λ back I f g l r at left right. parts_21 k low back I f g l r at left right i j m a b c)
+    right_21 k i j m low a b c = by_reach k (λ u. Ok (is_not (Gap k i m) ∷ rule.met_after u.direction j m ∷ is (Span k i j) ∷ [])) low (λ direction I f g l r at left right. parts_21 k low direction I f g l r at left right i j m a b c)
 
     right_22 : (k i m : ℕ) → k < length trees → i < length t → m < length t → Right (rule.rule_22 s k i m)
-    right_22 k i m low a c = by_reach k (λ u. Ok (is_not (Gap k i m) ∷ rule.not_met_after u.back i m ∷ [])) low (λ back I f g l r at left right. parts_22 k low back I f g l r at left right i m a c)
+    right_22 k i m low a c = by_reach k (λ u. Ok (is_not (Gap k i m) ∷ rule.not_met_after u.direction i m ∷ [])) low (λ direction I f g l r at left right. parts_22 k low direction I f g l r at left right i m a c)
 
     right_23 : (k i m : ℕ) → k < length trees → i < length t → m < length t → Right (rule.rule_23 s k i m)
-    right_23 k i m low a c = by_reach k (λ u. Ok (is_not (Gap k i m) ∷ is_not (Node u.left m) ∷ [])) low (λ back I f g l r at left right. parts_23 k low back I f g l r at left right i m a c)
+    right_23 k i m low a c = by_reach k (λ u. Ok (is_not (Gap k i m) ∷ is_not (Node u.left m) ∷ [])) low (λ direction I f g l r at left right. parts_23 k low direction I f g l r at left right i m a c)
 
     module _ (valid : IsLog log) (ok : Admissible log t) (law : BeforeIsNotLater) where
       falls : (host : ℕ) (name : List ℕ) (instant : ℤ) → Falls (is_by t instant) (changes_of log host name)

@@ -8,6 +8,8 @@ use Rattle.std.proofs.lemmas.Int.{ints}
 use Rattle.mt_model.specs.State.{Change, change_at, changes_of, effect_of, host_named}
 use Rattle.mt_model.specs.Timing.{host_of}
 use Rattle.mt_model.proofs.Members.{Among}
+use Rattle.formula_arena.specs.declared.direction.Direction.{Direction}
+use Rattle.formula_arena.specs.declared.direction.Direction.TheVariants.{Ahead, Behind}
 use Rattle.axiom_rules.specs.declared.fault.RuleFault.TheVariants.{Kind, NoRule, Range}
 use Rattle.axiom_rules.specs.declared.literal.Atom.{Atom}
 use Rattle.axiom_rules.specs.declared.literal.Atom.TheVariants.{Order, Node, First, Wit, Span, Gap}
@@ -115,13 +117,13 @@ module _ (s : Sought) (N : ℕ → Type 0) (B : ℤ → Type 0) (nodes : AreNode
       go true less is-same is-less = tt
       go false less is-same is-less = literal less is-same is-less
 
-  met-made : (back : Bool) (e f : ℕ) (c : ℤ) → e < length s.log.rows → f < length s.log.rows → BothWays B c → OfPart P (met_order back e f c)
-  met-made true e f c low-e low-f both = order-made f e c low-f low-e both
-  met-made false e f c low-e low-f both = order-made e f c low-e low-f both
+  met-made : (direction : Direction) (e f : ℕ) (c : ℤ) → e < length s.log.rows → f < length s.log.rows → BothWays B c → OfPart P (met_order direction e f c)
+  met-made Behind e f c low-e low-f both = order-made f e c low-f low-e both
+  met-made Ahead e f c low-e low-f both = order-made e f c low-e low-f both
 
-  not-met-made : (back : Bool) (e f : ℕ) (c : ℤ) → e < length s.log.rows → f < length s.log.rows → BothWays B c → OfPart P (not_met_order back e f c)
-  not-met-made true e f c low-e low-f both = order-made e f (neg_ℤ c -ℤ pos 1) low-e low-f (turned B c both)
-  not-met-made false e f c low-e low-f both = order-made f e (neg_ℤ c -ℤ pos 1) low-f low-e (turned B c both)
+  not-met-made : (direction : Direction) (e f : ℕ) (c : ℤ) → e < length s.log.rows → f < length s.log.rows → BothWays B c → OfPart P (not_met_order direction e f c)
+  not-met-made Behind e f c low-e low-f both = order-made e f (neg_ℤ c -ℤ pos 1) low-e low-f (turned B c both)
+  not-met-made Ahead e f c low-e low-f both = order-made f e (neg_ℤ c -ℤ pos 1) low-f low-e (turned B c both)
 
   come-made : (changes : List Change) (place e : ℕ) → AllByRecursion (IsOfRow s) changes → e < length s.log.rows → OfPart P (has_come changes place e)
   come-made changes place e all low = go (slice_get changes place) refl
@@ -130,9 +132,9 @@ module _ (s : Sought) (N : ℕ → Type 0) (B : ℤ → Type 0) (nodes : AreNode
       go None at = tt
       go (Some c) at = order-made c.row e (pos 0) (holds-at (IsOfRow s) changes place c all at) low bounds.zero
 
-  far-made : (back : Bool) (high : Option ℕ) (i j : ℕ) → i < length s.log.rows → j < length s.log.rows → ((b : ℕ) → high ≡ Some b → BothWays B (pos b)) → OfPart P (option_map_or (λ b. is_not_up_to back b i j) high (Known false))
-  far-made back None i j low-i low-j each = tt
-  far-made back (Some b) i j low-i low-j each = not-met-made back j i (pos b) low-j low-i (each b refl)
+  far-made : (direction : Direction) (high : Option ℕ) (i j : ℕ) → i < length s.log.rows → j < length s.log.rows → ((b : ℕ) → high ≡ Some b → BothWays B (pos b)) → OfPart P (option_map_or (λ b. is_not_up_to direction b i j) high (Known false))
+  far-made direction None i j low-i low-j each = tt
+  far-made direction (Some b) i j low-i low-j each = not-met-made direction j i (pos b) low-j low-i (each b refl)
 
   reach : (k : ℕ) (u : Reach) → reach_in (shape_at s k) ≡ Some u → IsReach s k
   reach k u is = ap is_some is
@@ -176,11 +178,11 @@ module _ (s : Sought) (N : ℕ → Type 0) (B : ℤ → Type 0) (nodes : AreNode
   made-11 = row-of-nothing s (IsMade s P) rule_11 (of-each s P (λ e. is (First e)) (λ x low. low))
 
   made-12 : IsRow (of_node_events rule_12)
-  made-12 = row-of-two s (IsMade s P) rule_12 (λ k i j low-k low-i low-j. of-kind s P _ _ (λ (u : Reach) is. of-2 s P _ _ (reach k u is, low-i, low-j) (met-made u.back i j (neg_ℤ (pos u.interval.low)) low-i low-j (bounds.low k u is))))
+  made-12 = row-of-two s (IsMade s P) rule_12 (λ k i j low-k low-i low-j. of-kind s P _ _ (λ (u : Reach) is. of-2 s P _ _ (reach k u is, low-i, low-j) (met-made u.direction i j (neg_ℤ (pos u.interval.low)) low-i low-j (bounds.low k u is))))
 
   made-13 : IsRow (of_node_events rule_13)
   made-13 = row-of-two s (IsMade s P) rule_13 (λ k i j low-k low-i low-j. of-kind s P _ _ (λ (u : Reach) is. of-option s P u.interval.high _ NoRule (λ b at.
-      of-2 s P _ _ (reach k u is, low-i, low-j) (met-made u.back j i (pos b) low-j low-i (bounds.high k u b is at)))))
+      of-2 s P _ _ (reach k u is, low-i, low-j) (met-made u.direction j i (pos b) low-j low-i (bounds.high k u b is at)))))
 
   made-14 : IsRow (of_node_events rule_14)
   made-14 = row-of-two s (IsMade s P) rule_14 (λ k i j low-k low-i low-j. of-kind s P _ _ (λ (u : Reach) is. of-2 s P _ _ (reach k u is, low-i, low-j) ((nodes.children k u is).1, low-j)))
@@ -190,8 +192,8 @@ module _ (s : Sought) (N : ℕ → Type 0) (B : ℤ → Type 0) (nodes : AreNode
 
   made-16 : IsRow (of_node_events rule_16)
   made-16 = row-of-two s (IsMade s P) rule_16 (λ k i j low-k low-i low-j. of-kind s P _ _ (λ (u : Reach) is.
-      of-5 s P _ _ _ _ _ (reach k u is, low-i, low-j) (not-met-made u.back i j (neg_ℤ (pos u.interval.low)) low-i low-j (bounds.low k u is))
-      (far-made u.back u.interval.high i j low-i low-j (λ b at. bounds.high k u b is at)) ((nodes.children k u is).1, low-j) (reach k u is, low-i, low-j)))
+      of-5 s P _ _ _ _ _ (reach k u is, low-i, low-j) (not-met-made u.direction i j (neg_ℤ (pos u.interval.low)) low-i low-j (bounds.low k u is))
+      (far-made u.direction u.interval.high i j low-i low-j (λ b at. bounds.high k u b is at)) ((nodes.children k u is).1, low-j) (reach k u is, low-i, low-j)))
 
   made-17 : IsRow (of_node_event rule_17)
   made-17 = row-of-node s (IsMade s P) rule_17 (λ k i low-k low-i. of-kind s P _ _ (λ (u : Reach) is. of-first-and-each s P _ _ (nodes.each k low-k, low-i) (λ x low-x. (reach k u is, low-i, low-x))))
@@ -201,17 +203,17 @@ module _ (s : Sought) (N : ℕ → Type 0) (B : ℤ → Type 0) (nodes : AreNode
 
   made-19 : IsRow (of_node_three_events rule_19)
   made-19 = row-of-three s (IsMade s P) rule_19 (λ k i j m low-k low-i low-j low-m. of-kind s P _ _ (λ (u : Reach) is.
-      of-4 s P _ _ _ _ (reach k u is, low-i, low-j) (not-met-made u.back i m (pos 0) low-i low-m bounds.zero) (met-made u.back j m (pos 0) low-j low-m bounds.zero) ((nodes.children k u is).0, low-m)))
+      of-4 s P _ _ _ _ (reach k u is, low-i, low-j) (not-met-made u.direction i m (pos 0) low-i low-m bounds.zero) (met-made u.direction j m (pos 0) low-j low-m bounds.zero) ((nodes.children k u is).0, low-m)))
 
   made-20 : IsRow (of_node_events rule_20)
   made-20 = row-of-two s (IsMade s P) rule_20 (λ k i j low-k low-i low-j. of-kind s P _ _ (λ (u : Reach) is. of-first-and-each s P _ _ (reach k u is, low-i, low-j) (λ x low-x. (reach k u is, low-i, low-x))))
 
   made-21 : IsRow (of_node_three_events rule_21)
   made-21 = row-of-three s (IsMade s P) rule_21 (λ k i j m low-k low-i low-j low-m. of-kind s P _ _ (λ (u : Reach) is.
-      of-3 s P _ _ _ (reach k u is, low-i, low-m) (not-met-made u.back j m (pos 0) low-j low-m bounds.zero) (reach k u is, low-i, low-j)))
+      of-3 s P _ _ _ (reach k u is, low-i, low-m) (not-met-made u.direction j m (pos 0) low-j low-m bounds.zero) (reach k u is, low-i, low-j)))
 
   made-22 : IsRow (of_node_events rule_22)
-  made-22 = row-of-two s (IsMade s P) rule_22 (λ k i m low-k low-i low-m. of-kind s P _ _ (λ (u : Reach) is. of-2 s P _ _ (reach k u is, low-i, low-m) (met-made u.back i m (pos 0) low-i low-m bounds.zero)))
+  made-22 = row-of-two s (IsMade s P) rule_22 (λ k i m low-k low-i low-m. of-kind s P _ _ (λ (u : Reach) is. of-2 s P _ _ (reach k u is, low-i, low-m) (met-made u.direction i m (pos 0) low-i low-m bounds.zero)))
 
   made-23 : IsRow (of_node_events rule_23)
   made-23 = row-of-two s (IsMade s P) rule_23 (λ k i m low-k low-i low-m. of-kind s P _ _ (λ (u : Reach) is. of-2 s P _ _ (reach k u is, low-i, low-m) ((nodes.children k u is).0, low-m)))

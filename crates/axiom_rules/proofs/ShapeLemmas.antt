@@ -6,6 +6,7 @@ use Rattle.std.proofs.lemmas.List.{append-nil, append_assoc, length-append}
 use Rattle.std.proofs.lemmas.List.Elements.{filter_map-append}
 use Rattle.mt_model.specs.Form.{Form, True, Not, And, Until, Since}
 use Rattle.mt_model.specs.Log.{Logged}
+use Rattle.formula_arena.specs.declared.direction.Direction.TheVariants.{Ahead, Behind}
 use Rattle.axiom_rules.specs.declared.shape.Shape.{Shape}
 use Rattle.axiom_rules.specs.declared.shape.Shape.TheVariants as shape
 use Rattle.std.proofs.lemmas.Option.{slice_get_past, slice_get_read, slice_get_within}
@@ -124,10 +125,10 @@ module _ (same : (f g : Form) → (same_form f g ≡ true) ↔ (f ≡ g)) (log :
   pub shape-and : (a b : ℕ) → a < k → b < k → tree_at trees k ≡ And (tree_at trees a) (tree_at trees b) → IsShape log trees k (shape.And a b)
   shape-and a b less_a less_b is = record { known = rw (is, at a less_a, at b less_b) refl; over = (less_a, less_b); tree = is }
 
-  pub shape-until : (I : Interval) (a b : ℕ) → a < k → b < k → tree_at trees k ≡ Until I (tree_at trees a) (tree_at trees b) → IsShape log trees k (shape.Reach (record { back = false; interval = I; left = a; right = b }))
+  pub shape-until : (I : Interval) (a b : ℕ) → a < k → b < k → tree_at trees k ≡ Until I (tree_at trees a) (tree_at trees b) → IsShape log trees k (shape.Reach (record { direction = Ahead; interval = I; left = a; right = b }))
   shape-until I a b less_a less_b is = record { known = rw (is, at a less_a, at b less_b) refl; over = (less_a, less_b); tree = is }
 
-  pub shape-since : (I : Interval) (a b : ℕ) → a < k → b < k → tree_at trees k ≡ Since I (tree_at trees a) (tree_at trees b) → IsShape log trees k (shape.Reach (record { back = true; interval = I; left = a; right = b }))
+  pub shape-since : (I : Interval) (a b : ℕ) → a < k → b < k → tree_at trees k ≡ Since I (tree_at trees a) (tree_at trees b) → IsShape log trees k (shape.Reach (record { direction = Behind; interval = I; left = a; right = b }))
   shape-since I a b less_a less_b is = record { known = rw (is, at a less_a, at b less_b) refl; over = (less_a, less_b); tree = is }
 
 -- the shape of a node's place, where there is one

@@ -5,6 +5,7 @@ use Rattle.std.specs.Option.{option_map_or}
 use Rattle.mt_model.specs.Form.{Form, True, Prop, Not, And, Until, Since}
 use Rattle.mt_model.specs.Log.{Logged}
 use Rattle.mt_model.specs.State.{Change, changes_of, host_named}
+use Rattle.formula_arena.specs.declared.direction.Direction.TheVariants.{Ahead, Behind}
 use Rattle.formula_arena.specs.Subtrees.{same_form}
 use Rattle.axiom_rules.specs.declared.reach.Reach.{Reach}
 use Rattle.axiom_rules.specs.declared.shape.Shape.{Shape}
@@ -25,8 +26,8 @@ shape_of log trees True = Some shape.True
 shape_of log trees (Prop host name) = Some (shape.Prop host name (changes_named log host name))
 shape_of log trees (Not f) = Some (shape.Not (number_of trees f))
 shape_of log trees (And f g) = Some (shape.And (number_of trees f) (number_of trees g))
-shape_of log trees (Until I f g) = Some (shape.Reach (record { back = false; interval = I; left = number_of trees f; right = number_of trees g }))
-shape_of log trees (Since I f g) = Some (shape.Reach (record { back = true; interval = I; left = number_of trees f; right = number_of trees g }))
+shape_of log trees (Until I f g) = Some (shape.Reach (record { direction = Ahead; interval = I; left = number_of trees f; right = number_of trees g }))
+shape_of log trees (Since I f g) = Some (shape.Reach (record { direction = Behind; interval = I; left = number_of trees f; right = number_of trees g }))
 shape_of log trees _ = None
 
 -- what node k is, where there is such a node

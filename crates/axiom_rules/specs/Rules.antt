@@ -4,6 +4,8 @@ use Rattle.std.specs.List.{range_with_len}
 use Rattle.std.specs.Option.{option_map_or}
 use Rattle.mt_model.specs.declared.tree.Interval.{Interval}
 use Rattle.mt_model.specs.State.{Change}
+use Rattle.formula_arena.specs.declared.direction.Direction.{Direction}
+use Rattle.formula_arena.specs.declared.direction.Direction.TheVariants.{Ahead, Behind}
 use Rattle.axiom_rules.specs.declared.fault.RuleFault.TheVariants.{NoRule, Range, Kind}
 use Rattle.axiom_rules.specs.declared.literal.Atom.{Atom}
 use Rattle.axiom_rules.specs.declared.literal.Atom.TheVariants.{Node, First, Wit, Span, Gap}
@@ -30,33 +32,35 @@ abbrev pub of_kind : {X : Type 0} → Option X → (X → Written) → Written
 of_kind None write = Err Kind
 of_kind (Some x) write = write x
 
--- t_e - t_f <= c, where the node looks back with e and f exchanged
-abbrev pub met_order : Bool → ℕ → ℕ → ℤ → Part
-met_order back e f c = if back then order f e c else order e f c
+-- t_e - t_f <= c, where the node looks behind with e and f exchanged
+abbrev pub met_order : Direction → ℕ → ℕ → ℤ → Part
+met_order Ahead e f c = order e f c
+met_order Behind e f c = order f e c
 
-abbrev pub not_met_order : Bool → ℕ → ℕ → ℤ → Part
-not_met_order back e f c = if back then not_order f e c else not_order e f c
+abbrev pub not_met_order : Direction → ℕ → ℕ → ℤ → Part
+not_met_order Ahead e f c = not_order e f c
+not_met_order Behind e f c = not_order f e c
 
 -- event e is not after event f as the node looks, and it is
-abbrev pub not_met_after : Bool → ℕ → ℕ → Part
-not_met_after back e f = met_order back e f (pos 0)
+abbrev pub not_met_after : Direction → ℕ → ℕ → Part
+not_met_after direction e f = met_order direction e f (pos 0)
 
-abbrev pub met_after : Bool → ℕ → ℕ → Part
-met_after back e f = not_met_order back e f (pos 0)
+abbrev pub met_after : Direction → ℕ → ℕ → Part
+met_after direction e f = not_met_order direction e f (pos 0)
 
 -- event j is at least the lower bound from event i, and it is not
-abbrev pub is_from : Bool → Interval → ℕ → ℕ → Part
-is_from back I i j = met_order back i j (neg_ℤ (pos I.low))
+abbrev pub is_from : Direction → Interval → ℕ → ℕ → Part
+is_from direction I i j = met_order direction i j (neg_ℤ (pos I.low))
 
-abbrev pub is_not_from : Bool → Interval → ℕ → ℕ → Part
-is_not_from back I i j = not_met_order back i j (neg_ℤ (pos I.low))
+abbrev pub is_not_from : Direction → Interval → ℕ → ℕ → Part
+is_not_from direction I i j = not_met_order direction i j (neg_ℤ (pos I.low))
 
 -- event j is at most the upper bound b from event i, and it is not
-abbrev pub is_up_to : Bool → ℕ → ℕ → ℕ → Part
-is_up_to back b i j = met_order back j i (pos b)
+abbrev pub is_up_to : Direction → ℕ → ℕ → ℕ → Part
+is_up_to direction b i j = met_order direction j i (pos b)
 
-abbrev pub is_not_up_to : Bool → ℕ → ℕ → ℕ → Part
-is_not_up_to back b i j = not_met_order back j i (pos b)
+abbrev pub is_not_up_to : Direction → ℕ → ℕ → ℕ → Part
+is_not_up_to direction b i j = not_met_order direction j i (pos b)
 
 -- the change of a place has come at event e; left out where there is no such change
 abbrev pub has_come : List Change → ℕ → ℕ → Part
@@ -103,10 +107,10 @@ module _ (s : Sought) where
 
   -- a witness is in the interval, ..
   abbrev pub rule_12 : ℕ → ℕ → ℕ → Written
-  rule_12 k i j = of_kind (reach_in (shape_at s k)) (λ u. Ok (is_not (Wit k i j) ∷ is_from u.back u.interval i j ∷ []))
+  rule_12 k i j = of_kind (reach_in (shape_at s k)) (λ u. Ok (is_not (Wit k i j) ∷ is_from u.direction u.interval i j ∷ []))
 
   abbrev pub rule_13 : ℕ → ℕ → ℕ → Written
-  rule_13 k i j = of_kind (reach_in (shape_at s k)) (λ u. option_map_or (λ b. Ok (is_not (Wit k i j) ∷ is_up_to u.back b i j ∷ [])) u.interval.high (Err NoRule))
+  rule_13 k i j = of_kind (reach_in (shape_at s k)) (λ u. option_map_or (λ b. Ok (is_not (Wit k i j) ∷ is_up_to u.direction b i j ∷ [])) u.interval.high (Err NoRule))
 
   -- .. the right side holds there, ..
   abbrev pub rule_14 : ℕ → ℕ → ℕ → Written
@@ -118,7 +122,7 @@ module _ (s : Sought) where
 
   -- what is all of this is a witness; an upper bound that is lacking is left out
   abbrev pub rule_16 : ℕ → ℕ → ℕ → Written
-  rule_16 k i j = of_kind (reach_in (shape_at s k)) (λ u. Ok (is (Wit k i j) ∷ is_not_from u.back u.interval i j ∷ option_map_or (λ b. is_not_up_to u.back b i j) u.interval.high (Known false) ∷ is_not (Node u.right j) ∷ is_not (Span k i j) ∷ []))
+  rule_16 k i j = of_kind (reach_in (shape_at s k)) (λ u. Ok (is (Wit k i j) ∷ is_not_from u.direction u.interval i j ∷ option_map_or (λ b. is_not_up_to u.direction b i j) u.interval.high (Known false) ∷ is_not (Node u.right j) ∷ is_not (Span k i j) ∷ []))
 
   -- the node is true where some event is a witness
   abbrev pub rule_17 : ℕ → ℕ → Written
@@ -129,7 +133,7 @@ module _ (s : Sought) where
 
   -- over a span the left side holds
   abbrev pub rule_19 : ℕ → ℕ → ℕ → ℕ → Written
-  rule_19 k i j m = of_kind (reach_in (shape_at s k)) (λ u. Ok (is_not (Span k i j) ∷ met_after u.back i m ∷ not_met_after u.back j m ∷ is (Node u.left m) ∷ []))
+  rule_19 k i j m = of_kind (reach_in (shape_at s k)) (λ u. Ok (is_not (Span k i j) ∷ met_after u.direction i m ∷ not_met_after u.direction j m ∷ is (Node u.left m) ∷ []))
 
   -- where there is no span there is a gap, ..
   abbrev pub rule_20 : ℕ → ℕ → ℕ → Written
@@ -137,11 +141,11 @@ module _ (s : Sought) where
 
   -- .. with a span up to there, ..
   abbrev pub rule_21 : ℕ → ℕ → ℕ → ℕ → Written
-  rule_21 k i j m = of_kind (reach_in (shape_at s k)) (λ u. Ok (is_not (Gap k i m) ∷ met_after u.back j m ∷ is (Span k i j) ∷ []))
+  rule_21 k i j m = of_kind (reach_in (shape_at s k)) (λ u. Ok (is_not (Gap k i m) ∷ met_after u.direction j m ∷ is (Span k i j) ∷ []))
 
   -- .. which is from here on, ..
   abbrev pub rule_22 : ℕ → ℕ → ℕ → Written
-  rule_22 k i m = of_kind (reach_in (shape_at s k)) (λ u. Ok (is_not (Gap k i m) ∷ not_met_after u.back i m ∷ []))
+  rule_22 k i m = of_kind (reach_in (shape_at s k)) (λ u. Ok (is_not (Gap k i m) ∷ not_met_after u.direction i m ∷ []))
 
   -- .. and at which the left side fails
   abbrev pub rule_23 : ℕ → ℕ → ℕ → Written

@@ -1,11 +1,19 @@
 -- The trees that are told by the shapes of their nodes.
-use Rattle.std.specs.Prelude.{◌≡◌, ◌<◌, ℕ, if◌then◌else◌, List, [], ◌∷◌, ◌++◌, length, Some, slice_get}
+use Rattle.std.specs.Prelude.{◌≡◌, ◌<◌, ℕ, List, [], ◌∷◌, ◌++◌, length, Some, slice_get}
+use Rattle.mt_model.specs.declared.tree.Interval.{Interval}
 use Rattle.mt_model.specs.Form.{Form, True, Prop, Not, And, Until, Since}
 use Rattle.mt_model.specs.Log.{Logged}
+use Rattle.formula_arena.specs.declared.direction.Direction.{Direction}
+use Rattle.formula_arena.specs.declared.direction.Direction.TheVariants.{Ahead, Behind}
 use Rattle.formula_arena.specs.Nodes.{tree_at}
 use Rattle.axiom_rules.specs.declared.shape.Shape.{Shape}
 use Rattle.axiom_rules.specs.declared.shape.Shape.TheVariants as shape
 use Rattle.axiom_rules.specs.NodeShapes.{shape_of}
+
+-- an until, or a since
+abbrev pub reach_over : Direction → Interval → Form → Form → Form
+reach_over Ahead I f g = Until I f g
+reach_over Behind I f g = Since I f g
 
 -- the tree of a shape over the trees before it
 abbrev pub tree_over : List Form → Shape → Form
@@ -13,7 +21,7 @@ tree_over trees shape.True = True
 tree_over trees (shape.Prop host name changes) = Prop host name
 tree_over trees (shape.Not a) = Not (tree_at trees a)
 tree_over trees (shape.And a b) = And (tree_at trees a) (tree_at trees b)
-tree_over trees (shape.Reach r) = if r.back then Since r.interval (tree_at trees r.left) (tree_at trees r.right) else Until r.interval (tree_at trees r.left) (tree_at trees r.right)
+tree_over trees (shape.Reach r) = reach_over r.direction r.interval (tree_at trees r.left) (tree_at trees r.right)
 
 -- trees, and after them those of further shapes, each over those before it
 abbrev pub trees_after : List Form → List Shape → List Form

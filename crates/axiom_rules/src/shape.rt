@@ -7,7 +7,7 @@ ghost use Rattle.axiom_rules.specs.NodeShapes.{changes_named};
 ghost use Rattle.axiom_rules.specs.Shapes.{AreShapes, IsShape};
 
 use crate::reach::Reach;
-use formula_arena::{Arena, Core, cores_are_cores};
+use formula_arena::{Arena, Core, Direction, cores_are_cores};
 use mt_list::ListOf;
 use mt_model::{Act, Log, Name, NodeId};
 use std::alloc::{AllocError, Global};
@@ -133,13 +133,13 @@ fn shape_of(alloc: Global, log: &Log, arena: &Arena, id: NodeId) -> Result<Shape
         Core::Not(f) => Ok(Shape::Not(f.get())),
         Core::And(f, g) => Ok(Shape::And(f.get(), g.get())),
         Core::Until(interval, f, g) => Ok(Shape::Reach(Reach {
-            back: false,
+            direction: Direction::Ahead,
             interval,
             left: f.get(),
             right: g.get(),
         })),
         Core::Since(interval, f, g) => Ok(Shape::Reach(Reach {
-            back: true,
+            direction: Direction::Behind,
             interval,
             left: f.get(),
             right: g.get(),

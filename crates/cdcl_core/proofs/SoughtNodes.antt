@@ -8,6 +8,7 @@ use Rattle.mt_model.specs.Log.{Logged}
 use Rattle.formula_arena.specs.Laws.{CoresAreCores, NodesAreSubtrees}
 use Rattle.formula_arena.specs.Nodes.{nodes_of, tree_at}
 use Rattle.formula_arena.specs.Subtrees.{children_of}
+use Rattle.formula_arena.specs.declared.direction.Direction.TheVariants.{Ahead, Behind}
 use Rattle.axiom_rules.specs.declared.reach.Reach.{Reach}
 use Rattle.axiom_rules.specs.declared.shape.Shape.{Shape}
 use Rattle.axiom_rules.specs.declared.shape.Shape.TheVariants as shape
@@ -67,10 +68,10 @@ module _ (cores : CoresAreCores) (law : NodesAreSubtrees) (log : Logged) (f : Fo
   shape-over k (Or g h) of low at is = absurd (cc)
   shape-over k (Implies g h) of low at is = absurd (cc)
   shape-over k (Until I g h) of low at is =
-      let same : shape.Reach (record { back = false; interval = I; left = number_of trees g; right = number_of trees h }) ≡ of = cc in
+      let same : shape.Reach (record { direction = Ahead; interval = I; left = number_of trees g; right = number_of trees h }) ≡ of = cc in
       subst (IsOver (length trees)) same (child-below k (Until I g h) g 0 low at (omega arith) refl, child-below k (Until I g h) h 1 low at (omega arith) refl)
   shape-over k (Since I g h) of low at is =
-      let same : shape.Reach (record { back = true; interval = I; left = number_of trees g; right = number_of trees h }) ≡ of = cc in
+      let same : shape.Reach (record { direction = Behind; interval = I; left = number_of trees g; right = number_of trees h }) ≡ of = cc in
       subst (IsOver (length trees)) same (child-below k (Since I g h) g 0 low at (omega arith) refl, child-below k (Since I g h) h 1 low at (omega arith) refl)
   shape-over k (Eventually I g) of low at is = absurd (cc)
   shape-over k (Always I g) of low at is = absurd (cc)
@@ -103,10 +104,10 @@ module _ (cores : CoresAreCores) (law : NodesAreSubtrees) (log : Logged) (f : Fo
     interval-of (Or g h) u has is = absurd (cc)
     interval-of (Implies g h) u has is = absurd (cc)
     interval-of (Until I g h) u has is =
-        let same : record { back = false; interval = I; left = number_of trees g; right = number_of trees h } ≡ u = cc in
+        let same : record { direction = Ahead; interval = I; left = number_of trees g; right = number_of trees h } ≡ u = cc in
         subst (λ (x : Reach). p x.interval ≡ true) same (until-passes p I g h (node-passes p law f (Until I g h) passes has))
     interval-of (Since I g h) u has is =
-        let same : record { back = true; interval = I; left = number_of trees g; right = number_of trees h } ≡ u = cc in
+        let same : record { direction = Behind; interval = I; left = number_of trees g; right = number_of trees h } ≡ u = cc in
         subst (λ (x : Reach). p x.interval ≡ true) same (since-passes p I g h (node-passes p law f (Since I g h) passes has))
     interval-of (Eventually I g) u has is = absurd (cc)
     interval-of (Always I g) u has is = absurd (cc)

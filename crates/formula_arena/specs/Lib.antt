@@ -6,3 +6,4 @@ pub mod Laws
 pub mod CodedForms
 pub mod Table
 pub mod Growth
+pub mod Directions

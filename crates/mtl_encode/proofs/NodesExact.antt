@@ -13,9 +13,11 @@ use Rattle.mt_model.proofs.Members.{Among}
 use Rattle.formula_arena.specs.Cores.{IsCore}
 use Rattle.formula_arena.specs.Nodes.{StandsBefore, tree_at}
 use Rattle.formula_arena.specs.Subtrees.{children_of, same_form}
+use Rattle.formula_arena.specs.Directions.{is_near, met}
+use Rattle.formula_arena.specs.declared.direction.Direction.{Direction}
+use Rattle.formula_arena.specs.declared.direction.Direction.TheVariants.{Ahead, Behind}
 use Rattle.axiom_rules.specs.declared.literal.Atom.{Atom}
 use Rattle.axiom_rules.specs.declared.literal.Atom.TheVariants.{Gap, Node, Order, Span, Wit}
-use Rattle.axiom_rules.specs.Holds.{is_near, met}
 use Rattle.axiom_rules.specs.NodeShapes.{changes_in, changes_named, is_constant, number_of, operand_in, reach_in, shape_at, shape_of, sides_in}
 use Rattle.axiom_rules.specs.Sought.{Sought}
 use Rattle.axiom_rules.proofs.ChangeLemmas.{is_by, last_of}
@@ -69,23 +71,23 @@ module _ (s : Sought) (v : Atom → Bool) (satisfied : SatisfiesRules s v) (t : 
       conjunction-exact s v satisfied k e (number_of s.trees f) (number_of s.trees g) low in_ (ap sides_in (is-shape k (And f g) low tree))
       ∙ rw (exact_f (number_of s.trees f) e a.low a.tree in_, exact_g (number_of s.trees g) e b.low b.tree in_) refl
 
-  exact-reach : (back : Bool) (I : Interval) (f g : Form) → IsExact f → IsExact g → (k e : ℕ) → k < length s.trees → e < length s.log.rows
-      → reach_in (shape_at s k) ≡ Some (record { back = back; interval = I; left = number_of s.trees f; right = number_of s.trees g })
+  exact-reach : (direction : Direction) (I : Interval) (f g : Form) → IsExact f → IsExact g → (k e : ℕ) → k < length s.trees → e < length s.log.rows
+      → reach_in (shape_at s k) ≡ Some (record { direction = direction; interval = I; left = number_of s.trees f; right = number_of s.trees g })
       → IsThere same s once children_first (number_of s.trees f) f → IsThere same s once children_first (number_of s.trees g) g
-      → v (Node k e) ≡ reaches (met back (rows_in t)) (is_near back (rows_in t) I) (told f) (told g) e
-  exact-reach back I f g exact_f exact_g k e low in_ node a b =
-      let O = met back (rows_in t) in
-      let near = is_near back (rows_in t) I in
+      → v (Node k e) ≡ reaches (met direction (rows_in t)) (is_near direction (rows_in t) I) (told f) (told g) e
+  exact-reach direction I f g exact_f exact_g k e low in_ node a b =
+      let O = met direction (rows_in t) in
+      let near = is_near direction (rows_in t) I in
       let l = number_of s.trees f in
       let r = number_of s.trees g in
       let left : ℕ → Bool = λ x. v (Node l x) in
       let right : ℕ → Bool = λ x. v (Node r x) in
-      let point = at_row s.log t s.trees back e (omega (arith, in_, count)) in
-      reach-exact O near left right (λ x. v (Node k x)) (λ i j. v (Wit k i j)) (λ i j. v (Span k i j)) (λ i m. v (Gap k i m)) (reach-allowed s v satisfied t agrees k low back I l r node count) (near-ahead s.log t s.trees back I) e point
-      ∙ reaches_same O O (λ x. x) (to_themselves O) near near (λ x y c d. refl) left (told f) (λ x c. exact_f l x a.low a.tree (in-log back x c)) right (told g) (λ x c. exact_g r x b.low b.tree (in-log back x c)) e point
+      let point = at_row s.log t s.trees direction e (omega (arith, in_, count)) in
+      reach-exact O near left right (λ x. v (Node k x)) (λ i j. v (Wit k i j)) (λ i j. v (Span k i j)) (λ i m. v (Gap k i m)) (reach-allowed s v satisfied t agrees k low direction I l r node count) (near-ahead s.log t s.trees direction I) e point
+      ∙ reaches_same O O (λ x. x) (to_themselves O) near near (λ x y c d. refl) left (told f) (λ x c. exact_f l x a.low a.tree (in-log direction x c)) right (told g) (λ x c. exact_g r x b.low b.tree (in-log direction x c)) e point
     where
-      in-log : (back : Bool) (x : ℕ) → Among (met back (rows_in t)).points x → x < length s.log.rows
-      in-log back x among = let less = row_at s.log t s.trees back x among in omega (arith, less, count)
+      in-log : (direction : Direction) (x : ℕ) → Among (met direction (rows_in t)).points x → x < length s.log.rows
+      in-log direction x among = let less = row_at s.log t s.trees direction x among in omega (arith, less, count)
 
   pub node-exact : (f : Form) → IsExact f
   node-exact True k e low tree in_ = constant-exact s v satisfied k e low in_ (ap is_constant (is-shape k True low tree))
@@ -96,9 +98,9 @@ module _ (s : Sought) (v : Atom → Bool) (satisfied : SatisfiesRules s v) (t : 
   node-exact (Or f g) k e low tree in_ = absurd (cc (is_core k (Or f g) low tree))
   node-exact (Implies f g) k e low tree in_ = absurd (cc (is_core k (Implies f g) low tree))
   node-exact (Until I f g) k e low tree in_ =
-      exact-reach false I f g (node-exact f) (node-exact g) k e low in_ (ap reach_in (is-shape k (Until I f g) low tree)) (child k 0 (Until I f g) f low tree (omega arith) refl) (child k 1 (Until I f g) g low tree (omega arith) refl)
+      exact-reach Ahead I f g (node-exact f) (node-exact g) k e low in_ (ap reach_in (is-shape k (Until I f g) low tree)) (child k 0 (Until I f g) f low tree (omega arith) refl) (child k 1 (Until I f g) g low tree (omega arith) refl)
   node-exact (Since I f g) k e low tree in_ =
-      exact-reach true I f g (node-exact f) (node-exact g) k e low in_ (ap reach_in (is-shape k (Since I f g) low tree)) (child k 0 (Since I f g) f low tree (omega arith) refl) (child k 1 (Since I f g) g low tree (omega arith) refl)
+      exact-reach Behind I f g (node-exact f) (node-exact g) k e low in_ (ap reach_in (is-shape k (Since I f g) low tree)) (child k 0 (Since I f g) f low tree (omega arith) refl) (child k 1 (Since I f g) g low tree (omega arith) refl)
   node-exact (Eventually I f) k e low tree in_ = absurd (cc (is_core k (Eventually I f) low tree))
   node-exact (Always I f) k e low tree in_ = absurd (cc (is_core k (Always I f) low tree))
   node-exact (Once I f) k e low tree in_ = absurd (cc (is_core k (Once I f) low tree))

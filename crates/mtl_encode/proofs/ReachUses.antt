@@ -8,12 +8,13 @@ use Rattle.mt_model.specs.Frame.{Frame}
 use Rattle.mt_model.specs.Timing.{time_of}
 use Rattle.mt_model.specs.Truth.{rows_in}
 use Rattle.mt_model.proofs.Members.{Among}
+use Rattle.formula_arena.specs.Directions.{is_near, met}
+use Rattle.formula_arena.specs.declared.direction.Direction.{Direction}
 use Rattle.axiom_rules.specs.declared.fault.RuleFault.TheVariants.{NoRule}
 use Rattle.axiom_rules.specs.declared.literal.Atom.{Atom}
 use Rattle.axiom_rules.specs.declared.literal.Atom.TheVariants.{Gap, Node, Order, Span, Wit}
 use Rattle.axiom_rules.specs.declared.part.Part.TheVariants.{Known}
 use Rattle.axiom_rules.specs.declared.reach.Reach.{Reach}
-use Rattle.axiom_rules.specs.Holds.{is_near, met}
 use Rattle.axiom_rules.specs.NodeShapes.{reach_in, shape_at}
 use Rattle.axiom_rules.specs.Rules.{for_each_event, is, is_from, is_not, is_not_from, is_not_up_to, is_up_to, met_after, not_met_after}
 use Rattle.axiom_rules.specs.Rules as rule
@@ -28,31 +29,31 @@ use Rattle.mtl_encode.proofs.ReachExact.{AllowedByRules}
 use Rattle.mtl_encode.proofs.RuleUses.{event-true, from-true, kind-true, met_after-true, met_not_after-true, not_from-true, not_up_to-true, of_node_event-true, of_node_events-true, of_node_three_events-true, up_to-true}
 
 module _ (s : Sought) (v : Atom → Bool) (satisfied : SatisfiesRules s v) (t : List ℤ) (agrees : (e f : ℕ) (c : ℤ) → v (Order e f c) ≡ int_le (time_of t e -ℤ time_of t f) c) where
-  module _ (k : ℕ) (low : k < length s.trees) (back : Bool) (I : Interval) (l r : ℕ) (node : reach_in (shape_at s k) ≡ Some (record { back = back; interval = I; left = l; right = r })) where
+  module _ (k : ℕ) (low : k < length s.trees) (direction : Direction) (I : Interval) (l r : ℕ) (node : reach_in (shape_at s k) ≡ Some (record { direction = direction; interval = I; left = l; right = r })) where
     abbrev u : Reach
-    u = record { back = back; interval = I; left = l; right = r }
+    u = record { direction = direction; interval = I; left = l; right = r }
 
     abbrev O : Frame ℕ
-    O = met back (rows_in t)
+    O = met direction (rows_in t)
 
     abbrev IsEvent : ℕ → Type 0
     IsEvent e = e < length s.log.rows
 
-    wit-from : (i j : ℕ) → IsEvent i → IsEvent j → v (Wit k i j) ≡ true → from s.log t s.trees back I i j ≡ true
-    wit-from i j a b wit = sym (from-true v s.log t s.trees agrees back I i j) ∙ last_of_2 (not (v (Wit k i j))) (part_holds v (is_from back I i j))
-        (kind-true s v satisfied (reach_in (shape_at s k)) u (λ u. Ok (is_not (Wit k i j) ∷ is_from u.back u.interval i j ∷ [])) node (of_node_events-true s v satisfied 12 rule.rule_12 refl k i j low a b))
+    wit-from : (i j : ℕ) → IsEvent i → IsEvent j → v (Wit k i j) ≡ true → from s.log t s.trees direction I i j ≡ true
+    wit-from i j a b wit = sym (from-true v s.log t s.trees agrees direction I i j) ∙ last_of_2 (not (v (Wit k i j))) (part_holds v (is_from direction I i j))
+        (kind-true s v satisfied (reach_in (shape_at s k)) u (λ u. Ok (is_not (Wit k i j) ∷ is_from u.direction u.interval i j ∷ [])) node (of_node_events-true s v satisfied 12 rule.rule_12 refl k i j low a b))
         (not_true (v (Wit k i j)) wit)
 
-    wit-up_to : (i j : ℕ) → IsEvent i → IsEvent j → v (Wit k i j) ≡ true → up_to s.log t s.trees back I.high i j ≡ true
+    wit-up_to : (i j : ℕ) → IsEvent i → IsEvent j → v (Wit k i j) ≡ true → up_to s.log t s.trees direction I.high i j ≡ true
     wit-up_to i j a b wit = go I.high
-        (kind-true s v satisfied (reach_in (shape_at s k)) u (λ u. option_map_or (λ b. Ok (is_not (Wit k i j) ∷ is_up_to u.back b i j ∷ [])) u.interval.high (Err NoRule)) node (of_node_events-true s v satisfied 13 rule.rule_13 refl k i j low a b))
+        (kind-true s v satisfied (reach_in (shape_at s k)) u (λ u. option_map_or (λ b. Ok (is_not (Wit k i j) ∷ is_up_to u.direction b i j ∷ [])) u.interval.high (Err NoRule)) node (of_node_events-true s v satisfied 13 rule.rule_13 refl k i j low a b))
       where
-        go : (high : Option ℕ) → WrittenIsTrue v (option_map_or (λ b. Ok (is_not (Wit k i j) ∷ is_up_to back b i j ∷ [])) high (Err NoRule)) → up_to s.log t s.trees back high i j ≡ true
+        go : (high : Option ℕ) → WrittenIsTrue v (option_map_or (λ b. Ok (is_not (Wit k i j) ∷ is_up_to direction b i j ∷ [])) high (Err NoRule)) → up_to s.log t s.trees direction high i j ≡ true
         go None h = refl
-        go (Some bound) h = sym (up_to-true v s.log t s.trees agrees back bound i j) ∙ last_of_2 (not (v (Wit k i j))) (part_holds v (is_up_to back bound i j)) h (not_true (v (Wit k i j)) wit)
+        go (Some bound) h = sym (up_to-true v s.log t s.trees agrees direction bound i j) ∙ last_of_2 (not (v (Wit k i j))) (part_holds v (is_up_to direction bound i j)) h (not_true (v (Wit k i j)) wit)
 
-    wit-near : (i j : ℕ) → IsEvent i → IsEvent j → v (Wit k i j) ≡ true → is_near back (rows_in t) I i j ≡ true
-    wit-near i j a b wit = near-parts s.log t s.trees back I i j ∙ and_from (from s.log t s.trees back I i j) (up_to s.log t s.trees back I.high i j) (wit-from i j a b wit) (wit-up_to i j a b wit)
+    wit-near : (i j : ℕ) → IsEvent i → IsEvent j → v (Wit k i j) ≡ true → is_near direction (rows_in t) I i j ≡ true
+    wit-near i j a b wit = near-parts s.log t s.trees direction I i j ∙ and_from (from s.log t s.trees direction I i j) (up_to s.log t s.trees direction I.high i j) (wit-from i j a b wit) (wit-up_to i j a b wit)
 
     wit-right : (i j : ℕ) → IsEvent i → IsEvent j → v (Wit k i j) ≡ true → v (Node r j) ≡ true
     wit-right i j a b wit = last_of_2 (not (v (Wit k i j))) (v (Node r j))
@@ -64,18 +65,18 @@ module _ (s : Sought) (v : Atom → Bool) (satisfied : SatisfiesRules s v) (t : 
         (kind-true s v satisfied (reach_in (shape_at s k)) u (λ u. Ok (is_not (Wit k i j) ∷ is (Span k i j) ∷ [])) node (of_node_events-true s v satisfied 15 rule.rule_15 refl k i j low a b))
         (not_true (v (Wit k i j)) wit)
 
-    not_far : (i j : ℕ) (high : Option ℕ) → up_to s.log t s.trees back high i j ≡ true → part_holds v (option_map_or (λ b. is_not_up_to back b i j) high (Known false)) ≡ false
+    not_far : (i j : ℕ) (high : Option ℕ) → up_to s.log t s.trees direction high i j ≡ true → part_holds v (option_map_or (λ b. is_not_up_to direction b i j) high (Known false)) ≡ false
     not_far i j None h = refl
-    not_far i j (Some bound) h = not_up_to-true v s.log t s.trees agrees back bound i j ∙ not_true _ h
+    not_far i j (Some bound) h = not_up_to-true v s.log t s.trees agrees direction bound i j ∙ not_true _ h
 
-    from-wit : (i j : ℕ) → IsEvent i → IsEvent j → is_near back (rows_in t) I i j ≡ true → v (Node r j) ≡ true → v (Span k i j) ≡ true → v (Wit k i j) ≡ true
+    from-wit : (i j : ℕ) → IsEvent i → IsEvent j → is_near direction (rows_in t) I i j ≡ true → v (Node r j) ≡ true → v (Span k i j) ≡ true → v (Wit k i j) ≡ true
     from-wit i j a b near right spans =
-        let both = and_parts (from s.log t s.trees back I i j) (up_to s.log t s.trees back I.high i j) (sym (near-parts s.log t s.trees back I i j) ∙ near) in
-        first_of_5 (v (Wit k i j)) (part_holds v (is_not_from back I i j)) (part_holds v (option_map_or (λ b. is_not_up_to back b i j) I.high (Known false))) (not (v (Node r j))) (not (v (Span k i j)))
+        let both = and_parts (from s.log t s.trees direction I i j) (up_to s.log t s.trees direction I.high i j) (sym (near-parts s.log t s.trees direction I i j) ∙ near) in
+        first_of_5 (v (Wit k i j)) (part_holds v (is_not_from direction I i j)) (part_holds v (option_map_or (λ b. is_not_up_to direction b i j) I.high (Known false))) (not (v (Node r j))) (not (v (Span k i j)))
         (kind-true s v satisfied (reach_in (shape_at s k)) u
-        (λ u. Ok (is (Wit k i j) ∷ is_not_from u.back u.interval i j ∷ option_map_or (λ b. is_not_up_to u.back b i j) u.interval.high (Known false) ∷ is_not (Node u.right j) ∷ is_not (Span k i j) ∷ [])) node
+        (λ u. Ok (is (Wit k i j) ∷ is_not_from u.direction u.interval i j ∷ option_map_or (λ b. is_not_up_to u.direction b i j) u.interval.high (Known false) ∷ is_not (Node u.right j) ∷ is_not (Span k i j) ∷ [])) node
         (of_node_events-true s v satisfied 16 rule.rule_16 refl k i j low a b))
-        (not_from-true v s.log t s.trees agrees back I i j ∙ not_true _ both.0) (not_far i j I.high both.1) (not_true _ right) (not_true _ spans)
+        (not_from-true v s.log t s.trees agrees direction I i j ∙ not_true _ both.0) (not_far i j I.high both.1) (not_true _ right) (not_true _ spans)
 
     node-wit : (i : ℕ) → IsEvent i → v (Node k i) ≡ true → (j : ℕ) × IsEvent j × (v (Wit k i j) ≡ true)
     node-wit i a holds = event-true s v satisfied (λ j. is (Wit k i j)) (rest_of (not (v (Node k i))) _
@@ -88,10 +89,10 @@ module _ (s : Sought) (v : Atom → Bool) (satisfied : SatisfiesRules s v) (t : 
         (rw wit refl)
 
     span-left : (i j m : ℕ) → IsEvent i → IsEvent j → IsEvent m → v (Span k i j) ≡ true → O.not_after i m ≡ true → O.not_after j m ≡ false → v (Node l m) ≡ true
-    span-left i j m a b c spans begun before = last_of_4 (not (v (Span k i j))) (part_holds v (met_after back i m)) (part_holds v (not_met_after back j m)) (v (Node l m))
-        (kind-true s v satisfied (reach_in (shape_at s k)) u (λ u. Ok (is_not (Span k i j) ∷ met_after u.back i m ∷ not_met_after u.back j m ∷ is (Node u.left m) ∷ [])) node
+    span-left i j m a b c spans begun before = last_of_4 (not (v (Span k i j))) (part_holds v (met_after direction i m)) (part_holds v (not_met_after direction j m)) (v (Node l m))
+        (kind-true s v satisfied (reach_in (shape_at s k)) u (λ u. Ok (is_not (Span k i j) ∷ met_after u.direction i m ∷ not_met_after u.direction j m ∷ is (Node u.left m) ∷ [])) node
         (of_node_three_events-true s v satisfied 19 rule.rule_19 refl k i j m low a b c))
-        (not_true _ spans) (met_after-true v s.log t s.trees agrees back i m ∙ not_true _ begun) (met_not_after-true v s.log t s.trees agrees back j m ∙ before)
+        (not_true _ spans) (met_after-true v s.log t s.trees agrees direction i m ∙ not_true _ begun) (met_not_after-true v s.log t s.trees agrees direction j m ∙ before)
 
     no_span-gap : (i j : ℕ) → IsEvent i → IsEvent j → v (Span k i j) ≡ false → (m : ℕ) × IsEvent m × (v (Gap k i m) ≡ true)
     no_span-gap i j a b fails = event-true s v satisfied (λ m. is (Gap k i m)) (rest_of (v (Span k i j)) _
@@ -99,13 +100,13 @@ module _ (s : Sought) (v : Atom → Bool) (satisfied : SatisfiesRules s v) (t : 
         fails)
 
     gap-span : (i j m : ℕ) → IsEvent i → IsEvent j → IsEvent m → v (Gap k i m) ≡ true → O.not_after j m ≡ true → v (Span k i j) ≡ true
-    gap-span i j m a b c gap up = last_of_3 (not (v (Gap k i m))) (part_holds v (met_after back j m)) (v (Span k i j))
-        (kind-true s v satisfied (reach_in (shape_at s k)) u (λ u. Ok (is_not (Gap k i m) ∷ met_after u.back j m ∷ is (Span k i j) ∷ [])) node (of_node_three_events-true s v satisfied 21 rule.rule_21 refl k i j m low a b c))
-        (not_true _ gap) (met_after-true v s.log t s.trees agrees back j m ∙ not_true _ up)
+    gap-span i j m a b c gap up = last_of_3 (not (v (Gap k i m))) (part_holds v (met_after direction j m)) (v (Span k i j))
+        (kind-true s v satisfied (reach_in (shape_at s k)) u (λ u. Ok (is_not (Gap k i m) ∷ met_after u.direction j m ∷ is (Span k i j) ∷ [])) node (of_node_three_events-true s v satisfied 21 rule.rule_21 refl k i j m low a b c))
+        (not_true _ gap) (met_after-true v s.log t s.trees agrees direction j m ∙ not_true _ up)
 
     gap-begun : (i m : ℕ) → IsEvent i → IsEvent m → v (Gap k i m) ≡ true → O.not_after i m ≡ true
-    gap-begun i m a c gap = sym (met_not_after-true v s.log t s.trees agrees back i m) ∙ last_of_2 (not (v (Gap k i m))) (part_holds v (not_met_after back i m))
-        (kind-true s v satisfied (reach_in (shape_at s k)) u (λ u. Ok (is_not (Gap k i m) ∷ not_met_after u.back i m ∷ [])) node (of_node_events-true s v satisfied 22 rule.rule_22 refl k i m low a c))
+    gap-begun i m a c gap = sym (met_not_after-true v s.log t s.trees agrees direction i m) ∙ last_of_2 (not (v (Gap k i m))) (part_holds v (not_met_after direction i m))
+        (kind-true s v satisfied (reach_in (shape_at s k)) u (λ u. Ok (is_not (Gap k i m) ∷ not_met_after u.direction i m ∷ [])) node (of_node_events-true s v satisfied 22 rule.rule_22 refl k i m low a c))
         (not_true _ gap)
 
     gap-left : (i m : ℕ) → IsEvent i → IsEvent m → v (Gap k i m) ≡ true → v (Node l m) ≡ false
@@ -115,13 +116,13 @@ module _ (s : Sought) (v : Atom → Bool) (satisfied : SatisfiesRules s v) (t : 
 
     module _ (count : length t ≡ length s.log.rows) where
       event : (e : ℕ) → Among O.points e → IsEvent e
-      event e in_ = let less = row_at s.log t s.trees back e in_ in omega (arith, less, count)
+      event e in_ = let less = row_at s.log t s.trees direction e in_ in omega (arith, less, count)
 
       among : (e : ℕ) → IsEvent e → Among O.points e
-      among e a = at_row s.log t s.trees back e (omega (arith, a, count))
+      among e a = at_row s.log t s.trees direction e (omega (arith, a, count))
 
       -- the rules allow these truth values of the node, over the points as it meets them
-      pub reach-allowed : AllowedByRules O (is_near back (rows_in t) I) (λ e. v (Node l e)) (λ e. v (Node r e)) (λ e. v (Node k e)) (λ i j. v (Wit k i j)) (λ i j. v (Span k i j)) (λ i m. v (Gap k i m))
+      pub reach-allowed : AllowedByRules O (is_near direction (rows_in t) I) (λ e. v (Node l e)) (λ e. v (Node r e)) (λ e. v (Node k e)) (λ i j. v (Wit k i j)) (λ i j. v (Span k i j)) (λ i m. v (Gap k i m))
       reach-allowed = record {
         wit_near = λ i j a b. wit-near i j (event i a) (event j b);
         wit_right = λ i j a b. wit-right i j (event i a) (event j b);

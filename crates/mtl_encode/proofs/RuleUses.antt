@@ -10,11 +10,14 @@ use Rattle.mt_model.specs.Timing.{time_of}
 use Rattle.mt_model.specs.Truth.{rows_in}
 use Rattle.mt_model.proofs.Members.{any_some}
 use Rattle.mt_model.proofs.PositionLemmas.{below}
+use Rattle.formula_arena.specs.Directions.{met}
+use Rattle.formula_arena.specs.declared.direction.Direction.{Direction}
+use Rattle.formula_arena.specs.declared.direction.Direction.TheVariants.{Ahead, Behind}
 use Rattle.axiom_rules.specs.declared.literal.Atom.{Atom}
 use Rattle.axiom_rules.specs.declared.literal.Atom.TheVariants.{Order}
 use Rattle.axiom_rules.specs.declared.part.Part.{Part}
 use Rattle.axiom_rules.specs.Clauses.{of_event, of_events, of_node_event, of_node_event_change, of_node_events, of_node_three_events, of_nothing, row_of}
-use Rattle.axiom_rules.specs.Holds.{means, met}
+use Rattle.axiom_rules.specs.Holds.{means}
 use Rattle.axiom_rules.specs.Parts.{Written, after, not_after, order}
 use Rattle.axiom_rules.specs.Rules.{for_each_event, is_from, is_not_from, is_not_up_to, is_up_to, met_after, met_order, not_met_after, not_met_order, of_kind}
 use Rattle.axiom_rules.specs.Sought.{Sought}
@@ -83,28 +86,28 @@ module _ (v : Atom → Bool) (log : Logged) (t : List ℤ) (trees : List Form) (
   same-order : (e f : ℕ) (c : ℤ) → part_holds v (order e f c) ≡ part_holds M (order e f c)
   same-order e f c = order-says v (time_of t) agrees e f c ∙ sym (order-says M (time_of t) (λ e f c. refl) e f c)
 
-  same-met : (back : Bool) (e f : ℕ) (c : ℤ) → part_holds v (met_order back e f c) ≡ part_holds M (met_order back e f c)
-  same-met false e f c = same-order e f c
-  same-met true e f c = same-order f e c
+  same-met : (direction : Direction) (e f : ℕ) (c : ℤ) → part_holds v (met_order direction e f c) ≡ part_holds M (met_order direction e f c)
+  same-met Ahead e f c = same-order e f c
+  same-met Behind e f c = same-order f e c
 
-  same-not_met : (back : Bool) (e f : ℕ) (c : ℤ) → part_holds v (not_met_order back e f c) ≡ part_holds M (not_met_order back e f c)
-  same-not_met false e f c = same-order f e (neg_ℤ c -ℤ pos 1)
-  same-not_met true e f c = same-order e f (neg_ℤ c -ℤ pos 1)
+  same-not_met : (direction : Direction) (e f : ℕ) (c : ℤ) → part_holds v (not_met_order direction e f c) ≡ part_holds M (not_met_order direction e f c)
+  same-not_met Ahead e f c = same-order f e (neg_ℤ c -ℤ pos 1)
+  same-not_met Behind e f c = same-order e f (neg_ℤ c -ℤ pos 1)
 
-  pub met_not_after-true : (back : Bool) (e f : ℕ) → part_holds v (not_met_after back e f) ≡ (met back (rows_in t)).not_after e f
-  met_not_after-true back e f = same-met back e f (pos 0) ∙ not_met_after-says log t trees back e f
+  pub met_not_after-true : (direction : Direction) (e f : ℕ) → part_holds v (not_met_after direction e f) ≡ (met direction (rows_in t)).not_after e f
+  met_not_after-true direction e f = same-met direction e f (pos 0) ∙ not_met_after-says log t trees direction e f
 
-  pub met_after-true : (back : Bool) (e f : ℕ) → part_holds v (met_after back e f) ≡ not ((met back (rows_in t)).not_after e f)
-  met_after-true back e f = same-not_met back e f (pos 0) ∙ met_after-says log t trees back e f
+  pub met_after-true : (direction : Direction) (e f : ℕ) → part_holds v (met_after direction e f) ≡ not ((met direction (rows_in t)).not_after e f)
+  met_after-true direction e f = same-not_met direction e f (pos 0) ∙ met_after-says log t trees direction e f
 
-  pub from-true : (back : Bool) (I : Interval) (i j : ℕ) → part_holds v (is_from back I i j) ≡ from log t trees back I i j
-  from-true back I i j = same-met back i j (neg_ℤ (pos I.low)) ∙ is_from-says log t trees back I i j
+  pub from-true : (direction : Direction) (I : Interval) (i j : ℕ) → part_holds v (is_from direction I i j) ≡ from log t trees direction I i j
+  from-true direction I i j = same-met direction i j (neg_ℤ (pos I.low)) ∙ is_from-says log t trees direction I i j
 
-  pub not_from-true : (back : Bool) (I : Interval) (i j : ℕ) → part_holds v (is_not_from back I i j) ≡ not (from log t trees back I i j)
-  not_from-true back I i j = same-not_met back i j (neg_ℤ (pos I.low)) ∙ is_not_from-says log t trees back I i j
+  pub not_from-true : (direction : Direction) (I : Interval) (i j : ℕ) → part_holds v (is_not_from direction I i j) ≡ not (from log t trees direction I i j)
+  not_from-true direction I i j = same-not_met direction i j (neg_ℤ (pos I.low)) ∙ is_not_from-says log t trees direction I i j
 
-  pub up_to-true : (back : Bool) (b i j : ℕ) → part_holds v (is_up_to back b i j) ≡ int_le (distance log t trees back j i) (pos b)
-  up_to-true back b i j = same-met back j i (pos b) ∙ is_up_to-says log t trees back b i j
+  pub up_to-true : (direction : Direction) (b i j : ℕ) → part_holds v (is_up_to direction b i j) ≡ int_le (distance log t trees direction j i) (pos b)
+  up_to-true direction b i j = same-met direction j i (pos b) ∙ is_up_to-says log t trees direction b i j
 
-  pub not_up_to-true : (back : Bool) (b i j : ℕ) → part_holds v (is_not_up_to back b i j) ≡ not (int_le (distance log t trees back j i) (pos b))
-  not_up_to-true back b i j = same-not_met back j i (pos b) ∙ is_not_up_to-says log t trees back b i j
+  pub not_up_to-true : (direction : Direction) (b i j : ℕ) → part_holds v (is_not_up_to direction b i j) ≡ not (int_le (distance log t trees direction j i) (pos b))
+  not_up_to-true direction b i j = same-not_met direction j i (pos b) ∙ is_not_up_to-says log t trees direction b i j

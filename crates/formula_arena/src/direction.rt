@@ -1,0 +1,8 @@
+/// Where an operator looks from an event.
+#[derive(Clone, Copy, Debug, PartialEq, Eq)]
+pub enum Direction {
+    /// At its instant and after it, as an until does.
+    Ahead,
+    /// At its instant and before it, as a since does.
+    Behind,
+}
