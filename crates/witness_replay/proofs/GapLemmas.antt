@@ -9,8 +9,8 @@ use Rattle.mt_model.proofs.TruthLemmas.{implies-from, implies-then}
 use Rattle.mt_model.specs.Frame.{Frame, reaches, span}
 use Rattle.mt_model.proofs.Members.{Among, any_same, same_bool, all_each, each_all}
 use Rattle.mt_model.proofs.PositionLemmas.{below, within_has}
-use Rattle.witness_replay.specs.declared.operators.Direction.{Direction}
-use Rattle.witness_replay.specs.declared.operators.Direction.TheVariants.{Ahead, Behind}
+use Rattle.formula_arena.specs.declared.direction.Direction.{Direction}
+use Rattle.formula_arena.specs.declared.direction.Direction.TheVariants.{Ahead, Behind}
 use Rattle.witness_replay.specs.Columns.{IsFirstGap, is_gap}
 use Rattle.witness_replay.specs.Directions.{rows_from}
 

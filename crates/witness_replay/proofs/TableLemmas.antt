@@ -12,7 +12,7 @@ use Rattle.mt_model.proofs.FrameLemmas.{Carries, reaches_same}
 use Rattle.mt_model.proofs.Members.{Among}
 use Rattle.mt_model.proofs.PositionLemmas.{below, within_has}
 use Rattle.formula_arena.specs.Nodes.{tree_at}
-use Rattle.witness_replay.specs.declared.operators.Direction.{Direction}
+use Rattle.formula_arena.specs.declared.direction.Direction.{Direction}
 use Rattle.witness_replay.specs.Columns.{IsColumn, reaches_from, value_at}
 use Rattle.witness_replay.specs.Directions.{is_near, rows_from}
 use Rattle.witness_replay.specs.Tables.{ColumnsAreTruths, column_at}

@@ -2,7 +2,7 @@
 use Rattle.std.specs.Prelude.{◌≡◌, ◌<◌, ℕ, List, length, Bool, true, false, not, ◌&&◌, slice_index_or, MatchOption, Option, ℤ}
 use Rattle.mt_model.specs.declared.tree.Interval.{Interval}
 use Rattle.mt_model.specs.Frame.{Frame, reaches}
-use Rattle.witness_replay.specs.declared.operators.Direction.{Direction}
+use Rattle.formula_arena.specs.declared.direction.Direction.{Direction}
 use Rattle.witness_replay.specs.Directions.{rows_from, is_near}
 
 -- the value of row e

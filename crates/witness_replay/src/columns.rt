@@ -7,8 +7,9 @@ ghost use Rattle.mt_model.specs.Timing.{time_of};
 ghost use Rattle.mt_model.specs.declared.limits.TheConstants.{MAX_TIME};
 ghost use Rattle.witness_replay.specs.Columns.{IsColumn, reaches_from, value_at};
 
-use crate::operators::{Direction, reaches_at};
+use crate::operators::reaches_at;
 use crate::states::state;
+use formula_arena::Direction;
 use mt_model::{Interval, Log, Name};
 
 /// The same value at each row.

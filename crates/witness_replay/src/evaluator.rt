@@ -13,8 +13,7 @@ ghost use Rattle.witness_replay.specs.Columns.{IsColumn};
 ghost use Rattle.witness_replay.specs.Tables.{ColumnsAreTruths, column_at};
 
 use crate::columns::{fill, fill_conjunction, fill_negation, fill_reaches, fill_states};
-use crate::operators::Direction;
-use formula_arena::{Arena, Core};
+use formula_arena::{Arena, Core, Direction};
 use mt_model::{Log, NodeId, truth_by_rows};
 
 // The column of a node.

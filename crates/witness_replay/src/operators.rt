@@ -13,16 +13,8 @@ ghost use Rattle.mt_model.specs.declared.limits.TheConstants.{MAX_TIME};
 ghost use Rattle.witness_replay.specs.Columns.{IsFirstGap, is_gap as is_gap_of, reaches_from, value_at};
 ghost use Rattle.witness_replay.specs.Directions.{is_near as is_near_from, rows_from};
 
+use formula_arena::Direction;
 use mt_model::Interval;
-
-/// Where an operator looks from a row.
-#[derive(Clone, Copy)]
-pub enum Direction {
-    /// At that instant and after it.
-    Ahead,
-    /// At that instant and before it.
-    Behind,
-}
 
 fn lies_in(interval: &Interval, distance: i128) -> bool
     ensures { result ≡ is_in interval.now distance }

@@ -1,4 +1,4 @@
-use Rattle.witness_replay.specs.declared.operators.Direction.TheVariants.{Ahead, Behind}
+use Rattle.formula_arena.specs.declared.direction.Direction.TheVariants.{Ahead, Behind}
 use Rattle.witness_replay.proofs.TableLemmas.{node-reaches}
 use Rattle.witness_replay.proofs.evaluator.fill_node.Goals as goal
 
