@@ -150,6 +150,3 @@ impl<R: Print> Sink for StdSink<'_, R> {
         }
     }
 }
-
-#[cfg(test)]
-mod tests;

@@ -1,6 +1,7 @@
-use super::*;
-use crate::{ReadFault, read_all};
+use mt_port::{Failed, FileShelf, ReadFault, Sink, StdSink, read_all};
 use std::fmt::Display;
+use std::fs;
+use std::io;
 use std::test::Fail;
 
 #[test]

@@ -1,0 +1,6 @@
+//! What `mt_port` is outside of memory: a real file that is read, and an output that takes nothing. They stand in a
+//! crate of their own, since a crate with tests is proved twice.
+#![tactic(auto)]
+
+#[cfg(test)]
+mod tests;
