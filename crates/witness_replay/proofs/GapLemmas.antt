@@ -1,6 +1,6 @@
 -- The first gap of a side, and what it says of the rows up to a witness.
 use borrow.Author.Count.{below_more}
-use Rattle.std.proofs.Common.{◌≡◌, refl, ℕ, ◌+◌, ◌<◌, Bool, true, false, not, ◌&&◌, List, length, Option, Some, None, arith, ℤ, inl, inr}
+use Rattle.std.proofs.Common.{◌≡◌, ◌∙◌, sym, ap, refl, ℕ, ◌+◌, ◌<◌, Bool, true, false, not, ◌&&◌, List, length, Option, Some, None, arith, ℤ, inl, inr}
 use Rattle.std.specs.Option.{option_map_or}
 use Rattle.std.specs.List.{list_any, range_with_len}
 use Rattle.std.proofs.lemmas.Int.{ints}
@@ -114,4 +114,5 @@ module _ (d : Direction) (t : List ℤ) (test : ℕ → Bool) (e : ℕ) (gap : O
   -- some row from e on that is near and not after the first gap has the right side
   pub reaches-gap : (near : ℕ → ℕ → Bool) (right : ℕ → Bool)
       → list_any (λ y. G.not_after e y && (near e y && right y && option_map_or (λ m. G.not_after y m) gap true)) (range_with_len 0 (length t)) ≡ reaches G near test right e
-  reaches-gap near right = rw (← points d t) (any_same G.points G.points (λ y. y) (λ y in_. in_) (λ y in_. (y, in_, refl)) _ _ (λ y in_. rw (span-gap y) refl))
+  reaches-gap near right = ap (list_any (λ y. G.not_after e y && (near e y && right y && option_map_or (λ m. G.not_after y m) gap true))) (sym (points d t))
+      ∙ (any_same G.points G.points (λ y. y) (λ y in_. in_) (λ y in_. (y, in_, refl)) _ _ (λ y in_. rw (span-gap y) refl))
