@@ -6,5 +6,6 @@ pub mod Near
 pub mod Reached
 pub mod Ranges
 pub mod Settled
+pub mod Tightest
 pub mod Falls
 mod FirstBroken

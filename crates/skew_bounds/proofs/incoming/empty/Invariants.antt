@@ -3,5 +3,5 @@ use Rattle.std.specs.Prelude.{replicate}
 use Rattle.skew_bounds.specs.Incoming.{lists_of}
 use Rattle.skew_bounds.proofs.incoming.empty.Given as goal
 
-abbrev pub invariant-loop-_node : goal.invariant-loop-_node
-invariant-loop-_node l = lists_of l.lists.items ≡ replicate l._node []
+abbrev pub invariant-loop-node : goal.invariant-loop-node
+invariant-loop-node l = lists_of l.lists.items ≡ replicate l._node []
