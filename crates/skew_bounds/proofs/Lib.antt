@@ -1,10 +1,11 @@
 pub mod BoundCounts
-pub mod Elimination
+pub mod Columns
+pub mod EdgeLists
 pub mod Entries
-pub mod Loose
-pub mod Narrowing
 pub mod Near
+pub mod Reached
 pub mod Ranges
 pub mod Settled
 pub mod Tightest
+pub mod Falls
 mod FirstBroken

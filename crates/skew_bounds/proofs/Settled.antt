@@ -19,7 +19,7 @@ use Rattle.skew_bounds.specs.Edges.{AreEdges, bound_at, edge_in}
 use Rattle.skew_bounds.specs.RowTimes.{times_of}
 use Rattle.skew_bounds.specs.Consistency.{IsConflict, VisitsOnce, start_of}
 
-tail-same : {A B C : Type 0} (f : A → C) (g : B → C) (x : A) (xs : List A) (y : B) (ys : List B) → map f (x ∷ xs) ≡ map g (y ∷ ys) → (f x ≡ g y) × (map f xs ≡ map g ys)
+pub tail-same : {A B C : Type 0} (f : A → C) (g : B → C) (x : A) (xs : List A) (y : B) (ys : List B) → map f (x ∷ xs) ≡ map g (y ∷ ys) → (f x ≡ g y) × (map f xs ≡ map g ys)
 tail-same f g x xs y ys h = (cc, cc)
 
 -- the edge of the bound at a place
@@ -40,6 +40,11 @@ index-relative x (y ∷ ys) (suc e) within = index-relative x ys e (omega arith)
 node-relative : (x : ℤ) (xs : List ℤ) (n : ℕ) → n < length (x ∷ xs) → node_time (map (λ y. y -ℤ x) xs) n ≡ system.number_of (x ∷ xs) n -ℤ x
 node-relative x xs zero within = omega (arith, ints)
 node-relative x xs (suc e) within = index-relative x xs e (omega arith)
+
+-- so are the times by the numbers of nodes
+pub node-times : (numbers : List ℤ) (n : ℕ) → n < length numbers → node_time (times_of numbers) n ≡ system.number_of numbers n -ℤ system.number_of numbers 0
+node-times [] n within = absurd (omega arith)
+node-times (x ∷ xs) n within = node-relative x xs n within
 
 -- numbers that meet an edge of the system give times that meet it as an edge between moments
 meets-relative : (nodes : ℕ) (x : ℤ) (xs : List ℤ) (e : SystemEdge) → length (x ∷ xs) ≡ nodes → system.IsEdge nodes e → system.Meets (x ∷ xs) e → Meets (map (λ y. y -ℤ x) xs) (edge_in e)

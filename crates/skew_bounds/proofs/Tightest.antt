@@ -1,129 +1,140 @@
--- The closure of the table of a log's bounds is exact for the rows of the log.
-use Rattle.std.proofs.Common.{◌≡◌, ◌≢◌, ◌∙◌, arith, ℕ, zero, suc, ◌+◌, ◌<◌, add-one, zero-add, List, length, map, ℤ, pos, ◌-ℤ◌, ◌≤ℤ◌, ⊎_elim}
+-- The table of the greatest numbers that meet the edges of a log's bounds is exact for the rows of the log.
+use Rattle.std.proofs.Common.{◌≡◌, ◌∙◌, sym, refl, arith, ℕ, zero, suc, ◌+◌, ◌<◌, add-one, List, [], ◌∷◌, length, map, Some, All, ℤ, pos, ◌+ℤ◌, ◌-ℤ◌, ◌≤ℤ◌}
 use Rattle.std.specs.Prelude.{IfSome}
-use Rattle.std.specs.List.{range_with_len}
-use Rattle.std.proofs.lemmas.Bool.{cases_eq}
 use Rattle.std.proofs.lemmas.Int.{ints}
-use Rattle.std.proofs.lemmas.List.Elements.{All-weaker}
-use Rattle.std.proofs.lemmas.List.FromFn.{get_or-map-range_with_len, length-map-range_with_len}
-use Rattle.std.proofs.lemmas.Option.{IfSome_then}
+use Rattle.std.proofs.lemmas.List.Elements.{All-nil, All-cons, All-head, All-tail}
+use Rattle.mt_model.specs.declared.bound.Bound.{Bound}
+use Rattle.mt_model.specs.declared.limits.TheConstants.{MAX_TIME}
 use Rattle.mt_model.specs.Bounds.{BoundsAreAdmissible, bounds_of, step_of}
-use Rattle.mt_model.specs.Log.{IsLog, Logged}
+use Rattle.mt_model.specs.Log.{IsLog, IsWithin, Logged}
 use Rattle.mt_model.specs.Timing.{Admissible}
-use Rattle.mt_model.specs.Walks.{Edge, Meets as MeetsEdge, edge_of, node_time}
-use Rattle.skew_bounds.specs.BoundTable.{IsLoose, IsNarrowed, IsTableOf, Keeps}
-use Rattle.skew_bounds.specs.Differences.{Differences, IsClosure, IsFeasible, Meets, entry}
-use Rattle.skew_bounds.specs.Tight.{IsConsistent, IsGreatestDifference, IsLeastDifference, IsTight, greatest_of, least_of}
+use Rattle.mt_model.specs.Walks.{Meets, edge_of, node_time}
+use Rattle.neg_cycle.specs.declared.system.Edge.{Edge as SystemEdge}
+use Rattle.neg_cycle.specs.Systems as system
 use Rattle.skew_bounds.specs.declared.matrix.TheConstants.{FAR}
-use Rattle.skew_bounds.proofs.Near.{admissible-near}
+use Rattle.skew_bounds.specs.Differences.{AreSmall, Differences, IsOfRows, entry}
+use Rattle.skew_bounds.specs.Edges.{AreEdges, edge_in}
+use Rattle.skew_bounds.specs.Incoming.{AreIncoming, IsLatest, IsNear, IsNetwork}
+use Rattle.skew_bounds.specs.RowTimes.{times_of}
+use Rattle.skew_bounds.specs.Table.{IsColumnOf, IsTableOf}
+use Rattle.skew_bounds.specs.Tight.{IsGreatestDifference, IsLeastDifference, IsTight, greatest_of, least_of}
+use Rattle.skew_bounds.proofs.EdgeLists.{all-edges, all-incoming, network-of}
+use Rattle.skew_bounds.proofs.Near.{admissible-near, times-near}
+use Rattle.skew_bounds.proofs.Settled.{node-times, tail-same, timing-of}
 
--- the loose table, narrowed to the bounds of a log
-module _ (law : BoundsAreAdmissible) (log : Logged) (valid : IsLog log) (start d : Differences) (loose : IsLoose (length log.rows + 1) start) (narrowed : IsNarrowed log (bounds_of log) start d) where
-  loose-meets : (t : List ℤ) → Admissible log t → Meets start (node_time t)
-  loose-meets t admissible i j in-i in-j =
-      let row = rw loose.nodes at in-i in
-      let column = rw loose.nodes at in-j in
-      let first = admissible-near log valid t admissible i row in
-      let second = admissible-near log valid t admissible j column in
-      ⊎_elim (λ (same : i ≡ j). rw (same, loose.diagonal j column) (omega (arith, ints))) (λ (apart : i ≢ j). rw (loose.others i j row column apart) (omega (arith, ints, first.low, first.high, second.low, second.high)))
-      (cases_eq i j)
+-- the times of the nodes as numbers, of which the zero moment has 0
+node-number : (t : List ℤ) (v : ℕ) → system.number_of (pos 0 ∷ t) v ≡ node_time t v
+node-number t zero = refl
+node-number t (suc e) = refl
 
-  narrowed-meets : (t : List ℤ) → Admissible log t → Meets d (node_time t)
-  narrowed-meets t admissible = narrowed.meets t ((law log t).0 admissible).1 (loose-meets t admissible)
+-- times that meet every bound are numbers that meet every edge
+edges-met : (log : Logged) (bounds : List Bound) (edges : List SystemEdge) (t : List ℤ) → AreEdges log bounds edges → All (λ b. IfSome (edge_of log (step_of b)) (Meets t)) bounds → All (system.Meets (pos 0 ∷ t)) edges
+edges-met log [] [] t are met = All-nil (system.Meets (pos 0 ∷ t))
+edges-met log [] (e ∷ es) t are met = absurd (cc)
+edges-met log (b ∷ bs) [] t are met = absurd (cc)
+edges-met log (b ∷ bs) (e ∷ es) t are met =
+    let same = tail-same (λ b. edge_of log (step_of b)) (λ e. Some (edge_in e)) b bs e es are in
+    let here = rw same.0 at (All-head (λ b. IfSome (edge_of log (step_of b)) (Meets t)) b bs met) in
+    let from = node-number t e.from in
+    let to = node-number t e.to in
+    All-cons (system.Meets (pos 0 ∷ t)) e es (omega (arith, ints, here, from, to)) (edges-met log bs es t same.1 (All-tail (λ b. IfSome (edge_of log (step_of b)) (Meets t)) b bs met))
 
-  pub table-of : IsTableOf log d
-  table-of = record { nodes = narrowed.nodes ∙ loose.nodes; keeps = narrowed.keeps; meets = narrowed-meets }
-
-  loose-high : (i j : ℕ) → i < start.nodes → j < start.nodes → entry start i j ≤ℤ FAR
-  loose-high i j in-i in-j =
-      let row = rw loose.nodes at in-i in
-      let column = rw loose.nodes at in-j in
-      ⊎_elim (λ (same : i ≡ j). rw (same, loose.diagonal j column) (omega (arith, ints))) (λ (apart : i ≢ j). rw (loose.others i j row column apart) (omega (arith, ints))) (cases_eq i j)
-
-  pub table-feasible : IsConsistent log → IsFeasible d
-  table-feasible consistent = record {
-    diagonal = λ i in-i.
-        let row = rw narrowed.nodes at in-i in
-        let below = narrowed.lower i i row row in
-        let zero-before = loose.diagonal i (rw loose.nodes at row) in
-        omega (arith, ints, below, zero-before);
-    high = λ i j in-i in-j.
-        let row = rw narrowed.nodes at in-i in
-        let column = rw narrowed.nodes at in-j in
-        let below = narrowed.lower i j row column in
-        let before = loose-high i j row column in
-        omega (arith, ints, below, before);
-    numbers = node_time consistent.timing;
-    near = λ i in-i. admissible-near log valid consistent.timing consistent.admissible i (rw loose.nodes at (rw narrowed.nodes at in-i));
-    meets = narrowed-meets consistent.timing consistent.admissible;
+module _ (law : BoundsAreAdmissible) (log : Logged) (valid : IsLog log) (edges : List SystemEdge) (incoming : List (List SystemEdge)) (are : AreEdges log (bounds_of log) edges)
+    (within : All (system.IsEdge (length log.rows + 1)) edges) (lists : AreIncoming (length log.rows + 1) edges incoming) where
+  -- an admissible timing is a solution of the edges
+  pub near-of : (t : List ℤ) → Admissible log t → IsNear incoming (pos 0 ∷ t)
+  near-of t admissible = record {
+    solution = record {
+      count = let size = admissible.count in let nodes = lists.count in omega (arith, size, nodes);
+      meets = λ v below. all-incoming (length log.rows + 1) edges incoming lists within (system.Meets (pos 0 ∷ t)) (edges-met log (bounds_of log) edges t are ((law log t).0 admissible).1) v (rw lists.count at below);
+    };
+    near = All-cons (IsWithin MAX_TIME) (pos 0) t (record { low = omega (arith, ints); high = omega (arith, ints) }) (times-near log valid t admissible);
   }
 
-module _ (law : BoundsAreAdmissible) (log : Logged) (d c : Differences) (table : IsTableOf log d) (closure : IsClosure d c) where
-  size : c.nodes ≡ length log.rows + 1
-  size = closure.nodes ∙ table.nodes
+  module _ (d : Differences) (table : IsTableOf incoming d) where
+    size : d.nodes ≡ length log.rows + 1
+    size = table.nodes ∙ lists.count
 
-  -- the timing in which each row is as late after row e as it can be
-  latest : ℕ → List ℤ
-  latest e = map (λ g. entry c (suc g) (suc e) -ℤ entry c 0 (suc e)) (range_with_len 0 (length log.rows))
+    -- a column gives an admissible timing
+    module _ (node : ℕ) (in-node : node < length log.rows + 1) where
+      column : IsColumnOf incoming d node
+      column = table.columns node (rw size in-node)
 
-  module _ (e : ℕ) (in-e : e < length log.rows) where
-    latest-time : (i : ℕ) → i < length log.rows + 1 → node_time (latest e) i ≡ entry c i (suc e) -ℤ entry c 0 (suc e)
-    unfolding latest
-    latest-time zero within = omega (arith, ints)
-    latest-time (suc g) within = get_or-map-range_with_len (λ k. entry c (suc k) (suc e) -ℤ entry c 0 (suc e)) 0 (length log.rows) g g (pos 0) (omega arith) (zero-add g)
+      timing : List ℤ
+      timing = times_of column.numbers
 
-    latest-meets : (x : Edge) → Keeps d x → MeetsEdge (latest e) x
-    latest-meets x kept =
-        let from = rw table.nodes at kept.from in
-        let to = rw table.nodes at kept.to in
-        let way = closure.closed x.to x.from (suc e) (rw size to) (rw size from) (rw size (omega arith)) in
-        let below = closure.lower x.from x.to kept.from kept.to in
-        let bound = kept.bound in
-        rw (latest-time x.from from, latest-time x.to to) (omega (arith, ints, way, below, bound))
+      column-count : length column.numbers ≡ length log.rows + 1
+      column-count = column.latest.solution.count ∙ lists.count
 
-    latest-size : length (latest e) ≡ length log.rows
-    unfolding latest
-    latest-size = length-map-range_with_len (λ k. entry c (suc k) (suc e) -ℤ entry c 0 (suc e)) 0 (length log.rows)
+      column-admissible : Admissible log timing
+      unfolding timing
+      column-admissible = timing-of law log (bounds_of log) edges column.numbers refl are within (record {
+        count = column-count;
+        meets = all-edges (length log.rows + 1) edges incoming lists within (system.Meets column.numbers) (λ v below. column.latest.solution.meets v (rw lists.count below));
+      })
 
-    latest-admissible : Admissible log (latest e)
-    latest-admissible =
-        (law log (latest e)).1 (
-          latest-size,
-          All-weaker (λ b. IfSome (edge_of log (step_of b)) (Keeps d)) (λ b. IfSome (edge_of log (step_of b)) (MeetsEdge (latest e)))
-              (λ b kept. IfSome_then (edge_of log (step_of b)) kept latest-meets) (bounds_of log) table.keeps,
-        )
+      -- in which the times are as far apart as the column says
+      column-times : (i : ℕ) → i < length log.rows + 1 → node_time timing i ≡ entry d i node -ℤ system.number_of column.numbers 0
+      unfolding timing
+      column-times i in-i = rw (column.entries i (rw size in-i)) (node-times column.numbers i (rw column-count in-i))
 
-    pub greatest-exact : (f : ℕ) → f < length log.rows → IsGreatestDifference log e f (greatest_of c e f)
-    greatest-exact f in-f =
-        let time-f = latest-time (suc f) (omega arith) in
-        let time-e = latest-time (suc e) (omega arith) in
-        let itself = closure.diagonal (suc e) (rw table.nodes (omega arith)) in
+      column-own : entry d node node ≡ pos 0
+      column-own = column.entries node (rw size in-node) ∙ column.latest.own
+
+    small : AreSmall d
+    small i node in-i in-node =
+        let row = rw size at in-i in
+        let place = rw size at in-node in
+        let admissible = column-admissible node place in
+        let first = admissible-near log valid (timing node place) admissible i row in
+        let second = admissible-near log valid (timing node place) admissible node place in
+        let here = column-times node place i row in
+        let there = column-times node place node place in
+        let own = column-own node place in
+        record {
+          low = omega (arith, ints, first.low, second.high, here, there, own);
+          high = omega (arith, ints, first.high, second.low, here, there, own);
+        }
+
+    pub of-rows : IsOfRows d
+    of-rows = record { zero_moment = rw size (omega arith); small = small }
+
+    pub greatest-exact : (e f : ℕ) → e < length log.rows → f < length log.rows → IsGreatestDifference log e f (greatest_of d e f)
+    greatest-exact e f in-e in-f =
+        let in-first : suc e < length log.rows + 1 = omega arith in
+        let in-second : suc f < length log.rows + 1 = omega arith in
+        let time-e = column-times (suc e) in-first (suc e) in-first in
+        let time-f = column-times (suc e) in-first (suc f) in-second in
+        let own = column-own (suc e) in-first in
         rw (add-one f, add-one e)
         (record {
           attained = record {
-            timing = latest e;
-            admissible = latest-admissible;
-            same = omega (arith, ints, time-f, time-e, itself);
+            timing = timing (suc e) in-first;
+            admissible = column-admissible (suc e) in-first;
+            same = omega (arith, ints, time-e, time-f, own);
           };
-          bound = λ t admissible. closure.meets (node_time t) (table.meets t admissible) (suc f) (suc e) (rw size (omega arith)) (rw size (omega arith));
+          bound = λ t admissible.
+              let most = (column (suc e) in-first).latest.greatest (pos 0 ∷ t) (near-of t admissible) (suc f) (rw lists.count in-second) in
+              let read = (column (suc e) in-first).entries (suc f) (rw size in-second) in
+              omega (arith, ints, most, read);
         })
 
-  pub least-exact : (e f : ℕ) → e < length log.rows → f < length log.rows → IsLeastDifference log e f (least_of c e f)
-  least-exact e f in-e in-f =
-      let back = greatest-exact f in-f e in-e in
-      let same = back.attained.same in
-      record {
-        attained = record {
-          timing = (back.attained).timing;
-          admissible = (back.attained).admissible;
-          same = omega (arith, ints, same);
-        };
-        bound = λ t admissible. let above = back.bound t admissible in omega (arith, ints, above);
-      }
+    least-exact : (e f : ℕ) → e < length log.rows → f < length log.rows → IsLeastDifference log e f (least_of d e f)
+    least-exact e f in-e in-f =
+        let back = greatest-exact f e in-f in-e in
+        let same = back.attained.same in
+        record {
+          attained = record {
+            timing = (back.attained).timing;
+            admissible = (back.attained).admissible;
+            same = omega (arith, ints, same);
+          };
+          bound = λ t admissible. let above = back.bound t admissible in omega (arith, ints, above);
+        }
 
-  pub exact : IsTight log c
-  exact = record {
-    events = rw size (omega arith);
-    greatest = λ e f in-e in-f. greatest-exact e in-e f in-f;
-    least = least-exact;
-  }
+    pub exact : IsTight log d
+    exact = record {
+      events = rw size (omega arith);
+      greatest = greatest-exact;
+      least = least-exact;
+    }

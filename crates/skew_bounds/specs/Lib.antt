@@ -2,7 +2,10 @@ pub mod Edges
 pub mod RowTimes
 pub mod Consistency
 pub mod Differences
-pub mod BoundTable
+pub mod Beginning
+pub mod Incoming
+pub mod Lowering
+pub mod Table
 pub mod Tight
 pub use Rattle.mt_model.specs.Log
 pub use Rattle.mt_model.specs.Timing

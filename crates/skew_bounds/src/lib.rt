@@ -7,11 +7,13 @@
 #![tactic(auto)]
 
 mod broken;
-mod closure;
 mod consistency;
 mod differences;
 mod edges;
+mod incoming;
+mod latest;
 mod list;
+mod lowering;
 mod matrix;
 mod rows;
 mod table;

@@ -1,8 +1,7 @@
 //! Numbers for pairs of nodes.
 
-ghost use Rattle.std.specs.Prelude.{◌≡◌, ℕ, ◌*◌, ◌<◌, ◌^◌, IfOk, length, slice_set, slice_index_or, pos};
-ghost use Rattle.std.specs.Int.{int_min};
-ghost use Rattle.skew_bounds.specs.Differences.{IsLowered, entry};
+ghost use Rattle.std.specs.Prelude.{◌≡◌, ℕ, ◌*◌, ◌<◌, ◌^◌, IfOk};
+ghost use Rattle.skew_bounds.specs.Differences.{IsSet, entry};
 
 use mt_model::MAX_TIME;
 use std::alloc::{AllocError, Global};
@@ -33,15 +32,14 @@ impl Model for Matrix {
 }
 
 impl Matrix {
-    /// The matrix with the same entry for each pair of so many nodes.
-    pub fn new(alloc: Global, nodes: usize, value: i128) -> Result<Matrix, AllocError>
+    /// The matrix with the entry 0 for each pair of so many nodes.
+    pub fn new(alloc: Global, nodes: usize) -> Result<Matrix, AllocError>
         requires { nodes * nodes < 2 ^ 64 }
         ensures nodes { IfOk result (λ d. d.nodes ≡ nodes) }
-        ensures entries { IfOk result (λ d. (i j : ℕ) → i < nodes → j < nodes → entry d i j ≡ value) }
     {
         Ok(Matrix {
             nodes,
-            entries: vec![in alloc; value; nodes * nodes]?,
+            entries: vec![in alloc; 0; nodes * nodes]?,
         })
     }
 
@@ -62,22 +60,13 @@ impl Matrix {
         self.entries[i * self.nodes + j]
     }
 
-    /// Lowers one entry to a bound, where it is above it.
+    /// Sets one entry.
     #[inline]
-    pub fn lower(&mut self, i: usize, j: usize, bound: i128)
+    pub fn set(&mut self, i: usize, j: usize, value: i128)
         requires i { i < self.old.nodes }
         requires j { j < self.old.nodes }
-        ensures lowered { IsLowered self.old i j bound self.new }
+        ensures set { IsSet self.old i j value self.new }
     {
-        lower_at(&mut self.entries, i * self.nodes + j, bound);
+        self.entries[i * self.nodes + j] = value;
     }
-}
-
-// Lowers the number at a place to a bound, where it is above it.
-#[inline]
-fn lower_at(entries: &mut [i128], place: usize, bound: i128)
-    requires { place < length entries.old }
-    ensures { entries.new ≡ slice_set entries.old place (int_min (slice_index_or entries.old place (pos 0)) bound) }
-{
-    entries[place] = entries[place].min(bound);
 }

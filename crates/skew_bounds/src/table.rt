@@ -1,57 +1,72 @@
-//! The table of the bounds of a log: what each of them, by itself, says of the differences of nodes.
+//! The table of how far the moments of a log can be apart.
 
-ghost use Rattle.std.specs.Prelude.{◌≡◌, ◌+◌, ◌<◌, ◌^◌, ◌*◌, ◌∷◌, [], length, IfOk};
-ghost use Rattle.skew_bounds.specs.BoundTable.{IsLoose, IsNarrowed, IsTableOf};
-ghost use Rattle.skew_bounds.specs.Differences.{IsFeasible};
-ghost use Rattle.skew_bounds.specs.Tight.{IsConsistent};
+ghost use Rattle.std.specs.Prelude.{◌≡◌, ◌*◌, ◌<◌, ◌^◌, ◌∷◌, length, pos, IfOk};
+ghost use Rattle.mt_model.specs.Timing.{Admissible};
+ghost use Rattle.skew_bounds.specs.Differences.{IsColumnSet, IsOfRows};
+ghost use Rattle.skew_bounds.specs.Incoming.{IsNear, IsNetwork, lists_of};
+ghost use Rattle.skew_bounds.specs.Table.{IsTableOf};
+ghost use Rattle.skew_bounds.specs.Tight.{IsTight};
 
-use crate::edges::edge_of;
+use crate::consistency::edges_of;
+use crate::incoming::incoming_of;
+use crate::latest::latest;
 use crate::list::bounds;
-use crate::matrix::{FAR, Matrix};
-use mt_model::{Bound, Log, bounds_are_admissible};
+use crate::matrix::Matrix;
+use mt_model::{Log, bounds_are_admissible};
+use neg_cycle::Edge;
 use std::alloc::{AllocError, Global};
 
-// The table in which each node may be far above each other one.
-fn loose(alloc: Global, nodes: usize) -> Result<Matrix, AllocError>
-    requires { nodes * nodes < 2 ^ 64 }
-    ensures { IfOk result (IsLoose nodes) }
+// Gives each pair of a node and this one the number of the first.
+fn set_column(table: &mut Matrix, node: usize, numbers: &[i128])
+    requires node { node < table.old.nodes }
+    requires count { length numbers.now ≡ table.old.nodes }
+    ensures { IsColumnSet table.old node numbers.now table.new }
 {
-    let mut table = Matrix::new(alloc, nodes, FAR)?;
-    for i in 0..nodes {
-        table.lower(i, i, 0);
+    for i in 0..numbers.len() {
+        table.set(i, node, numbers[i]);
+    }
+}
+
+// The table of nodes at which these edges end, where these numbers meet the edges.
+fn table_by(
+    alloc: Global,
+    incoming: &[Vec<Edge>],
+    potential: &[i128],
+) -> Result<Matrix, AllocError>
+    requires square { length incoming.now * length incoming.now < 2 ^ 64 }
+    requires network { IsNetwork (lists_of incoming.now) }
+    requires potential { IsNear (lists_of incoming.now) potential.now }
+    ensures { IfOk result (IsTableOf (lists_of incoming.now)) }
+{
+    let mut table = Matrix::new(alloc, incoming.len())?;
+    for node in 0..incoming.len() {
+        let numbers = latest(alloc, incoming, potential, node as u32)?;
+        set_column(&mut table, node, &numbers);
     }
     Ok(table)
 }
 
-// Lowers the entry of the ends of a bound's edge to the bound.
-fn narrow(log: &Log, bound: Bound, table: &mut Matrix)
-    requires { table.old.nodes ≡ length log.now.rows + 1 }
-    ensures { IsNarrowed log.now (bound ∷ []) table.old table.new }
+// The time of the zero moment, and these.
+fn node_times(alloc: Global, times: &[i128]) -> Result<Vec<i128>, AllocError>
+    ensures { IfOk result (λ numbers. numbers.items ≡ pos 0 ∷ times.now) }
 {
-    if let Some(edge) = edge_of(log, bound) {
-        table.lower(edge.from as usize, edge.to as usize, edge.bound);
-    }
+    let mut numbers = Vec::new(alloc);
+    numbers.push(0)?;
+    numbers.extend_from_slice(times)?;
+    Ok(numbers)
 }
 
-// Does so for each of these bounds.
-fn narrow_all(log: &Log, bounds: &[Bound], table: &mut Matrix)
-    requires { table.old.nodes ≡ length log.now.rows + 1 }
-    ensures { IsNarrowed log.now bounds.now table.old table.new }
-{
-    for bound in bounds {
-        narrow(log, *bound, table);
-    }
-}
-
-/// The table of the bounds of a log, over the zero moment, which is node 0, and its rows, of which row
-/// e is node e + 1.
-pub fn table_of(alloc: Global, log: &Log) -> Result<Matrix, AllocError>
-    ensures table { IfOk result (IsTableOf log.now) }
-    ensures feasible { IfOk result (λ d. IsConsistent log.now → IsFeasible d) }
+/// The table of the zero moment, which is node 0, and the rows of a log, of which row e is node e + 1,
+/// where the log admits these times.
+pub fn table_of(alloc: Global, log: &Log, times: &[i128]) -> Result<Matrix, AllocError>
+    requires { Admissible log.now times.now }
+    ensures exact { IfOk result (IsTight log.now) }
+    ensures rows { IfOk result IsOfRows }
 {
     bounds_are_admissible();
     let bounds = bounds(alloc, log)?;
-    let mut table = loose(alloc, log.rows().len() + 1)?;
-    narrow_all(log, bounds.as_slice(), &mut table);
-    Ok(table)
+    let edges = edges_of(alloc, log, bounds.as_slice())?;
+    let incoming = incoming_of(alloc, log.rows().len() + 1, edges.as_slice())?;
+    let potential = node_times(alloc, times)?;
+    table_by(alloc, &incoming, &potential)
 }

@@ -2,10 +2,9 @@ ghost use Rattle.std.specs.Prelude.{IfErr, IfOk, OnOk};
 ghost use Rattle.skew_bounds.specs.Consistency.{IsConflict};
 ghost use Rattle.skew_bounds.specs.Tight.{IfCycle, IsConsistent, IsInconsistent, IsTight};
 
-use crate::closure::close;
 use crate::table::table_of;
 use crate::{Consistency, Tight, settle};
-use mt_model::{Log, Steps, bounds_are_admissible, conflict_excludes_timings};
+use mt_model::{Log, Steps, conflict_excludes_timings};
 use std::alloc::{AllocError, Global};
 
 /// Why a log has no least and greatest differences, or want of memory.
@@ -31,19 +30,18 @@ impl From<AllocError> for TightFault {
 
 /// The least and the greatest difference of each two rows' true times, over all timings that a log
 /// admits, each of which some admissible timing has. An error other than want of memory comes exactly
-/// where no timing is admissible. The work grows with the cube of the rows, the memory with their square.
+/// where no timing is admissible. The memory grows with the square of the
+/// rows, and the work with that and the edges of a row.
 pub fn tight(alloc: Global, log: &Log) -> Result<Tight, TightFault>
     ensures exact { IfOk result (IsTight log.now) }
     ensures consistent { OnOk result (IsConsistent log.now) }
     ensures cycle { IfErr result (λ fault. IfCycle fault (IsConflict log.now)) }
     ensures inconsistent { IfErr result (λ fault. IfCycle fault (λ _. IsInconsistent log.now)) }
 {
-    bounds_are_admissible();
     conflict_excludes_timings();
     match settle(alloc, log)? {
-        Consistency::Timing(_) => {
-            let mut table = table_of(alloc, log)?;
-            close(&mut table);
+        Consistency::Timing(times) => {
+            let table = table_of(alloc, log, times.as_slice())?;
             Ok(Tight::new(table))
         }
         Consistency::Conflict(steps) => Err(TightFault::Cycle(steps)),

@@ -1,13 +1,41 @@
-use Rattle.skew_bounds.proofs.Tightest.{table-of, table-feasible}
+use Rattle.std.proofs.Common.{◌≡◌, ◌∷◌, ◌+◌, length, pos}
+use Rattle.std.proofs.lemmas.Result.{IfOk-weaker}
+use Rattle.skew_bounds.specs.Differences.{IsOfRows}
+use Rattle.skew_bounds.specs.Incoming.{AreIncoming, lists_of}
+use Rattle.skew_bounds.specs.Table.{IsTableOf}
+use Rattle.skew_bounds.specs.Tight.{IsTight}
+use Rattle.skew_bounds.proofs.BoundCounts.{all-have}
+use Rattle.skew_bounds.proofs.EdgeLists.{network-of}
+use Rattle.skew_bounds.proofs.Tightest.{exact, near-of, of-rows}
 use Rattle.skew_bounds.proofs.table.table_of.Goals as goal
+
+pub edges_of-requires : goal.edges_of-requires
+edges_of-requires c = rw (c.as_slice.ensures.items, c.in_ok-bounds.ensures.list) (all-have c.args.log.now)
+
+pub table_by-requires-clause-network : goal.table_by-requires-clause-network
+table_by-requires-clause-network c =
+    let lists = rw (c.rows.ensures.same, c.as_slice-2.ensures.items) at c.in_ok-incoming.ensures in
+    rw c.deref.ensures.value (network-of (length (c.args.log.now).rows + 1) c.in_ok-edges.edges (lists_of c.in_ok-incoming.incoming.items) lists c.in_ok-edges.ensures.within)
+
+pub table_by-requires-clause-potential : goal.table_by-requires-clause-potential
+table_by-requires-clause-potential c =
+    let are = rw (c.as_slice.ensures.items, c.in_ok-bounds.ensures.list) at c.in_ok-edges.ensures.edges in
+    let lists = rw (c.rows.ensures.same, c.as_slice-2.ensures.items) at c.in_ok-incoming.ensures in
+    rw (c.deref.ensures.value, c.deref-2.ensures.value, c.in_ok-potential.ensures)
+    (near-of c.bounds_are_admissible.ensures c.args.log.now c.rows.ensures.valid c.in_ok-edges.edges (lists_of c.in_ok-incoming.incoming.items) are c.in_ok-edges.ensures.within lists c.args.times.now c.requires)
 
 pub returns : goal.returns
 returns c =
-    let law = c.bounds_are_admissible.ensures in
     let log = c.args.log.now in
-    let loose = rw c.rows.ensures.same at c.in_ok-table.ensures in
-    let narrowed = rw (c.as_slice.ensures.items, c.in_ok-bounds.ensures.list) at c.narrow_all.ensures in
+    let law = c.bounds_are_admissible.ensures in
+    let valid = c.rows.ensures.valid in
+    let edges = c.in_ok-edges.edges in
+    let within = c.in_ok-edges.ensures.within in
+    let incoming = lists_of c.in_ok-incoming.incoming.items in
+    let are = rw (c.as_slice.ensures.items, c.in_ok-bounds.ensures.list) at c.in_ok-edges.ensures.edges in
+    let lists = rw (c.rows.ensures.same, c.as_slice-2.ensures.items) at c.in_ok-incoming.ensures in
+    let table = rw c.deref.ensures.value at c.table_by.ensures in
     record {
-      table = table-of law log c.rows.ensures.valid c.in_ok-table.table c.narrow_all.new.table loose narrowed;
-      feasible = table-feasible law log c.rows.ensures.valid c.in_ok-table.table c.narrow_all.new.table loose narrowed;
+      exact = IfOk-weaker c.table_by.result (IsTableOf incoming) (IsTight log) (exact law log valid edges incoming are within lists) table;
+      rows = IfOk-weaker c.table_by.result (IsTableOf incoming) IsOfRows (of-rows law log valid edges incoming are within lists) table;
     }

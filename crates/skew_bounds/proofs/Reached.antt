@@ -1,0 +1,175 @@
+-- A search for the greatest numbers that meet edges: how it begins, goes on from a node that waited, and ends.
+use Rattle.std.proofs.Common.{◌≡◌, ◌≢◌, ◌∙◌, sym, ap, ℕ, ◌<◌, ◌⊎◌, inl, inr, arith, List, [], ◌∷◌, length, All, ℤ, pos, ◌+ℤ◌, ◌-ℤ◌, ◌≤ℤ◌, refl}
+use Rattle.std.specs.Prelude.{Contains, IsPermutation, slice_index_or}
+use Rattle.std.proofs.lemmas.Bool.{cases_eq}
+use Rattle.std.proofs.lemmas.Int.{ints}
+use Rattle.std.proofs.lemmas.List.Elements.{All-cons, All-head, All-nil, All-tail}
+use Rattle.std.proofs.lemmas.List.Sorted.{All-permutation, Contains-permutation}
+use Rattle.mt_model.specs.Log.{IsWithin}
+use Rattle.mt_model.specs.declared.limits.TheConstants.{MAX_TIME}
+use Rattle.neg_cycle.specs.declared.system.Edge.{Edge}
+use Rattle.neg_cycle.specs.Systems.{Meets, edge_at, number_of}
+use Rattle.skew_bounds.specs.Beginning.{IsBeginning}
+use Rattle.skew_bounds.specs.Incoming.{IsLatest, IsNear, IsNetwork, IsSolution, ending_at}
+use Rattle.skew_bounds.specs.Lowering.{AreNodes, IsFloor, IsLowered, IsSearch, Waits, ahead_of, entry_of}
+use Rattle.skew_bounds.specs.declared.latest.TheConstants.{UNREACHED}
+use Rattle.skew_bounds.specs.declared.lowering.Waiting.{Waiting}
+use Rattle.skew_bounds.proofs.Falls.{Contains-cons, Contains-first}
+
+-- the edges that end at a node are met, or it waits
+abbrev pub IsSettled : List (List Edge) → List ℤ → List ℤ → List Waiting → ℕ → Type 0
+IsSettled incoming potential numbers waiting v = All (Meets numbers) (ending_at incoming v) ⊎ Waits potential numbers waiting v
+
+-- the node has 0, no near solution is further above it anywhere, and edges that are not met end at nodes that wait
+pub record IsReached (incoming : List (List Edge)) (potential : List ℤ) (node : ℕ) (numbers : List ℤ) (waiting : List Waiting) : Type 0 where
+  pub search : IsSearch potential numbers
+  pub nodes : AreNodes (length potential) waiting
+  pub own : number_of numbers node ≡ pos 0
+  pub greatest : (y : List ℤ) → IsNear incoming y → IsFloor y (number_of y node) numbers
+  pub settled : (v : ℕ) → v < length incoming → IsSettled incoming potential numbers waiting v
+
+module _ (incoming : List (List Edge)) (potential : List ℤ) (node : ℕ) (network : IsNetwork incoming) (near : IsNear incoming potential) (within : node < length incoming) where
+  count : length potential ≡ length incoming
+  count = near.solution.count
+
+  near-at : (y : List ℤ) → IsNear incoming y → (v : ℕ) → v < length incoming → IsWithin MAX_TIME (number_of y v)
+  near-at y is v below = is.near v (pos 0) (rw is.solution.count below)
+
+  module _ (numbers : List ℤ) (begins : IsBeginning potential node numbers) where
+    -- no near solution is further above the node than the beginning
+    begin-floor : (y : List ℤ) → IsNear incoming y → IsFloor y (number_of y node) numbers
+    begin-floor y is v below =
+        let in-v : v < length incoming = rw (begins.count ∙ count) at below in
+        elim (cases_eq v node) [
+          | inl same ↦ rw (same, begins.own) (omega (arith, ints))
+          | inr apart ↦
+              let a = near-at y is v in-v in
+              let b = near-at y is node within in
+              let c = near-at potential near v in-v in
+              let d = near-at potential near node within in
+              rw (begins.others v (rw count in-v) apart) (omega (arith, ints, a.low, a.high, b.low, b.high, c.low, c.high, d.low, d.high))
+        ]
+
+    begin-high : (v : ℕ) → v < length potential → number_of numbers v ≤ℤ (pos 60000000000000000000)
+    begin-high v below =
+        let in-v : v < length incoming = rw count at below in
+        elim (cases_eq v node) [
+          | inl same ↦ rw (same, begins.own) (omega (arith, ints))
+          | inr apart ↦
+              let c = near-at potential near v in-v in
+              let d = near-at potential near node within in
+              rw (begins.others v below apart) (omega (arith, ints, c.low, c.high, d.low, d.high))
+        ]
+
+    -- an edge that ends elsewhere is met, since the potential meets it
+    begin-met : (v : ℕ) → v < length incoming → v ≢ node → All (Meets numbers) (ending_at incoming v)
+    begin-met v below apart k d place =
+        let edge = network.edges v below k d place in
+        let end = network.ends v below k d place in
+        let met = near.solution.meets v below k d place in
+        by (slice_index_or (ending_at incoming v) k d) (rw count edge.from) end met
+      where
+        by : (e : Edge) → e.from < length potential → e.to ≡ v → Meets potential e → Meets numbers e
+        by e from end met =
+            let to : number_of numbers e.to ≡ number_of potential e.to -ℤ number_of potential node +ℤ UNREACHED = rw end (begins.others v (rw count below) apart) in
+            elim (cases_eq e.from node) [
+              | inl same ↦ let own = begins.own in let m = rw same at met in rw (same) (omega (arith, ints, own, to, m))
+              | inr other ↦ let start = begins.others e.from from other in omega (arith, ints, start, to, met)
+            ]
+
+    pub reached-first : (waiting : List Waiting) → IsPermutation (entry_of potential node (pos 0) ∷ []) waiting → IsReached incoming potential node numbers waiting
+    reached-first waiting first = record {
+      search = record {
+        count = begins.count;
+        near = near.near;
+        least = number_of potential node;
+        least_near = near-at potential near node within;
+        floor = begin-floor potential near;
+        high = λ v below. begin-high v (rw begins.count at below);
+      };
+      nodes = All-permutation (λ w. w.node < length potential) _ waiting first (All-cons (λ w. w.node < length potential) _ [] (rw count within) (All-nil (λ w. w.node < length potential)));
+      own = begins.own;
+      greatest = begin-floor;
+      settled = λ v below. elim (cases_eq v node) [
+        | inl same ↦ inr (rw (same, begins.own) (Contains-permutation _ waiting _ first (Contains-first _ [])))
+        | inr apart ↦ inl (begin-met v below apart)
+      ];
+    }
+
+  module _ (numbers : List ℤ) (waiting : List Waiting) (reached : IsReached incoming potential node numbers waiting) (next : Waiting) (rest : List Waiting) (popped : IsPermutation waiting (next ∷ rest)) where
+    all-nodes : AreNodes (length potential) (next ∷ rest)
+    all-nodes = All-permutation (λ w. w.node < length potential) waiting _ popped reached.nodes
+
+    pub next-within : next.node < length potential
+    next-within = All-head (λ w. w.node < length potential) next rest all-nodes
+
+    -- what waits and is not the one that came out still waits
+    still-waits : (v : ℕ) → (next ≡ entry_of potential v (number_of numbers v) → ⊥) → Waits potential numbers waiting v → Waits potential numbers rest v
+    still-waits v differs waits = elim (Contains-cons next rest _ (Contains-permutation waiting _ _ popped waits)) [
+      | inl same ↦ absurd (differs same)
+      | inr later ↦ later
+    ]
+
+    -- it came out with a number that the node no longer has
+    pub reached-stale : next.ahead ≢ ahead_of potential numbers next.node → IsReached incoming potential node numbers rest
+    reached-stale stale = record {
+      search = reached.search;
+      nodes = All-tail (λ w. w.node < length potential) next rest all-nodes;
+      own = reached.own;
+      greatest = reached.greatest;
+      settled = λ v below. elim (reached.settled v below) [
+        | inl met ↦ inl met
+        | inr waits ↦ inr (still-waits v (λ same. stale (rw same refl)) waits)
+      ];
+    }
+
+    -- the edges that end at the node are met now
+    module _ (new : List ℤ) (after : List Waiting) (search : IsSearch potential new) (lowered : IsLowered potential next.node (ending_at incoming next.node) numbers rest new after) where
+      next-in : next.node < length incoming
+      next-in = rw count at next-within
+
+      floor-kept : (y : List ℤ) → IsNear incoming y → IsFloor y (number_of y node) new
+      floor-kept y is = lowered.above y (number_of y node) (is.solution.meets next.node next-in) (reached.greatest y is)
+
+      settled-elsewhere : (v : ℕ) → v < length incoming → v ≢ next.node → IsSettled incoming potential numbers waiting v → IsSettled incoming potential new after v
+      settled-elsewhere v below apart settled = elim (lowered.waits v) [
+        | inr waits ↦ inr waits
+        | inl same ↦ elim settled [
+            | inl met ↦ inl (λ k d place.
+                let meets = met k d place in
+                let end = network.ends v below k d place in
+                let from = lowered.lower ((slice_index_or (ending_at incoming v) k d).from) in
+                rw (end, same) (omega (arith, ints, rw end at meets, from)))
+            | inr waits ↦ inr (rw same (lowered.kept _ (still-waits v (λ is. apart (sym (ap (λ w. w.node) is))) waits)))
+          ]
+      ]
+
+      pub reached-more : IsReached incoming potential node new after
+      reached-more = record {
+        search = search;
+        nodes = lowered.nodes (All-tail (λ w. w.node < length potential) next rest all-nodes);
+        own =
+            let own = reached.own in
+            let lower = lowered.lower node in
+            let floor = floor-kept potential near node (rw (search.count ∙ count) within) in
+            omega (arith, ints, own, lower, floor);
+        greatest = floor-kept;
+        settled = λ v below. elim (cases_eq v next.node) [
+          | inl same ↦ inl (rw same lowered.met)
+          | inr apart ↦ settled-elsewhere v below apart (reached.settled v below)
+        ];
+      }
+
+  -- where no node waits, all edges are met
+  pub reached-last : (numbers : List ℤ) → IsReached incoming potential node numbers [] → IsLatest incoming node numbers
+  reached-last numbers reached = record {
+    solution = record {
+      count = reached.search.count ∙ count;
+      meets = λ v below. elim (reached.settled v below) [
+        | inl met ↦ met
+        | inr waits ↦ absurd (let none = waits.1 in omega arith)
+      ];
+    };
+    own = reached.own;
+    greatest = λ y is v below. reached.greatest y is v (rw (reached.search.count ∙ count) below);
+  }

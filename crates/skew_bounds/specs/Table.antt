@@ -1,0 +1,17 @@
+-- The table whose columns are the greatest solutions of edges.
+use Rattle.std.specs.Prelude.{◌≡◌, ℕ, ◌<◌, List, length, ℤ}
+use Rattle.neg_cycle.specs.declared.system.Edge.{Edge}
+use Rattle.neg_cycle.specs.Systems.{number_of}
+use Rattle.skew_bounds.specs.Differences.{Differences, entry}
+use Rattle.skew_bounds.specs.Incoming.{IsLatest}
+
+-- a node's column are the greatest numbers that meet the edges and give the node 0
+pub record IsColumnOf (incoming : List (List Edge)) (d : Differences) (node : ℕ) : Type 0 where
+  pub numbers : List ℤ
+  pub latest : IsLatest incoming node numbers
+  pub entries : (i : ℕ) → i < d.nodes → entry d i node ≡ number_of numbers i
+
+-- each column is that of its node
+pub record IsTableOf (incoming : List (List Edge)) (d : Differences) : Type 0 where
+  pub nodes : d.nodes ≡ length incoming
+  pub columns : (node : ℕ) → node < d.nodes → IsColumnOf incoming d node
