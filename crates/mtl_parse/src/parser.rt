@@ -74,9 +74,9 @@ fn after_word(alloc: Global, stack: Vec<Pending>, word: &[u8]) -> Result<Option<
     ensures { IfOk result (λ o. option_map state_in o ≡ after_word (stack_in stack.items) word.now) }
 {
     let stage = if word == b"true".as_slice() {
-        Stage::Read(Operand::leaf(Tree::True))
+        Stage::Read(Operand::leaf(alloc, Tree::True)?)
     } else if word == b"false".as_slice() {
-        Stage::Read(Operand::leaf(Tree::False))
+        Stage::Read(Operand::leaf(alloc, Tree::False)?)
     } else if word == b"inf".as_slice() {
         return Ok(None);
     } else {
@@ -129,9 +129,10 @@ fn step_dot(
     match token {
         Token::Word(word) => {
             let name = word_name(alloc, word)?;
+            let operand = Operand::leaf(alloc, Tree::Prop { host, name })?;
             Ok(Some(Parser {
                 stack,
-                stage: Stage::Read(Operand::leaf(Tree::Prop { host, name })),
+                stage: Stage::Read(operand),
             }))
         }
         _ => Ok(None),
