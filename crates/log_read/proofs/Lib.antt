@@ -8,6 +8,7 @@ pub mod Lines
 pub mod Listing
 pub mod Middles
 pub mod PlainFields
+pub mod PushedLines
 pub mod ReadBack
 pub mod ValidLogs
 pub mod WrittenLines

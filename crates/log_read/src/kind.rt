@@ -4,7 +4,7 @@ ghost use Rattle.log_read.specs.Records.{kind_of, act_of};
 use mt_model::{Act, Name};
 
 /// What an event record tells.
-#[derive(Clone, Copy, Debug, PartialEq, Eq)]
+#[derive(Clone, Copy)]
 pub enum EventKind {
     Set,
     Clear,
@@ -14,7 +14,7 @@ pub enum EventKind {
 }
 
 /// What a record tells: it declares a host, or gives an event.
-#[derive(Clone, Copy, Debug, PartialEq, Eq)]
+#[derive(Clone, Copy)]
 pub enum Kind {
     Host,
     Event(EventKind),

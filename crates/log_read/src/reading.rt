@@ -13,7 +13,7 @@ use std::alloc::Global;
 use std::marker::Model;
 
 /// The hosts and rows of a log that is read record by record, which contracts see as a log.
-#[derive(Debug, Drop)]
+#[derive(Drop)]
 pub struct Reading {
     hosts: HostList,
     rows: RowList,

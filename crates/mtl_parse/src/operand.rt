@@ -12,7 +12,7 @@ use std::marker::Model;
 /// A formula of a height up to 200, with its height. Contracts see it as its tree.
 #[derive(Drop)]
 pub struct LowTree {
-    tree: Tree,
+    tree: Box<Tree>,
     height: u32,
 }
 
@@ -28,9 +28,9 @@ impl Model for LowTree {
 
     ghost coded = { Prim.hlevel (codes, e.the_row.coded) };
 
-    ghost view = { λ o. o.tree };
+    ghost view = { λ o. o.tree.value };
 
-    ghost invariant = { λ o. (o.height ≡ height_of (form_of o.tree)) × (o.height ≤ MAX_HEIGHT) };
+    ghost invariant = { λ o. (o.height ≡ height_of (form_of o.tree.value)) × (o.height ≤ MAX_HEIGHT) };
 }
 
 impl LowTree {
@@ -40,7 +40,7 @@ impl LowTree {
         ensures height { height_of (form_of result) ≤ MAX_HEIGHT }
     {
         let LowTree { tree, height: _ } = self;
-        tree
+        Box::into_inner(tree)
     }
 }
 
@@ -66,73 +66,55 @@ struct Sides {
     height: u32,
 }
 
-fn boxed(alloc: Global, tree: Tree) -> Result<Box<Tree>, AllocError>
-    ensures { IfOk result (λ b. form_of b.value ≡ form_of tree) }
-{
-    Ok(Box::new(alloc, tree)?)
-}
-
 #[tactic(auto, using(crate::proofs::Capping::tall_high))]
-fn part_of(alloc: Global, operand: Operand) -> Result<Option<Part>, AllocError>
-    ensures room { IfOk result (λ o. IsSome o ↔ (height_of (form_in operand) < MAX_HEIGHT)) }
-    ensures part { IfOk result (λ o. IfSome o (λ p. form_of p.tree.value ≡ form_in operand)) }
-    ensures height { IfOk result (λ o. IfSome o (λ p. p.height ≡ height_of (form_in operand))) }
+fn part_of(operand: Operand) -> Option<Part>
+    ensures room { IsSome result ↔ (height_of (form_in operand) < MAX_HEIGHT) }
+    ensures part { IfSome result (λ p. form_of p.tree.value ≡ form_in operand) }
+    ensures height { IfSome result (λ p. p.height ≡ height_of (form_in operand)) }
 {
     match operand {
-        Operand::TooHigh => Ok(None),
+        Operand::TooHigh => None,
         Operand::Low(low) => {
             let LowTree { tree, height } = low;
-            if height >= MAX_HEIGHT {
-                return Ok(None);
+            if height < MAX_HEIGHT {
+                Some(Part { tree, height })
+            } else {
+                None
             }
-            Ok(Some(Part {
-                tree: boxed(alloc, tree)?,
-                height,
-            }))
         }
     }
 }
 
-fn both_sides(alloc: Global, left: Tree, right: Tree, height: u32) -> Result<Sides, AllocError>
-    ensures left { IfOk result (λ s. form_of s.left.value ≡ form_of left) }
-    ensures right { IfOk result (λ s. form_of s.right.value ≡ form_of right) }
-    ensures height { IfOk result (λ s. s.height ≡ height) }
-{
-    let left = boxed(alloc, left)?;
-    let right = boxed(alloc, right)?;
-    Ok(Sides {
-        left,
-        right,
-        height,
-    })
-}
-
-fn low_sides(alloc: Global, left: LowTree, right: LowTree) -> Result<Option<Sides>, AllocError>
-    ensures room { IfOk result (λ o. IsSome o ↔ (max (height_of (form_of left)) (height_of (form_of right)) < MAX_HEIGHT)) }
-    ensures left { IfOk result (λ o. IfSome o (λ s. form_of s.left.value ≡ form_of left)) }
-    ensures right { IfOk result (λ o. IfSome o (λ s. form_of s.right.value ≡ form_of right)) }
-    ensures height { IfOk result (λ o. IfSome o (λ s. s.height ≡ max (height_of (form_of left)) (height_of (form_of right)))) }
+fn low_sides(left: LowTree, right: LowTree) -> Option<Sides>
+    ensures room { IsSome result ↔ (max (height_of (form_of left)) (height_of (form_of right)) < MAX_HEIGHT) }
+    ensures left { IfSome result (λ s. form_of s.left.value ≡ form_of left) }
+    ensures right { IfSome result (λ s. form_of s.right.value ≡ form_of right) }
+    ensures height { IfSome result (λ s. s.height ≡ max (height_of (form_of left)) (height_of (form_of right))) }
 {
     let height = left.height.max(right.height);
     if height < MAX_HEIGHT {
-        Ok(Some(both_sides(alloc, left.into_tree(), right.into_tree(), height)?))
+        Some(Sides {
+            left: left.tree,
+            right: right.tree,
+            height,
+        })
     } else {
-        Ok(None)
+        None
     }
 }
 
 #[tactic(auto, using(crate::proofs::Capping::tall_high))]
-fn sides_of(alloc: Global, left: Operand, right: Operand) -> Result<Option<Sides>, AllocError>
-    ensures room { IfOk result (λ o. IsSome o ↔ (max (height_of (form_in left)) (height_of (form_in right)) < MAX_HEIGHT)) }
-    ensures left { IfOk result (λ o. IfSome o (λ s. form_of s.left.value ≡ form_in left)) }
-    ensures right { IfOk result (λ o. IfSome o (λ s. form_of s.right.value ≡ form_in right)) }
-    ensures height { IfOk result (λ o. IfSome o (λ s. s.height ≡ max (height_of (form_in left)) (height_of (form_in right)))) }
+fn sides_of(left: Operand, right: Operand) -> Option<Sides>
+    ensures room { IsSome result ↔ (max (height_of (form_in left)) (height_of (form_in right)) < MAX_HEIGHT) }
+    ensures left { IfSome result (λ s. form_of s.left.value ≡ form_in left) }
+    ensures right { IfSome result (λ s. form_of s.right.value ≡ form_in right) }
+    ensures height { IfSome result (λ s. s.height ≡ max (height_of (form_in left)) (height_of (form_in right))) }
 {
     match left {
-        Operand::TooHigh => Ok(None),
+        Operand::TooHigh => None,
         Operand::Low(left) => match right {
-            Operand::TooHigh => Ok(None),
-            Operand::Low(right) => low_sides(alloc, left, right),
+            Operand::TooHigh => None,
+            Operand::Low(right) => low_sides(left, right),
         },
     }
 }
@@ -157,29 +139,30 @@ fn infix_tree(op: Infix, interval: Interval, left: Box<Tree>, right: Box<Tree>) 
     }
 }
 
-fn low(tree: Tree, height: u32) -> Operand
+fn low(alloc: Global, tree: Tree, height: u32) -> Result<Operand, AllocError>
     requires same { height ≡ height_of (form_of tree) }
     requires within { height ≤ MAX_HEIGHT }
-    ensures { form_in result ≡ form_of tree }
+    ensures { IfOk result (λ o. form_in o ≡ form_of tree) }
 {
-    Operand::Low(LowTree { tree, height })
+    let tree = Box::new(alloc, tree)?;
+    Ok(Operand::Low(LowTree { tree, height }))
 }
 
 impl Operand {
     /// A formula without parts.
-    pub fn leaf(tree: Tree) -> Operand
+    pub fn leaf(alloc: Global, tree: Tree) -> Result<Operand, AllocError>
         requires { height_of (form_of tree) ≡ 1 }
-        ensures { form_in result ≡ form_of tree }
+        ensures ok { IfOk result (λ o. form_in o ≡ form_of tree) }
     {
-        low(tree, 1)
+        low(alloc, tree, 1)
     }
 
     /// The negation.
     pub fn negated(self, alloc: Global) -> Result<Operand, AllocError>
         ensures ok { IfOk result (λ o. form_in o ≡ capped (Not (form_in self))) }
     {
-        match part_of(alloc, self)? {
-            Some(part) => Ok(low(Tree::Not(part.tree), part.height + 1)),
+        match part_of(self) {
+            Some(part) => low(alloc, Tree::Not(part.tree), part.height + 1),
             None => Ok(Operand::TooHigh),
         }
     }
@@ -188,8 +171,8 @@ impl Operand {
     pub fn timed(self, alloc: Global, op: Prefix, interval: Interval) -> Result<Operand, AllocError>
         ensures ok { IfOk result (λ o. form_in o ≡ capped (prefix_form (prefix_in op) interval (form_in self))) }
     {
-        match part_of(alloc, self)? {
-            Some(part) => Ok(low(prefix_tree(op, interval, part.tree), part.height + 1)),
+        match part_of(self) {
+            Some(part) => low(alloc, prefix_tree(op, interval, part.tree), part.height + 1),
             None => Ok(Operand::TooHigh),
         }
     }
@@ -204,11 +187,12 @@ impl Operand {
     ) -> Result<Operand, AllocError>
         ensures ok { IfOk result (λ o. form_in o ≡ capped (infix_form (infix_in op) interval (form_in self) (form_in right))) }
     {
-        match sides_of(alloc, self, right)? {
-            Some(sides) => Ok(low(
+        match sides_of(self, right) {
+            Some(sides) => low(
+                alloc,
                 infix_tree(op, interval, sides.left, sides.right),
                 sides.height + 1,
-            )),
+            ),
             None => Ok(Operand::TooHigh),
         }
     }
@@ -217,8 +201,8 @@ impl Operand {
     pub fn and(self, alloc: Global, right: Operand) -> Result<Operand, AllocError>
         ensures ok { IfOk result (λ o. form_in o ≡ capped (And (form_in self) (form_in right))) }
     {
-        match sides_of(alloc, self, right)? {
-            Some(sides) => Ok(low(Tree::And(sides.left, sides.right), sides.height + 1)),
+        match sides_of(self, right) {
+            Some(sides) => low(alloc, Tree::And(sides.left, sides.right), sides.height + 1),
             None => Ok(Operand::TooHigh),
         }
     }
@@ -227,8 +211,8 @@ impl Operand {
     pub fn or(self, alloc: Global, right: Operand) -> Result<Operand, AllocError>
         ensures ok { IfOk result (λ o. form_in o ≡ capped (Or (form_in self) (form_in right))) }
     {
-        match sides_of(alloc, self, right)? {
-            Some(sides) => Ok(low(Tree::Or(sides.left, sides.right), sides.height + 1)),
+        match sides_of(self, right) {
+            Some(sides) => low(alloc, Tree::Or(sides.left, sides.right), sides.height + 1),
             None => Ok(Operand::TooHigh),
         }
     }
@@ -237,8 +221,12 @@ impl Operand {
     pub fn implies(self, alloc: Global, right: Operand) -> Result<Operand, AllocError>
         ensures ok { IfOk result (λ o. form_in o ≡ capped (Implies (form_in self) (form_in right))) }
     {
-        match sides_of(alloc, self, right)? {
-            Some(sides) => Ok(low(Tree::Implies(sides.left, sides.right), sides.height + 1)),
+        match sides_of(self, right) {
+            Some(sides) => low(
+                alloc,
+                Tree::Implies(sides.left, sides.right),
+                sides.height + 1,
+            ),
             None => Ok(Operand::TooHigh),
         }
     }

@@ -1,6 +1,6 @@
 ghost use Rattle.std.specs.Prelude.{◌≡◌, ◌∷◌, IfOk, IfErr, Ok, Err, Some, None, option_map, true};
 ghost use Rattle.mtl_parse.specs.Tokens.{Word};
-ghost use Rattle.mtl_parse.specs.Machine.{LeftOfAnd, LeftOfImplies, LeftOfOr, Wanted, after_word, begin, capped, closed, complete, finish, high_bound, is_sound, left_of, letter_after, read_one, refusal_behind, step_bracket, step_comma, step_dot, step_high, step_host, step_letter, step_low, step_read, step_wanted};
+ghost use Rattle.mtl_parse.specs.Machine.{LeftOfAnd, LeftOfImplies, LeftOfOr, Wanted, after_word, begin, capped, closed, complete, finish, finished, high_bound, is_sound, left_of, letter_after, read_one, refusal_behind, step_bracket, step_comma, step_dot, step_high, step_host, step_letter, step_low, step_read, step_wanted};
 ghost use Rattle.mtl_parse.specs.States.{completed_in, form_in, infix_in, letter_in, pending_in, placed_in, stack_in, state_in, token_in};
 
 use crate::FormulaFault;
@@ -74,9 +74,9 @@ fn after_word(alloc: Global, stack: Vec<Pending>, word: &[u8]) -> Result<Option<
     ensures { IfOk result (λ o. option_map state_in o ≡ after_word (stack_in stack.items) word.now) }
 {
     let stage = if word == b"true".as_slice() {
-        Stage::Read(Operand::leaf(Tree::True))
+        Stage::Read(Operand::leaf(alloc, Tree::True)?)
     } else if word == b"false".as_slice() {
-        Stage::Read(Operand::leaf(Tree::False))
+        Stage::Read(Operand::leaf(alloc, Tree::False)?)
     } else if word == b"inf".as_slice() {
         return Ok(None);
     } else {
@@ -129,9 +129,10 @@ fn step_dot(
     match token {
         Token::Word(word) => {
             let name = word_name(alloc, word)?;
+            let operand = Operand::leaf(alloc, Tree::Prop { host, name })?;
             Ok(Some(Parser {
                 stack,
-                stage: Stage::Read(Operand::leaf(Tree::Prop { host, name })),
+                stage: Stage::Read(operand),
             }))
         }
         _ => Ok(None),
@@ -326,6 +327,18 @@ fn step_read(
     }
 }
 
+// The operand, where nothing is pending before it.
+fn finished(completed: Completed) -> Option<Operand>
+    ensures { option_map form_in result ≡ finished (completed_in completed) }
+{
+    let Completed { stack, operand } = completed;
+    if stack.is_empty() {
+        Some(operand)
+    } else {
+        None
+    }
+}
+
 impl Parser {
     /// Nothing is read yet.
     pub fn new(alloc: Global) -> Parser
@@ -347,16 +360,16 @@ impl Parser {
         let Placed { token, byte } = placed;
         let next = match stage {
             Stage::Read(operand) => return step_read(alloc, stack, operand, token, byte),
-            Stage::Wanted => step_wanted(alloc, stack, token)?,
-            Stage::Host(host) => step_host(stack, host, token),
-            Stage::Dot(host) => step_dot(alloc, stack, host, token)?,
-            Stage::Letter(letter) => step_letter(alloc, stack, letter, token)?,
-            Stage::Bracket(letter) => step_bracket(stack, letter, token),
-            Stage::LowBound(letter, low) => step_low(stack, letter, low, token),
-            Stage::Comma(letter, low) => step_comma(stack, letter, low, token),
-            Stage::HighBound(letter, interval) => step_high(stack, letter, interval, token)?,
+            Stage::Wanted => step_wanted(alloc, stack, token),
+            Stage::Host(host) => Ok(step_host(stack, host, token)),
+            Stage::Dot(host) => step_dot(alloc, stack, host, token),
+            Stage::Letter(letter) => step_letter(alloc, stack, letter, token),
+            Stage::Bracket(letter) => Ok(step_bracket(stack, letter, token)),
+            Stage::LowBound(letter, low) => Ok(step_low(stack, letter, low, token)),
+            Stage::Comma(letter, low) => Ok(step_comma(stack, letter, low, token)),
+            Stage::HighBound(letter, interval) => step_high(stack, letter, interval, token),
         };
-        match next {
+        match next? {
             Some(parser) => Ok(parser),
             None => Err(FormulaFault::Expected { byte }),
         }
@@ -368,14 +381,7 @@ impl Parser {
     {
         let Parser { stack, stage } = self;
         match stage {
-            Stage::Read(operand) => {
-                let Completed { stack, operand } = complete(alloc, 1, stack, operand)?;
-                if stack.is_empty() {
-                    Ok(Some(operand))
-                } else {
-                    Ok(None)
-                }
-            }
+            Stage::Read(operand) => Ok(finished(complete(alloc, 1, stack, operand)?)),
             _ => Ok(None),
         }
     }

@@ -1,7 +1,7 @@
 //! The lines that say what follows them.
 
 /// The first line of a section.
-#[derive(Clone, Copy, Debug)]
+#[derive(Clone, Copy)]
 pub enum Kind {
     Witness,
     /// With the number of its lines.
@@ -11,7 +11,7 @@ pub enum Kind {
 }
 
 /// The first line after the number of events.
-#[derive(Clone, Copy, Debug)]
+#[derive(Clone, Copy)]
 pub enum Opening {
     /// With the number of steps.
     Inconsistent(u32),

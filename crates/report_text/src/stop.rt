@@ -1,7 +1,7 @@
 use std::alloc::AllocError;
 
 /// Why reading stopped.
-#[derive(Clone, Copy, Debug)]
+#[derive(Clone, Copy)]
 pub enum Stop {
     /// No report goes on with the line that comes next; so many bytes are left from there on.
     Syntax { left: usize },
