@@ -34,11 +34,11 @@ table-more incoming node numbers now new within up latest set = record {
   nodes = set.nodes ∙ up.nodes;
   columns = below_more (IsColumnOf incoming new) node
       (λ c below.
-        let column = up.columns c below in
-        record {
-          numbers = column.numbers;
-          latest = column.latest;
-          entries = λ i in-i. set.others i c (rw set.nodes at in-i) (rw up.nodes (omega arith)) (λ same. omega arith) ∙ column.entries i (rw set.nodes at in-i);
-        })
+      let column = up.columns c below in
+      record {
+        numbers = column.numbers;
+        latest = column.latest;
+        entries = λ i in-i. set.others i c (rw set.nodes at in-i) (rw up.nodes (omega arith)) (λ same. omega arith) ∙ column.entries i (rw set.nodes at in-i);
+      })
       (record { numbers = numbers; latest = latest; entries = λ i in-i. set.column i (rw set.nodes at in-i) });
 }

@@ -67,5 +67,5 @@ returns c =
     let none : heap_items c.loop-next.waiting ≡ [] = grind (arith, common_steps, c.in_default.ensures) in
     record {
       latest = reached-last (lists_of incoming) c.args.potential.now c.args.node c.requires.network c.requires.potential (rw (lists-count incoming) c.requires.node) c.loop-next.numbers.items
-      (rw none at c.loop-next.invariant);
+          (rw none at c.loop-next.invariant);
     }
