@@ -1,11 +1,10 @@
 -- A table of differences that gets its columns one by one, each entry by entry.
-use Rattle.std.proofs.Common.{◌≡◌, ◌≢◌, ◌∙◌, ℕ, ◌+◌, ◌<◌, ◌≤◌, inl, inr, arith, below_more, List, length, ℤ}
-use Rattle.std.proofs.lemmas.Bool.{cases_eq}
+use Rattle.std.proofs.Common.{◌≡◌, ◌≢◌, ◌∙◌, ℕ, ◌+◌, ◌<◌, arith, below_more, List, length, ℤ}
 use Rattle.neg_cycle.specs.declared.system.Edge.{Edge}
 use Rattle.neg_cycle.specs.Systems.{number_of}
 use Rattle.skew_bounds.specs.Differences.{Differences, IsColumnSet, IsSet, entry}
 use Rattle.skew_bounds.specs.Incoming.{IsLatest}
-use Rattle.skew_bounds.specs.Table.{IsColumnOf, IsTableOf}
+use Rattle.skew_bounds.specs.Table.{IsColumnOf}
 
 -- the first entries of a column are these numbers, and other columns are as before
 pub record IsColumnSetUpTo (old : Differences) (node : ℕ) (numbers : List ℤ) (count : ℕ) (new : Differences) : Type 0 where

@@ -1,6 +1,5 @@
 -- What the lowering of numbers does to a search: for one edge, and for one more.
-use Rattle.std.proofs.Common.{◌≡◌, ◌≢◌, ◌∙◌, refl, sym, ℕ, zero, suc, ◌+◌, ◌*◌, ◌^◌, ◌<◌, ◌≤◌, ◌⊎◌, inl, inr, ⊎_elim, arith, List, [], ◌∷◌, ◌++◌, length, length-append, length-set, set, get_or-set_other, All, ℤ, pos, negsuc, ◌+ℤ◌, ◌-ℤ◌, ◌≤ℤ◌, ◌<ℤ◌, get_or}
-use Rattle.std.specs.Prelude.{Contains, sum_by}
+use Rattle.std.proofs.Common.{◌≡◌, ◌≢◌, ◌∙◌, refl, ℕ, ◌^◌, ◌<◌, ◌≤◌, inl, inr, arith, List, [], ◌∷◌, ◌++◌, length, length-set, set, get_or-set_other, All, ℤ, pos, negsuc, ◌+ℤ◌, ◌≤ℤ◌, ◌<ℤ◌, get_or}
 use Rattle.std.specs.List.Sorted.{IsPermutation}
 use Rattle.std.proofs.lemmas.Bool.{cases_eq}
 use Rattle.std.proofs.lemmas.Grind.{get_or-set_at}
@@ -16,7 +15,7 @@ use Rattle.mt_model.specs.declared.limits.TheConstants.{MAX_TIME}
 use Rattle.skew_bounds.specs.declared.latest.TheConstants.{UNREACHED}
 use Rattle.skew_bounds.specs.declared.lowering.Waiting.{Waiting}
 use Rattle.skew_bounds.specs.declared.matrix.TheConstants.{FAR}
-use Rattle.skew_bounds.specs.Lowering.{AreNodes, IsFloor, IsLowered, IsSearch, entry_of, height, work}
+use Rattle.skew_bounds.specs.Lowering.{IsFloor, IsLowered, IsSearch, entry_of, height, work}
 
 height-falls : (x y : ℤ) → y <ℤ x → pos 0 ≤ℤ (y +ℤ pos (2 ^ 70)) → height y < height x
 height-falls (pos a) (pos b) less low = omega (arith, ints)

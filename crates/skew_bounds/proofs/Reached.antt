@@ -1,6 +1,6 @@
 -- A search for the greatest numbers that meet edges: how it begins, goes on from a node that waited, and ends.
 use Rattle.std.proofs.Common.{◌≡◌, ◌≢◌, ◌∙◌, sym, ap, ℕ, ◌<◌, ◌⊎◌, inl, inr, arith, List, [], ◌∷◌, length, All, ℤ, pos, ◌+ℤ◌, ◌-ℤ◌, ◌≤ℤ◌, refl}
-use Rattle.std.specs.Prelude.{Contains, IsPermutation, slice_index_or}
+use Rattle.std.specs.Prelude.{IsPermutation, slice_index_or}
 use Rattle.std.proofs.lemmas.Bool.{cases_eq}
 use Rattle.std.proofs.lemmas.Int.{ints}
 use Rattle.std.proofs.lemmas.List.Elements.{All-cons, All-head, All-nil, All-tail, Contains-get_or}
@@ -8,9 +8,9 @@ use Rattle.std.proofs.lemmas.List.Sorted.{All-permutation, Contains-permutation}
 use Rattle.mt_model.specs.Log.{IsWithin}
 use Rattle.mt_model.specs.declared.limits.TheConstants.{MAX_TIME}
 use Rattle.neg_cycle.specs.declared.system.Edge.{Edge}
-use Rattle.neg_cycle.specs.Systems.{Meets, edge_at, number_of}
+use Rattle.neg_cycle.specs.Systems.{Meets, number_of}
 use Rattle.skew_bounds.specs.Beginning.{IsBeginning}
-use Rattle.skew_bounds.specs.Incoming.{IsLatest, IsNear, IsNetwork, IsSolution, ending_at}
+use Rattle.skew_bounds.specs.Incoming.{IsLatest, IsNear, IsNetwork, ending_at}
 use Rattle.skew_bounds.specs.Lowering.{AreNodes, IsFloor, IsLowered, IsSearch, Waits, ahead_of, entry_of}
 use Rattle.skew_bounds.specs.declared.latest.TheConstants.{UNREACHED}
 use Rattle.skew_bounds.specs.declared.lowering.Waiting.{Waiting}
