@@ -1,11 +1,10 @@
 -- A table of differences that gets its columns one by one, each entry by entry.
-use Rattle.std.proofs.Common.{◌≡◌, ◌≢◌, ◌∙◌, ℕ, ◌+◌, ◌<◌, ◌≤◌, inl, inr, arith, below_more, List, length, ℤ}
-use Rattle.std.proofs.lemmas.Bool.{cases_eq}
+use Rattle.std.proofs.Common.{◌≡◌, ◌≢◌, ◌∙◌, ℕ, ◌+◌, ◌<◌, arith, below_more, List, length, ℤ}
 use Rattle.neg_cycle.specs.declared.system.Edge.{Edge}
 use Rattle.neg_cycle.specs.Systems.{number_of}
 use Rattle.skew_bounds.specs.Differences.{Differences, IsColumnSet, IsSet, entry}
 use Rattle.skew_bounds.specs.Incoming.{IsLatest}
-use Rattle.skew_bounds.specs.Table.{IsColumnOf, IsTableOf}
+use Rattle.skew_bounds.specs.Table.{IsColumnOf}
 
 -- the first entries of a column are these numbers, and other columns are as before
 pub record IsColumnSetUpTo (old : Differences) (node : ℕ) (numbers : List ℤ) (count : ℕ) (new : Differences) : Type 0 where
@@ -34,11 +33,11 @@ table-more incoming node numbers now new within up latest set = record {
   nodes = set.nodes ∙ up.nodes;
   columns = below_more (IsColumnOf incoming new) node
       (λ c below.
-        let column = up.columns c below in
-        record {
-          numbers = column.numbers;
-          latest = column.latest;
-          entries = λ i in-i. set.others i c (rw set.nodes at in-i) (rw up.nodes (omega arith)) (λ same. omega arith) ∙ column.entries i (rw set.nodes at in-i);
-        })
+      let column = up.columns c below in
+      record {
+        numbers = column.numbers;
+        latest = column.latest;
+        entries = λ i in-i. set.others i c (rw set.nodes at in-i) (rw up.nodes (omega arith)) (λ same. omega arith) ∙ column.entries i (rw set.nodes at in-i);
+      })
       (record { numbers = numbers; latest = latest; entries = λ i in-i. set.column i (rw set.nodes at in-i) });
 }

@@ -1,39 +1,21 @@
 -- What the lowering of numbers does to a search: for one edge, and for one more.
-use Rattle.std.proofs.Common.{◌≡◌, ◌≢◌, ◌∙◌, refl, sym, ℕ, zero, suc, ◌+◌, ◌*◌, ◌^◌, ◌<◌, ◌≤◌, ◌⊎◌, inl, inr, ⊎_elim, arith, List, [], ◌∷◌, ◌++◌, length, length-append, length-set, set, get_or-set_other, All, ℤ, pos, negsuc, ◌+ℤ◌, ◌-ℤ◌, ◌≤ℤ◌, ◌<ℤ◌, get_or}
-use Rattle.std.specs.Prelude.{Contains, sum_by}
+use Rattle.std.proofs.Common.{◌≡◌, ◌≢◌, ◌∙◌, refl, ℕ, ◌^◌, ◌<◌, ◌≤◌, inl, inr, arith, List, [], ◌∷◌, ◌++◌, length, length-set, set, get_or-set_other, All, ℤ, pos, negsuc, ◌+ℤ◌, ◌≤ℤ◌, ◌<ℤ◌, get_or}
 use Rattle.std.specs.List.Sorted.{IsPermutation}
 use Rattle.std.proofs.lemmas.Bool.{cases_eq}
 use Rattle.std.proofs.lemmas.Grind.{get_or-set_at}
 use Rattle.std.proofs.lemmas.Int.{ints}
-use Rattle.std.proofs.lemmas.List.{get_or_append_left}
-use Rattle.std.proofs.lemmas.List.Elements.{All-nil, All-cons, All-head, All-tail, All-get_or, All-push}
+use Rattle.std.proofs.lemmas.List.Elements.{All-nil, All-cons, All-head, All-push, Contains-append_right, Contains-get_or}
 use Rattle.std.proofs.lemmas.List.Sorted.{All-permutation, Contains-permutation, length_permutation}
 use Rattle.std.proofs.lemmas.List.Sums.{sum_by-set}
 use Rattle.neg_cycle.specs.declared.system.Edge.{Edge}
 use Rattle.neg_cycle.specs.Systems.{IsEdge, Meets, number_of}
+use Rattle.mt_model.proofs.BoundLists.{All-back, All-front}
 use Rattle.mt_model.specs.Log.{IsWithin}
 use Rattle.mt_model.specs.declared.limits.TheConstants.{MAX_TIME}
 use Rattle.skew_bounds.specs.declared.latest.TheConstants.{UNREACHED}
 use Rattle.skew_bounds.specs.declared.lowering.Waiting.{Waiting}
 use Rattle.skew_bounds.specs.declared.matrix.TheConstants.{FAR}
-use Rattle.skew_bounds.specs.Lowering.{AreNodes, IsFloor, IsLowered, IsSearch, entry_of, height, work}
-
-All-front : {X : Type 0} (P : X → Type 0) (xs ys : List X) → All P (xs ++ ys) → All P xs
-All-front P xs ys all k d within = rw (get_or_append_left xs ys d k within) at (all k d (simp length-append (omega arith)))
-
-All-last : {X : Type 0} (P : X → Type 0) (xs : List X) (y : X) → All P (xs ++ y ∷ []) → P y
-All-last P [] y all = All-head P y [] all
-All-last P (x ∷ xs) y all = All-last P xs y (λ k d within. all (suc k) d (omega arith))
-
-pub Contains-cons : {X : Type 0} (x : X) (xs : List X) (y : X) → Contains (x ∷ xs) y → (x ≡ y) ⊎ Contains xs y
-Contains-cons x xs y (zero, within, is) = inl is
-Contains-cons x xs y (suc k, within, is) = inr (k, omega arith, is)
-
-pub Contains-first : {X : Type 0} (x : X) (xs : List X) → Contains (x ∷ xs) x
-Contains-first x xs = (0, omega arith, refl)
-
-pub Contains-rest : {X : Type 0} (x : X) (xs : List X) (y : X) → Contains xs y → Contains (x ∷ xs) y
-Contains-rest x xs y (k, within, is) = (suc k, omega arith, is)
+use Rattle.skew_bounds.specs.Lowering.{IsFloor, IsLowered, IsSearch, entry_of, height, work}
 
 height-falls : (x y : ℤ) → y <ℤ x → pos 0 ≤ℤ (y +ℤ pos (2 ^ 70)) → height y < height x
 height-falls (pos a) (pos b) less low = omega (arith, ints)
@@ -130,10 +112,10 @@ module _ (potential numbers : List ℤ) (waiting : List Waiting) (edge : Edge) (
         lower = falls;
         above = λ z a all floor. floor-kept z a (All-head (Meets z) edge [] all) floor;
         waits = λ v. elim (cases_eq v edge.from) [
-          | inl same ↦ inr (rw (same, here) (Contains-permutation _ after _ pushed (Contains-first _ waiting)))
+          | inl same ↦ inr (rw (same, here) (Contains-permutation _ after _ pushed (Contains-get_or (entry_of potential edge.from y ∷ waiting) 0 (entry_of potential edge.from y) (omega arith))))
           | inr differs ↦ inl (other v differs)
         ];
-        kept = λ w contains. Contains-permutation _ after w pushed (Contains-rest _ waiting w contains);
+        kept = λ w contains. Contains-permutation _ after w pushed (Contains-append_right (entry_of potential edge.from y ∷ []) waiting w contains);
         nodes = λ all. All-permutation (λ w. w.node < length potential) _ after pushed (All-cons (λ w. w.node < length potential) _ waiting is.from all);
         less = less-work;
       }
@@ -159,11 +141,11 @@ module _ (potential : List ℤ) (node : ℕ) where
     count = second.count ∙ first.count;
     met = All-push (Meets new) edges edge
         (λ k d within.
-          let meets = first.met k d within in
-          let end = ends k d within in
-          let from = second.lower ((get_or edges k d).from) in
-          let own = second.own in
-          rw (end, own) (omega (arith, ints, rw end at meets, from)))
+        let meets = first.met k d within in
+        let end = ends k d within in
+        let from = second.lower ((get_or edges k d).from) in
+        let own = second.own in
+        rw (end, own) (omega (arith, ints, rw end at meets, from)))
         (All-head (Meets new) edge [] second.met);
     own = second.own ∙ first.own;
     lower = λ v.
@@ -171,13 +153,13 @@ module _ (potential : List ℤ) (node : ℕ) where
         let late = second.lower v in
         omega (arith, ints, early, late);
     above = λ y a all floor.
-        second.above y a (All-cons (Meets y) edge [] (All-last (Meets y) edges edge all) (All-nil (Meets y))) (first.above y a (All-front (Meets y) edges (edge ∷ []) all) floor);
+        second.above y a (All-back (Meets y) edges (edge ∷ []) all) (first.above y a (All-front (Meets y) edges (edge ∷ []) all) floor);
     waits = λ v. elim (second.waits v) [
       | inr waits ↦ inr waits
       | inl same ↦ elim (first.waits v) [
-          | inl as-before ↦ inl (same ∙ as-before)
-          | inr waits ↦ inr (rw same (second.kept _ waits))
-        ]
+        | inl as-before ↦ inl (same ∙ as-before)
+        | inr waits ↦ inr (rw same (second.kept _ waits))
+      ]
     ];
     kept = λ w contains. second.kept w (first.kept w contains);
     nodes = λ all. second.nodes (first.nodes all);

@@ -1,20 +1,20 @@
 -- A search for the greatest numbers that meet edges: how it begins, goes on from a node that waited, and ends.
 use Rattle.std.proofs.Common.{◌≡◌, ◌≢◌, ◌∙◌, sym, ap, ℕ, ◌<◌, ◌⊎◌, inl, inr, arith, List, [], ◌∷◌, length, All, ℤ, pos, ◌+ℤ◌, ◌-ℤ◌, ◌≤ℤ◌, refl}
-use Rattle.std.specs.Prelude.{Contains, IsPermutation, slice_index_or}
+use Rattle.std.specs.Prelude.{IsPermutation, slice_index_or}
 use Rattle.std.proofs.lemmas.Bool.{cases_eq}
 use Rattle.std.proofs.lemmas.Int.{ints}
-use Rattle.std.proofs.lemmas.List.Elements.{All-cons, All-head, All-nil, All-tail}
+use Rattle.std.proofs.lemmas.List.Elements.{All-cons, All-head, All-nil, All-tail, Contains-get_or}
 use Rattle.std.proofs.lemmas.List.Sorted.{All-permutation, Contains-permutation}
 use Rattle.mt_model.specs.Log.{IsWithin}
 use Rattle.mt_model.specs.declared.limits.TheConstants.{MAX_TIME}
 use Rattle.neg_cycle.specs.declared.system.Edge.{Edge}
-use Rattle.neg_cycle.specs.Systems.{Meets, edge_at, number_of}
+use Rattle.neg_cycle.specs.Systems.{Meets, number_of}
 use Rattle.skew_bounds.specs.Beginning.{IsBeginning}
-use Rattle.skew_bounds.specs.Incoming.{IsLatest, IsNear, IsNetwork, IsSolution, ending_at}
+use Rattle.skew_bounds.specs.Incoming.{IsLatest, IsNear, IsNetwork, ending_at}
 use Rattle.skew_bounds.specs.Lowering.{AreNodes, IsFloor, IsLowered, IsSearch, Waits, ahead_of, entry_of}
 use Rattle.skew_bounds.specs.declared.latest.TheConstants.{UNREACHED}
 use Rattle.skew_bounds.specs.declared.lowering.Waiting.{Waiting}
-use Rattle.skew_bounds.proofs.Falls.{Contains-cons, Contains-first}
+use Rattle.std.proofs.lemmas.Map.Made.{Contains-tail}
 
 -- the edges that end at a node are met, or it waits
 abbrev pub IsSettled : List (List Edge) → List ℤ → List ℤ → List Waiting → ℕ → Type 0
@@ -91,7 +91,7 @@ module _ (incoming : List (List Edge)) (potential : List ℤ) (node : ℕ) (netw
       own = begins.own;
       greatest = begin-floor;
       settled = λ v below. elim (cases_eq v node) [
-        | inl same ↦ inr (rw (same, begins.own) (Contains-permutation _ waiting _ first (Contains-first _ [])))
+        | inl same ↦ inr (rw (same, begins.own) (Contains-permutation _ waiting _ first (Contains-get_or (entry_of potential node (pos 0) ∷ []) 0 (entry_of potential node (pos 0)) (omega arith))))
         | inr apart ↦ inl (begin-met v below apart)
       ];
     }
@@ -105,10 +105,7 @@ module _ (incoming : List (List Edge)) (potential : List ℤ) (node : ℕ) (netw
 
     -- what waits and is not the one that came out still waits
     still-waits : (v : ℕ) → (next ≡ entry_of potential v (number_of numbers v) → ⊥) → Waits potential numbers waiting v → Waits potential numbers rest v
-    still-waits v differs waits = elim (Contains-cons next rest _ (Contains-permutation waiting _ _ popped waits)) [
-      | inl same ↦ absurd (differs same)
-      | inr later ↦ later
-    ]
+    still-waits v differs waits = Contains-tail next rest _ differs (Contains-permutation waiting _ _ popped waits)
 
     -- it came out with a number that the node no longer has
     pub reached-stale : next.ahead ≢ ahead_of potential numbers next.node → IsReached incoming potential node numbers rest
@@ -135,13 +132,13 @@ module _ (incoming : List (List Edge)) (potential : List ℤ) (node : ℕ) (netw
       settled-elsewhere v below apart settled = elim (lowered.waits v) [
         | inr waits ↦ inr waits
         | inl same ↦ elim settled [
-            | inl met ↦ inl (λ k d place.
-                let meets = met k d place in
-                let end = network.ends v below k d place in
-                let from = lowered.lower ((slice_index_or (ending_at incoming v) k d).from) in
-                rw (end, same) (omega (arith, ints, rw end at meets, from)))
-            | inr waits ↦ inr (rw same (lowered.kept _ (still-waits v (λ is. apart (sym (ap (λ w. w.node) is))) waits)))
-          ]
+          | inl met ↦ inl (λ k d place.
+              let meets = met k d place in
+              let end = network.ends v below k d place in
+              let from = lowered.lower ((slice_index_or (ending_at incoming v) k d).from) in
+              rw (end, same) (omega (arith, ints, rw end at meets, from)))
+          | inr waits ↦ inr (rw same (lowered.kept _ (still-waits v (λ is. apart (sym (ap (λ w. w.node) is))) waits)))
+        ]
       ]
 
       pub reached-more : IsReached incoming potential node new after

@@ -1,5 +1,5 @@
 -- The table of the greatest numbers that meet the edges of a log's bounds is exact for the rows of the log.
-use Rattle.std.proofs.Common.{◌≡◌, ◌∙◌, sym, refl, arith, ℕ, zero, suc, ◌+◌, ◌<◌, add-one, List, [], ◌∷◌, length, map, Some, All, ℤ, pos, ◌+ℤ◌, ◌-ℤ◌, ◌≤ℤ◌}
+use Rattle.std.proofs.Common.{◌≡◌, ◌∙◌, refl, arith, ℕ, zero, suc, ◌+◌, ◌<◌, add-one, List, [], ◌∷◌, length, Some, All, ℤ, pos, ◌-ℤ◌}
 use Rattle.std.specs.Prelude.{IfSome}
 use Rattle.std.proofs.lemmas.Int.{ints}
 use Rattle.std.proofs.lemmas.List.Elements.{All-nil, All-cons, All-head, All-tail}
@@ -11,14 +11,13 @@ use Rattle.mt_model.specs.Timing.{Admissible}
 use Rattle.mt_model.specs.Walks.{Meets, edge_of, node_time}
 use Rattle.neg_cycle.specs.declared.system.Edge.{Edge as SystemEdge}
 use Rattle.neg_cycle.specs.Systems as system
-use Rattle.skew_bounds.specs.declared.matrix.TheConstants.{FAR}
 use Rattle.skew_bounds.specs.Differences.{AreSmall, Differences, IsOfRows, entry}
 use Rattle.skew_bounds.specs.Edges.{AreEdges, edge_in}
-use Rattle.skew_bounds.specs.Incoming.{AreIncoming, IsLatest, IsNear, IsNetwork}
+use Rattle.skew_bounds.specs.Incoming.{AreIncoming, IsNear}
 use Rattle.skew_bounds.specs.RowTimes.{times_of}
 use Rattle.skew_bounds.specs.Table.{IsColumnOf, IsTableOf}
 use Rattle.skew_bounds.specs.Tight.{IsGreatestDifference, IsLeastDifference, IsTight, greatest_of, least_of}
-use Rattle.skew_bounds.proofs.EdgeLists.{all-edges, all-incoming, network-of}
+use Rattle.skew_bounds.proofs.EdgeLists.{all-edges, all-incoming}
 use Rattle.skew_bounds.proofs.Near.{admissible-near, times-near}
 use Rattle.skew_bounds.proofs.Settled.{node-times, tail-same, timing-of}
 

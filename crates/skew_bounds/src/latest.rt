@@ -12,7 +12,7 @@ use neg_cycle::Edge;
 use std::alloc::{AllocError, Global};
 use std::collections::BinaryHeap;
 
-/// More than one solution within the limit of times can be above another where both give some node 0.
+/// At least what one solution within the limit of times can be above another where both give one node 0.
 pub const UNREACHED: i128 = 2 * FAR;
 
 fn raised(number: i128, own: i128) -> i128
@@ -47,8 +47,11 @@ fn beginning(alloc: Global, potential: &[i128], node: u32) -> Result<Vec<i128>, 
     Ok(numbers)
 }
 
-/// The greatest numbers that meet the edges and give a node 0 (Dijkstra, A note on two problems in
-/// connexion with graphs, 1959), where these edges end at each node in turn, and these numbers meet them.
+/// Of the numbers that meet all edges and give a node 0, the greatest (Dijkstra, A note on two problems in
+/// connexion with graphs, 1959), in the unit of the bounds.
+///
+/// `incoming` has for each node the edges that end there. `potential` meets them all, and says from which
+/// node to go on: only the time depends on it. An error is want of memory.
 pub fn latest(
     alloc: Global,
     incoming: &[Vec<Edge>],

@@ -1,10 +1,10 @@
 //! Numbers of nodes that are lowered until they meet edges (Bellman 1958, Ford 1956).
 
-ghost use Rattle.std.specs.Prelude.{◌≡◌, ◌<◌, ◌∷◌, [], length, slice_set, All, OnOk, ◌+ℤ◌, ◌-ℤ◌, IsPermutation};
+ghost use Rattle.std.specs.Prelude.{◌≡◌, ◌<◌, ◌∷◌, [], length, slice_set, All, IfNone, IfSome, OnOk, ◌+ℤ◌, ◌-ℤ◌, ◌<ℤ◌, IsPermutation};
 ghost use Rattle.std.specs.BinaryHeap.{heap_items};
 ghost use Rattle.mt_model.specs.Log.{IsWithin};
 ghost use Rattle.mt_model.specs.declared.limits.TheConstants.{MAX_TIME};
-ghost use Rattle.neg_cycle.specs.Systems.{IsEdge, IsWithin as IsBoundWithin, Meets};
+ghost use Rattle.neg_cycle.specs.Systems.{IsEdge, IsWithin as IsBoundWithin, Meets, number_of};
 ghost use Rattle.neg_cycle.specs.declared.system.TheConstants.{MAX_BOUND};
 ghost use Rattle.skew_bounds.specs.Lowering.{IsLowered, IsSearch, ahead_of, entry_of};
 ghost use Rattle.skew_bounds.specs.declared.latest.TheConstants.{UNREACHED};
@@ -85,7 +85,23 @@ fn sum(number: i128, bound: i128) -> i128
     number + bound
 }
 
-// Lowers the number where an edge begins to what meets the edge, where it is above that.
+// The number that meets an edge where it begins, if the number there is above that.
+fn unmet(potential: &[i128], numbers: &[i128], edge: Edge) -> Option<i128>
+    requires search { IsSearch potential.now numbers.now }
+    requires edge { IsEdge (length potential.now) edge }
+    ensures number { IfSome result (λ y. y ≡ number_of numbers.now edge.to +ℤ edge.bound) }
+    ensures above { IfSome result (λ y. y <ℤ number_of numbers.now edge.from) }
+    ensures met { IfNone result (Meets numbers.now edge) }
+{
+    let number = sum(numbers[edge.to as usize], edge.bound);
+    if number < numbers[edge.from as usize] {
+        Some(number)
+    } else {
+        None
+    }
+}
+
+// Lowers the number where an edge begins to what meets the edge, if it is above that.
 fn relax(
     edge: Edge,
     potential: &[i128],
@@ -98,8 +114,7 @@ fn relax(
     ensures search { OnOk result (IsSearch potential.now numbers.new) }
     ensures lowered { OnOk result (IsLowered potential.now edge.to (edge ∷ []) numbers.old (heap_items waiting.old) numbers.new (heap_items waiting.new)) }
 {
-    let number = sum(numbers[edge.to as usize], edge.bound);
-    if number < numbers[edge.from as usize] {
+    if let Some(number) = unmet(potential, numbers, edge) {
         lower(potential, edge.from, number, numbers, waiting)?;
     }
     Ok(())

@@ -28,11 +28,7 @@ fn set_column(table: &mut Matrix, node: usize, numbers: &[i128])
 }
 
 // The table of nodes at which these edges end, where these numbers meet the edges.
-fn table_by(
-    alloc: Global,
-    incoming: &[Vec<Edge>],
-    potential: &[i128],
-) -> Result<Matrix, AllocError>
+fn table_by(alloc: Global, incoming: &[Vec<Edge>], potential: &[i128]) -> Result<Matrix, AllocError>
     requires square { length incoming.now * length incoming.now < 2 ^ 64 }
     requires network { IsNetwork (lists_of incoming.now) }
     requires potential { IsNear (lists_of incoming.now) potential.now }

@@ -1,9 +1,9 @@
-use Rattle.std.proofs.Common.{◌≡◌, ◌<◌, ◌≢◌, ◌∙◌, ap, sym, arith, List, [], ◌∷◌, ◌++◌, length, take, drop, heap_items, rules, of_z, pos}
+use Rattle.std.proofs.Common.{◌≡◌, ◌<◌, ◌≢◌, ◌∙◌, ap, sym, arith, [], ◌∷◌, ◌++◌, length, take, drop, heap_items, of_z, pos}
 use Rattle.std.specs.Int.{w128}
 use Rattle.std.specs.List.Sorted.{IsPermutation}
 use Rattle.std.proofs.lemmas.Grind.{common_steps}
-use Rattle.skew_bounds.specs.Incoming.{ending_at, lists_of}
-use Rattle.skew_bounds.specs.Lowering.{IsLowered, ahead_of, entry_of}
+use Rattle.skew_bounds.specs.Incoming.{lists_of}
+use Rattle.skew_bounds.specs.Lowering.{ahead_of, entry_of}
 use Rattle.skew_bounds.proofs.EdgeLists.{list-at, lists-count}
 use Rattle.skew_bounds.proofs.Reached.{next-within, reached-first, reached-last, reached-more, reached-stale}
 use Rattle.skew_bounds.proofs.latest.latest.Goals as goal
@@ -67,5 +67,5 @@ returns c =
     let none : heap_items c.loop-next.waiting ≡ [] = grind (arith, common_steps, c.in_default.ensures) in
     record {
       latest = reached-last (lists_of incoming) c.args.potential.now c.args.node c.requires.network c.requires.potential (rw (lists-count incoming) c.requires.node) c.loop-next.numbers.items
-      (rw none at c.loop-next.invariant);
+          (rw none at c.loop-next.invariant);
     }

@@ -3,7 +3,6 @@ use Rattle.std.specs.BinaryHeap.{heap_items}
 use Rattle.std.proofs.lemmas.List.{take_more}
 use Rattle.std.proofs.lemmas.List.Elements.{All-take}
 use Rattle.neg_cycle.specs.Systems.{edge_at}
-use Rattle.skew_bounds.specs.Lowering.{IsLowered}
 use Rattle.skew_bounds.proofs.Falls.{lowered-more}
 use Rattle.skew_bounds.proofs.lowering.lower_before.Goals as goal
 

@@ -1,7 +1,7 @@
-use Rattle.std.proofs.Common.{◌≡◌, ◌∷◌, ◌+◌, length, pos}
+use Rattle.std.proofs.Common.{◌+◌, length}
 use Rattle.std.proofs.lemmas.Result.{IfOk-weaker}
 use Rattle.skew_bounds.specs.Differences.{IsOfRows}
-use Rattle.skew_bounds.specs.Incoming.{AreIncoming, lists_of}
+use Rattle.skew_bounds.specs.Incoming.{lists_of}
 use Rattle.skew_bounds.specs.Table.{IsTableOf}
 use Rattle.skew_bounds.specs.Tight.{IsTight}
 use Rattle.skew_bounds.proofs.BoundCounts.{all-have}
