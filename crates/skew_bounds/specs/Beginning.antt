@@ -3,7 +3,7 @@ use Rattle.std.specs.Prelude.{◌≡◌, ◌≢◌, ℕ, ◌<◌, List, length, 
 use Rattle.neg_cycle.specs.Systems.{number_of}
 use Rattle.skew_bounds.specs.declared.latest.TheConstants.{UNREACHED}
 
--- 0 for a node, and each other number as far above it as in a potential, and then unreached
+-- a node has 0, and each other one what a potential has it above that node, moved up to be unreached
 pub record IsBeginning (potential : List ℤ) (node : ℕ) (numbers : List ℤ) : Type 0 where
   pub count : length numbers ≡ length potential
   pub own : number_of numbers node ≡ pos 0

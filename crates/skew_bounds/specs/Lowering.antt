@@ -28,7 +28,8 @@ AreNodes count waiting = All (λ w. w.node < count) waiting
 abbrev pub IsFloor : List ℤ → ℤ → List ℤ → Type 0
 IsFloor y a numbers = (v : ℕ) → v < length numbers → (number_of y v -ℤ a) ≤ℤ number_of numbers v
 
--- as many numbers as a potential has, which are times; none is far below its own, nor far above the unreached
+-- as many numbers as a potential has, whose own are as near to 0 as times; none is far below the potential's, nor above
+-- where it was unreached
 pub record IsSearch (potential numbers : List ℤ) : Type 0 where
   pub count : length numbers ≡ length potential
   pub near : All (IsWithin MAX_TIME) potential
@@ -46,8 +47,8 @@ height (negsuc n) = 2 ^ 70 - (n + 1)
 abbrev pub work : List ℤ → List Waiting → ℕ
 work numbers waiting = 2 * sum_by height numbers + length waiting
 
--- the numbers meet these edges, all of which end at one node, which keeps its number; none rose or fell below a solution
--- of the edges, each node that fell waits, and those that waited still do
+-- the numbers meet these edges, and the node keeps its number; none rose, or fell below a solution of the edges; each
+-- node that fell waits, and those that waited still do; there is no more to do than before
 pub record IsLowered (potential : List ℤ) (node : ℕ) (edges : List Edge) (old : List ℤ) (before : List Waiting) (new : List ℤ) (after : List Waiting) : Type 0 where
   pub count : length new ≡ length old
   pub met : All (Meets new) edges

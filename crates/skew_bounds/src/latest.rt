@@ -23,7 +23,7 @@ fn raised(number: i128, own: i128) -> i128
     number - own + UNREACHED
 }
 
-// Numbers as far above one as they are, and then unreached.
+// How far each number is above one, moved up to be unreached.
 fn all_raised(alloc: Global, own: i128, numbers: &[i128]) -> Result<Vec<i128>, AllocError>
     requires own { IsWithin MAX_TIME own }
     requires numbers { All (IsWithin MAX_TIME) numbers.now }
@@ -36,7 +36,7 @@ fn all_raised(alloc: Global, own: i128, numbers: &[i128]) -> Result<Vec<i128>, A
     Ok(all)
 }
 
-// 0 for a node, and each other number as far above it as in a potential, and then unreached.
+// 0 for a node, and for each other one how far a potential has it above that node, moved up to be unreached.
 fn beginning(alloc: Global, potential: &[i128], node: u32) -> Result<Vec<i128>, AllocError>
     requires near { All (IsWithin MAX_TIME) potential.now }
     requires node { node < length potential.now }

@@ -14,7 +14,7 @@ use neg_cycle::Edge;
 use std::alloc::AllocError;
 use std::collections::BinaryHeap;
 
-/// A node whose number was lowered, and how far it then was below the node's number in a potential.
+/// A node whose number was lowered, and how far below the node's number in a potential it was then.
 ///
 /// The furthest ahead is the nearest by the slacks that the potential leaves the edges, none of which
 /// is below 0 (Johnson, Efficient algorithms for shortest paths in sparse networks, 1977).
