@@ -70,7 +70,8 @@ pub shape-case : (P : Row → Type 0) → ((w : Sought → Written) → P (of_no
     → ((w : Sought → ℕ → ℕ → Written) → P (of_node_event w)) → ((w : Sought → ℕ → ℕ → ℕ → Written) → P (of_node_events w)) → ((w : Sought → ℕ → ℕ → ℕ → ℕ → Written) → P (of_node_three_events w))
     → P (of_node_event_change rule_2) → (number : ℕ) (row : Row) → row_of number ≡ Some row → P row
 shape-case P nothing event events node two three change = row-case (λ n row. P row) (
-  node rule_1, (change, (node rule_3, (node rule_4, (node rule_5, (node rule_6, (node rule_7, (node rule_8, (events rule_9, (event rule_10, (nothing rule_11, (two rule_12, (two rule_13, (two rule_14, (two rule_15, (two rule_16, (node rule_17, (two rule_18, (three rule_19, (two rule_20, (three rule_21, (two rule_22, (two rule_23, (event rule_24, tt))))))))))))))))))))))),
+  node rule_1,
+  (change, (node rule_3, (node rule_4, (node rule_5, (node rule_6, (node rule_7, (node rule_8, (events rule_9, (event rule_10, (nothing rule_11, (two rule_12, (two rule_13, (two rule_14, (two rule_15, (two rule_16, (node rule_17, (two rule_18, (three rule_19, (two rule_20, (three rule_21, (two rule_22, (two rule_23, (event rule_24, tt))))))))))))))))))))))),
 )
 
 -- four arguments that are there

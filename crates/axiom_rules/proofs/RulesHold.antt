@@ -400,11 +400,65 @@ module _ (log : Logged) (t : List ℤ) (trees : List Form) (root : ℕ) (value :
       -- each row holds, that of rule 24 where the value sought is given
       rows-hold : (number : ℕ) (row : Row) → row_of number ≡ Some row → (number ≡ 24 → truth log t 0 (tree_at trees root) ≡ value) → RowHolds row
       rows-hold = row-case (λ n row. (n ≡ 24 → truth log t 0 (tree_at trees root) ≡ value) → RowHolds row) (
-        (λ g. node_event rule.rule_1 right_1), ((λ g. node_event_change rule.rule_2 right_2), ((λ g. node_event rule.rule_3 right_3), ((λ g. node_event rule.rule_4 right_4), ((λ g. node_event rule.rule_5 right_5),
-        ((λ g. node_event rule.rule_6 right_6), ((λ g. node_event rule.rule_7 right_7), ((λ g. node_event rule.rule_8 right_8), ((λ g. two_events rule.rule_9 right_9), ((λ g. one_event rule.rule_10 right_10),
-        ((λ g. row-of-nothing s Right rule.rule_11 (right_11 some-rows)), ((λ g. node_events rule.rule_12 right_12), ((λ g. node_events rule.rule_13 right_13), ((λ g. node_events rule.rule_14 right_14), ((λ g. node_events rule.rule_15 right_15),
-        ((λ g. node_events rule.rule_16 right_16), ((λ g. node_event rule.rule_17 right_17), ((λ g. node_events rule.rule_18 right_18), ((λ g. node_three_events rule.rule_19 right_19), ((λ g. node_events rule.rule_20 right_20),
-        ((λ g. node_three_events rule.rule_21 right_21), ((λ g. node_events rule.rule_22 right_22), ((λ g. node_events rule.rule_23 right_23), ((λ g. one_event rule.rule_24 (λ e in_. right_24 e in_ (g refl))), tt))))))))))))))))))))))),
+        (λ g. node_event rule.rule_1 right_1),
+        (
+          (λ g. node_event_change rule.rule_2 right_2),
+          (
+            (λ g. node_event rule.rule_3 right_3),
+            (
+              (λ g. node_event rule.rule_4 right_4),
+              (
+                (λ g. node_event rule.rule_5 right_5),
+                (
+                  (λ g. node_event rule.rule_6 right_6),
+                  (
+                    (λ g. node_event rule.rule_7 right_7),
+                    (
+                      (λ g. node_event rule.rule_8 right_8),
+                      (
+                        (λ g. two_events rule.rule_9 right_9),
+                        (
+                          (λ g. one_event rule.rule_10 right_10),
+                          (
+                            (λ g. row-of-nothing s Right rule.rule_11 (right_11 some-rows)),
+                            (
+                              (λ g. node_events rule.rule_12 right_12),
+                              (
+                                (λ g. node_events rule.rule_13 right_13),
+                                (
+                                  (λ g. node_events rule.rule_14 right_14),
+                                  (
+                                    (λ g. node_events rule.rule_15 right_15),
+                                    (
+                                      (λ g. node_events rule.rule_16 right_16),
+                                      (
+                                        (λ g. node_event rule.rule_17 right_17),
+                                        (
+                                          (λ g. node_events rule.rule_18 right_18),
+                                          (
+                                            (λ g. node_three_events rule.rule_19 right_19),
+                                            (
+                                              (λ g. node_events rule.rule_20 right_20),
+                                              ((λ g. node_three_events rule.rule_21 right_21), ((λ g. node_events rule.rule_22 right_22), ((λ g. node_events rule.rule_23 right_23), ((λ g. one_event rule.rule_24 (λ e in_. right_24 e in_ (g refl))), tt)))),
+                                            ),
+                                          ),
+                                        ),
+                                      ),
+                                    ),
+                                  ),
+                                ),
+                              ),
+                            ),
+                          ),
+                        ),
+                      ),
+                    ),
+                  ),
+                ),
+              ),
+            ),
+          ),
+        ),
       )
 
       pub rule-right : (rule : Rule) (c : List Literal) → (rule.number ≡ 24 → truth log t 0 (tree_at trees root) ≡ value) → clause_of s rule ≡ Ok c → clause_holds log t trees c ≡ true

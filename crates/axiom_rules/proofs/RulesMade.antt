@@ -223,7 +223,8 @@ module _ (s : Sought) (N : ℕ → Type 0) (B : ℤ → Type 0) (nodes : AreNode
 
   rows-made : (number : ℕ) (row : Row) → row_of number ≡ Some row → IsRow row
   rows-made = row-case (λ n row. IsRow row) (
-    made-1, (made-2, (made-3, (made-4, (made-5, (made-6, (made-7, (made-8, (made-9, (made-10, (made-11, (made-12, (made-13, (made-14, (made-15, (made-16, (made-17, (made-18, (made-19, (made-20, (made-21, (made-22, (made-23, (made-24, tt))))))))))))))))))))))),
+    made-1,
+    (made-2, (made-3, (made-4, (made-5, (made-6, (made-7, (made-8, (made-9, (made-10, (made-11, (made-12, (made-13, (made-14, (made-15, (made-16, (made-17, (made-18, (made-19, (made-20, (made-21, (made-22, (made-23, (made-24, tt))))))))))))))))))))))),
   )
 
   -- the atoms in the clause of a rule are made of these

@@ -124,7 +124,10 @@ fn is_used(argument: Argument) -> bool
 fn used(arguments: &[Argument]) -> usize
     ensures count { result ≡ count_by is_used_argument arguments.now }
 {
-    arguments.iter().filter(|argument| is_used(**argument)).count()
+    arguments
+        .iter()
+        .filter(|argument| is_used(**argument))
+        .count()
 }
 
 /// How many arguments the rule of a number uses, which are its first ones; none where there is no such rule.

@@ -1,8 +1,7 @@
 use mt_port::{Failed, FileShelf, ReadFault, Sink, StdSink, read_all};
 use std::fmt::Display;
-use std::fs;
-use std::io;
 use std::test::Fail;
+use std::{fs, io};
 
 #[test]
 fn reads_a_real_file(rt: HostRuntime) -> Result<(), Fail> {
