@@ -1,12 +1,12 @@
 -- What atoms mean, told by the rows.
-use Rattle.std.proofs.Common.{◌≡◌, ◌∙◌, sym, ap, refl, ℕ, ◌<◌, Bool, true, false, not, ◌&&◌, List, length, Option, ℤ, pos, ◌-ℤ◌, neg_ℤ, if◌then◌else◌, arith}
+use Rattle.std.proofs.Common.{◌≡◌, ◌∙◌, sym, ap, refl, ℕ, ◌<◌, Bool, true, not, ◌&&◌, List, length, Option, ℤ, pos, ◌-ℤ◌, neg_ℤ, arith}
 use Rattle.std.specs.Prelude.{int_le}
 use Rattle.std.specs.List.{range_with_len}
 use Rattle.std.specs.Option.{option_map_or}
 use Rattle.std.proofs.lemmas.Int.{ints}
 use Rattle.std.proofs.lemmas.Bool.{and_parts}
 use Rattle.mt_model.specs.declared.tree.Interval.{Interval}
-use Rattle.mt_model.specs.Form.{Form, Until, Since}
+use Rattle.mt_model.specs.Form.{Form}
 use Rattle.mt_model.specs.Frame.{Frame, is_in, reaches, span, witness}
 use Rattle.mt_model.specs.Log.{Logged}
 use Rattle.mt_model.specs.Positions.{place_of, positions_of}

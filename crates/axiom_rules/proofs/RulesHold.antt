@@ -1,5 +1,5 @@
 -- Each rule holds, and so each clause does.
-use Rattle.std.proofs.Common.{◌≡◌, ◌∙◌, sym, ap, refl, subst, ℕ, zero, suc, ◌+◌, ◌-◌, ◌<◌, Bool, true, false, not, ◌&&◌, ◌||◌, if◌then◌else◌, List, [], ◌∷◌, ◌++◌, length, Option, Some, None, Ok, Err, inl, inr, ℤ, pos, arith}
+use Rattle.std.proofs.Common.{◌≡◌, ◌∙◌, sym, ap, refl, subst, ℕ, ◌+◌, ◌-◌, ◌<◌, Bool, true, false, not, ◌&&◌, ◌||◌, if◌then◌else◌, List, [], ◌∷◌, length, Option, Some, None, Ok, Err, inl, inr, ℤ, pos, arith}
 use Rattle.std.specs.Prelude.{◌↔◌, int_le, nat_lt, option_and_then, slice_get, reverse, find, All}
 use Rattle.std.specs.List.{list_any, range_with_len}
 use Rattle.std.specs.Option.{option_map_or}
@@ -34,7 +34,7 @@ use Rattle.axiom_rules.specs.declared.rule.Rule.{Rule}
 use Rattle.axiom_rules.specs.Clauses.{Row, clause_of, of_event, of_events, of_node_event, of_node_event_change, of_node_events, of_node_three_events, row_of}
 use Rattle.axiom_rules.specs.Holds.{clause_holds, gap, means}
 use Rattle.axiom_rules.specs.Laws.{RulesHold}
-use Rattle.axiom_rules.specs.Parts.{Written, after, clause_of_written, not_after}
+use Rattle.axiom_rules.specs.Parts.{Written, after, not_after}
 use Rattle.axiom_rules.specs.Rules as rule
 use Rattle.axiom_rules.specs.Shapes.{reach_over}
 use Rattle.axiom_rules.specs.Sought.{Sought}

@@ -1,5 +1,5 @@
 -- The shapes of trees tell the trees.
-use Rattle.std.proofs.Common.{◌≡◌, ◌∙◌, sym, ap, refl, subst, ℕ, zero, suc, ◌+◌, ◌-◌, ◌<◌, ◌≤◌, true, false, List, [], ◌∷◌, ◌++◌, length, Option, Some, None, ◌⊎◌, inl, inr, arith}
+use Rattle.std.proofs.Common.{◌≡◌, ◌∙◌, sym, ap, refl, subst, ℕ, zero, suc, ◌+◌, ◌-◌, ◌<◌, ◌≤◌, true, List, [], ◌∷◌, ◌++◌, length, Option, Some, None, ◌⊎◌, inl, inr, arith}
 use Rattle.std.specs.Prelude.{◌↔◌, option_and_then, slice_get, slice_index_or}
 use Rattle.std.specs.List.{cons_option, filter_map, range_with_len}
 use Rattle.std.proofs.lemmas.List.{append-nil, append_assoc, length-append}

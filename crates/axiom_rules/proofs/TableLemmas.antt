@@ -1,8 +1,6 @@
 -- What the table says of each rule that has a clause.
-use Rattle.std.proofs.Common.{◌≡◌, ◌<◌, List, length, Ok}
-use Rattle.std.specs.Prelude.{All, slice_index_or}
-use Rattle.axiom_rules.specs.declared.literal.Literal.{Literal}
-use Rattle.axiom_rules.specs.Laws.{IsOfRows, RulesAreWithinTable}
+use Rattle.std.specs.Prelude.{slice_index_or}
+use Rattle.axiom_rules.specs.Laws.{RulesAreWithinTable}
 use Rattle.axiom_rules.proofs.OnceLemmas.{among-at}
 use Rattle.axiom_rules.proofs.RowCases.{written-by}
 use Rattle.axiom_rules.proofs.RulesMade.{few-literals, orders-of-rows}

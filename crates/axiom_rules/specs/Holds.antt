@@ -1,5 +1,5 @@
 -- What an atom means in a timing, and which literals and clauses hold there.
-use Rattle.std.specs.Prelude.{ℕ, List, length, Bool, true, false, not, ◌&&◌, if◌then◌else◌, ℤ, ◌-ℤ◌, int_le}
+use Rattle.std.specs.Prelude.{ℕ, List, length, Bool, false, not, ◌&&◌, if◌then◌else◌, ℤ, ◌-ℤ◌, int_le}
 use Rattle.std.specs.List.{list_all, list_any, range_with_len}
 use Rattle.mt_model.specs.declared.tree.Interval.{Interval}
 use Rattle.mt_model.specs.Form.{Form, Until, Since}

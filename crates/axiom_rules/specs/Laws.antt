@@ -1,5 +1,5 @@
 -- Laws about the rules.
-use Rattle.std.specs.Prelude.{◌≡◌, ◌≢◌, ℕ, ◌+◌, ◌<◌, ◌≤◌, All, AllPairs, Bool, true, List, length, drop, ℤ, Ok}
+use Rattle.std.specs.Prelude.{◌≡◌, ◌≢◌, ◌+◌, ◌<◌, ◌≤◌, All, AllPairs, Bool, true, List, length, drop, ℤ, Ok}
 use Rattle.mt_model.specs.Form.{Form}
 use Rattle.mt_model.specs.Log.{Logged, IsLog}
 use Rattle.mt_model.specs.Timing.{Admissible}

@@ -1,16 +1,15 @@
 -- The rules that are gone through are those that have a clause, each once.
 use Rattle.std.proofs.Common.{◌≡◌, sym, ap, refl, subst, ℕ, zero, suc, ◌+◌, ◌<◌, ◌≤◌, Bool, true, false, if◌then◌else◌, List, [], ◌∷◌, length, map, Option, Some, None, Ok, Err, inl, inr, arith}
 use Rattle.std.specs.Prelude.{Result, is_ok, option_and_then, slice_get, slice_index, slice_index_or}
-use Rattle.std.specs.List.{AllByRecursion, cons_option, filter_map, range_with_len}
+use Rattle.std.specs.List.{cons_option, filter_map, range_with_len}
 use Rattle.std.specs.Option.{option_map_or}
-use Rattle.std.proofs.lemmas.Bool.{and_parts}
 use Rattle.std.proofs.lemmas.Bool.Decides.{nat_tests}
 use Rattle.std.proofs.lemmas.Option.{slice_get_within}
 use Rattle.mt_model.specs.Form.{Form}
 use Rattle.mt_model.specs.State.{Change, change_at, changes_of, host_named}
 use Rattle.mt_model.proofs.Members.{Among}
 use Rattle.axiom_rules.specs.declared.fault.RuleFault.{RuleFault}
-use Rattle.axiom_rules.specs.declared.fault.RuleFault.TheVariants.{NoRule, Range}
+use Rattle.axiom_rules.specs.declared.fault.RuleFault.TheVariants.{Range}
 use Rattle.axiom_rules.specs.declared.literal.Literal.{Literal}
 use Rattle.axiom_rules.specs.declared.part.Part.{Part}
 use Rattle.axiom_rules.specs.declared.rule.Argument.{Argument}
@@ -19,7 +18,7 @@ use Rattle.axiom_rules.specs.declared.rule.Rule.{Rule}
 use Rattle.axiom_rules.specs.declared.rule.TheConstants.{MAX_RULE}
 use Rattle.axiom_rules.specs.Clauses.{Row, are_there, clause_of, is_there, of_event, of_events, of_node_event, of_node_event_change, of_node_events, of_node_three_events, of_nothing, row_of}
 use Rattle.axiom_rules.specs.NodeShapes.{changes_in, changes_named, shape_at, shape_of}
-use Rattle.axiom_rules.specs.Parts.{Written, clause_of_written}
+use Rattle.axiom_rules.specs.Parts.{Written}
 use Rattle.axiom_rules.specs.Rules.{of_kind, rule_2}
 use Rattle.axiom_rules.specs.Sought.{Sought}
 use Rattle.axiom_rules.proofs.ChangeCases.{changes-case}

@@ -1,5 +1,5 @@
 -- What each row of the rules says of truth values that satisfy the rules.
-use Rattle.std.proofs.Common.{◌≡◌, ◌∙◌, sym, ap, refl, subst, ℕ, ◌<◌, Bool, true, false, not, List, [], ◌∷◌, length, Option, Some, ℤ, pos, ◌-ℤ◌, neg_ℤ, lt-ltb}
+use Rattle.std.proofs.Common.{◌≡◌, ◌∙◌, sym, ap, refl, subst, ℕ, ◌<◌, Bool, true, not, List, [], ◌∷◌, length, Option, Some, ℤ, pos, ◌-ℤ◌, neg_ℤ, lt-ltb}
 use Rattle.std.specs.Prelude.{int_le}
 use Rattle.std.specs.List.{list_any, range_with_len}
 use Rattle.std.proofs.lemmas.Bool.{and_from}

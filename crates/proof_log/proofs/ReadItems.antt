@@ -1,9 +1,8 @@
 -- What is read at the front of words is what they write.
 use Rattle.std.proofs.Common.{◌≡◌, ◌∙◌, sym, ap, subst, refl, arith, lit≤, ℕ, zero, suc, ◌^◌, ◌<◌, ◌≤◌, Bool, true, false, List, [], ◌∷◌, ◌++◌, append_assoc, length, take, drop, None, ℤ, pos, ◌-ℤ◌, neg_ℤ, codes, ◌==◌}
-use Rattle.std.specs.Prelude.{◌&&◌, All, IfSome, nat_lt, if◌then◌else◌, option_and_then, count_by, nat_le, slice_get}
+use Rattle.std.specs.Prelude.{All, IfSome, nat_lt, if◌then◌else◌, option_and_then}
 use Rattle.std.specs.Fmt.{decimal, signed_decimal}
-use Rattle.std.specs.List.{flat_map, list_all}
-use Rattle.std.specs.Option.{option_map_or}
+use Rattle.std.specs.List.{flat_map}
 use Rattle.std.proofs.lemmas.Bool.Decides.{nat_tests}
 use Rattle.std.proofs.lemmas.Int.{ints}
 use Rattle.std.proofs.lemmas.List.Elements.{All-nil, All-cons}

@@ -1,4 +1,4 @@
-use Rattle.std.proofs.Common.{◌≡◌, ◌∙◌, ap, refl, ℕ, zero, suc, ◌-◌, List, [], ◌∷◌, map, Option, option_map, Some, None, slice_get, arith}
+use Rattle.std.proofs.Common.{◌≡◌, ◌∙◌, ap, refl, ℕ, zero, suc, ◌-◌, List, [], ◌∷◌, map, Option, option_map, slice_get, arith}
 use Rattle.std.specs.Option.{option_flatten}
 use Rattle.axiom_rules.proofs.Lookups.{got-item}
 use Rattle.axiom_rules.specs.declared.rule.Argument.{Argument}
