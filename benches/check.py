@@ -3,7 +3,7 @@
 Run as: python3 benches/check.py [PROGRAM] [--patience SECONDS] [--only FAMILY]
 
 PROGRAM is the built program of this folder where none is given; it is built
-where it isn't there. Each family of logs grows to 64 rows, or until a run of
+where it isn't there. Each family of logs doubles its rows, up to 1,024, or until a run of
 check takes longer than the patience, 60 seconds where none is given: that run
 is stopped. Seconds are those of processor time, of one run, the start of the
 process included; memory is looked at every five milliseconds.
@@ -25,9 +25,11 @@ ROOT = Path(__file__).resolve().parent.parent
 sys.path.insert(0, str(ROOT / "tests" / "reference"))
 
 import formats
-import program
+from size import size_of
 
 SKEW = 5  # how far each clock may be off
+ROWS_LEAST = 4
+ROWS_OF_CHAIN = 2 * formats.HOST_LIMIT  # each host of a chain has two
 TOO_LARGE = 67  # the status where a log has too many rows for its formula
 SHORTEST_SEEN = 0.05  # seconds that a run takes at least whose memory is told
 MEBIBYTE = 1024 * 1024
@@ -98,15 +100,15 @@ class Family(NamedTuple):
     title: str
     log: Callable  # the text of the log of so many rows
     formula: Callable  # and of the formula that is asked of it
-    step: int  # of the numbers of rows
+    most: int  # rows
 
 
 FAMILIES = (
-    Family("request and response", chain, in_time, 2),
-    Family("the same, by less", chain, in_less, 2),
-    Family("leases", in_turns((b"holds", b"holds")), always(b"G !(a.holds & b.holds)"), 4),
-    Family("audits", in_turns((b"seen", b"paid")), always(b"G (b.paid -> O[0,70] a.seen)"), 4),
-    Family("pulses", at_once, always(b"F (a.p & b.p)"), 4),
+    Family("request and response", chain, in_time, ROWS_OF_CHAIN),
+    Family("the same, by less", chain, in_less, ROWS_OF_CHAIN),
+    Family("leases", in_turns((b"holds", b"holds")), always(b"G !(a.holds & b.holds)"), formats.ROW_LIMIT),
+    Family("audits", in_turns((b"seen", b"paid")), always(b"G (b.paid -> O[0,70] a.seen)"), formats.ROW_LIMIT),
+    Family("pulses", at_once, always(b"F (a.p & b.p)"), formats.ROW_LIMIT),
 )
 
 
@@ -152,14 +154,22 @@ def high_water(process_id):
     return 0
 
 
+def numbers_of_rows(most):
+    """Twice as many rows each time, up to the most."""
+    rows = ROWS_LEAST
+    while rows <= most:
+        yield rows
+        rows *= 2
+
+
 def rows_of_table(name, family, folder, patience):
     """The rows of the table for a family, up to the first run that is stopped or refused."""
-    for rows in range(family.step, formats.ROW_LIMIT + 1, family.step):
+    for rows in numbers_of_rows(family.most):
         log, formula = family.log(rows), family.formula(rows)
         for file, text in (("f", formula), ("l", log)):
             Path(folder, file).write_bytes(text)
         checked = taken([name, "check", "f", "l"], folder, patience)
-        size = program.size(formats.read_formula(formula), formats.read_log(log))
+        size = size_of(formats.read_formula(formula), formats.read_log(log))
         was_seen = checked.seconds >= SHORTEST_SEEN
         memory = f"{checked.memory / MEBIBYTE:.1f}" if was_seen else "-"
         row = [family.title, rows, size, f"{checked.seconds:.3f}", memory, checked.status]

@@ -1,5 +1,5 @@
 #!/usr/bin/env bash
-# Prints how long the built program takes on logs of 8 to 64 rows, on files of 1 MiB and on long and
+# Prints how long the built program takes on logs of 8 to 1,024 rows, on files of 1 MiB and on long and
 # nested formulas, how long the differences of a log take, and the solver on 1,024 nodes.
 # Each time is the least of several runs, in milliseconds, start of the process included.
 cd "$(dirname "$0")/.." || exit 2
@@ -37,7 +37,7 @@ least() {
 ./skewcheck -- </dev/null >/dev/null
 [ $? -eq 64 ] || exit 2
 printf '%-28s %12s  %s\n' "times" "milliseconds" "answer"
-for rows in 8 16 32 64; do
+for rows in 8 64 256 1024; do
   for gap in 1 3000; do
     log "$rows" "$gap" >"$folder/log"
     taken=$(least "$folder/log" ./crates/skewcheck/out/skewcheck times -)
@@ -47,18 +47,18 @@ for rows in 8 16 32 64; do
   done
 done
 
-# Files of 1 MiB: one with a row too many at record 67, which is told after the whole file was taken
-# apart, and one of 64 rows and blank lines.
+# Files of 1 MiB: one with a row too many at record 1027, which is told after the whole file was taken
+# apart, and one of 1,024 rows and blank lines.
 head=$'kind,host,time,name\nhost,a,0,0\n'
 { printf '%s' "$head"; yes 'note,a,1234567,n' | head -c $((1048576 - ${#head})); } >"$folder/rows"
-{ printf '%s' "$head"; yes 'note,a,7,n' | head -n 64; yes '' | head -c 1048576; } | head -c 1048576 >"$folder/blank"
+{ printf '%s' "$head"; yes 'note,a,7,n' | head -n 1024; yes '' | head -c 1048576; } | head -c 1048576 >"$folder/blank"
 printf '\n%-28s %12s  %s\n' "times of 1 MiB" "milliseconds" "answer"
 for kind in rows blank; do
   taken=$(least "$folder/$kind" ./crates/skewcheck/out/skewcheck times -)
   printf '%-28s %12s  %s\n' "$kind" "$taken" "$(head -n 1 "$folder/answer")"
 done
 
-# Formulas of the most bytes, of the most nodes, and of one part that occurs often, on 64 rows.
+# Formulas of the most bytes, of the most nodes, and of one part that occurs often, on 64 and on 1,024 rows.
 repeated() { head -c "$2" /dev/zero | tr '\0' "$1"; }
 conjunctions() { # of $1 untils, as a tree
   awk -v count="$1" 'function tree(low, high, middle) {
@@ -76,14 +76,20 @@ conjunctions 252 >"$folder/untils"
 shared 12 >"$folder/shared"
 {
   printf 'kind,host,time,name\nhost,a,0,1\n'
-  for ((row = 0; row < 64; row++)); do printf '%s,a,%d,p\n' "$((row % 2))" "$row"; done
-} | sed 's/^0,/clear,/; s/^1,/set,/' >"$folder/rows64"
-seq 0 63 >"$folder/times64"
-printf '\n%-28s %12s  %s\n' "replay on 64 rows" "milliseconds" "answer"
-for formula in parentheses signs untils shared; do
-  taken=$(least /dev/null ./crates/skewcheck/out/skewcheck replay "$folder/$formula" "$folder/rows64" "$folder/times64")
-  printf '%-28s %12s  %s\n' "$formula, $(wc -c <"$folder/$formula") bytes" "$taken" "$(head -n 1 "$folder/answer")"
+  for ((row = 0; row < 1024; row++)); do printf '%s,a,%d,p\n' "$((row % 2))" "$row"; done
+} | sed 's/^0,/clear,/; s/^1,/set,/' >"$folder/rows1024"
+seq 0 1023 >"$folder/times1024"
+head -n 66 "$folder/rows1024" >"$folder/rows64"
+head -n 64 "$folder/times1024" >"$folder/times64"
+for rows in 64 1024; do
+  printf '\n%-28s %12s  %s\n' "replay on $rows rows" "milliseconds" "answer"
+  for formula in parentheses signs untils shared; do
+    taken=$(least /dev/null ./crates/skewcheck/out/skewcheck replay "$folder/$formula" "$folder/rows$rows" "$folder/times$rows")
+    printf '%-28s %12s  %s\n' "$formula, $(wc -c <"$folder/$formula") bytes" "$taken" "$(head -n 1 "$folder/answer")"
+  done
+  runs=3
 done
+runs=${1:-20}
 
 # A benchmark program, built where it isn't; what the build says is shown only where it fails.
 built() {
@@ -107,7 +113,7 @@ span() {
 }
 built text_table </dev/null
 printf '\n%-28s %12s  %s\n' "tight" "milliseconds" "least and greatest"
-for rows in 8 16 32 64; do
+for rows in 8 64 256 1024; do
   span "$rows" >"$folder/span"
   taken=$(least "$folder/span" ./crates/text_table/out/text_table)
   printf '%-28s %12s  %s\n' "$rows rows" "$taken" "$(tail -n 1 "$folder/answer" | cut -d ' ' -f 6-)"
@@ -139,9 +145,9 @@ for report in events.report report; do
   printf '%-28s %12s  %s\n' "$([ "$report" = report ] && echo check || echo read)" "$taken" "$(cat "$folder/answer")"
 done
 
-# Problems: logs of more and more rows with one until, and the most untils that logs of 8 and of 16 rows may have.
+# Problems: logs of more and more rows with one eventually, and many that untils join on logs of fewer rows.
 printf '\n%-28s %12s  %s\n' "encode" "milliseconds" "answer"
-for case in "8 1" "16 1" "32 1" "48 1" "64 1" "16 32" "8 255"; do
+for case in "8 1" "64 1" "256 1" "1024 1" "64 8" "16 32" "8 255"; do
   read -r rows count <<<"$case"
   make problem "$rows" "$count" >"$folder/table"
   taken=$(least "$folder/table" "$logic")

@@ -30,8 +30,8 @@ def main(names):
     sent = {name for kind, _, _, name in records if kind == "send"}
     hosts = [record for record in records if record[0] == "host"]
     rows = [whole(record, sent) for record in records if record[0] != "host"]
-    if len(rows) > 64:
-        print(f"join_logs.py: {len(rows)} rows, and a log has at most 64", file=sys.stderr)
+    if len(rows) > 1024:
+        print(f"join_logs.py: {len(rows)} rows, and a log has at most 1,024", file=sys.stderr)
     writer = csv.writer(sys.stdout, lineterminator="\n")
     writer.writerows([["kind", "host", "time", "name"], *hosts, *rows])
 

@@ -4,7 +4,8 @@ Run as: python3 examples.py PROGRAM [--write]
 
 examples/runs.txt lists the runs of check and audit. Each report that check
 writes there has to be the one that is kept, and is audited with the same files:
-by the program, and by the second audit in tests/reference. Then each command of
+by the program, and by the second audit in tests/reference. Then the runs of
+many_rows.py have to end as it says. Then each command of
 README.md and docs/ that a block of shell shows, and that the program, cat or
 python3 is in, has to write what stands below it, and each clause that a block of
 text quotes has to stand in the code. Every difference is printed, and the end is
@@ -17,6 +18,7 @@ import re
 import shlex
 import subprocess
 import sys
+import tempfile
 from pathlib import Path
 from typing import NamedTuple
 
@@ -24,8 +26,10 @@ sys.dont_write_bytecode = True  # leaves no compiled files beside the sources
 
 ROOT = Path(__file__).resolve().parent.parent.parent
 EXAMPLES = ROOT / "examples"
-sys.path.insert(0, str(ROOT / "tests" / "reference"))
+sys.path[:0] = [str(ROOT / "tests" / "reference"), str(EXAMPLES)]
 
+import judge
+import many_rows
 import program as answers
 
 PATIENCE = 60  # seconds that one run may take
@@ -61,11 +65,11 @@ def listed_runs():
         yield Run(words.split(), int(status), text, output if is_file else "")
 
 
-def outcome_of(program, words):
-    """What the program writes in the folder of examples, and its status."""
+def outcome_of(program, words, folder=EXAMPLES):
+    """What the program writes in a folder, and its status."""
     try:
         done = subprocess.run(
-            [program, *words], cwd=EXAMPLES, stdin=subprocess.DEVNULL, capture_output=True,
+            [program, *words], cwd=folder, stdin=subprocess.DEVNULL, capture_output=True,
             timeout=PATIENCE,
         )
     except subprocess.TimeoutExpired:
@@ -98,6 +102,23 @@ def differences_of_audits(program, run):
     files = {path.name: path.read_bytes() for path in EXAMPLES.iterdir()}
     if answers.answer(words, files) != answers.Exact(0, b"accepted\n"):
         yield f"{title}: the second audit refuses it"
+
+
+# Logs of the most rows
+
+
+def differences_of_many_rows(program):
+    """What differs in the runs on logs of the most rows and one more, as lines."""
+    with tempfile.TemporaryDirectory() as folder:
+        for case in many_rows.cases():
+            for name, text in case.files.items():
+                Path(folder, name).write_bytes(text)
+            outcome = outcome_of(program, case.words, folder)
+            first_line = outcome.output.split(b"\n")[0]
+            if outcome.status != case.status or case.first_line not in (None, first_line):
+                yield f"{case.title}: status {outcome.status}, {outcome.output[:80]!r}"
+            elif complaint := judge.complaint(case.words, case.files, outcome.output, outcome.status):
+                yield f"{case.title}: {complaint}"
 
 
 # Pages
@@ -165,7 +186,7 @@ def main():
     arguments = parser.parse_args()
     program = os.path.abspath(arguments.program)
     found = [*differences_of_runs(program, arguments.write), *differences_of_pages(program)]
-    found += differences_of_clauses()
+    found += [*differences_of_many_rows(program), *differences_of_clauses()]
     for line in found:
         print(f"tests/examples: {line}")
     if found:

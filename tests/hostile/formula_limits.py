@@ -138,10 +138,10 @@ def nodes():
     distinct = joined([b"a.p%d" % number for number in range(6_000)])
     yield replay("6,000 distinct propositions", distinct, 67, b"refused nodes above 512")
     untils = joined([b"F[0,%d]a.p" % number for number in range(3_500)])
-    rows = log_of(b"host,a,0,1", *[b"note,a,%d,n" % row for row in range(64)])
-    given = b"".join(b"%d\n" % row for row in range(64))
+    rows = log_of(b"host,a,0,1", *[b"note,a,%d,n" % row for row in range(1024)])
+    given = b"".join(b"%d\n" % row for row in range(1024))
     most = joined([b"F[%d,%d](a.p S a.p)" % (number, number) for number in range(253)])  # 509 distinct parts
-    yield replay("254 untils and sinces over 64 rows", most, 1, b"false", rows, given)
+    yield replay("254 untils and sinces over 1,024 rows", most, 1, b"false", rows, given)
     yield replay("3,500 distinct intervals", untils, 67, b"refused nodes above 512")
 
 
@@ -180,9 +180,9 @@ def files_of_times():
     yield timing("one byte above the longest file", b"\n" * (LENGTH + 1), 67, b"refused length times")
     yield Case("times", "a file without an end", ["replay", "f", "l", "/dev/zero"], {"f": b"true", "l": ONE_ROW},
                (67,), b"refused length times")
-    rows = log_of(b"host,a,0,0", *[b"note,a,0,n"] * 64)
-    yield timing("64 times at the greatest magnitude", b"%d\n" % TIME * 64, 6, high, rows)
-    yield timing("63 times for 64 rows", b"0\n" * 63, 68, b"refused times 2 at line 64", rows)
+    rows = log_of(b"host,a,0,0", *[b"note,a,0,n"] * 1024)
+    yield timing("1,024 times at the greatest magnitude", b"%d\n" % TIME * 1024, 6, high, rows)
+    yield timing("1,023 times for 1,024 rows", b"0\n" * 1023, 68, b"refused times 2 at line 1024", rows)
 
 
 def cases():

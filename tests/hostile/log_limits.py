@@ -5,6 +5,7 @@ from case import HEADER, Case, log_of, order, times
 MOST = 10**18  # of a skew or a gap
 LOCAL = 4 * 10**18  # the greatest magnitude of a local time
 LENGTH = 1_048_576
+ROWS = 1_024
 HOST = b"host,a,0,0"
 NOTE = b"note,a,0,n"
 
@@ -86,16 +87,20 @@ def counts():
     hosts = [b"host,h%d,0,0" % host for host in range(65)]
     yield order("64 hosts", log_of(*hosts[:64], b"note,h0,0,n"), 0, b"0: 1" + b" 0" * 63)
     yield order("65 hosts", log_of(*hosts, b"note,h0,0,n"), 66, fault(12, 66))
-    rows = [b"note,a,%d,n" % row for row in range(65)]
-    yield order("64 rows", log_of(HOST, *rows[:64]), 0, b"0: 1")
-    yield order("65 rows", log_of(HOST, *rows), 66, fault(13, 67))
-    yield order("64 equal rows", log_of(HOST, *[NOTE] * 64), 0, b"0: 1")
-    yield order("1 MiB of rows", log_of(HOST, *[NOTE] * 95_000), 66, fault(13, 67))
+    rows = [b"note,a,%d,n" % row for row in range(ROWS + 1)]
+    yield order("1,024 rows", log_of(HOST, *rows[:ROWS]), 0, b"0: 1")
+    yield order("1,025 rows", log_of(HOST, *rows), 66, fault(13, ROWS + 3))
+    yield order("1,024 equal rows", log_of(HOST, *[NOTE] * ROWS), 0, b"0: 1")
+    yield order("64 hosts with 16 rows each", log_of(*hosts[:64], *[b"note,h%d,0,n" % (row % 64) for row in range(ROWS)]),
+                0, b"0: 1" + b" 0" * 63)
+    yield order("1 MiB of rows", log_of(HOST, *[NOTE] * 95_000), 66, fault(13, ROWS + 3))
     yield order("1 MiB of one host", log_of(*[HOST] * 95_000), 66, fault(5, 3))
     yield order("1 MiB of hosts", log_of(*[b"host,h%d,0,0" % host for host in range(65_000)]), 66, fault(12, 66))
     yield order("a message sent twice", log_of(HOST, *[b"send,a,0,m"] * 2), 66, fault(9, 4))
-    yield order("64 receives of one message", log_of(HOST, b"send,a,0,m", *[b"recv,a,0,m"] * 63), 0, b"0: 1")
-    yield order("64 receives of no message", log_of(HOST, *[b"recv,a,0,m"] * 64), 66, fault(10, 3))
+    yield order("1,023 receives of one message", log_of(HOST, b"send,a,0,m", *[b"recv,a,0,m"] * (ROWS - 1)), 0, b"0: 1")
+    yield order("1,024 receives of no message", log_of(HOST, *[b"recv,a,0,m"] * ROWS), 66, fault(10, 3))
+    messages = [b"%s,a,0,m%d" % (kind, number) for kind in (b"recv", b"send") for number in range(ROWS // 2)]
+    yield order("512 messages that are received before they are sent", log_of(HOST, *messages), 3, b"cycle 513")
     yield order("no rows", log_of(*hosts[:64]), 66, b"refused log 11")
 
 
@@ -142,7 +147,7 @@ def odd_bytes():
 def bounds():
     """Logs at the limits of numbers, and ones that the solver goes over again and again."""
     wide = b"host,%s," + b"%d,%d" % (MOST, MOST)
-    far = [b"note,a,%d,n" % (-LOCAL if row % 2 else LOCAL) for row in range(64)]
+    far = [b"note,a,%d,n" % (-LOCAL if row % 2 else LOCAL) for row in range(ROWS)]
     yield times("local times from end to end", log_of(wide % b"a", *far), 3)
     near = [b"note,a,%d,n" % (-LOCAL + row * MOST) for row in range(9)]
     yield times("the greatest gaps, which fit", log_of(wide % b"a", *near), 0)
@@ -153,8 +158,12 @@ def bounds():
         hosts = [b"host,h%d,%d,0" % (host, skew) for host in range(32)]
         title = f"31 messages in rows that stand the wrong way round, skew {skew}"
         yield times(title, log_of(*hosts, *backward_rows()), status)
-    yield times("64 rows in too short a time", log_of(b"host,a,31,1", *[NOTE] * 64), 3)
-    yield times("64 rows in just enough time", log_of(b"host,a,32,1", *[NOTE] * 64), 0)
+    for skew, status in ((255, 3), (256, 0)):
+        hosts = [b"host,h%d,%d,0" % (host, skew) for host in range(64)]
+        title = f"511 messages round and round, skew {skew}"
+        yield times(title, log_of(*hosts, *rows_of_rounds()), status)
+    yield times("1,024 rows in too short a time", log_of(b"host,a,511,1", *[NOTE] * ROWS), 3)
+    yield times("1,024 rows in just enough time", log_of(b"host,a,512,1", *[NOTE] * ROWS), 0)
     ring = log_of(b"host,a,%d,0" % MOST, b"recv,a,0,m", b"send,a,0,m")
     yield times("a receive before its send on one host", ring, 3)
 
@@ -166,6 +175,17 @@ def backward_rows():
             yield b"recv,h%d,0,m%d" % (host, host - 1)
         if host < 31:
             yield b"send,h%d,0,m%d" % (host, host)
+
+
+def rows_of_rounds():
+    """Rows of 64 hosts at 0, host by host. What one has received it sends on to the host that stands before it, and
+    the first one to the last one, eight times round."""
+    for host in range(64):
+        for hop in range(63 - host, 512, 64):
+            if hop > 0:
+                yield b"recv,h%d,0,m%d" % (host, hop - 1)
+            if hop < 511:
+                yield b"send,h%d,0,m%d" % (host, hop)
 
 
 def cases():

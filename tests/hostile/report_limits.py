@@ -16,7 +16,7 @@ TIME = 10**19
 TITLE = b"skewcheck 1\n"
 EMPTY_CLAUSE = b"learn 0 3 rule 3 0 0 rule 11 rule 24 0\n"
 ACCEPTED = b"accepted"
-ROWS = log_of(b"host,a,0,1", *[b"note,a,%d,n" % time for time in range(64)])
+ROWS = log_of(b"host,a,0,1", *[b"note,a,%d,n" % time for time in range(1024)])
 
 
 def report_of(*lines, count=None, events=b"1", time=b"10"):
@@ -153,9 +153,9 @@ def distinct_lists():
         literals = colliding(count, ((0, event) for event in range(1, count)))
         line = b"learn %d %s 1 rule 11" % (count, b" ".join(literals))
         yield audit(f"{count:,} literals whose atoms would share a hash", report_of(line), 5, at(b"false", 1))
-        literals = colliding(count, combinations(range(64), 2))
+        literals = colliding(count, combinations(range(1024), 2))
         line = b"learn %d %s 1 rule 11" % (count, b" ".join(literals))
-        report = report_of(line, events=b"64", time=b"\n".join(b"%d" % time for time in range(64)))
+        report = report_of(line, events=b"1024", time=b"\n".join(b"%d" % time for time in range(1024)))
         title = f"{count:,} such literals about the rows of a log"
         yield audit(title, report, 5, at(b"false", 1), log=ROWS)
 

@@ -1,7 +1,7 @@
 """Logs and formulas of the greatest size that `check` takes, and of the next greater one.
 
-The size is the number of untils and sinces times the cube of the rows. One conflict is all that the search
-may spend, so a value may be left unknown.
+The size counts the square of the rows for each until and since, and the rows times the pairs of rows in reach where the
+left side isn't true. One conflict is all that the search may spend, so a value may be left unknown.
 """
 
 from case import Case, log_of
@@ -16,9 +16,9 @@ def quiet(rows):
     return log_of(b"host,a,0,1", *[b"note,a,%d,n" % row for row in range(rows)])
 
 
-def turns(rows, skew):
+def turns(rows, skew, gap=1):
     """Two hosts that set and clear p in turns, each row twenty after the one before."""
-    hosts = [b"host,%s,%d,1" % (host, skew) for host in HOSTS]
+    hosts = [b"host,%s,%d,%d" % (host, skew, gap) for host in HOSTS]
     return log_of(*hosts, *[
         b"%s,%s,%d,p" % ((b"set", b"clear")[row % 2], HOSTS[row // 2 % 2], 20 * row) for row in range(rows)
     ])
@@ -43,6 +43,13 @@ def case(title, formula, log, statuses=ANSWERED, line=b"skewcheck 1"):
 
 def cases():
     """All cases of great sizes."""
+    yield from one_of_64_rows()
+    yield from most_rows()
+    yield from fewer_rows()
+
+
+def one_of_64_rows():
+    """One until or since over 64 rows."""
     for sign in (b"F", b"G", b"O", b"H"):
         title = sign.decode()
         yield case(f"64 quiet rows, {title}", sign + b" a.p", quiet(64))
@@ -55,6 +62,25 @@ def cases():
         yield case(f"64 rows in turns, skew 5, {title}", b"!a.p" + between + b"b.p", turns(64, 5))
         yield case(f"64 rows in turns, skew 1000, {title}", b"!a.p" + between + b"b.p", turns(64, 1000))
         yield case(f"64 rows at once, {title}", b"!h0.p" + between + b"h1.p", at_once(64))
+
+
+def most_rows():
+    """1,024 rows, with the greatest size and with less."""
+    four = many(4)  # 4 * 1,024^2
+    yield case("1,024 quiet rows, 4 untils", four, quiet(1024))
+    yield case("1,024 rows in turns, skew 1000, 4 untils", four, turns(1024, 1000))
+    yield case("1,024 quiet rows, U[0,2]", b"a.p U[0,2] a.q", quiet(1024))  # 3,069 pairs
+    yield case("1,024 rows in turns, skew 5, S[0,40]", b"!a.p S[0,40] b.p", turns(1024, 5))
+    yield case("1,024 rows in turns, skew 5, F[0,40]", b"F[0,40] a.p", turns(1024, 5))
+    close = log_of(b"host,a,511,1", *[b"note,a,0,n"] * 1024)
+    yield case("1,024 rows that don't fit, of any size", many(250), close, (3,))
+
+
+def fewer_rows():
+    """Fewer rows, with the greatest size, with just less, and with more."""
+    yield case("512 rows, 16 untils", many(16), turns(512, 100))
+    yield case("128 quiet rows, 255 untils", many(255), quiet(128))
+    yield case("160 rows in turns, skew 10000, U", b"!a.p U b.p", turns(160, 10_000, 0))  # each pair may be in reach
     yield case("32 rows, 8 untils", many(8), turns(32, 100))
     yield case("16 rows, 64 untils", many(64), turns(16, 100))
     yield case("16 rows, 64 sinces", b"F[0,0](" + many(63, b"O[%d,%d]b.p") + b")", turns(16, 100))
@@ -65,7 +91,13 @@ def cases():
         yield case(f"1 row, a chain of {count - 1} untils", chain, quiet(1))
     chain = b" U ".join([b"(!a.p)"] * 198)
     yield case("10 rows, a chain of 197 untils", chain, turns(10, 100))
-    for count, rows in ((2, 64), (9, 32), (65, 16), (120, 13)):
-        line = b"refused size %d" % (count * rows**3)
-        yield case(f"{rows} rows, {count} untils", many(count), quiet(rows), (67,), line)
+    yield case("27 rows, a chain of 197 untils", chain, turns(27, 10_000))
+    for count, rows in ((5, 1024), (17, 512), (65, 255)):
+        line = b"refused size %d" % (count * rows**2)
+        yield case(f"{rows:,} rows, {count} untils", many(count), quiet(rows), (67,), line)
+    for title, formula, pairs in (("U[0,3]", b"a.p U[0,3] a.q", 4_090), ("S", b"a.p S a.q", 524_800)):
+        line = b"refused size %d" % (1024**2 + 1024 * pairs)
+        yield case(f"1,024 rows, {title}", formula, quiet(1024), (67,), line)
+    line = b"refused size %d" % (161**2 + 161**3)
+    yield case("161 rows in turns, skew 10000, U", b"!a.p U b.p", turns(161, 10_000, 0), (67,), line)
     yield case("64 rows, 1 until in 5,000 places", joined([b"F b.p"] * 5_000), turns(64, 5))

@@ -221,7 +221,7 @@ def log_faults():
     """Logs with a fault, each for both commands that take a log alone."""
     start = ("host,a,2,1",)
     hosts = tuple(f"host,h{place},0,0" for place in range(65))
-    notes = tuple(f"note,a,{place},n" for place in range(65))
+    notes = tuple(f"note,a,{place},n" for place in range(1025))
     table = [
         (b"", b"refused log 1 at record 1\n"),
         (HEADER, b"refused log 11\n"),
@@ -240,7 +240,7 @@ def log_faults():
         (log_of(*start, "send,a,1,m", "send,a,2,m"), b"refused log 9 at record 4\n"),
         (log_of(*start, "recv,a,1,m"), b"refused log 10 at record 3\n"),
         (log_of(*hosts), b"refused log 12 at record 66\n"),
-        (log_of("host,a,0,1", *notes), b"refused log 13 at record 67\n"),
+        (log_of("host,a,0,1", *notes), b"refused log 13 at record 1027\n"),
         # Of several faults of one record the first in order counts.
         (log_of(*start, "put,c,010"), b"refused log 2 at record 3\n"),
         (log_of(*start, "put,c,010,P"), b"refused log 3 at record 3\n"),
@@ -253,9 +253,9 @@ def log_faults():
         (log_of(*hosts[:64], "host,A,x,x"), b"refused log 4 at record 66\n"),
         (log_of(*hosts[:64], "host,h7,x,x"), b"refused log 5 at record 66\n"),
         (log_of(*hosts[:64], "host,h64,x,x"), b"refused log 12 at record 66\n"),
-        (log_of(*start, *notes[:64], "note,a,x,n"), b"refused log 7 at record 67\n"),
-        (log_of(*start, *notes[:64], "note,a,1,N"), b"refused log 8 at record 67\n"),
-        (log_of(*start, "send,a,1,m", *notes[:63], "send,a,1,m"), b"refused log 9 at record 67\n"),
+        (log_of(*start, *notes[:1024], "note,a,x,n"), b"refused log 7 at record 1027\n"),
+        (log_of(*start, *notes[:1024], "note,a,1,N"), b"refused log 8 at record 1027\n"),
+        (log_of(*start, "send,a,1,m", *notes[:1023], "send,a,1,m"), b"refused log 9 at record 1027\n"),
         # A record that is faulty counts before a message that is never sent.
         (log_of(*start, "recv,a,1,m", "set,a,10,P"), b"refused log 8 at record 4\n"),
         (log_of(*start, "note,a,1,n", "recv,a,1,k", "recv,a,1,m"), b"refused log 10 at record 4\n"),

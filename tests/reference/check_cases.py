@@ -31,9 +31,20 @@ ANSWERED = b"G (a.req -> F[0,5] b.ack)"
 DONE = b"G (web.asked -> F[0,%d] pay.done)"
 EITHER = b"(a.p & b.q) | !(a.p & b.q)"
 APART = log_of("host,a,5,0", "host,b,5,0", "set,a,10,p", "set,b,10,q")
-FULL_HOST = log_of("host,a,0,1", *(f"note,a,{place},n" for place in range(64)))
-OVERFULL_HOST = log_of("host,a,0,1", *(f"note,a,{place},n" for place in range(65)))
-TWO_TIMED = b"F a.p & F[0,1] a.p"
+FOUR_TIMED = b"F a.p & F[0,1] a.p & F[0,2] a.p & F[0,3] a.p"
+FIVE_TIMED = FOUR_TIMED + b" & F[0,4] a.p"
+
+
+
+def notes(rows):
+    """A log of one host with so many rows without effect, each one after the one before."""
+    return log_of("host,a,0,1", *(f"note,a,{place},n" for place in range(rows)))
+
+
+FULL_HOST = notes(1024)
+OVERFULL_HOST = notes(1025)
+# A host that sets p and clears it in turns: it is never false for longer than 1, but at the end.
+IN_TURNS = log_of("host,a,0,1", *(f"{('set', 'clear')[place % 2]},a,{place},p" for place in range(100)))
 
 WITNESS, REFUTED, UNKNOWN = "witness", "refuted", "unknown"
 STATUSES = {(WITNESS, REFUTED): 0, (REFUTED, WITNESS): 1, (WITNESS, WITNESS): 2,
@@ -110,7 +121,10 @@ def verdicts():
         ("a proposition without rows", b"a.p", one_set, (REFUTED, (10,))),
         ("a host without rows", b"b.p", log_of("host,a,0,0", "host,b,9,0", "set,a,10,p"),
          (REFUTED, (10,))),
-        ("the greatest size", b"F a.p", FULL_HOST, (REFUTED, tuple(range(64)))),
+        ("64 rows", b"F a.p", notes(64), (REFUTED, tuple(range(64)))),
+        ("64 rows and two untils", b"F a.p & F[0,1] a.p", notes(64), (REFUTED, tuple(range(64)))),
+        ("65 rows", b"F a.p", notes(65), (REFUTED, tuple(range(65)))),
+        ("100 rows", b"G F[0,1] a.p", IN_TURNS, (REFUTED, tuple(range(100)))),
     ]
     for title, formula, log, sections in table:
         kinds = tuple(part if part in (WITNESS, REFUTED) else WITNESS for part in sections)
@@ -286,22 +300,37 @@ def audits_of_shut_logs():
 EMPTY_WALK = b"skewcheck 1\nevents 2\ninconsistent 0\nend\n"
 
 
-def audits_of_the_greatest_size():
-    """A report on F a.p and a log of 64 notes: a.p is never true, so no row has a witness."""
+def audits_of_many_rows():
+    """Reports on F a.p and logs of notes: a.p is never true, so no row has a witness."""
     events = range(64)
-    no_witness = b" ".join(b"rule 1 1 %d rule 14 2 %%d %d" % (row, row) for row in events)
-    lines = [
-        b"learn 1 -node 2 %d 129 " % row + no_witness % ((row,) * 64) + b" rule 17 2 %d\n" % row
-        for row in events
-    ]
+    lines = [no_witness(row, 64) for row in events]
     not_first = b" ".join(b"line %d rule 24 %d" % (row + 1, row) for row in events)
-    lines.append(b"learn 0 129 " + not_first + b" rule 11\n")
-    times = b"".join(b"%d\n" % time for time in events)
-    right = (b"skewcheck 1\nevents 64\ntrue refuted 65\n" + b"".join(lines)
-             + b"false witness\n" + times + b"end\n")
-    yield audit("64 rows", b"F a.p", FULL_HOST, right, "accepted")
+    right = refuted_by([*lines, b"learn 0 129 " + not_first + b" rule 11\n"], 64)
+    yield audit("64 rows", b"F a.p", notes(64), right, "accepted")
     wrong = right.replace(b"rule 24 63 rule 11", b"rule 24 62 rule 11")
-    yield audit("64 rows, one hint wrong", b"F a.p", FULL_HOST, wrong, "refused true at line 65")
+    yield audit("64 rows, one hint wrong", b"F a.p", notes(64), wrong, "refused true at line 65")
+    later = range(1, 1024)
+    before = [b"cycle 3 low %d order %d 0 -1 high 0\n" % (row, row) for row in later]
+    is_first = b" ".join(b"line %d" % row for row in later) + b" rule 10 0 rule 24 0 line 1024\n"
+    right = refuted_by([*before, no_witness(0, 1024), b"learn 0 1026 " + is_first], 1024)
+    yield audit("1,024 rows", b"F a.p", FULL_HOST, right, "accepted")
+    wrong = right.replace(b"line 1023 rule 10 0", b"line 1022 rule 10 0")
+    yield audit("1,024 rows, one hint wrong", b"F a.p", FULL_HOST, wrong, "refused true at line 1025")
+    wrong = right.replace(b"order 1023 0 -1", b"order 1024 0 -1")
+    yield audit("1,024 rows, one row too many", b"F a.p", FULL_HOST, wrong, "refused true at line 1023")
+
+
+def no_witness(row, rows):
+    """The line that the eventually of node 2 isn't true at a row, since none of the rows is a witness."""
+    hints = b" ".join(b"rule 1 1 %d rule 14 2 %d %d" % (other, row, other) for other in range(rows))
+    return b"learn 1 -node 2 %d %d %s rule 17 2 %d\n" % (row, 2 * rows + 1, hints, row)
+
+
+def refuted_by(lines, rows):
+    """The report on a log of notes that these lines refute true, and of false that the notes' times give it."""
+    times = b"".join(b"%d\n" % time for time in range(rows))
+    head = b"skewcheck 1\nevents %d\ntrue refuted %d\n" % (rows, len(lines))
+    return head + b"".join(lines) + b"false witness\n" + times + b"end\n"
 
 
 def faulty_texts():
@@ -439,12 +468,14 @@ def orders_of_tests():
         ({"f": b"c.p", "l": REQUEST}, 65, b"refused formula 8 at byte 0\n"),
         ({"f": wide, "l": other_host}, 65, b"refused formula 8 at byte 10\n"),
         ({"f": wide, "l": ONE_SET}, 67, b"refused nodes above 512\n"),
-        ({"f": TWO_TIMED, "l": OVERFULL_HOST}, 66, b"refused log 13 at record 67\n"),
+        ({"f": FIVE_TIMED, "l": OVERFULL_HOST}, 66, b"refused log 13 at record 1027\n"),
         ({"f": b"F (%s)" % wide, "l": FULL_HOST}, 67, b"refused nodes above 512\n"),
-        ({"f": TWO_TIMED, "l": FULL_HOST}, 67, b"refused size 524288\n"),
-        ({"f": b"a.p S G a.p", "l": FULL_HOST}, 67, b"refused size 524288\n"),
-        ({"f": b"O H a.p", "l": FULL_HOST}, 67, b"refused size 524288\n"),
-        ({"f": b"(F a.p | a.p U a.q) & F a.p", "l": FULL_HOST}, 67, b"refused size 524288\n"),
+        ({"f": FIVE_TIMED, "l": FULL_HOST}, 67, b"refused size 5242880\n"),
+        ({"f": b"a.p U[0,3] a.q", "l": FULL_HOST}, 67, b"refused size 5236736\n"),
+        # Each of 1,024 rows has itself and those before it in reach of a since, 524,800 pairs in all.
+        ({"f": b"a.p S G a.p", "l": FULL_HOST}, 67, b"refused size 539492352\n"),
+        ({"f": b"O H O H O a.p", "l": FULL_HOST}, 67, b"refused size 5242880\n"),
+        ({"f": b"(F a.p | a.p U a.q) & F a.p", "l": FULL_HOST}, 67, b"refused size 539492352\n"),
     ]
     for changes, status, output in table:
         held = {name: data for name, data in {**fine, **changes}.items() if data is not None}
@@ -455,10 +486,13 @@ def orders_of_tests():
         ({"f": b"c.p", "r": None}, 65, b"refused formula 8 at byte 0\n"),
         ({"f": wide, "l": ONE_SET, "r": None}, 67, b"refused nodes above 512\n"),
         ({"f": wide, "l": ONE_SET, "r": b"x\n"}, 67, b"refused nodes above 512\n"),
-        ({"f": TWO_TIMED, "l": FULL_HOST, "r": None}, 74, b""),
-        ({"f": TWO_TIMED, "l": FULL_HOST, "r": OF_TRUE + b"x\n"}, 5,
+        ({"f": FIVE_TIMED, "l": FULL_HOST, "r": None}, 74, b""),
+        ({"f": FIVE_TIMED, "l": FULL_HOST, "r": OF_TRUE + b"x\n"}, 5,
          b"refused report at line 8\n"),
         ({"r": OF_TRUE.replace(b"events 1", b"events 01")}, 5, b"refused report at line 2\n"),
+        # The greatest size, and one that is nearly as great: these are judged.
+        ({"f": FOUR_TIMED, "l": FULL_HOST}, 5, b"refused events at line 0\n"),
+        ({"f": b"a.p U[0,2] a.q", "l": FULL_HOST}, 5, b"refused events at line 0\n"),
     ):
         held = {name: data for name, data in {**fine, **changes}.items() if data is not None}
         yield Case("before the report", ["audit", "f", "l", "r"], held, status, (output,))
@@ -468,6 +502,6 @@ def fixed_cases():
     """All cases of this module."""
     groups = (
         verdicts, budgets, shut_logs, audits_of_true, audits_of_unknown, audits_of_shut_logs,
-        audits_of_the_greatest_size, faulty_texts, words, orders_of_tests,
+        audits_of_many_rows, faulty_texts, words, orders_of_tests,
     )
     return [case for group in groups for case in group()]

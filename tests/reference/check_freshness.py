@@ -16,10 +16,12 @@ import freshness
 import invent
 import spend
 from derivations import Learn, LineHint, Literal
+from instances import instances
 
 ALONE = b"kind,host,time,name\nhost,a,0,0\nnote,a,10,n\n"
 PAIR = b"kind,host,time,name\nhost,a,5,0\nhost,b,5,0\nset,a,10,p\nset,b,10,q\n"
 EITHER = b"(a.p & b.q) | !(a.p & b.q)"
+TWO_APART = b"kind,host,time,name\nhost,a,0,0\nset,a,10,p\nnote,a,12,n\n"
 
 # Of PAIR and EITHER: the nodes are 0 a.p, 1 b.q, 2 And(0,1), 3 Not 2, 4 Not 3, 5 And(3,4), 6 Not 5.
 # Where event 0 is the first, the root is false at it, so 5 is true, and with it 3 and 4; but 4 denies 3.
@@ -44,6 +46,10 @@ BY_HAND = (
     # A walk over bounds that no rule names says something new, but of no atom of the problem.
     (PAIR, EITHER, WALK + b"learn 2 order 1 0 -8 order 0 1 8 1 line 1\n", 1, "line 2 has an atom of no rule"),
     (PAIR, EITHER, b"learn 0 1 rule 11\n", 0, "wrong 1"),
+    # Event 0 is always before event 1, so rule 9 for them is needless; but a hint that names it brings it back.
+    (TWO_APART, b"a.p", b"learn 2 -first 0 order 0 1 0 1 rule 9 0 1\n", 1, "line 1 isn't fresh"),
+    # They are never 9 apart: the constraint stands in needless rules alone, 13 and 28, and may be learnt.
+    (TWO_APART, b"F[5,9] a.p", b"cycle 3 low 0 order 0 1 -10 high 1\nlearn 1 order 1 0 9 1 line 1\n", 1, ""),
 )
 
 
@@ -58,7 +64,7 @@ def check_by_hand():
     """The cases by hand."""
     for log, formula, text, conflicts, wanted in BY_HAND:
         problem = derivations.problem_of(formats.read_log(log), formats.read_formula(formula), False)
-        rules = freshness.rule_clauses(problem)
+        rules = freshness.rules_of(problem)
         found = freshness.complaint(problem, rules, derivations.read_lines(text), conflicts)
         check(found == wanted, text, found, wanted)
     print(f"{len(BY_HAND)} cases by hand")
@@ -79,7 +85,7 @@ def broken(draw, rules, lines):
     line = lines[place]
     yield "a line again", [*lines, line]
     yield "a line from itself", [*lines, Learn(line.literals, [LineHint(place + 1)])]
-    atoms = freshness.atoms_of(rules) - freshness.atoms_of([line.literals])
+    atoms = rules.atoms - freshness.atoms_of([line.literals])
     if atoms:
         more = Literal(draw.choice(sorted(atoms)), draw.random() < 0.5)
         weaker = Learn([*line.literals, more], line.hints)
@@ -89,7 +95,7 @@ def broken(draw, rules, lines):
 
 def rule_line(draw, problem):
     """A line that learns the clause of a rule."""
-    clause = draw.choice(list(invent.instances(problem)))
+    clause = draw.choice(list(instances(problem)))
     return Learn(list(clause.literals), [clause.hint])
 
 
@@ -109,7 +115,7 @@ def check_searches(draw, cases):
         if isinstance(lines, str):
             count[lines] += 1
             continue
-        rules = freshness.rule_clauses(problem)
+        rules = freshness.rules_of(problem)
         found = freshness.complaint(problem, rules, lines, conflicts)
         check(not found, problem, lines, found)
         check_apart(lines)

@@ -56,7 +56,7 @@ def complaint(formula_text, log_text, output, conflicts):
     left = list(unknown_sections(report))
     for value, lines in left:
         problem = derivations.problem_of(log, formula, value)
-        found = freshness.complaint(problem, freshness.rule_clauses(problem), lines, conflicts)
+        found = freshness.complaint(problem, freshness.rules_of(problem), lines, conflicts)
         if found:
             return found, len(left)
     return "", len(left)

@@ -4,7 +4,7 @@ Run as: python3 compare_problems.py PROGRAM [--cases N] [--seed S]
 
 The program prints the problems of tables, a section of what it takes: small logs and formulas made by
 chance, each with both values. A problem must have the clause of each rule that
-has one, in a list of all rules; its edges must be those of the log's bounds;
+has one and isn't needless, in a list of all rules; its edges must be those of the log's bounds;
 and its clauses must be satisfiable in just the admissible timings that give
 the formula the value. The first difference is printed as a table of its own,
 ready to copy, and the end is 1.
@@ -19,13 +19,13 @@ from typing import NamedTuple
 
 sys.dont_write_bytecode = True  # leaves no compiled files beside the sources
 
-import derivations
 import formats
 import invent
 import meanings
+import needless
 import reference
 from compare_derivations import head_of
-from derivations import Literal, Problem, Rule, RuleFault
+from derivations import Literal, Problem
 from generate import chance
 from tables import answer_lines, print_table, read_arguments
 
@@ -36,7 +36,7 @@ NODES_MOST = 6
 TIMINGS_MOST = 16  # admissible timings of one log that are gone through
 SHARE_OPEN = 0.6  # of the formulas, at least, have both values in timings of their log
 RULE_ARGUMENTS_PRINTED = 4
-KINDS_IN_ORDER = ("order", "first", "node", "wit", "span", "gap")
+KINDS_OF_A_NODE = ("span", "gap", "wit", "node")  # in their order
 
 
 # Questions
@@ -46,7 +46,7 @@ class Question(NamedTuple):
     title: str
     head: bytes  # the formula, the log and the value as the table has them
     problem: Problem
-    clauses: dict  # the clause of each rule that has one
+    clauses: dict  # the clause of each rule that is kept
     truths: list  # admissible timings, each with the truth of the formula in it
 
     def table(self):
@@ -78,6 +78,8 @@ def tiny_problem(draw):
         if len(problem.log.rows) > ROWS_MOST or len(problem.nodes) > NODES_MOST:
             continue
         truths = truths_of(problem.log, formats.read_formula(formula_text))
+        if not truths:
+            continue  # a problem is that of a log with some timing
         if is_open and len({truth for _, truth in truths}) < 2:
             continue
         if len(truths) > TIMINGS_MOST:
@@ -93,16 +95,11 @@ def truths_of(log, formula):
 
 
 def listed_clauses(problem):
-    """The clause of each rule that has one, by the rule's number and four arguments."""
-    nodes, events = range(len(problem.nodes)), range(len(problem.log.rows))
+    """The clause of each rule that is kept, by the rule's number and four arguments."""
     found = {}
-    for number, letters in derivations.RULE_ARGUMENTS.items():
-        ranges = [nodes if letter == "k" else events for letter in letters]
-        for arguments in itertools.product(*ranges):
-            clause = derivations.clause_of(problem, Rule(number, arguments))
-            if not isinstance(clause, RuleFault):
-                unused = (0,) * (RULE_ARGUMENTS_PRINTED - len(arguments))
-                found[(number, *arguments, *unused)] = clause
+    for clause, (number, arguments) in needless.kept(problem):
+        unused = (0,) * (RULE_ARGUMENTS_PRINTED - len(arguments))
+        found[(number, *arguments, *unused)] = list(clause)
     return found
 
 
@@ -183,7 +180,7 @@ def difference(question, lines):
 
 
 def rules_difference(question, printed):
-    """Whether the rules are those that have a clause, each once."""
+    """Whether the rules are those that are kept, each once."""
     there = Counter(printed.rules)
     for rule in sorted(question.clauses.keys() | there.keys()):
         wanted = 1 if rule in question.clauses else 0
@@ -218,12 +215,14 @@ def atoms_difference(question, printed):
 
 
 def rank(log, atom):
-    """What orders an atom among the others: its kind, then how near its events are, or its node."""
+    """What orders an atom among the others: orders first, by how near their events are, then by nodes, and first last."""
     kind, *numbers = atom
     if kind == "order":
         e, f, _ = numbers
-        return KINDS_IN_ORDER.index(kind), abs(log.rows[e].local - log.rows[f].local)
-    return KINDS_IN_ORDER.index(kind), numbers[0] if kind == "node" else 0
+        return 0, abs(log.rows[e].local - log.rows[f].local), 0
+    if kind == "first":
+        return 2, 0, 0
+    return 1, numbers[0], KINDS_OF_A_NODE.index(kind)
 
 
 def edges_difference(question, printed):

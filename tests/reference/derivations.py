@@ -140,6 +140,7 @@ RULE_ARGUMENTS = {
     1: "ke", 2: "kes", 3: "ke", 4: "ke", 5: "ke", 6: "ke", 7: "ke", 8: "ke",
     9: "ex", 10: "e", 11: "", 12: "kij", 13: "kij", 14: "kij", 15: "kij", 16: "kij",
     17: "ki", 18: "kij", 19: "kijm", 20: "kij", 21: "kijm", 22: "kim", 23: "kim", 24: "e",
+    28: "kij",
 }
 
 # The literals that are written with a sign, each with the count of its numbers.
@@ -330,7 +331,7 @@ RULE_KINDS = {
     3: ("true",),
     **dict.fromkeys((4, 5), ("not",)),
     **dict.fromkeys((6, 7, 8), ("and",)),
-    **dict.fromkeys(range(12, 24), ("until", "since")),
+    **dict.fromkeys((*range(12, 24), 28), ("until", "since")),
 }
 
 
@@ -361,6 +362,8 @@ def argument_fault(problem, rule):
             return RuleFault.RANGE
     if rule.number in RULE_KINDS and problem.nodes[given["k"]][0] not in RULE_KINDS[rule.number]:
         return RuleFault.KIND
+    if rule.number == 28 and problem.nodes[problem.nodes[given["k"]][2]][0] != "true":
+        return RuleFault.KIND
     if rule.number == 2 and given["s"] >= len(change_rows(problem, given["k"])):
         return RuleFault.RANGE
     if rule.number == 13 and problem.nodes[given["k"]][1][1] is None:
@@ -378,7 +381,7 @@ def rule_parts(problem, rule):
         return first_parts(problem, rule.number, *rule.arguments)
     k, *events = rule.arguments
     timed = Timed(k, *problem.nodes[k])
-    if rule.number in range(12, 19):
+    if rule.number in (*range(12, 19), 28):
         return witness_parts(problem, rule.number, timed, *events)
     if rule.number in (19, 20, 21):
         return span_parts(problem, rule.number, timed, *events)
@@ -462,7 +465,7 @@ class Timed(NamedTuple):
 
 
 def witness_parts(problem, rule, timed, i, j=0):
-    """Rules 12 to 18: what a witness is, and that a tree is true where it has one."""
+    """Rules 12 to 18 and 28: what a witness is, and that a tree is true where it has one."""
     k = timed.number
     if rule == 12:
         return [negation(wit(k, i, j)), timed.near(i, j)]
@@ -472,9 +475,9 @@ def witness_parts(problem, rule, timed, i, j=0):
         return [negation(wit(k, i, j)), node(timed.right, j)]
     if rule == 15:
         return [negation(wit(k, i, j)), span(k, i, j)]
-    if rule == 16:
+    if rule in (16, 28):
         within = [timed.near(i, j)] + ([] if timed.interval[1] is None else [timed.far(i, j)])
-        asked = [*within, node(timed.right, j), span(k, i, j)]
+        asked = [*within, node(timed.right, j), *([span(k, i, j)] if rule == 16 else [])]
         return [wit(k, i, j), *[negation(part) for part in asked]]
     if rule == 17:
         events = range(len(problem.log.rows))

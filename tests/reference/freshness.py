@@ -10,36 +10,40 @@ first, as `line 3 isn't fresh`.
 
 A Learn line is fresh where unit propagation, from the negations of all its
 literals but the first, reaches neither a false clause nor the first literal.
-The propagation goes over the clauses of all rules and of the earlier Learn
-lines; those of Cycle lines aren't among them. A line is used where each of its
-literals stands in the clause of one of its hints, and what each hint but the
-last makes true stands negated in the clause of a later one.
+The propagation goes over the clauses of the problem's rules, which are the
+ones that needless.py keeps, of the rules that hints up to and with the line
+name, and of the earlier Learn lines; those of Cycle lines aren't among them. A
+line is used where each of its literals stands in the clause of one of its
+hints, and what each hint but the last makes true stands negated in the clause
+of a later one. The atoms are those of all rules that have a clause, the
+needless ones too.
 
 Propagation goes over all clauses again and again, so the module is slow.
 """
 
-import itertools
 import sys
+from typing import NamedTuple
 
 sys.dont_write_bytecode = True  # leaves no compiled files beside the sources
 
 import derivations
 import formats
-from derivations import Learn, Rule, RuleFault, negation
+from derivations import Learn, Rule, negation
+from instances import instances
+from needless import kept
 
 
-def rule_clauses(problem):
-    """The clauses of all rules that have one."""
-    found = []
-    numbers = {"k": len(problem.nodes)}
-    events = len(problem.log.rows)
-    for rule, letters in derivations.RULE_ARGUMENTS.items():
-        ranges = [range(numbers.get(letter, events)) for letter in letters]
-        for arguments in itertools.product(*ranges):
-            clause = derivations.clause_of(problem, Rule(rule, arguments))
-            if not isinstance(clause, RuleFault):
-                found.append(clause)
-    return found
+class Rules(NamedTuple):
+    """What the lines of a problem are judged by."""
+
+    clauses: list  # of the rules that are kept
+    atoms: set  # that stand in clauses of any rules
+
+
+def rules_of(problem):
+    """The rules of a problem."""
+    clauses = [list(instance.literals) for instance in kept(problem)]
+    return Rules(clauses, atoms_of(instance.literals for instance in instances(problem)))
 
 
 def atoms_of(clauses):
@@ -76,9 +80,16 @@ def learnt_before(lines, place):
     return [line.literals for line in lines[: place - 1] if isinstance(line, Learn)]
 
 
-def is_fresh(rules, lines, place):
-    """Whether the Learn line at a place is fresh, the clauses of the rules being these."""
-    return is_new([*rules, *learnt_before(lines, place)], lines[place - 1].literals)
+def named_before(problem, lines, place):
+    """The clauses of the rules that hints of the lines up to the one at a place name, which are right."""
+    hints = [hint for line in lines[:place] if isinstance(line, Learn) for hint in line.hints]
+    return [derivations.clause_of(problem, hint) for hint in hints if isinstance(hint, Rule)]
+
+
+def is_fresh(problem, rules, lines, place):
+    """Whether the Learn line at a place is fresh."""
+    named = named_before(problem, lines, place)
+    return is_new([*rules.clauses, *named, *learnt_before(lines, place)], lines[place - 1].literals)
 
 
 def made_true(literals, clauses):
@@ -105,20 +116,19 @@ def is_used(problem, lines, place):
 
 
 def complaint(problem, rules, lines, conflicts):
-    """What keeps the lines from spending so many conflicts, or nothing; rules are the rules' clauses."""
+    """What keeps the lines from spending so many conflicts, or nothing; the rules are the problem's."""
     found = derivations.verdict(problem, lines)
     if found != "derives":
         return found
     places = [place for place, line in enumerate(lines, start=1) if isinstance(line, Learn)]
     if len(places) != conflicts:
         return f"{len(places)} Learn lines"
-    atoms = atoms_of(rules)
     for place in places:
-        if not is_fresh(rules, lines, place):
+        if not is_fresh(problem, rules, lines, place):
             return f"line {place} isn't fresh"
         if not is_used(problem, lines, place):
             return f"line {place} isn't used"
-        if not atoms_of([lines[place - 1].literals]) <= atoms:
+        if not atoms_of([lines[place - 1].literals]) <= rules.atoms:
             return f"line {place} has an atom of no rule"
     return ""
 
@@ -137,7 +147,7 @@ def main(words):
     if isinstance(lines, derivations.SyntaxFault):
         sys.exit(f"line {lines.line} isn't in the grammar")
     problem = derivations.problem_of(log, formula, words[2] == "true")
-    print(complaint(problem, rule_clauses(problem), lines, int(words[3])) or "spends")
+    print(complaint(problem, rules_of(problem), lines, int(words[3])) or "spends")
 
 
 if __name__ == "__main__":

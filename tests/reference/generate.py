@@ -128,7 +128,7 @@ def crowded_log(draw):
     hosts = [Host(b"h%d" % place, 1, 0) for place in range(draw.choice((1, 3, 63, 64, 65)))]
     rows = [
         Row(draw.randrange(len(hosts)), place, b"note", b"n")
-        for place in range(draw.choice((1, 5, 63, 64, 65)))
+        for place in range(draw.choice((1, 5, 63, 64, 65, 1023, 1024, 1025)))
     ]
     return Log(hosts, rows)
 

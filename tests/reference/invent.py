@@ -6,16 +6,16 @@ that are assumed, and lines that are learned from conflicts. Whether a line is
 right is never asked here.
 """
 
-import itertools
 from typing import NamedTuple, Optional
 
 import derivations
 import formats
 import generate
 import reference
-from derivations import Cycle, Learn, LineHint, Literal, Rule, RuleFault, Step, negation
+from derivations import Cycle, Learn, LineHint, Literal, Rule, Step, negation
 from formats import Host, Log, Row
 from generate import chance
+from instances import Clause, instances
 
 ROWS_MOST = 5
 NODES_MOST = 8
@@ -87,11 +87,6 @@ def some_problem(draw):
 # Right derivations
 
 
-class Clause(NamedTuple):
-    literals: tuple
-    hint: object  # what names the clause in a line
-
-
 class Edge(NamedTuple):
     """A step with where it starts and ends, the zero moment being None, and with its bound."""
 
@@ -120,19 +115,6 @@ class Satisfied(Exception):
 
 class Spent(Exception):
     """The search came to the end of its patience."""
-
-
-def instances(problem):
-    """All rules that have a clause, each with its clause."""
-    events = range(len(problem.log.rows))
-    for rule, letters in derivations.RULE_ARGUMENTS.items():
-        kinds = derivations.RULE_KINDS.get(rule, ())
-        nodes = [k for k, node in enumerate(problem.nodes) if node[0] in kinds]
-        ranges = [nodes if letter == "k" else events for letter in letters]
-        for arguments in itertools.product(*ranges):
-            clause = derivations.clause_of(problem, Rule(rule, arguments))
-            if not isinstance(clause, RuleFault):
-                yield Clause(tuple(clause), Rule(rule, arguments))
 
 
 class Search:

@@ -27,6 +27,7 @@ from formats import (
     read_times,
     unknown_host,
 )
+from size import size_of
 
 # The commands of the program, each with its number of operands: files, or a seed.
 COMMANDS = {"times": 1, "replay": 3, "order": 1, "check": 2, "audit": 3, "demo": 1}
@@ -205,15 +206,9 @@ def report_from(files, name):
     return report
 
 
-def size(formula, log):
-    """The number of until and since nodes times the cube of the number of rows."""
-    timed = [node for node in core_nodes(formula) if node[0] in ("until", "since")]
-    return len(timed) * len(log.rows) ** 3
-
-
 def refuse_too_large(formula, log):
     """Raises the Refusal of a size above the limit."""
-    found = size(formula, log)
+    found = size_of(formula, log)
     if found > SIZE_LIMIT:
         raise Refusal(67, f"refused size {found}")
 

@@ -163,15 +163,16 @@ def directly_before(log):
     return pairs
 
 
-def before(log):
-    """All pairs of rows of which the first happens before the second."""
-    pairs = directly_before(log)
-    events = range(len(log.rows))
-    for middle in events:
-        firsts = [event for event in events if (event, middle) in pairs]
-        lasts = [event for event in events if (middle, event) in pairs]
-        pairs.update((first, last) for first in firsts for last in lasts)
-    return pairs
+def earlier(log):
+    """For each row the rows that happen before it, as the bits of a number."""
+    found = [0] * len(log.rows)
+    for first, second in directly_before(log):
+        found[second] |= 1 << first
+    for middle in range(len(found)):
+        for event in range(len(found)):
+            if found[event] >> middle & 1:
+                found[event] |= found[middle]
+    return found
 
 
 def clocks(log):
@@ -179,18 +180,12 @@ def clocks(log):
 
     None where some row happens before itself.
     """
-    pairs = before(log)
-    events = range(len(log.rows))
-    if any((event, event) in pairs for event in events):
+    before = earlier(log)
+    if any(rows >> event & 1 for event, rows in enumerate(before)):
         return None
+    hosts = range(len(log.hosts))
+    of_host = [sum(1 << event for event, row in enumerate(log.rows) if row.host == host) for host in hosts]
     return [
-        [
-            sum(
-                1
-                for other in events
-                if log.rows[other].host == host and (other == event or (other, event) in pairs)
-            )
-            for host in range(len(log.hosts))
-        ]
-        for event in events
+        [((rows | 1 << event) & of_host[host]).bit_count() for host in hosts]
+        for event, rows in enumerate(before)
     ]

@@ -17,6 +17,7 @@ sys.dont_write_bytecode = True  # leaves no compiled files beside the sources
 import cases
 import derivation_cases
 import derivations
+import differences
 import edits
 import formats
 import generate
@@ -24,6 +25,7 @@ import invent
 import judge
 import meanings
 import reference
+from instances import instances
 
 
 def check(right, *what):
@@ -401,9 +403,8 @@ def check_order(draw):
         log = generate.wild_log(draw)
         if not messages_fit(log):
             continue
-        pairs = reference.before(log)
-        for event in range(len(log.rows)):
-            wanted = {other for other in range(len(log.rows)) if (other, event) in pairs}
+        for event, before in enumerate(reference.earlier(log)):
+            wanted = {other for other in range(len(log.rows)) if before >> other & 1}
             check(reached(log, event) == wanted, log, event)
         cyclic += reference.clocks(log) is None
     print(f"{cyclic} logs with a cycle")
@@ -455,9 +456,18 @@ def check_worlds(problem, tree, worlds):
         check(world.gives_value() == wanted, problem, world.times)
 
 
+def check_differences(log, timings):
+    """The differences of a log are those of its timings, which are all."""
+    found = differences.differences_of(log)
+    check((found is None) == (not timings), log)
+    for e, f in itertools.product(range(len(log.rows)), repeat=2) if timings else ():
+        apart = {times[f] - times[e] for times in timings}
+        check(found.least(e, f) == min(apart) and found.greatest(e, f) == max(apart), log, e, f)
+
+
 def check_rules(problem, worlds):
     """The clause of each rule holds in each of the worlds."""
-    for clause in invent.instances(problem):
+    for clause in instances(problem):
         for world in worlds:
             check(world.clause_holds(clause.literals), problem, world.times, clause)
 
@@ -482,6 +492,7 @@ def check_derivations(draw):
         if worlds is None:
             continue
         check_worlds(problem, formats.read_formula(formula_text), worlds)
+        check_differences(problem.log, [world.times for world in worlds])
         worlds = [world for world in worlds if world.gives_value()]
         check_rules(problem, draw.sample(worlds, min(len(worlds), 6)))
         search = invent.Search(draw, problem, patience=100)

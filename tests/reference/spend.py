@@ -10,7 +10,8 @@ freshness.py is tested.
 
 import invent
 from derivations import Cycle, Learn, Literal, LineHint, clause_of_line, negation
-from invent import Clause, find_negative_walk, instances
+from instances import Clause, instances
+from invent import find_negative_walk
 
 
 class Model(Exception):

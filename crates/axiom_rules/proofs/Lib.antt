@@ -9,7 +9,7 @@ pub mod TreeLemmas
 pub mod MeaningLemmas
 pub mod AddingLemmas
 mod EachLemmas
-mod Lookups
+pub mod Lookups
 mod RowLemmas
 pub mod RowCases
 pub mod ChangeCases

@@ -44,42 +44,43 @@ module _ (P : Atom → Type 0) where
   of-clause parts c l is all in_ = of-literals parts l all (once-among (literals_in parts) l (rw (clause-is parts c is) in_))
 
 module _ (s : Sought) (P : Atom → Type 0) where
-  -- what is written speaks of such atoms, and has at most five parts, and one for each event
-  abbrev pub IsMade : Written → Type 0
-  IsMade w = (parts : List Part) → w ≡ Ok parts → OfParts P parts × (length parts ≤ length s.log.rows + 5)
+  -- what is written speaks of such atoms, and has at most so many parts
+  abbrev pub IsMade : ℕ → Written → Type 0
+  IsMade most w = (parts : List Part) → w ≡ Ok parts → OfParts P parts × (length parts ≤ most)
 
-  pub of-ok : (xs : List Part) → OfParts P xs → length xs ≤ length s.log.rows + 5 → IsMade (Ok xs)
-  of-ok xs all few parts is = let same : xs ≡ parts = cc in subst (λ (ps : List Part). OfParts P ps × (length ps ≤ length s.log.rows + 5)) same (all, few)
+  module _ (most : ℕ) where
+    pub of-ok : (xs : List Part) → OfParts P xs → length xs ≤ most → IsMade most (Ok xs)
+    of-ok xs all few parts is = let same : xs ≡ parts = cc in subst (λ (ps : List Part). OfParts P ps × (length ps ≤ most)) same (all, few)
 
-  of-err : (fault : RuleFault) → IsMade (Err fault)
-  of-err fault parts is = absurd (cc)
+    of-err : (fault : RuleFault) → IsMade most (Err fault)
+    of-err fault parts is = absurd (cc)
 
-  pub of-kind : {X : Type 0} (o : Option X) (write : X → Written) → ((x : X) → o ≡ Some x → IsMade (write x)) → IsMade (of_kind o write)
-  of-kind None write each = of-err Kind
-  of-kind (Some x) write each = each x refl
+    pub of-kind : {X : Type 0} (o : Option X) (write : X → Written) → ((x : X) → o ≡ Some x → IsMade most (write x)) → IsMade most (of_kind o write)
+    of-kind None write each = of-err Kind
+    of-kind (Some x) write each = each x refl
 
-  pub of-option : {X : Type 0} (o : Option X) (write : X → Written) (fault : RuleFault) → ((x : X) → o ≡ Some x → IsMade (write x)) → IsMade (option_map_or write o (Err fault))
-  of-option None write fault each = of-err fault
-  of-option (Some x) write fault each = each x refl
+    pub of-option : {X : Type 0} (o : Option X) (write : X → Written) (fault : RuleFault) → ((x : X) → o ≡ Some x → IsMade most (write x)) → IsMade most (option_map_or write o (Err fault))
+    of-option None write fault each = of-err fault
+    of-option (Some x) write fault each = each x refl
 
-  pub of-if : (b : Bool) (w : Written) (fault : RuleFault) → IsMade w → IsMade (if b then w else Err fault)
-  of-if true w fault of = of
-  of-if false w fault of = of-err fault
+    pub of-if : (b : Bool) (w : Written) (fault : RuleFault) → IsMade most w → IsMade most (if b then w else Err fault)
+    of-if true w fault of = of
+    of-if false w fault of = of-err fault
 
-  pub of-1 : (p : Part) → OfPart P p → IsMade (Ok (p ∷ []))
-  of-1 p a = of-ok (p ∷ []) (a, tt) (omega arith)
+  pub of-1 : (p : Part) → OfPart P p → IsMade 5 (Ok (p ∷ []))
+  of-1 p a = of-ok 5 (p ∷ []) (a, tt) (omega arith)
 
-  pub of-2 : (p q : Part) → OfPart P p → OfPart P q → IsMade (Ok (p ∷ q ∷ []))
-  of-2 p q a b = of-ok (p ∷ q ∷ []) (a, (b, tt)) (omega arith)
+  pub of-2 : (p q : Part) → OfPart P p → OfPart P q → IsMade 5 (Ok (p ∷ q ∷ []))
+  of-2 p q a b = of-ok 5 (p ∷ q ∷ []) (a, (b, tt)) (omega arith)
 
-  pub of-3 : (p q r : Part) → OfPart P p → OfPart P q → OfPart P r → IsMade (Ok (p ∷ q ∷ r ∷ []))
-  of-3 p q r a b c = of-ok (p ∷ q ∷ r ∷ []) (a, (b, (c, tt))) (omega arith)
+  pub of-3 : (p q r : Part) → OfPart P p → OfPart P q → OfPart P r → IsMade 5 (Ok (p ∷ q ∷ r ∷ []))
+  of-3 p q r a b c = of-ok 5 (p ∷ q ∷ r ∷ []) (a, (b, (c, tt))) (omega arith)
 
-  pub of-4 : (p q r t : Part) → OfPart P p → OfPart P q → OfPart P r → OfPart P t → IsMade (Ok (p ∷ q ∷ r ∷ t ∷ []))
-  of-4 p q r t a b c d = of-ok (p ∷ q ∷ r ∷ t ∷ []) (a, (b, (c, (d, tt)))) (omega arith)
+  pub of-4 : (p q r t : Part) → OfPart P p → OfPart P q → OfPart P r → OfPart P t → IsMade 5 (Ok (p ∷ q ∷ r ∷ t ∷ []))
+  of-4 p q r t a b c d = of-ok 5 (p ∷ q ∷ r ∷ t ∷ []) (a, (b, (c, (d, tt)))) (omega arith)
 
-  pub of-5 : (p q r t u : Part) → OfPart P p → OfPart P q → OfPart P r → OfPart P t → OfPart P u → IsMade (Ok (p ∷ q ∷ r ∷ t ∷ u ∷ []))
-  of-5 p q r t u a b c d e = of-ok (p ∷ q ∷ r ∷ t ∷ u ∷ []) (a, (b, (c, (d, (e, tt))))) (omega arith)
+  pub of-5 : (p q r t u : Part) → OfPart P p → OfPart P q → OfPart P r → OfPart P t → OfPart P u → IsMade 5 (Ok (p ∷ q ∷ r ∷ t ∷ u ∷ []))
+  of-5 p q r t u a b c d e = of-ok 5 (p ∷ q ∷ r ∷ t ∷ u ∷ []) (a, (b, (c, (d, (e, tt))))) (omega arith)
 
   of-range : (part : ℕ → Part) (a n : ℕ) → ((x : ℕ) → a ≤ x → x < a + n → OfPart P (part x)) → OfParts P (map part (range_with_len a n))
   of-range part a zero each = tt
@@ -91,11 +92,11 @@ module _ (s : Sought) (P : Atom → Type 0) where
   count-of : (part : ℕ → Part) → length (for_each_event s part) ≡ length s.log.rows
   count-of part = length-map-range_with_len part 0 (length s.log.rows)
 
-  pub of-each : (part : ℕ → Part) → ((x : ℕ) → x < length s.log.rows → OfPart P (part x)) → IsMade (Ok (for_each_event s part))
-  of-each part each = of-ok (for_each_event s part) (each-of part each) (omega (arith, count-of part))
+  pub of-each : (part : ℕ → Part) → ((x : ℕ) → x < length s.log.rows → OfPart P (part x)) → IsMade (length s.log.rows + 5) (Ok (for_each_event s part))
+  of-each part each = of-ok (length s.log.rows + 5) (for_each_event s part) (each-of part each) (omega (arith, count-of part))
 
-  pub of-first-and-each : (p : Part) (part : ℕ → Part) → OfPart P p → ((x : ℕ) → x < length s.log.rows → OfPart P (part x)) → IsMade (Ok (p ∷ for_each_event s part))
-  of-first-and-each p part a each = of-ok (p ∷ for_each_event s part) (a, each-of part each) (omega (arith, count-of part))
+  pub of-first-and-each : (p : Part) (part : ℕ → Part) → OfPart P p → ((x : ℕ) → x < length s.log.rows → OfPart P (part x)) → IsMade (length s.log.rows + 5) (Ok (p ∷ for_each_event s part))
+  of-first-and-each p part a each = of-ok (length s.log.rows + 5) (p ∷ for_each_event s part) (a, each-of part each) (omega (arith, count-of part))
 
 kept-short : (p : Literal → Bool) (ls : List Literal) → length (filter p ls) ≤ length ls
 kept-short p [] = omega arith

@@ -13,7 +13,7 @@ use Rattle.axiom_rules.specs.declared.rule.Argument.TheVariants.{ANode, AnEvent,
 use Rattle.axiom_rules.specs.declared.rule.Rule.{Rule}
 use Rattle.axiom_rules.specs.Clauses.{Row, are_there, clause_of, is_there, of_event, of_events, of_node_event, of_node_event_change, of_node_events, of_node_three_events, of_nothing, row_of, rows}
 use Rattle.axiom_rules.specs.Parts.{Written, clause_of_parts, clause_of_written}
-use Rattle.axiom_rules.specs.Rules.{rule_1, rule_2, rule_3, rule_4, rule_5, rule_6, rule_7, rule_8, rule_9, rule_10, rule_11, rule_12, rule_13, rule_14, rule_15, rule_16, rule_17, rule_18, rule_19, rule_20, rule_21, rule_22, rule_23, rule_24}
+use Rattle.axiom_rules.specs.Rules.{rule_1, rule_2, rule_3, rule_4, rule_5, rule_6, rule_7, rule_8, rule_9, rule_10, rule_11, rule_12, rule_13, rule_14, rule_15, rule_16, rule_17, rule_18, rule_19, rule_20, rule_21, rule_22, rule_23, rule_24, rule_28}
 use Rattle.axiom_rules.specs.Sought.{Sought}
 
 -- a rule that has a clause has a row, its arguments are there, and the clause is that of what the row writes
@@ -71,7 +71,7 @@ pub shape-case : (P : Row → Type 0) → ((w : Sought → Written) → P (of_no
     → P (of_node_event_change rule_2) → (number : ℕ) (row : Row) → row_of number ≡ Some row → P row
 shape-case P nothing event events node two three change = row-case (λ n row. P row) (
   node rule_1,
-  (change, (node rule_3, (node rule_4, (node rule_5, (node rule_6, (node rule_7, (node rule_8, (events rule_9, (event rule_10, (nothing rule_11, (two rule_12, (two rule_13, (two rule_14, (two rule_15, (two rule_16, (node rule_17, (two rule_18, (three rule_19, (two rule_20, (three rule_21, (two rule_22, (two rule_23, (event rule_24, tt))))))))))))))))))))))),
+  (change, (node rule_3, (node rule_4, (node rule_5, (node rule_6, (node rule_7, (node rule_8, (events rule_9, (event rule_10, (nothing rule_11, (two rule_12, (two rule_13, (two rule_14, (two rule_15, (two rule_16, (node rule_17, (two rule_18, (three rule_19, (two rule_20, (three rule_21, (two rule_22, (two rule_23, (event rule_24, (two rule_28, tt)))))))))))))))))))))))),
 )
 
 -- four arguments that are there

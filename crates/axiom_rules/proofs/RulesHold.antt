@@ -6,10 +6,10 @@ use Rattle.std.specs.Option.{option_map_or}
 use Rattle.std.proofs.lemmas.Int.{ints}
 use Rattle.std.proofs.lemmas.Bool.{and_parts, cases_Bool}
 use Rattle.std.proofs.lemmas.Bool.Decides.{nat_tests}
-use Rattle.std.proofs.lemmas.Option.{slice_get_read}
+use Rattle.std.proofs.lemmas.Option.{get_or_from_slice_get, slice_get_read}
 use Rattle.mt_model.specs.declared.tree.Interval.{Interval}
 use Rattle.mt_model.specs.Before.{BeforeIsNotLater}
-use Rattle.mt_model.specs.Form.{Form, True, Prop, Not, And, Until, Since}
+use Rattle.mt_model.specs.Form.{Form, True, False, Prop, Not, And, Or, Implies, Until, Since, Eventually, Always, Once, Historically}
 use Rattle.mt_model.specs.Frame.{Frame, span, witness}
 use Rattle.mt_model.specs.Log.{Logged, IsLog}
 use Rattle.mt_model.specs.State.{Change, changes_of, host_named}
@@ -42,7 +42,7 @@ use Rattle.axiom_rules.specs.NodeShapes.{changes_in, is_constant, operand_in, re
 use Rattle.axiom_rules.specs.Rules.{of_kind, for_each_event, has_come, is, is_not, is_not_up_to}
 use Rattle.axiom_rules.proofs.BoolLemmas.{any_1, any_2, any_3, any_4, any_5, any_rest, apart, failing, not_false, was_true}
 use Rattle.axiom_rules.proofs.ChangeLemmas.{Falls, changes-fall, first-none, first_passes, is_by, last-at}
-use Rattle.axiom_rules.proofs.FrameRules.{gap_parts, gap_without_span, reached, reaches_from, span_at, span_to_gap, witness_from, witness_parts}
+use Rattle.axiom_rules.proofs.FrameRules.{gap_parts, gap_without_span, reached, reaches_from, span_at, span_from, span_to_gap, witness_from, witness_parts}
 use Rattle.axiom_rules.proofs.MeaningLemmas.{F, at_row, from, is_from-says, is_not_from-says, is_not_up_to-says, is_up_to-says, means-gap, means-node, means-reaches, means-span, means-wit, met_after-says, near-ahead, near-parts, not_met_after-says, row_at, told, up_to}
 use Rattle.axiom_rules.proofs.Orders.{first_of, order-met, order-rows}
 use Rattle.axiom_rules.proofs.PartLemmas.{any-map, clause_from_parts, not_after_is, not_order-says, order-says, part_holds}
@@ -97,6 +97,29 @@ module _ (log : Logged) (t : List ℤ) (trees : List Form) (root : ℕ) (value :
   module _ (count : length t ≡ length log.rows) (same : (f g : Form) → (same_form f g ≡ true) ↔ (f ≡ g)) (children_first : (k : ℕ) → k < length trees → All (StandsBefore trees k) (children_of (tree_at trees k))) where
     shape-there : (k : ℕ) → k < length trees → shape_of log trees (tree_at trees k) ≡ shape_at s k
     shape-there k low = sym (ap (option_and_then (shape_of log trees)) (slice_get_read trees (length trees) k (tree_at trees k) refl low (index_or-there trees k True low)))
+
+    -- a node whose shape is that of `true` is it
+    constant-tree : (k : ℕ) → is_constant (shape_at s k) ≡ true → tree_at trees k ≡ True
+    constant-tree k is = go (slice_get trees k) refl is
+      where
+        tree : (g : Form) → is_constant (shape_of log trees g) ≡ true → g ≡ True
+        tree True is = refl
+        tree False is = absurd (cc)
+        tree (Prop host name) is = absurd (cc)
+        tree (Not g) is = absurd (cc)
+        tree (And g h) is = absurd (cc)
+        tree (Or g h) is = absurd (cc)
+        tree (Implies g h) is = absurd (cc)
+        tree (Until I g h) is = absurd (cc)
+        tree (Since I g h) is = absurd (cc)
+        tree (Eventually I g) is = absurd (cc)
+        tree (Always I g) is = absurd (cc)
+        tree (Once I g) is = absurd (cc)
+        tree (Historically I g) is = absurd (cc)
+
+        go : (o : Option Form) → slice_get trees k ≡ o → is_constant (option_and_then (shape_of log trees) o) ≡ true → tree_at trees k ≡ True
+        go None at is = absurd (cc)
+        go (Some g) at is = get_or_from_slice_get trees k g True at ∙ tree g is
 
     by_not : (k : ℕ) (write : ℕ → Written) → k < length trees → ((f : Form) (a : ℕ) → tree_at trees k ≡ Not f → tree_at trees a ≡ f → Right (write a)) → Right (of_kind (operand_in (shape_at s k)) write)
     by_not k write low h = subst (λ o. Right (of_kind (operand_in o) write)) (shape-there k low) (go (tree_at trees k) refl)
@@ -240,6 +263,22 @@ module _ (log : Logged) (t : List ℤ) (trees : List Form) (root : ℕ) (value :
               absurd (apart (M (Wit k i j)) wit none)
         ])
 
+        parts_28 : (i j : ℕ) → i < length t → j < length t → (constant : Bool) → is_constant (shape_at s l) ≡ constant
+            → Right (if constant then Ok (is (Wit k i j) ∷ rule.is_not_from direction I i j ∷ option_map_or (λ b. is_not_up_to direction b i j) I.high (Known false) ∷ is_not (Node r j) ∷ []) else Err Kind)
+        parts_28 i j a b false is = tt
+        parts_28 i j a b true is = any_4 _ _ _ _ (λ none low_ok high_ok. elim (cases_Bool (M (Node r j))) [
+          | inr fails ↦ not_false _ fails
+          | inl holds ↦
+              let from_it : from log t trees direction I i j ≡ true = was_true _ (sym (is_not_from-says log t trees direction I i j) ∙ low_ok) in
+              let far_it = far_part i j I.high high_ok in
+              let near_it : near i j ≡ true = near-parts log t trees direction I i j ∙ (rw (from_it, far_it) refl) in
+              let there : R j ≡ true = sym (node-is r j g b right) ∙ holds in
+              let constant : f ≡ True = sym left ∙ constant-tree l is in
+              let spans : span O L i j ≡ true = span_from O L i j (λ m c begun before. subst (λ x. told log t trees x m ≡ true) (sym constant) refl) in
+              let wit = is-wit i j a b ∙ witness_from O near L R i j near_it there spans in
+              absurd (apart (M (Wit k i j)) wit none)
+        ])
+
         parts_17 : (i : ℕ) → i < length t → list_any (part_holds M) (is_not (Node k i) ∷ for_each_event s (λ j. is (Wit k i j))) ≡ true
         parts_17 i a = any_rest _ _ (λ no.
             let reaching = sym (means-reaches log t trees k direction I f g at i a) ∙ was_true _ no in
@@ -294,6 +333,10 @@ module _ (log : Logged) (t : List ℤ) (trees : List Form) (root : ℕ) (value :
 
     right_16 : (k i j : ℕ) → k < length trees → i < length t → j < length t → Right (rule.rule_16 s k i j)
     right_16 k i j low a b = by_reach k (λ u. Ok (is (Wit k i j) ∷ rule.is_not_from u.direction u.interval i j ∷ option_map_or (λ b. is_not_up_to u.direction b i j) u.interval.high (Known false) ∷ is_not (Node u.right j) ∷ is_not (Span k i j) ∷ [])) low (λ direction I f g l r at left right. parts_16 k low direction I f g l r at left right i j a b)
+
+    right_28 : (k i j : ℕ) → k < length trees → i < length t → j < length t → Right (rule.rule_28 s k i j)
+    right_28 k i j low a b = by_reach k (λ u. if is_constant (shape_at s u.left) then Ok (is (Wit k i j) ∷ rule.is_not_from u.direction u.interval i j ∷ option_map_or (λ b. is_not_up_to u.direction b i j) u.interval.high (Known false) ∷ is_not (Node u.right j) ∷ []) else Err Kind) low
+        (λ direction I f g l r at left right. parts_28 k low direction I f g l r at left right i j a b (is_constant (shape_at s l)) refl)
 
     right_17 : (k i : ℕ) → k < length trees → i < length t → Right (rule.rule_17 s k i)
     right_17 k i low a = by_reach k (λ u. Ok (is_not (Node k i) ∷ for_each_event s (λ j. is (Wit k i j)))) low (λ direction I f g l r at left right. parts_17 k low direction I f g l r at left right i a)
@@ -439,7 +482,7 @@ module _ (log : Logged) (t : List ℤ) (trees : List Form) (root : ℕ) (value :
                                             (λ g. node_three_events rule.rule_19 right_19),
                                             (
                                               (λ g. node_events rule.rule_20 right_20),
-                                              ((λ g. node_three_events rule.rule_21 right_21), ((λ g. node_events rule.rule_22 right_22), ((λ g. node_events rule.rule_23 right_23), ((λ g. one_event rule.rule_24 (λ e in_. right_24 e in_ (g refl))), tt)))),
+                                              ((λ g. node_three_events rule.rule_21 right_21), ((λ g. node_events rule.rule_22 right_22), ((λ g. node_events rule.rule_23 right_23), ((λ g. one_event rule.rule_24 (λ e in_. right_24 e in_ (g refl))), ((λ g. node_events rule.rule_28 right_28), tt))))),
                                             ),
                                           ),
                                         ),

@@ -19,11 +19,12 @@ use Rattle.axiom_rules.specs.declared.part.Part.TheVariants.{Says, Known}
 use Rattle.axiom_rules.specs.declared.reach.Reach.{Reach}
 use Rattle.axiom_rules.specs.declared.rule.Rule.{Rule}
 use Rattle.axiom_rules.specs.Clauses.{Row, clause_of, of_event, of_events, of_node_event, of_node_event_change, of_node_events, of_node_three_events, of_nothing, row_of}
+use Rattle.axiom_rules.specs.ClauseLengths.{is_of_each_event, most_literals}
 use Rattle.axiom_rules.specs.Laws.{IsOfRows}
 use Rattle.axiom_rules.specs.Literals.{no, yes}
-use Rattle.axiom_rules.specs.NodeShapes.{changes_in, changes_named, operand_in, reach_in, shape_at, sides_in}
+use Rattle.axiom_rules.specs.NodeShapes.{changes_in, changes_named, is_constant, operand_in, reach_in, shape_at, sides_in}
 use Rattle.axiom_rules.specs.Parts.{not_after, order}
-use Rattle.axiom_rules.specs.Rules.{has_come, is, is_not_up_to, met_order, not_met_order, rule_1, rule_2, rule_3, rule_4, rule_5, rule_6, rule_7, rule_8, rule_9, rule_10, rule_11, rule_12, rule_13, rule_14, rule_15, rule_16, rule_17, rule_18, rule_19, rule_20, rule_21, rule_22, rule_23, rule_24}
+use Rattle.axiom_rules.specs.Rules.{has_come, is, is_not_up_to, met_order, not_met_order, rule_1, rule_2, rule_3, rule_4, rule_5, rule_6, rule_7, rule_8, rule_9, rule_10, rule_11, rule_12, rule_13, rule_14, rule_15, rule_16, rule_17, rule_18, rule_19, rule_20, rule_21, rule_22, rule_23, rule_24, rule_28}
 use Rattle.axiom_rules.specs.Sought.{Sought}
 use Rattle.axiom_rules.proofs.ChangeCases.{changes-case}
 use Rattle.axiom_rules.proofs.PartsMade.{IsMade, OfPart, clause-short, of-1, of-2, of-3, of-4, of-5, of-clause, of-each, of-first-and-each, of-if, of-kind, of-option}
@@ -96,8 +97,13 @@ module _ (s : Sought) (N : ℕ → Type 0) (B : ℤ → Type 0) (nodes : AreNode
   abbrev P : Atom → Type 0
   P a = IsMadeOf s N B a
 
-  abbrev IsRow : Row → Type 0
-  IsRow row = OfRow s (IsMade s P) row
+  -- a row writes of such atoms, and no more parts than a clause of its number may have literals
+  abbrev IsRow : ℕ → Row → Type 0
+  IsRow number row = OfRow s (IsMade s P (most_literals s number)) row
+
+  -- of rules that have a part for each event
+  abbrev of-events : ℕ
+  of-events = length s.log.rows + 5
 
   -- what an order says
   order-made : (e f : ℕ) (c : ℤ) → e < length s.log.rows → f < length s.log.rows → BothWays B c → OfPart P (order e f c)
@@ -142,89 +148,94 @@ module _ (s : Sought) (N : ℕ → Type 0) (B : ℤ → Type 0) (nodes : AreNode
   zero-turned : BothWays B (neg_ℤ (pos 0) -ℤ pos 1)
   zero-turned = turned B (pos 0) bounds.zero
 
-  made-1 : IsRow (of_node_event rule_1)
-  made-1 = row-of-node s (IsMade s P) rule_1 (λ k e low-k low. of-kind s P _ _ (λ (changes : List Change) is. of-2 s P _ _ (nodes.each k low-k, low) (come-made changes 0 e (changes-in s k changes is) low)))
+  made-1 : IsRow 1 (of_node_event rule_1)
+  made-1 = row-of-node s (IsMade s P 5) rule_1 (λ k e low-k low. of-kind s P 5 _ _ (λ (changes : List Change) is. of-2 s P _ _ (nodes.each k low-k, low) (come-made changes 0 e (changes-in s k changes is) low)))
 
-  made-2 : IsRow (of_node_event_change rule_2)
-  made-2 = row-of-change s (IsMade s P) rule_2 (λ k e p low-k low. of-kind s P _ _ (λ (changes : List Change) is. of-option s P (slice_get changes p) _ Range (λ (c : Change) at.
+  made-2 : IsRow 2 (of_node_event_change rule_2)
+  made-2 = row-of-change s (IsMade s P 5) rule_2 (λ k e p low-k low. of-kind s P 5 _ _ (λ (changes : List Change) is. of-option s P 5 (slice_get changes p) _ Range (λ (c : Change) at.
       let all = changes-in s k changes is in
       of-3 s P _ _ _ (order-made e c.row (neg_ℤ (pos 0) -ℤ pos 1) low (holds-at (IsOfRow s) changes p c all at) zero-turned) (come-made changes (p + 1) e all low) (nodes.each k low-k, low))))
 
-  made-3 : IsRow (of_node_event rule_3)
-  made-3 = row-of-node s (IsMade s P) rule_3 (λ k e low-k low. of-if s P _ _ Kind (of-1 s P _ (nodes.each k low-k, low)))
+  made-3 : IsRow 3 (of_node_event rule_3)
+  made-3 = row-of-node s (IsMade s P 5) rule_3 (λ k e low-k low. of-if s P 5 _ _ Kind (of-1 s P _ (nodes.each k low-k, low)))
 
-  made-4 : IsRow (of_node_event rule_4)
-  made-4 = row-of-node s (IsMade s P) rule_4 (λ k e low-k low. of-kind s P _ _ (λ a is. of-2 s P _ _ (nodes.each k low-k, low) (nodes.operand k a is, low)))
+  made-4 : IsRow 4 (of_node_event rule_4)
+  made-4 = row-of-node s (IsMade s P 5) rule_4 (λ k e low-k low. of-kind s P 5 _ _ (λ a is. of-2 s P _ _ (nodes.each k low-k, low) (nodes.operand k a is, low)))
 
-  made-5 : IsRow (of_node_event rule_5)
-  made-5 = row-of-node s (IsMade s P) rule_5 (λ k e low-k low. of-kind s P _ _ (λ a is. of-2 s P _ _ (nodes.each k low-k, low) (nodes.operand k a is, low)))
+  made-5 : IsRow 5 (of_node_event rule_5)
+  made-5 = row-of-node s (IsMade s P 5) rule_5 (λ k e low-k low. of-kind s P 5 _ _ (λ a is. of-2 s P _ _ (nodes.each k low-k, low) (nodes.operand k a is, low)))
 
-  made-6 : IsRow (of_node_event rule_6)
-  made-6 = row-of-node s (IsMade s P) rule_6 (λ k e low-k low. of-kind s P _ _ (λ both is. of-2 s P _ _ (nodes.each k low-k, low) ((nodes.sides k both is).0, low)))
+  made-6 : IsRow 6 (of_node_event rule_6)
+  made-6 = row-of-node s (IsMade s P 5) rule_6 (λ k e low-k low. of-kind s P 5 _ _ (λ both is. of-2 s P _ _ (nodes.each k low-k, low) ((nodes.sides k both is).0, low)))
 
-  made-7 : IsRow (of_node_event rule_7)
-  made-7 = row-of-node s (IsMade s P) rule_7 (λ k e low-k low. of-kind s P _ _ (λ both is. of-2 s P _ _ (nodes.each k low-k, low) ((nodes.sides k both is).1, low)))
+  made-7 : IsRow 7 (of_node_event rule_7)
+  made-7 = row-of-node s (IsMade s P 5) rule_7 (λ k e low-k low. of-kind s P 5 _ _ (λ both is. of-2 s P _ _ (nodes.each k low-k, low) ((nodes.sides k both is).1, low)))
 
-  made-8 : IsRow (of_node_event rule_8)
-  made-8 = row-of-node s (IsMade s P) rule_8 (λ k e low-k low. of-kind s P _ _ (λ both is. of-3 s P _ _ _ (nodes.each k low-k, low) ((nodes.sides k both is).0, low) ((nodes.sides k both is).1, low)))
+  made-8 : IsRow 8 (of_node_event rule_8)
+  made-8 = row-of-node s (IsMade s P 5) rule_8 (λ k e low-k low. of-kind s P 5 _ _ (λ both is. of-3 s P _ _ _ (nodes.each k low-k, low) ((nodes.sides k both is).0, low) ((nodes.sides k both is).1, low)))
 
-  made-9 : IsRow (of_events rule_9)
-  made-9 = row-of-events s (IsMade s P) rule_9 (λ e x low low-x. of-2 s P _ _ low (order-made e x (pos 0) low low-x bounds.zero))
+  made-9 : IsRow 9 (of_events rule_9)
+  made-9 = row-of-events s (IsMade s P 5) rule_9 (λ e x low low-x. of-2 s P _ _ low (order-made e x (pos 0) low low-x bounds.zero))
 
-  made-10 : IsRow (of_event rule_10)
-  made-10 = row-of-event s (IsMade s P) rule_10 (λ e low. of-first-and-each s P _ _ low (λ x low-x. order-made x e (neg_ℤ (pos 0) -ℤ pos 1) low-x low zero-turned))
+  made-10 : IsRow 10 (of_event rule_10)
+  made-10 = row-of-event s (IsMade s P of-events) rule_10 (λ e low. of-first-and-each s P _ _ low (λ x low-x. order-made x e (neg_ℤ (pos 0) -ℤ pos 1) low-x low zero-turned))
 
-  made-11 : IsRow (of_nothing rule_11)
-  made-11 = row-of-nothing s (IsMade s P) rule_11 (of-each s P (λ e. is (First e)) (λ x low. low))
+  made-11 : IsRow 11 (of_nothing rule_11)
+  made-11 = row-of-nothing s (IsMade s P of-events) rule_11 (of-each s P (λ e. is (First e)) (λ x low. low))
 
-  made-12 : IsRow (of_node_events rule_12)
-  made-12 = row-of-two s (IsMade s P) rule_12 (λ k i j low-k low-i low-j. of-kind s P _ _ (λ (u : Reach) is. of-2 s P _ _ (reach k u is, low-i, low-j) (met-made u.direction i j (neg_ℤ (pos u.interval.low)) low-i low-j (bounds.low k u is))))
+  made-12 : IsRow 12 (of_node_events rule_12)
+  made-12 = row-of-two s (IsMade s P 5) rule_12 (λ k i j low-k low-i low-j. of-kind s P 5 _ _ (λ (u : Reach) is. of-2 s P _ _ (reach k u is, low-i, low-j) (met-made u.direction i j (neg_ℤ (pos u.interval.low)) low-i low-j (bounds.low k u is))))
 
-  made-13 : IsRow (of_node_events rule_13)
-  made-13 = row-of-two s (IsMade s P) rule_13 (λ k i j low-k low-i low-j. of-kind s P _ _ (λ (u : Reach) is. of-option s P u.interval.high _ NoRule (λ b at.
+  made-13 : IsRow 13 (of_node_events rule_13)
+  made-13 = row-of-two s (IsMade s P 5) rule_13 (λ k i j low-k low-i low-j. of-kind s P 5 _ _ (λ (u : Reach) is. of-option s P 5 u.interval.high _ NoRule (λ b at.
       of-2 s P _ _ (reach k u is, low-i, low-j) (met-made u.direction j i (pos b) low-j low-i (bounds.high k u b is at)))))
 
-  made-14 : IsRow (of_node_events rule_14)
-  made-14 = row-of-two s (IsMade s P) rule_14 (λ k i j low-k low-i low-j. of-kind s P _ _ (λ (u : Reach) is. of-2 s P _ _ (reach k u is, low-i, low-j) ((nodes.children k u is).1, low-j)))
+  made-14 : IsRow 14 (of_node_events rule_14)
+  made-14 = row-of-two s (IsMade s P 5) rule_14 (λ k i j low-k low-i low-j. of-kind s P 5 _ _ (λ (u : Reach) is. of-2 s P _ _ (reach k u is, low-i, low-j) ((nodes.children k u is).1, low-j)))
 
-  made-15 : IsRow (of_node_events rule_15)
-  made-15 = row-of-two s (IsMade s P) rule_15 (λ k i j low-k low-i low-j. of-kind s P _ _ (λ (u : Reach) is. of-2 s P _ _ (reach k u is, low-i, low-j) (reach k u is, low-i, low-j)))
+  made-15 : IsRow 15 (of_node_events rule_15)
+  made-15 = row-of-two s (IsMade s P 5) rule_15 (λ k i j low-k low-i low-j. of-kind s P 5 _ _ (λ (u : Reach) is. of-2 s P _ _ (reach k u is, low-i, low-j) (reach k u is, low-i, low-j)))
 
-  made-16 : IsRow (of_node_events rule_16)
-  made-16 = row-of-two s (IsMade s P) rule_16 (λ k i j low-k low-i low-j. of-kind s P _ _ (λ (u : Reach) is.
+  made-16 : IsRow 16 (of_node_events rule_16)
+  made-16 = row-of-two s (IsMade s P 5) rule_16 (λ k i j low-k low-i low-j. of-kind s P 5 _ _ (λ (u : Reach) is.
       of-5 s P _ _ _ _ _ (reach k u is, low-i, low-j) (not-met-made u.direction i j (neg_ℤ (pos u.interval.low)) low-i low-j (bounds.low k u is))
       (far-made u.direction u.interval.high i j low-i low-j (λ b at. bounds.high k u b is at)) ((nodes.children k u is).1, low-j) (reach k u is, low-i, low-j)))
 
-  made-17 : IsRow (of_node_event rule_17)
-  made-17 = row-of-node s (IsMade s P) rule_17 (λ k i low-k low-i. of-kind s P _ _ (λ (u : Reach) is. of-first-and-each s P _ _ (nodes.each k low-k, low-i) (λ x low-x. (reach k u is, low-i, low-x))))
+  made-17 : IsRow 17 (of_node_event rule_17)
+  made-17 = row-of-node s (IsMade s P of-events) rule_17 (λ k i low-k low-i. of-kind s P of-events _ _ (λ (u : Reach) is. of-first-and-each s P _ _ (nodes.each k low-k, low-i) (λ x low-x. (reach k u is, low-i, low-x))))
 
-  made-18 : IsRow (of_node_events rule_18)
-  made-18 = row-of-two s (IsMade s P) rule_18 (λ k i j low-k low-i low-j. of-kind s P _ _ (λ (u : Reach) is. of-2 s P _ _ (nodes.each k low-k, low-i) (reach k u is, low-i, low-j)))
+  made-18 : IsRow 18 (of_node_events rule_18)
+  made-18 = row-of-two s (IsMade s P 5) rule_18 (λ k i j low-k low-i low-j. of-kind s P 5 _ _ (λ (u : Reach) is. of-2 s P _ _ (nodes.each k low-k, low-i) (reach k u is, low-i, low-j)))
 
-  made-19 : IsRow (of_node_three_events rule_19)
-  made-19 = row-of-three s (IsMade s P) rule_19 (λ k i j m low-k low-i low-j low-m. of-kind s P _ _ (λ (u : Reach) is.
+  made-19 : IsRow 19 (of_node_three_events rule_19)
+  made-19 = row-of-three s (IsMade s P 5) rule_19 (λ k i j m low-k low-i low-j low-m. of-kind s P 5 _ _ (λ (u : Reach) is.
       of-4 s P _ _ _ _ (reach k u is, low-i, low-j) (not-met-made u.direction i m (pos 0) low-i low-m bounds.zero) (met-made u.direction j m (pos 0) low-j low-m bounds.zero) ((nodes.children k u is).0, low-m)))
 
-  made-20 : IsRow (of_node_events rule_20)
-  made-20 = row-of-two s (IsMade s P) rule_20 (λ k i j low-k low-i low-j. of-kind s P _ _ (λ (u : Reach) is. of-first-and-each s P _ _ (reach k u is, low-i, low-j) (λ x low-x. (reach k u is, low-i, low-x))))
+  made-20 : IsRow 20 (of_node_events rule_20)
+  made-20 = row-of-two s (IsMade s P of-events) rule_20 (λ k i j low-k low-i low-j. of-kind s P of-events _ _ (λ (u : Reach) is. of-first-and-each s P _ _ (reach k u is, low-i, low-j) (λ x low-x. (reach k u is, low-i, low-x))))
 
-  made-21 : IsRow (of_node_three_events rule_21)
-  made-21 = row-of-three s (IsMade s P) rule_21 (λ k i j m low-k low-i low-j low-m. of-kind s P _ _ (λ (u : Reach) is.
+  made-21 : IsRow 21 (of_node_three_events rule_21)
+  made-21 = row-of-three s (IsMade s P 5) rule_21 (λ k i j m low-k low-i low-j low-m. of-kind s P 5 _ _ (λ (u : Reach) is.
       of-3 s P _ _ _ (reach k u is, low-i, low-m) (not-met-made u.direction j m (pos 0) low-j low-m bounds.zero) (reach k u is, low-i, low-j)))
 
-  made-22 : IsRow (of_node_events rule_22)
-  made-22 = row-of-two s (IsMade s P) rule_22 (λ k i m low-k low-i low-m. of-kind s P _ _ (λ (u : Reach) is. of-2 s P _ _ (reach k u is, low-i, low-m) (met-made u.direction i m (pos 0) low-i low-m bounds.zero)))
+  made-22 : IsRow 22 (of_node_events rule_22)
+  made-22 = row-of-two s (IsMade s P 5) rule_22 (λ k i m low-k low-i low-m. of-kind s P 5 _ _ (λ (u : Reach) is. of-2 s P _ _ (reach k u is, low-i, low-m) (met-made u.direction i m (pos 0) low-i low-m bounds.zero)))
 
-  made-23 : IsRow (of_node_events rule_23)
-  made-23 = row-of-two s (IsMade s P) rule_23 (λ k i m low-k low-i low-m. of-kind s P _ _ (λ (u : Reach) is. of-2 s P _ _ (reach k u is, low-i, low-m) ((nodes.children k u is).0, low-m)))
+  made-23 : IsRow 23 (of_node_events rule_23)
+  made-23 = row-of-two s (IsMade s P 5) rule_23 (λ k i m low-k low-i low-m. of-kind s P 5 _ _ (λ (u : Reach) is. of-2 s P _ _ (reach k u is, low-i, low-m) ((nodes.children k u is).0, low-m)))
 
-  made-24 : IsRow (of_event rule_24)
-  made-24 = row-of-event s (IsMade s P) rule_24 (λ e low. of-2 s P _ _ low (nodes.root, low))
+  made-24 : IsRow 24 (of_event rule_24)
+  made-24 = row-of-event s (IsMade s P 5) rule_24 (λ e low. of-2 s P _ _ low (nodes.root, low))
 
-  rows-made : (number : ℕ) (row : Row) → row_of number ≡ Some row → IsRow row
-  rows-made = row-case (λ n row. IsRow row) (
+  made-28 : IsRow 28 (of_node_events rule_28)
+  made-28 = row-of-two s (IsMade s P 5) rule_28 (λ k i j low-k low-i low-j. of-kind s P 5 _ _ (λ (u : Reach) is. of-if s P 5 (is_constant (shape_at s u.left)) _ Kind
+      (of-4 s P _ _ _ _ (reach k u is, low-i, low-j) (not-met-made u.direction i j (neg_ℤ (pos u.interval.low)) low-i low-j (bounds.low k u is))
+      (far-made u.direction u.interval.high i j low-i low-j (λ b at. bounds.high k u b is at)) ((nodes.children k u is).1, low-j))))
+
+  rows-made : (number : ℕ) (row : Row) → row_of number ≡ Some row → IsRow number row
+  rows-made = row-case IsRow (
     made-1,
-    (made-2, (made-3, (made-4, (made-5, (made-6, (made-7, (made-8, (made-9, (made-10, (made-11, (made-12, (made-13, (made-14, (made-15, (made-16, (made-17, (made-18, (made-19, (made-20, (made-21, (made-22, (made-23, (made-24, tt))))))))))))))))))))))),
+    (made-2, (made-3, (made-4, (made-5, (made-6, (made-7, (made-8, (made-9, (made-10, (made-11, (made-12, (made-13, (made-14, (made-15, (made-16, (made-17, (made-18, (made-19, (made-20, (made-21, (made-22, (made-23, (made-24, (made-28, tt)))))))))))))))))))))))),
   )
 
   -- the atoms in the clause of a rule are made of these
@@ -233,8 +244,8 @@ module _ (s : Sought) (N : ℕ → Type 0) (B : ℤ → Type 0) (nodes : AreNode
       let w = written-by s rule c is in
       of-clause P w.parts c l w.clause (rows-made rule.number w.row w.at rule.args w.there w.parts w.written).0 in_
 
-  -- a clause has at most as many literals as the log has rows, and five
-  literals-few : (rule : Rule) (c : List Literal) → clause_of s rule ≡ Ok c → length c ≤ length s.log.rows + 5
+  -- how many literals a clause has at most
+  literals-few : (rule : Rule) (c : List Literal) → clause_of s rule ≡ Ok c → length c ≤ most_literals s rule.number
   literals-few rule c is =
       let w = written-by s rule c is in
       omega (arith, clause-short w.parts c w.clause, (rows-made rule.number w.row w.at rule.args w.there w.parts w.written).1)
@@ -256,9 +267,17 @@ module _ (s : Sought) where
   any-bounds : AreBounds s Any-bound
   any-bounds = record { zero = both (pos 0); low = λ k u is. both (neg_ℤ (pos u.interval.low)); high = λ k u b is at. both (pos b) }
 
-  -- a clause has at most as many literals as the log has rows, and five
+  -- how many literals a clause has at most, by the number of its rule
+  pub few-by-number : (rule : Rule) (c : List Literal) → clause_of s rule ≡ Ok c → length c ≤ most_literals s rule.number
+  few-by-number = literals-few s Any-node Any-bound any-nodes any-bounds
+
+  -- and whatever the rule: as many as the log has rows, and five
   pub few-literals : (rule : Rule) (c : List Literal) → clause_of s rule ≡ Ok c → length c ≤ length s.log.rows + 5
-  few-literals = literals-few s Any-node Any-bound any-nodes any-bounds
+  few-literals rule c is = go (is_of_each_event rule.number) (few-by-number rule c is)
+    where
+      go : (each : Bool) → length c ≤ (let most : ℕ = (if each then length s.log.rows + 5 else 5) in most) → length c ≤ length s.log.rows + 5
+      go true few = few
+      go false few = omega (arith, few)
 
   -- an order atom is over two rows of the log, the smaller first
   pub orders-of-rows : (rule : Rule) (c : List Literal) (l : Literal) → clause_of s rule ≡ Ok c → Among c l → IsOfRows s l.atom

@@ -9,7 +9,7 @@ use Rattle.axiom_rules.specs.declared.rule.Argument.TheVariants.{ANode, AnEvent,
 use Rattle.axiom_rules.specs.declared.rule.Rule.{Rule}
 use Rattle.axiom_rules.specs.Parts.{Written, clause_of_written}
 use Rattle.axiom_rules.specs.Sought.{Sought}
-use Rattle.axiom_rules.specs.Rules.{rule_1, rule_2, rule_3, rule_4, rule_5, rule_6, rule_7, rule_8, rule_9, rule_10, rule_11, rule_12, rule_13, rule_14, rule_15, rule_16, rule_17, rule_18, rule_19, rule_20, rule_21, rule_22, rule_23, rule_24}
+use Rattle.axiom_rules.specs.Rules.{rule_1, rule_2, rule_3, rule_4, rule_5, rule_6, rule_7, rule_8, rule_9, rule_10, rule_11, rule_12, rule_13, rule_14, rule_15, rule_16, rule_17, rule_18, rule_19, rule_20, rule_21, rule_22, rule_23, rule_24, rule_28}
 
 -- a row of the table: what the four arguments are, and what is written for them
 pub record Row : Type 0 where
@@ -49,7 +49,8 @@ rows =
     Some (of_node_event rule_1) ∷ Some (of_node_event_change rule_2) ∷ Some (of_node_event rule_3) ∷ Some (of_node_event rule_4) ∷ Some (of_node_event rule_5) ∷ Some (of_node_event rule_6) ∷ Some (of_node_event rule_7) ∷ Some (of_node_event rule_8)
     ∷ Some (of_events rule_9) ∷ Some (of_event rule_10) ∷ Some (of_nothing rule_11)
     ∷ Some (of_node_events rule_12) ∷ Some (of_node_events rule_13) ∷ Some (of_node_events rule_14) ∷ Some (of_node_events rule_15) ∷ Some (of_node_events rule_16) ∷ Some (of_node_event rule_17) ∷ Some (of_node_events rule_18)
-    ∷ Some (of_node_three_events rule_19) ∷ Some (of_node_events rule_20) ∷ Some (of_node_three_events rule_21) ∷ Some (of_node_events rule_22) ∷ Some (of_node_events rule_23) ∷ Some (of_event rule_24) ∷ []
+    ∷ Some (of_node_three_events rule_19) ∷ Some (of_node_events rule_20) ∷ Some (of_node_three_events rule_21) ∷ Some (of_node_events rule_22) ∷ Some (of_node_events rule_23) ∷ Some (of_event rule_24)
+    ∷ None ∷ None ∷ None ∷ Some (of_node_events rule_28) ∷ []
 
 -- the row of a number
 abbrev pub row_of : ℕ → Option Row

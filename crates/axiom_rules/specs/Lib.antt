@@ -6,6 +6,7 @@ pub mod Sought
 pub mod NodeShapes
 pub mod Rules
 pub mod Clauses
+pub mod ClauseLengths
 pub mod Shapes
 pub mod Atoms
 pub mod Adding

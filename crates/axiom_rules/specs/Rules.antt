@@ -154,3 +154,7 @@ module _ (s : Sought) where
   -- at a first event the root has the value sought
   abbrev pub rule_24 : ℕ → Written
   rule_24 e = Ok (is_not (First e) ∷ Says (record { atom = Node s.root e; positive = s.value }) ∷ [])
+
+  -- what is near and has the right side is a witness where the left side is `true`
+  abbrev pub rule_28 : ℕ → ℕ → ℕ → Written
+  rule_28 k i j = of_kind (reach_in (shape_at s k)) (λ u. if is_constant (shape_at s u.left) then Ok (is (Wit k i j) ∷ is_not_from u.direction u.interval i j ∷ option_map_or (λ b. is_not_up_to u.direction b i j) u.interval.high (Known false) ∷ is_not (Node u.right j) ∷ []) else Err Kind)

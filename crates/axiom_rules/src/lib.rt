@@ -16,5 +16,6 @@ pub use atom_table::AtomTable;
 pub use fault::RuleFault;
 pub use laws::{clauses_have_atoms_once, rules_are_within_table, rules_hold};
 pub use literal::{Atom, Literal, order_literal};
+pub use reach::Reach;
 pub use rule::{Argument, MAX_RULE, Rule, RuleList, argument_count, arguments_of};
 pub use rules::Rules;

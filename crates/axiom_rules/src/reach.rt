@@ -14,6 +14,7 @@ use mt_model::{Interval, MAX_ORDER};
 pub struct Reach {
     pub direction: Direction,
     pub interval: Interval,
+    /// The nodes of its sides, by their numbers.
     pub left: u32,
     pub right: u32,
 }
@@ -42,42 +43,42 @@ impl Reach {
     }
 
     /// Event e is not after event f, as the node looks.
-    pub fn not_after(&self, e: u32, f: u32) -> Part
+    pub(crate) fn not_after(&self, e: u32, f: u32) -> Part
         ensures { result ≡ written.not_met_after self.now.direction e f }
     {
         self.order(e, f, 0)
     }
 
     /// Event e is after event f, as the node looks.
-    pub fn after(&self, e: u32, f: u32) -> Part
+    pub(crate) fn after(&self, e: u32, f: u32) -> Part
         ensures { result ≡ written.met_after self.now.direction e f }
     {
         self.not_order(e, f, 0)
     }
 
     /// Event j is at least the lower bound from event i.
-    pub fn is_from(&self, i: u32, j: u32) -> Part
+    pub(crate) fn is_from(&self, i: u32, j: u32) -> Part
         ensures { result ≡ written.is_from self.now.direction self.now.interval i j }
     {
         self.order(i, j, -(self.interval.low as i128))
     }
 
     /// Event j is less than the lower bound from event i.
-    pub fn is_not_from(&self, i: u32, j: u32) -> Part
+    pub(crate) fn is_not_from(&self, i: u32, j: u32) -> Part
         ensures { result ≡ written.is_not_from self.now.direction self.now.interval i j }
     {
         self.not_order(i, j, -(self.interval.low as i128))
     }
 
     /// Event j is at most an upper bound from event i.
-    pub fn is_up_to(&self, high: u64, i: u32, j: u32) -> Part
+    pub(crate) fn is_up_to(&self, high: u64, i: u32, j: u32) -> Part
         ensures { result ≡ written.is_up_to self.now.direction high i j }
     {
         self.order(j, i, high as i128)
     }
 
     /// Event j is more than the upper bound from event i, where there is one.
-    pub fn is_not_up_to(&self, i: u32, j: u32) -> Part
+    pub(crate) fn is_not_up_to(&self, i: u32, j: u32) -> Part
         ensures { result ≡ option_map_or (λ b. written.is_not_up_to self.now.direction b i j) self.now.interval.high (Part.Known false) }
     {
         match self.interval.high {

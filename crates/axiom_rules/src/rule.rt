@@ -72,7 +72,7 @@ const NODE_THREE_EVENTS: [Argument; 4] = [
 ];
 
 /// The greatest number that a rule has.
-pub const MAX_RULE: u8 = 24;
+pub const MAX_RULE: u8 = 28;
 
 // What the arguments of rule 1 are, of rule 2 and so on, where there is one of the number.
 const ARGUMENTS: [Option<[Argument; 4]>; MAX_RULE as usize] = [
@@ -100,6 +100,10 @@ const ARGUMENTS: [Option<[Argument; 4]>; MAX_RULE as usize] = [
     Some(NODE_EVENTS),
     Some(NODE_EVENTS),
     Some(EVENT),
+    None,
+    None,
+    None,
+    Some(NODE_EVENTS),
 ];
 
 /// What the arguments of the rule of a number are, where there is one.

@@ -1,4 +1,5 @@
 ghost use Rattle.std.specs.Prelude.{◌≡◌, ◌<◌, ◌+◌, ◌⊎◌, ℕ, List, [], length, Some, None, IfOk, IfErr, OnOk, OnErr, Ok, Err, is_some, option_copied};
+ghost use Rattle.std.specs.Option.{option_map_or};
 ghost use Rattle.mt_model.specs.Form.{Form};
 ghost use Rattle.formula_arena.specs.Nodes.{nodes_of};
 ghost use Rattle.axiom_rules.specs.Adding.{Answers, Gives};
@@ -105,9 +106,9 @@ impl Rules {
         self.shapes.get(k as usize)
     }
 
-    // Whether a node is `true`.
-    fn is_constant(&self, k: u32) -> bool
-        ensures { result ≡ is_constant_shape (shape_at self.now k) }
+    /// Whether there is a node of that number and it is `true`. Takes no memory.
+    pub fn is_constant(&self, k: u32) -> bool
+        ensures constant { result ≡ is_constant_shape (shape_at self.now k) }
     {
         matches!(self.shape(k), Some(Shape::True))
     }
@@ -120,6 +121,18 @@ impl Rules {
         match self.shape(k) {
             Some(Shape::Prop { changes, .. }) => Ok(changes.as_slice()),
             _ => Err(RuleFault::Kind),
+        }
+    }
+
+    /// How many changes the proposition of a number has, and 0 where there is no such node or it is none. Takes no memory.
+    pub fn change_count(&self, k: u32) -> u32
+        ensures count { result ≡ option_map_or (λ changes. length changes) (changes_in (shape_at self.now k)) 0 }
+    {
+        // What a log is, how many rows it has is known with.
+        let _ = self.log.rows();
+        match self.changes(k) {
+            Ok(changes) => changes.len() as u32,
+            Err(_) => 0,
         }
     }
 
@@ -153,6 +166,16 @@ impl Rules {
         match self.shape(k) {
             Some(Shape::Reach(reach)) => Ok(*reach),
             _ => Err(RuleFault::Kind),
+        }
+    }
+
+    /// What the node of a number is, where it is an until or a since. Takes no memory.
+    pub fn reach_at(&self, k: u32) -> Option<Reach>
+        ensures reach { result ≡ reach_in (shape_at self.now k) }
+    {
+        match self.shape(k) {
+            Some(Shape::Reach(u)) => Some(*u),
+            _ => None,
         }
     }
 
@@ -442,6 +465,26 @@ impl Rules {
         write(out, &[is_not(Atom::First { e }), Part::Says(literal)])
     }
 
+    // What is near and has the right side is a witness where the left side is `true`.
+    fn rule_28(&self, k: u32, i: u32, j: u32, out: &mut Clause) -> Result<(), RuleFault>
+        ensures { Gives (written.rule_28 self.now k i j) result out.new.items }
+    {
+        let u = self.reach(k)?;
+        if self.is_constant(u.left) {
+            write(
+                out,
+                &[
+                    is(Atom::Wit { k, i, j }),
+                    u.is_not_from(i, j),
+                    u.is_not_up_to(i, j),
+                    is_not(Atom::Node { k: u.right, e: j }),
+                ],
+            )
+        } else {
+            Err(RuleFault::Kind)
+        }
+    }
+
     // Whether an argument names something that is there, or isn't used and 0.
     fn is_there(&self, argument: Argument, n: u32) -> bool
         ensures { result ≡ is_there_in self.now argument n }
@@ -510,6 +553,7 @@ impl Rules {
             22 => self.rule_22(k, i, j, out),
             23 => self.rule_23(k, i, j, out),
             24 => self.rule_24(k, out),
+            28 => self.rule_28(k, i, j, out),
             _ => Err(RuleFault::NoRule),
         }
     }

@@ -33,6 +33,7 @@ module _ (many : ℕ) (db : List (List Lit)) (links : List (Option (Edge × Edge
   running_same u h vars limits keeps = record {
     base = running.base;
     vars = vars ∙ running.vars;
+    linked = running.linked;
     room = let room = running.room in let same = limits.capacity in omega (arith, room, same);
     run = keeps running.base running.run;
   }

@@ -9,6 +9,7 @@ pub mod Cycles
 pub mod Denied
 pub mod Stuck
 pub mod Refusals
+pub mod Scanned
 pub mod Descents
 pub mod RuleSpelling
 pub mod NodeIntervals

@@ -61,7 +61,7 @@ module _ (p : Problem) (theory : Theory) (theory_of : IsTheoryOf p theory) (vars
 
     -- what a descent asks for
     pub search_running : IsRunning vars d.db theory.links t g
-    search_running = record { base = p.edges; vars = search.assigned; room = search.room; run = search.run }
+    search_running = record { base = p.edges; vars = search.assigned; linked = search_links.count ∙ sym search_vars; room = search.room; run = search.run }
 
     -- there is room for a clause and a line before a conflict
     pub room_first : n ≤ 999999 → (length d.db < 2 ^ 32 - 1) × (length d.lines < 2 ^ 32 - 1)

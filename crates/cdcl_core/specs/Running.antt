@@ -27,10 +27,11 @@ pub record IsStuck (db : List (List Lit)) (links : List (Option (Edge × Edge)))
   pub step : LacksLast t db links base g
   pub closed : Closed t db
 
--- a run over so many variables and some base, with room for an edge of each variable
+-- a run over so many variables, which the links are of, and some base, with room for an edge of each variable
 pub record IsRunning (many : ℕ) (db : List (List Lit)) (links : List (Option (Edge × Edge))) (t : Assigned) (g : Constraints) : Type 0 where
   pub base : List Edge
   pub vars : t.vars ≡ many
+  pub linked : length links ≡ many
   pub room : length base + many ≤ g.capacity
   pub run : IsRun db links base t g
 

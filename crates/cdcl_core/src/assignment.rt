@@ -10,14 +10,15 @@ use mt_model::{Bits, Times};
 use propagate::Trail;
 use std::alloc::{AllocError, Global};
 
-/// The unassigned variable with the least number.
-pub fn unassigned(trail: &Trail, vars: u32) -> Option<Var>
+/// The unassigned variable with the least number, where each one below the start is assigned.
+pub fn unassigned(trail: &Trail, start: u32, vars: u32) -> Option<Var>
     requires vars { trail.now.vars ≡ vars }
+    requires before { (w : ℕ) → w < start → IsUnassigned trail.now.entries w → ⊥ }
     ensures some { IfSome result (λ v. (v < vars) × IsUnassigned trail.now.entries v) }
     ensures least { IfSome result (λ v. (w : ℕ) → w < v → IsUnassigned trail.now.entries w → ⊥) }
     ensures none { IfNone result ((v : ℕ) → v < vars → IsUnassigned trail.now.entries v → ⊥) }
 {
-    for v in 0..vars {
+    for v in start..vars {
         let var = Var::new(v);
         if trail.value(var).is_none() {
             return Some(var);

@@ -1,7 +1,7 @@
 -- Clauses in one list of literals.
 use Rattle.std.proofs.Common.{◌≡◌, ◌∙◌, ap, sym, refl, ℕ, zero, suc, ◌+◌, ◌-◌, ◌<◌, ◌≤◌, List, [], ◌∷◌, ◌++◌, length, get_or, take, drop, arith, ◌^◌, length-append}
 use Rattle.std.specs.Prelude.{slice_range}
-use Rattle.std.proofs.lemmas.List.{get_or_read, take_all, take-append-le, drop-append-le, drop_at, length-drop, length_push}
+use Rattle.std.proofs.lemmas.List.{get_or_read, take_all, take-append-le, drop-append-le, drop_at, length-drop, length-take-le, length_push}
 use Rattle.std.proofs.lemmas.List.Elements.{All-push}
 use Rattle.clause_db.specs.declared.lit.Lit.{Lit}
 use Rattle.clause_db.specs.Literals.{HasVarsOnce}
@@ -91,6 +91,12 @@ span xs ends read clauses c k a b view flat below place same first later end = r
 
   is : slice_range xs a b ≡ get_or (clauses_from 0 xs ends) k []
   is = ap (λ (e : ℕ). slice_range xs a e) at_end ∙ sym (clause_from 0 xs ends k a start held)
+
+-- the number of its literals
+pub span_length : (xs : List Lit) (clauses : List (List Lit)) (c a b : ℕ) → IsSpan xs clauses c a b → b - a ≡ length (clause_at clauses c)
+span_length xs clauses c a b s =
+    let count = length-take-le (b - a) (drop a xs) (omega (arith, length-drop a xs, s.within)) in
+    omega (arith, ap length s.is, count)
 
 -- one clause more
 pub flat_push : (xs ys : List Lit) (ends : List ℕ) (more : ℕ) → IsFlat xs ends → HasVarsOnce ys → length ends < 2 ^ 32 - 1 → more ≡ length xs + length ys → IsFlat (xs ++ ys) (ends ++ more ∷ [])

@@ -1,7 +1,9 @@
-ghost use Rattle.std.specs.Prelude.{◌≡◌, ◌+◌, ◌-◌, ◌^◌, ◌<◌, [], ◌∷◌, ◌++◌, length, slice_index, IfOk, OnOk, OnErr};
+ghost use Rattle.std.specs.Prelude.{◌≡◌, ◌+◌, ◌-◌, ◌^◌, ◌<◌, ◌≤◌, [], ◌∷◌, ◌++◌, length, map, slice_index, None, IfSome, IfOk, OnOk, OnErr};
 ghost use Rattle.clause_db.specs.Literals.{HasVarsOnce};
 ghost use Rattle.clause_db.specs.Clauses.{clause_at};
+ghost use Rattle.clause_db.specs.Renaming.{AreApart, AreBelow, moved};
 
+use crate::renaming::rename;
 use crate::{ClauseRef, Lit};
 use std::alloc::{AllocError, Global};
 use std::marker::Model;
@@ -11,7 +13,7 @@ use std::marker::Model;
 #[derive(Debug, Drop)]
 pub struct Db {
     lits: Vec<Lit>,
-    ends: Vec<usize>,
+    ends: Vec<u32>,
 }
 
 impl Model for Db {
@@ -37,7 +39,8 @@ impl Db {
         }
     }
 
-    /// Adds a clause at the end; want of memory leaves the clauses as they were.
+    /// Adds a clause at the end. An error leaves the clauses as they were: memory was short, or they
+    /// would have 2^32 literals in all or more.
     pub fn add(&mut self, lits: &[Lit]) -> Result<ClauseRef, AllocError>
         requires once { HasVarsOnce lits.now }
         requires room { length self.old < 2 ^ 32 - 1 }
@@ -46,10 +49,12 @@ impl Db {
         ensures err { OnErr result (self.new ≡ self.old) }
     {
         let place = ClauseRef::new(self.len());
+        let Some(end) = end_after(self.lits.len(), lits.len()) else {
+            return Err(AllocError);
+        };
         // Room for the end comes first: nothing that fails stands after the literals.
         self.ends.reserve(1)?;
         self.lits.extend_from_slice(lits)?;
-        let end = self.lits.len();
         self.ends.push(end)?;
         Ok(place)
     }
@@ -62,7 +67,28 @@ impl Db {
     {
         let place = c.get() as usize;
         let start = start_of(&self.ends, place);
-        &self.lits[start..self.ends[place]]
+        &self.lits[start as usize..self.ends[place] as usize]
+    }
+
+    /// The number of literals of a clause.
+    pub fn width(&self, c: ClauseRef) -> u32
+        requires { c < length self.now }
+        ensures width { result ≡ length (clause_at self.now c) }
+    {
+        let place = c.get() as usize;
+        let start = start_of(&self.ends, place);
+        self.ends[place] - start
+    }
+
+    /// The same clauses over other variables: each literal becomes that of the variable that
+    /// stands at the place of its own. Takes no memory.
+    pub fn renamed(mut self, places: &[u32]) -> Db
+        requires below { AreBelow (length places.now) self }
+        requires apart { AreApart places.now }
+        ensures clauses { result ≡ map (map (moved places.now)) self }
+    {
+        rename(&mut self.lits, places);
+        self
     }
 
     /// How many clauses there are.
@@ -73,8 +99,17 @@ impl Db {
     }
 }
 
+// Where a clause of so many literals ends that starts at a place, and None where that is no u32.
+fn end_after(start: usize, count: usize) -> Option<u32>
+    ensures end { IfSome result (λ end. end ≡ start + count) }
+    ensures none { result ≡ None → 2 ^ 32 ≤ start + count }
+{
+    let end = start.checked_add(count)?;
+    u32::try_from(end).ok()
+}
+
 // Where the clause at a place starts: at the end of the one before it.
-fn start_of(ends: &[usize], place: usize) -> usize
+fn start_of(ends: &[u32], place: usize) -> u32
     requires { place < length ends.now }
     ensures first { place ≡ 0 → result ≡ 0 }
     ensures later { 0 < place → result ≡ slice_index ends.now (place - 1) }

@@ -5,6 +5,7 @@ mod db;
 mod ids;
 mod laws;
 mod lit;
+mod renaming;
 
 pub use db::Db;
 pub use ids::{ClauseRef, Var};

@@ -18,6 +18,6 @@ pub record WritesSigned (most : ℤ) (bytes : List ℕ) (z : ℤ) : Type 0 where
   pub high : z ≤ℤ most
   pub written : bytes ≡ signed_decimal z
 
--- bytes write a signed number up to a limit below 10^64 exactly where they are what is printed of it
+-- bytes write a signed number up to a limit of at most 10^63 exactly where they are what is printed of it
 abbrev pub SignedNumbersAreDecimal : Type 0
 SignedNumbersAreDecimal = (most : ℤ) (bytes : List ℕ) (z : ℤ) → most ≤ℤ pos (10 ^ 63) → (signed_up_to most bytes ≡ Some z) ↔ WritesSigned most bytes z

@@ -1,13 +1,16 @@
 //! The section on problems.
 
+ghost use Rattle.skew_bounds.specs.Tight.{IsConsistent, IsTight};
+
 use crate::case::LogicCase;
 use crate::writing::{push_atom, push_items, push_sign};
 use axiom_rules::{AtomTable, Rule};
 use clause_db::{ClauseRef, Db, Lit, Var};
-use mtl_encode::{MAX_SIZE, Problem, encode, size_of};
+use mtl_encode::{MAX_SIZE, Problem, encode_by, size_of, sizes_are_unique};
 use neg_cycle::Edge;
+use skew_bounds::{Consistency, Tight, TightFault, settle, tight};
 use std::alloc::Global;
-use table_case::{Parsed, push_marked, push_shown};
+use table_case::{Parsed, push_line, push_marked, push_shown};
 
 fn push_atoms(alloc: Global, atoms: &AtomTable, out: &mut Vec<u8>) -> Option<()> {
     for v in 0..atoms.len() {
@@ -48,15 +51,29 @@ fn push_clauses(alloc: Global, rules: &[Rule], db: &Db, out: &mut Vec<u8>) -> Op
 }
 
 // The problem of a log, the nodes of a formula and a value, if it isn't too large.
-fn encoded(alloc: Global, parsed: &Parsed, value: bool) -> Option<Problem> {
-    if size_of(&parsed.log, &parsed.arena) <= MAX_SIZE {
-        encode(alloc, &parsed.log, &parsed.arena, parsed.root, value).ok()
+fn encoded_by(alloc: Global, parsed: &Parsed, value: bool, tight: &Tight) -> Option<Problem>
+    requires consistent { IsConsistent parsed.now.log }
+    requires tight { IsTight parsed.now.log tight.now }
+{
+    sizes_are_unique();
+    let Parsed { log, arena, root } = parsed;
+    if size_of(log, arena, Some(tight)) <= MAX_SIZE {
+        encode_by(alloc, log, arena, *root, value, tight).ok()
     } else {
         None
     }
 }
 
-/// The problem of a case, if it isn't too large.
+// The problem of a log, the nodes of a formula and a value, if the log admits some timing and the problem isn't too
+// large.
+fn encoded(alloc: Global, parsed: &Parsed, value: bool) -> Option<Problem> {
+    match tight(alloc, &parsed.log) {
+        Ok(tight) => encoded_by(alloc, parsed, value, &tight),
+        Err(_) => None,
+    }
+}
+
+/// The problem of a case, if the log admits some timing and the problem isn't too large.
 pub fn problem_of(alloc: Global, case: &LogicCase) -> Option<Problem> {
     encoded(alloc, &case.parsed(alloc)?, case.value())
 }
@@ -69,22 +86,51 @@ fn push_problem(alloc: Global, problem: &Problem, out: &mut Vec<u8>) -> Option<(
     push_atoms(alloc, &problem.atoms, out)
 }
 
+// Whether the log of a case admits some timing.
+fn is_consistent(alloc: Global, case: &LogicCase) -> Option<bool> {
+    match settle(alloc, &case.log(alloc)?).ok()? {
+        Consistency::Timing(_) => Some(true),
+        Consistency::Conflict(_) => Some(false),
+    }
+}
+
 // Adds the parts of the problem of a case.
 fn push_problem_of(alloc: Global, case: &LogicCase, out: &mut Vec<u8>) -> Option<()> {
-    push_problem(alloc, &problem_of(alloc, case)?, out)
+    if is_consistent(alloc, case)? {
+        push_problem(alloc, &problem_of(alloc, case)?, out)
+    } else {
+        push_line(out, b"inconsistent")
+    }
+}
+
+// The size of the problem of a log and the nodes of a formula.
+fn size(alloc: Global, parsed: &Parsed) -> Option<u128> {
+    match tight(alloc, &parsed.log) {
+        Ok(tight) => Some(size_of(&parsed.log, &parsed.arena, Some(&tight))),
+        Err(TightFault::Cycle(_)) => Some(size_of(&parsed.log, &parsed.arena, None)),
+        Err(TightFault::Memory) => None,
+    }
 }
 
 // Adds the size of the problem of a case.
 fn push_size(alloc: Global, case: &LogicCase, out: &mut Vec<u8>) -> Option<()> {
-    let Parsed { log, arena, .. } = case.parsed(alloc)?;
-    push_items(alloc, "size", &[size_of(&log, &arena)], out)
+    let size = size(alloc, &case.parsed(alloc)?)?;
+    push_items(alloc, "size", &[size], out)
 }
 
-// Adds how many clauses and atoms the problem of a case has.
-fn push_counts(alloc: Global, case: &LogicCase, out: &mut Vec<u8>) -> Option<()> {
-    let problem = problem_of(alloc, case)?;
+// Adds how many clauses and atoms a problem has.
+fn push_counts(alloc: Global, problem: &Problem, out: &mut Vec<u8>) -> Option<()> {
     push_items(alloc, "clauses", &[problem.db.len()], out)?;
     push_items(alloc, "atoms", &[problem.atoms.len()], out)
+}
+
+// Adds how many the problem of a case has.
+fn push_counts_of(alloc: Global, case: &LogicCase, out: &mut Vec<u8>) -> Option<()> {
+    if is_consistent(alloc, case)? {
+        push_counts(alloc, &problem_of(alloc, case)?, out)
+    } else {
+        push_line(out, b"inconsistent")
+    }
 }
 
 /// Takes in a line of the section, and adds what it asks for.
@@ -106,7 +152,7 @@ pub fn take(
         }
         b'!' => {
             push_marked(out, mark, text)?;
-            push_counts(alloc, case, out)
+            push_counts_of(alloc, case, out)
         }
         _ => case.take(alloc, mark, text, out),
     }

@@ -4,12 +4,14 @@ ghost use Rattle.std.specs.Prelude.{◌≡◌, ◌≤◌, ◌+◌, length};
 ghost use Rattle.mt_model.specs.Form.{form_of};
 ghost use Rattle.mt_model.specs.Timing.{Admissible};
 ghost use Rattle.formula_arena.specs.Nodes.{nodes_of};
-ghost use Rattle.mtl_encode.specs.Size.{size};
+ghost use Rattle.skew_bounds.specs.Tight.{IsTight};
+ghost use Rattle.mtl_encode.specs.Size.{IsSmall};
 
 use cdcl_core::{Found, search};
 use formula_arena::Arena;
 use mt_model::{Formula, Log, NodeId, bounds_are_admissible};
-use mtl_encode::{MAX_SIZE, encode, size_of};
+use mtl_encode::{MAX_SIZE, encode_by, size_of, sizes_are_unique};
+use skew_bounds::{Tight, tight_from};
 use std::alloc::{AllocError, Global};
 
 /// What is searched for: a value, with so many conflicts at most.
@@ -27,6 +29,7 @@ fn searched_nodes(
     arena: &Arena,
     root: NodeId,
     times: &[i128],
+    tight: &Tight,
     asked: Asked,
 ) -> Result<Found, AllocError>
     requires some { 1 ≤ asked.budget }
@@ -34,13 +37,14 @@ fn searched_nodes(
     requires admissible { Admissible log.now times.now }
     requires nodes { arena.now ≡ nodes_of (form_of f.now) }
     requires last { root + 1 ≡ length arena.now }
-    requires small { size log.now arena.now ≤ MAX_SIZE }
+    requires tight { IsTight log.now tight.now }
+    requires small { IsSmall log.now arena.now }
 {
     bounds_are_admissible();
     // What a log and a formula are, their parts are known with.
     let _ = log.rows();
     let _ = f.tree();
-    let problem = encode(alloc, log, arena, root, asked.value)?;
+    let problem = encode_by(alloc, log, arena, root, asked.value, tight)?;
     search(alloc, problem, asked.budget)
 }
 
@@ -60,8 +64,12 @@ pub fn searched(
     let Ok(root) = arena.intern(f) else {
         return None;
     };
-    if size_of(log, &arena) <= MAX_SIZE {
-        searched_nodes(alloc, log, f, &arena, root, times, asked).ok()
+    sizes_are_unique();
+    let Ok(tight) = tight_from(alloc, log, times) else {
+        return None;
+    };
+    if size_of(log, &arena, Some(&tight)) <= MAX_SIZE {
+        searched_nodes(alloc, log, f, &arena, root, times, &tight, asked).ok()
     } else {
         None
     }

@@ -1,4 +1,3 @@
-pub mod Digits
 pub mod BoundLists
 pub mod Pairs
 pub mod FormLemmas

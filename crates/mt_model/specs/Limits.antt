@@ -6,7 +6,7 @@ use Rattle.mt_model.specs.declared.limits.TheConstants.{MAX_NAME_LENGTH, MAX_HOS
 pub record LogLimits : Type 0 where
   pub name_length : MAX_NAME_LENGTH ≡ 32
   pub hosts : MAX_HOSTS ≡ 64
-  pub rows : MAX_ROWS ≡ 64
+  pub rows : MAX_ROWS ≡ 1024
   pub extras : MAX_EXTRAS ≡ 1048576
   pub local : MAX_LOCAL ≡ pos 4000000000000000000
   pub written_skew : MAX_WRITTEN_SKEW ≡ pos 1000000000000000000

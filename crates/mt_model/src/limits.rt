@@ -7,7 +7,7 @@ pub const MAX_NAME_LENGTH: usize = 32;
 pub const MAX_HOSTS: usize = 64;
 
 /// The most rows of a log.
-pub const MAX_ROWS: usize = 64;
+pub const MAX_ROWS: usize = 1024;
 
 /// The most extra bounds of a log.
 pub const MAX_EXTRAS: usize = 1_048_576;

@@ -62,7 +62,7 @@ pub type ExtraList = ListOf<Extra>;
 
 /// A valid log, which contracts see as its hosts, rows and extra bounds.
 ///
-/// It has 1 to 64 hosts of distinct names, none of them `true`, `false` or `inf`, and 1 to 64 rows
+/// It has 1 to 64 hosts of distinct names, none of them `true`, `false` or `inf`, and 1 to 1,024 rows
 /// of them. No message is sent twice, and each one that is received is sent. Skews, gaps, local
 /// times and extra bounds are in the ranges that this crate's constants state.
 #[derive(Debug, Drop)]

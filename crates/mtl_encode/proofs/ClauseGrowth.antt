@@ -1,9 +1,10 @@
 -- Clauses that grow by that of one more rule.
-use Rattle.std.proofs.Common.{◌≡◌, ◌∙◌, sym, ap, refl, ℕ, ◌+◌, ◌*◌, ◌<◌, ◌≤◌, List, [], ◌∷◌, ◌++◌, length, Some, Ok, inl, inr, arith}
+use Rattle.std.proofs.Common.{◌≡◌, ◌∙◌, sym, ap, refl, ℕ, ◌+◌, ◌<◌, ◌≤◌, Bool, true, false, if◌then◌else◌, List, [], ◌∷◌, ◌++◌, length, Some, Ok, inl, inr, arith}
 use Rattle.std.specs.Prelude.{All, Any, slice_get, slice_index_or}
 use Rattle.std.specs.List.{flat_map, range_with_len}
 use Rattle.std.proofs.lemmas.List.{append-nil, append_assoc, get_or_append_left, length-append}
 use Rattle.std.proofs.lemmas.List.Elements.{All-weaker}
+use Rattle.std.proofs.lemmas.List.Sums.{sum_by-append, sum_by-cons, sum_by_push}
 use Rattle.std.proofs.lemmas.List.Quantifiers.{Any-push}
 use Rattle.std.proofs.lemmas.Option.{slice_get_within}
 use Rattle.mt_model.proofs.Members.{Among}
@@ -12,15 +13,41 @@ use Rattle.clause_db.specs.declared.lit.Lit.{Lit}
 use Rattle.clause_db.specs.Clauses.{clause_at}
 use Rattle.axiom_rules.specs.declared.literal.Literal.{Literal}
 use Rattle.axiom_rules.specs.declared.rule.Rule.{Rule}
+use Rattle.axiom_rules.specs.ClauseLengths.{is_of_each_event, most_literals}
 use Rattle.axiom_rules.specs.Clauses.{clause_of}
 use Rattle.axiom_rules.specs.Sought.{Sought}
 use Rattle.axiom_rules.proofs.ShapeLemmas.{slice-end}
-use Rattle.axiom_rules.proofs.RulesMade.{few-literals}
+use Rattle.axiom_rules.proofs.RulesMade.{few-by-number}
 use Rattle.mtl_encode.proofs.AtomGrowth.{Keeps, all-atoms, keeps-atoms, longer-atoms, read-kept}
-use Rattle.mtl_encode.proofs.RangeLemmas.{part-short, place-of}
+use Rattle.mtl_encode.proofs.RangeLemmas.{part-low, place-of}
 use Rattle.mtl_encode.specs.declared.clauses.Clauses.{Clauses}
-use Rattle.mtl_encode.specs.Growth.{AreClauses, Gains, HasRoom, most_literals, with_atoms}
+use Rattle.mtl_encode.specs.Growth.{AreClauses, Gains, HasRoom, most_literals_of, with_atoms}
 use Rattle.mtl_encode.specs.Problems.{IsClauseOf, ReadsAs, StandsIn}
+
+module _ (s : Sought) where
+  -- how many literals are in the clauses of rules and of further ones
+  pub literals-append : (old more : List Rule) → most_literals_of s (old ++ more) ≡ most_literals_of s old + most_literals_of s more
+  unfolding most_literals_of
+  literals-append old more = sum_by-append (λ rule. most_literals s rule.number) old more
+
+  -- and of one rule more
+  pub literals-one : (old : List Rule) (rule : Rule) → most_literals_of s (old ++ rule ∷ []) ≡ most_literals_of s old + most_literals s rule.number
+  unfolding most_literals_of
+  literals-one old rule = sum_by_push (λ rule. most_literals s rule.number) old rule
+
+  five : (each : Bool) → 5 ≤ (let most : ℕ = (if each then length s.log.rows + 5 else 5) in most)
+  five true = omega arith
+  five false = omega arith
+
+  -- there are no more rules than literals
+  pub few-rules : (rules : List Rule) → length rules ≤ most_literals_of s rules
+  unfolding most_literals_of
+  few-rules [] = omega arith
+  few-rules (rule ∷ rules) =
+      let ih = few-rules rules in
+      let sum = sum_by-cons (λ rule. most_literals s rule.number) rule rules in
+      let more = five (is_of_each_event rule.number) in
+      omega (arith, ih, sum, more)
 
 -- an atom that stands in the clause of a rule stands in that of one of more rules
 any-left : {X : Type 0} (P : X → Type 0) (xs : List X) (x : X) → Any P xs → Any P (xs ++ x ∷ [])
@@ -67,16 +94,16 @@ module _ (s : Sought) (old new : Clauses) (rule : Rule) (clause : List Literal) 
       (All-weaker (λ a. Any (StandsIn s a) old.rules) (λ a. Any (StandsIn s a) (old.rules ++ rule ∷ [])) (λ a is. any-left (StandsIn s a) old.rules rule is) old.atoms held.atoms)
       (λ l in_. Any-push (StandsIn s l.atom) old.rules rule (stands-new l in_)))
 
-  few-one : length new.atoms ≤ most_literals * length new.rules
+  few-one : length new.atoms ≤ most_literals_of s new.rules
   few-one = rw (atoms, rules) (
-      let short = few-literals s rule clause of_rule in
-      let count = length-append old.rules (rule ∷ []) in
-      omega (arith, held.few, held.rows, short, longer-atoms clause old.atoms, count))
+      let short = few-by-number s rule clause of_rule in
+      let most = literals-one s old.rules rule in
+      omega (arith, held.few, short, longer-atoms clause old.atoms, most))
 
   pub gains-one : Gains s old new (rule ∷ [])
   gains-one = record {
     rules = rules;
-    clauses = record { rows = held.rows; count = count-one; clauses = clauses-one; atoms = atoms-one; few = few-one };
+    clauses = record { count = count-one; clauses = clauses-one; atoms = atoms-one; few = few-one };
   }
 
 -- without a rule more
@@ -97,8 +124,12 @@ module _ (s : Sought) (f : ℕ → List Rule) (old mid : Clauses) (x : ℕ) (gai
   gains-next new more = gains-more s old mid new (flat_map f (range_with_len 0 x)) (f x) (flat_map f (range_with_len 0 (x + 1))) gained more (flat_map-range f x)
 
   -- there is room for the list of the next number where there is for all
-  pub room-next : (n : ℕ) → x < n → HasRoom (length old.rules + length (flat_map f (range_with_len 0 n))) → HasRoom (length mid.rules + length (f x))
+  pub room-next : (n : ℕ) → x < n → HasRoom s (old.rules ++ flat_map f (range_with_len 0 n)) → HasRoom s (mid.rules ++ f x)
+  unfolding most_literals_of
   room-next n less room =
-      let count : length mid.rules ≡ length old.rules + length (flat_map f (range_with_len 0 x)) = ap length gained.rules ∙ length-append old.rules (flat_map f (range_with_len 0 x)) in
-      let short = part-short f x n less in
-      omega (arith, room, count, short)
+      let first = flat_map f (range_with_len 0 x) in
+      let low = part-low (λ rule. most_literals s rule.number) f x n less in
+      let all = literals-append s old.rules (flat_map f (range_with_len 0 n)) in
+      let before = literals-append s old.rules first in
+      let here = literals-append s (old.rules ++ first) (f x) in
+      rw gained.rules (omega (arith, room, low, all, before, here))

@@ -1,22 +1,32 @@
--- How many rules have a clause at most.
-use Rattle.std.proofs.Common.{◌≡◌, refl, ℕ, ◌+◌, ◌*◌, ◌<◌, ◌≤◌, Bool, true, false, if◌then◌else◌, List, [], ◌∷◌, length, arith}
-use Rattle.std.specs.Prelude.{is_ok, slice_index}
+-- The clauses of all rules that are kept have few literals, by the size of the problem.
+use Rattle.std.proofs.Common.{◌≡◌, ap, refl, ℕ, ◌+◌, ◌*◌, ◌<◌, ◌≤◌, Bool, true, List, [], ◌∷◌, length, Option, Some, None, arith}
+use Rattle.std.specs.Prelude.{◌↔◌, slice_index, sum_by}
 use Rattle.std.specs.List.{AllByRecursion, flat_map, range_with_len}
+use Rattle.std.specs.Option.{option_map_or}
 use Rattle.std.proofs.Math.Nat.{mul-le-mul_left, mul-le-mul_right}
-use Rattle.std.proofs.lemmas.List.{length-append}
-use Rattle.mt_model.specs.Form.{True}
+use Rattle.std.proofs.lemmas.List.Sums.{sum_by-append}
+use Rattle.mt_model.specs.Form.{Form, True}
+use Rattle.mt_model.specs.State.{Change}
 use Rattle.mt_model.specs.declared.limits.TheConstants.{MAX_ROWS}
-use Rattle.formula_arena.specs.declared.arena.TheConstants.{MAX_NODES}
+use Rattle.formula_arena.specs.Nodes.{IsArena, tree_at}
+use Rattle.formula_arena.specs.Subtrees.{same_form}
 use Rattle.axiom_rules.specs.declared.rule.Rule.{Rule}
-use Rattle.axiom_rules.specs.Clauses.{clause_of}
+use Rattle.axiom_rules.specs.ClauseLengths.{most_literals}
+use Rattle.axiom_rules.specs.NodeShapes.{changes_in, shape_at}
 use Rattle.axiom_rules.specs.Sought.{Sought}
-use Rattle.mtl_encode.proofs.RangeLemmas.{flat-within, passing-within}
-use Rattle.mtl_encode.proofs.ReachRules.{no-reach, one-nothing}
-use Rattle.mtl_encode.proofs.Cubes.{cube}
+use Rattle.axiom_rules.proofs.ChangeCases.{few-changes}
+use Rattle.mtl_encode.proofs.ChangeCounts.{changes-few, changes_of_tree}
+use Rattle.mtl_encode.proofs.ChangeRules.{change_count, first-thirds, none-after}
+use Rattle.mtl_encode.proofs.LiteralCounts.{most, none-within, three-within}
+use Rattle.mtl_encode.proofs.NodeLemmas.{shape-is}
+use Rattle.mtl_encode.proofs.RangeLemmas.{flat-places, flat-within}
+use Rattle.mtl_encode.proofs.ReachCounts.{one-event, spans, two-events}
+use Rattle.mtl_encode.proofs.SpanRules.{gap-needless, past-needless, three-nothing, within-needless}
 use Rattle.mtl_encode.specs.declared.size.TheConstants.{MAX_SIZE}
-use Rattle.mtl_encode.specs.Growth.{HasRoom}
-use Rattle.mtl_encode.specs.Instances.{instances, kept, of_number, rule_at, with_none, with_one, with_three, with_two}
-use Rattle.mtl_encode.specs.Size.{is_reach, reaches_in, size}
+use Rattle.mtl_encode.specs.Growth.{HasRoom, most_literals_of}
+use Rattle.mtl_encode.specs.Instances.{instances, is_of_reach, of_number, with_none, with_one, with_three, with_two}
+use Rattle.mtl_encode.specs.Needless.{Extremes, is_needless, needs_no_span}
+use Rattle.mtl_encode.specs.Size.{size_by, tree_size}
 
 product-low : (a b m n : ℕ) → a ≤ m → b ≤ n → a * b ≤ m * n
 product-low a b m n low-a low-b =
@@ -24,99 +34,128 @@ product-low a b m n low-a low-b =
     let second = mul-le-mul_right n low-a in
     omega (arith, first, second)
 
-module _ (s : Sought) where
-  kept-one : (rule : Rule) → length (kept s rule) ≤ 1
-  kept-one rule = go (is_ok (clause_of s rule))
+module _ (x : Extremes) (s : Sought) (same : (f g : Form) → (same_form f g ≡ true) ↔ (f ≡ g)) (arena : IsArena s.trees)
+    (some_rows : 1 ≤ length s.log.rows) (few_rows : length s.log.rows ≤ MAX_ROWS) (small : size_by x (length s.log.rows) s.trees ≤ MAX_SIZE) where
+  abbrev out : Rule → Bool
+  out rule = is_needless x s rule
+
+  abbrev nodes : ℕ
+  nodes = length s.trees
+
+  abbrev rows : ℕ
+  rows = length s.log.rows
+
+  abbrev mass : List Rule → ℕ
+  mass rules = sum_by (most s out) rules
+
+  of-node-event : (number : ℕ) → most_literals s number ≤ 5 → mass (with_none s out number (nodes ∷ rows ∷ 1 ∷ 1 ∷ [])) ≤ 2621440
+  of-node-event number few =
+      let within = none-within s out number (nodes ∷ rows ∷ 1 ∷ 1 ∷ []) 5 few in
+      let low = product-low nodes (rows * (1 * (1 * 5))) 512 5120 (omega (arith, arena.few)) (omega (arith, few_rows)) in
+      omega (arith, within, low)
+
+  of-events : (number : ℕ) → most_literals s number ≤ 5 → mass (with_none s out number (rows ∷ rows ∷ 1 ∷ 1 ∷ [])) ≤ 5242880
+  of-events number few =
+      let within = none-within s out number (rows ∷ rows ∷ 1 ∷ 1 ∷ []) 5 few in
+      let low = product-low rows (rows * (1 * (1 * 5))) 1024 5120 (omega (arith, few_rows)) (omega (arith, few_rows)) in
+      omega (arith, within, low)
+
+  of-event : (number : ℕ) → most_literals s number ≤ rows + 5 → mass (with_none s out number (rows ∷ 1 ∷ 1 ∷ 1 ∷ [])) ≤ 1053696
+  of-event number few =
+      let within = none-within s out number (rows ∷ 1 ∷ 1 ∷ 1 ∷ []) (rows + 5) few in
+      let low = product-low rows (1 * (1 * (1 * (rows + 5)))) 1024 1029 (omega (arith, few_rows)) (omega (arith, few_rows)) in
+      omega (arith, within, low)
+
+  of-nothing : (number : ℕ) → most_literals s number ≤ rows + 5 → mass (with_none s out number (1 ∷ 1 ∷ 1 ∷ 1 ∷ [])) ≤ 1029
+  of-nothing number few = let within = none-within s out number (1 ∷ 1 ∷ 1 ∷ 1 ∷ []) (rows + 5) few in omega (arith, within, few_rows)
+
+  -- rule 2, by the changes of its node
+  changes-within : (k : ℕ) → change_count s k ≤ rows
+  changes-within k = go (changes_in (shape_at s k)) refl
     where
-      go : (b : Bool) → length (let rs : List Rule = (if b then rule ∷ [] else []) in rs) ≤ 1
-      go true = omega arith
-      go false = omega arith
+      go : (o : Option (List Change)) → changes_in (shape_at s k) ≡ o → option_map_or (λ changes. length changes) o 0 ≤ rows
+      go None at = omega arith
+      go (Some changes) at = few-changes s k changes at
 
-  module _ (number : ℕ) (counts : List ℕ) where
-    three-within : (a b c : ℕ) → length (with_three s number counts a b c) ≤ slice_index counts 3 * 1
-    three-within a b c = flat-within (λ d. kept s (rule_at number a b c d)) 1 0 (slice_index counts 3) (λ d. kept-one (rule_at number a b c d))
+  of-change : mass (with_none s out 2 (nodes ∷ rows ∷ rows ∷ 1 ∷ [])) ≤ 5242880
+  of-change =
+      let counts : List ℕ = nodes ∷ rows ∷ rows ∷ 1 ∷ [] in
+      let within = flat-places (most s out) (with_one s out 2 counts) (changes_of_tree s.log s.trees) True (rows * 5) 0 s.trees of-one in
+      let few = mul-le-mul_left (rows * 5) (changes-few s.log s.trees arena.once) in
+      let low = product-low (rows * 5) rows 5120 1024 (omega (arith, few_rows)) few_rows in
+      omega (arith, within, few, low)
+    where
+      of-two : (k e : ℕ) → mass (with_two s out 2 (nodes ∷ rows ∷ rows ∷ 1 ∷ []) k e) ≤ change_count s k * (1 * 5)
+      of-two k e =
+          rw (first-thirds s out 2 (nodes ∷ rows ∷ rows ∷ 1 ∷ []) (change_count s k) k e (changes-within k) (λ p d past low. none-after s k e p d past))
+          (flat-within (most s out) (with_three s out 2 (nodes ∷ rows ∷ rows ∷ 1 ∷ []) k e) (1 * 5) 0 (change_count s k) (three-within s out 2 (nodes ∷ rows ∷ rows ∷ 1 ∷ []) 5 (omega arith) k e))
 
-    two-within : (a b : ℕ) → length (with_two s number counts a b) ≤ slice_index counts 2 * (slice_index counts 3 * 1)
-    two-within a b = flat-within (with_three s number counts a b) (slice_index counts 3 * 1) 0 (slice_index counts 2) (three-within a b)
+      of-one : (k : ℕ) → k < nodes → mass (with_one s out 2 (nodes ∷ rows ∷ rows ∷ 1 ∷ []) (0 + k)) ≤ rows * 5 * changes_of_tree s.log s.trees (tree_at s.trees k)
+      of-one k low =
+          let e : 0 + k ≡ k = omega arith in
+          let count : change_count s k ≡ changes_of_tree s.log s.trees (tree_at s.trees k) = ap (λ shape. option_map_or (λ changes. length changes) (changes_in shape) 0) (shape-is same s arena.once arena.children_first k (tree_at s.trees k) low refl) in
+          let all = flat-within (most s out) (with_two s out 2 (nodes ∷ rows ∷ rows ∷ 1 ∷ []) k) (change_count s k * (1 * 5)) 0 rows (of-two k) in
+          rw (e, ← count) (omega (arith, all))
 
-    one-within : (a : ℕ) → length (with_one s number counts a) ≤ slice_index counts 1 * (slice_index counts 2 * (slice_index counts 3 * 1))
-    one-within a = flat-within (with_two s number counts a) (slice_index counts 2 * (slice_index counts 3 * 1)) 0 (slice_index counts 1) (two-within a)
+  -- the rules of untils and sinces, by their sizes
+  by-size : (number wide : ℕ) (counts : List ℕ) → slice_index counts 0 ≡ nodes → ((k : ℕ) → k < nodes → mass (with_one s out number counts k) ≤ wide * tree_size x rows (tree_at s.trees k))
+      → mass (with_none s out number counts) ≤ wide * MAX_SIZE
+  by-size number wide counts all each = rw all (
+      let within = flat-places (most s out) (with_one s out number counts) (tree_size x rows) True wide 0 s.trees (λ k low. let e : 0 + k ≡ k = omega arith in rw e (each k low)) in
+      let low = mul-le-mul_left wide small in
+      omega (arith, within, low))
 
-    none-within : length (with_none s number counts) ≤ slice_index counts 0 * (slice_index counts 1 * (slice_index counts 2 * (slice_index counts 3 * 1)))
-    none-within = flat-within (with_one s number counts) (slice_index counts 1 * (slice_index counts 2 * (slice_index counts 3 * 1))) 0 (slice_index counts 0) one-within
+  of-pair : (number : ℕ) → is_of_reach number ≡ true → most_literals s number ≤ 5 → mass (with_none s out number (nodes ∷ rows ∷ rows ∷ 1 ∷ [])) ≤ 20971520
+  of-pair number of few = let low = by-size number 5 (nodes ∷ rows ∷ rows ∷ 1 ∷ []) refl (λ k less. two-events x s number k of few) in omega (arith, low)
 
-    reach-within : 11 < number → number < 24 → slice_index counts 0 ≡ length s.trees
-        → length (with_none s number counts) ≤ length (reaches_in s.trees) * (slice_index counts 1 * (slice_index counts 2 * (slice_index counts 3 * 1)))
-    reach-within low high nodes = rw nodes (passing-within (with_one s number counts) is_reach True (slice_index counts 1 * (slice_index counts 2 * (slice_index counts 3 * 1))) 0 s.trees
-        (λ k less fails. let e : 0 + k ≡ k = omega arith in rw e (one-nothing s k (no-reach s k fails) number counts low high)) one-within)
+  of-witnesses : mass (with_none s out 17 (nodes ∷ rows ∷ 1 ∷ 1 ∷ [])) ≤ 25165824
+  of-witnesses = let low = by-size 17 6 (nodes ∷ rows ∷ 1 ∷ 1 ∷ []) refl (λ k less. one-event x s some_rows 17 k refl (omega arith)) in omega (arith, low)
 
-  module _ (few_nodes : length s.trees ≤ MAX_NODES) (some_rows : 1 ≤ length s.log.rows) (few_rows : length s.log.rows ≤ MAX_ROWS) (small : size s.log s.trees ≤ MAX_SIZE) where
-    abbrev nodes : ℕ
-    nodes = length s.trees
+  of-gaps : mass (with_none s out 20 (nodes ∷ rows ∷ rows ∷ 1 ∷ [])) ≤ 25165824
+  of-gaps =
+      let low = by-size 20 6 (nodes ∷ rows ∷ rows ∷ 1 ∷ []) refl (spans x s 20 1 6
+      (λ k i j free. three-nothing s out 20 (nodes ∷ rows ∷ rows ∷ 1 ∷ []) k i j (gap-needless x s k i j free))
+      (λ k i j. let within = three-within s out 20 (nodes ∷ rows ∷ rows ∷ 1 ∷ []) (rows + 5) (omega arith) k i j in omega (arith, within, some_rows)) same arena refl) in
+      omega (arith, low)
 
-    abbrev rows : ℕ
-    rows = length s.log.rows
+  of-span : (number : ℕ) → is_of_reach number ≡ true → most_literals s number ≤ 5 → ((k i j m : ℕ) → needs_no_span x s k i j ≡ true → out (record { number = number; args = k ∷ i ∷ j ∷ m ∷ [] }) ≡ true)
+      → mass (with_none s out number (nodes ∷ rows ∷ rows ∷ rows ∷ [])) ≤ 20971520
+  of-span number of few left =
+      let low = by-size number 5 (nodes ∷ rows ∷ rows ∷ rows ∷ []) refl (spans x s number rows 5
+      (λ k i j free. three-nothing s out number (nodes ∷ rows ∷ rows ∷ rows ∷ []) k i j (λ m. left k i j m free))
+      (λ k i j. let within = three-within s out number (nodes ∷ rows ∷ rows ∷ rows ∷ []) 5 few k i j in omega (arith, within)) same arena of) in
+      omega (arith, low)
 
-    of-node-event : (number : ℕ) → length (with_none s number (nodes ∷ rows ∷ 1 ∷ 1 ∷ [])) ≤ 32768
-    of-node-event number =
-        let within = none-within number (nodes ∷ rows ∷ 1 ∷ 1 ∷ []) in
-        let low = product-low nodes (rows * (1 * (1 * 1))) 512 64 (omega (arith, few_nodes)) (omega (arith, few_rows)) in
-        omega (arith, within, low)
+  -- how many literals there are at most in the clauses of the rules of a number
+  abbrev most_of : List ℕ
+  most_of = 0 ∷ 2621440 ∷ 5242880 ∷ 2621440 ∷ 2621440 ∷ 2621440 ∷ 2621440 ∷ 2621440 ∷ 2621440 ∷ 5242880 ∷ 1053696 ∷ 1029
+      ∷ 20971520 ∷ 20971520 ∷ 20971520 ∷ 20971520 ∷ 20971520 ∷ 25165824 ∷ 20971520 ∷ 20971520 ∷ 25165824 ∷ 20971520 ∷ 20971520 ∷ 20971520 ∷ 1053696 ∷ 0 ∷ 0 ∷ 0 ∷ 20971520 ∷ []
 
-    of-change : (number : ℕ) → length (with_none s number (nodes ∷ rows ∷ rows ∷ 1 ∷ [])) ≤ 2097152
-    of-change number =
-        let within = none-within number (nodes ∷ rows ∷ rows ∷ 1 ∷ []) in
-        let square = product-low rows (rows * (1 * 1)) 64 64 (omega (arith, few_rows)) (omega (arith, few_rows)) in
-        let low = product-low nodes (rows * (rows * (1 * 1))) 512 4096 (omega (arith, few_nodes)) (omega (arith, square)) in
-        omega (arith, within, low)
+  abbrev IsFew : ℕ → Type 0
+  IsFew number = mass (of_number s out number) ≤ slice_index most_of number
 
-    of-events : (number : ℕ) → length (with_none s number (rows ∷ rows ∷ 1 ∷ 1 ∷ [])) ≤ 4096
-    of-events number =
-        let within = none-within number (rows ∷ rows ∷ 1 ∷ 1 ∷ []) in
-        let low = product-low rows (rows * (1 * (1 * 1))) 64 64 (omega (arith, few_rows)) (omega (arith, few_rows)) in
-        omega (arith, within, low)
+  five : 5 ≤ 5
+  five = omega arith
 
-    of-event : (number : ℕ) → length (with_none s number (rows ∷ 1 ∷ 1 ∷ 1 ∷ [])) ≤ 64
-    of-event number = let within = none-within number (rows ∷ 1 ∷ 1 ∷ 1 ∷ []) in omega (arith, within, few_rows)
+  each-few : AllByRecursion IsFew (range_with_len 0 29)
+  each-few = (omega arith, (of-node-event 1 five, (of-change, (of-node-event 3 five, (of-node-event 4 five, (of-node-event 5 five, (of-node-event 6 five, (of-node-event 7 five, (of-node-event 8 five, (of-events 9 five, (of-event 10 (omega arith), (of-nothing 11 (omega arith), (of-pair 12 refl five, (of-pair 13 refl five, (of-pair 14 refl five, (of-pair 15 refl five, (of-pair 16 refl five, (of-witnesses, (of-pair 18 refl five, (of-span 19 refl five (λ k i j m free. within-needless x s k i j free m), (of-gaps, (of-span 21 refl five (λ k i j m free. past-needless x s k i j free m), (of-pair 22 refl five, (of-pair 23 refl five, (of-event 24 (omega arith), (omega arith, (omega arith, (omega arith, (of-pair 28 refl five, tt)))))))))))))))))))))))))))))
 
-    of-nothing : (number : ℕ) → length (with_none s number (1 ∷ 1 ∷ 1 ∷ 1 ∷ [])) ≤ 1
-    of-nothing number = let within = none-within number (1 ∷ 1 ∷ 1 ∷ 1 ∷ []) in omega (arith, within)
+  abbrev total : List ℕ → ℕ
+  total [] = 0
+  total (n ∷ ns) = slice_index most_of n + total ns
 
-    cubes : length (reaches_in s.trees) * (rows * (rows * (rows * 1))) ≤ 262144
-    cubes = rw (← cube rows) (omega (arith, small))
+  flat-few : (ns : List ℕ) → AllByRecursion IsFew ns → mass (flat_map (of_number s out) ns) ≤ total ns
+  flat-few [] few = omega arith
+  flat-few (n ∷ ns) few =
+      let ih = flat-few ns few.1 in
+      let here = few.0 in
+      let sum = sum_by-append (most s out) (of_number s out n) (flat_map (of_number s out) ns) in
+      omega (arith, ih, here, sum)
 
-    of-three-events : (number : ℕ) → 11 < number → number < 24 → length (with_none s number (nodes ∷ rows ∷ rows ∷ rows ∷ [])) ≤ 262144
-    of-three-events number low high = let within = reach-within number (nodes ∷ rows ∷ rows ∷ rows ∷ []) low high refl in omega (arith, within, cubes)
-
-    of-two-events : (number : ℕ) → 11 < number → number < 24 → length (with_none s number (nodes ∷ rows ∷ rows ∷ 1 ∷ [])) ≤ 262144
-    of-two-events number low high =
-        let within = reach-within number (nodes ∷ rows ∷ rows ∷ 1 ∷ []) low high refl in
-        let one : 1 * 1 ≤ rows * 1 = omega (arith, some_rows) in
-        let less = mul-le-mul_left (length (reaches_in s.trees)) (mul-le-mul_left rows (mul-le-mul_left rows one)) in
-        omega (arith, within, less, cubes)
-
-    -- how many rules of a number have a clause at most
-    abbrev most : List ℕ
-    most = 0 ∷ 32768 ∷ 2097152 ∷ 32768 ∷ 32768 ∷ 32768 ∷ 32768 ∷ 32768 ∷ 32768 ∷ 4096 ∷ 64 ∷ 1
-        ∷ 262144 ∷ 262144 ∷ 262144 ∷ 262144 ∷ 262144 ∷ 32768 ∷ 262144 ∷ 262144 ∷ 262144 ∷ 262144 ∷ 262144 ∷ 262144 ∷ 64 ∷ []
-
-    abbrev IsFew : ℕ → Type 0
-    IsFew number = length (of_number s number) ≤ slice_index most number
-
-    each-few : AllByRecursion IsFew (range_with_len 0 25)
-    each-few = (omega arith, (of-node-event 1, (of-change 2, (of-node-event 3, (of-node-event 4, (of-node-event 5, (of-node-event 6, (of-node-event 7, (of-node-event 8, (of-events 9, (of-event 10, (of-nothing 11, (of-two-events 12 (omega arith) (omega arith), (of-two-events 13 (omega arith) (omega arith), (of-two-events 14 (omega arith) (omega arith), (of-two-events 15 (omega arith) (omega arith), (of-two-events 16 (omega arith) (omega arith), (of-node-event 17, (of-two-events 18 (omega arith) (omega arith), (of-three-events 19 (omega arith) (omega arith), (of-two-events 20 (omega arith) (omega arith), (of-three-events 21 (omega arith) (omega arith), (of-two-events 22 (omega arith) (omega arith), (of-two-events 23 (omega arith) (omega arith), (of-event 24, tt)))))))))))))))))))))))))
-
-    abbrev total : List ℕ → ℕ
-    total [] = 0
-    total (n ∷ ns) = slice_index most n + total ns
-
-    flat-few : (ns : List ℕ) → AllByRecursion IsFew ns → length (flat_map (of_number s) ns) ≤ total ns
-    flat-few [] few = omega arith
-    flat-few (n ∷ ns) few = let ih = flat-few ns few.1 in let here = few.0 in omega (arith, ih, here, length-append (of_number s n) (flat_map (of_number s) ns))
-
-    -- there are variables for the atoms of all of them
-    pub room-for-all : HasRoom (length (instances s))
-    room-for-all =
-        let few = flat-few (range_with_len 0 25) each-few in
-        let sum : total (range_with_len 0 25) ≡ 5247105 = refl in
-        omega (arith, few, sum)
+  -- there are variables for the atoms of all of them
+  pub room-for-all : HasRoom s (instances s out)
+  unfolding most_literals_of
+  room-for-all =
+      let few = flat-few (range_with_len 0 29) each-few in
+      let sum : total (range_with_len 0 29) ≡ 311962629 = refl in
+      omega (arith, few, sum)

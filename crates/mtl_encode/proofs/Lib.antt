@@ -2,21 +2,30 @@ pub mod RangeLemmas
 pub mod AtomGrowth
 pub mod Cubes
 pub mod SizeLemmas
+pub mod SizeBounds
+pub mod SizesUnique
 pub mod ClauseGrowth
+pub mod ChangeCounts
+pub mod LiteralCounts
+pub mod ChangeRules
 pub mod KeptRules
 pub mod ReachRules
+pub mod SpanRules
+pub mod ReachCounts
 pub mod InstanceCounts
 pub mod ModelLemmas
 mod ClauseUses
 mod PartUses
 mod RuleUses
+mod ExtremeUses
 mod StateExact
 mod NodeUses
 mod ReachExact
 mod ReachUses
-mod NodeLemmas
+pub mod NodeLemmas
 mod NodesExact
 mod RulesExact
 mod ExactCases
+mod TightExtremes
 mod EncodeLemmas
 pub mod VariableLemmas

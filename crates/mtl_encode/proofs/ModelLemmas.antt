@@ -1,5 +1,5 @@
 -- What satisfies a problem that fits satisfies the rules, and gives an admissible timing that agrees with it.
-use Rattle.std.proofs.Common.{◌≡◌, ◌∙◌, sym, ap, refl, subst, ℕ, zero, suc, ◌+◌, ◌<◌, Bool, true, List, [], ◌∷◌, length, Some, Ok, inl, inr, arith, ℤ, pos, ◌-ℤ◌}
+use Rattle.std.proofs.Common.{◌≡◌, ◌∙◌, sym, ap, refl, subst, ℕ, zero, suc, ◌+◌, ◌<◌, Bool, true, false, List, [], ◌∷◌, length, Some, Ok, inl, inr, arith, ℤ, pos, ◌-ℤ◌}
 use Rattle.std.specs.Prelude.{All, int_le, slice_get, slice_index_or}
 use Rattle.std.specs.List.{list_any, position_or_len}
 use Rattle.std.proofs.lemmas.Bool.{cases_Bool}
@@ -33,8 +33,9 @@ use Rattle.axiom_rules.proofs.RulesMade.{orders-of-rows}
 use Rattle.mtl_encode.proofs.AtomGrowth.{parts-read, read-at, read-atom, read-count}
 use Rattle.mtl_encode.proofs.RangeLemmas.{among-at}
 use Rattle.mtl_encode.specs.declared.problem.Problem.{Problem}
-use Rattle.mtl_encode.specs.Exact.{AgreesWith, RulesAreExact, SatisfiesRules, clause_is_true, literal_is_true}
+use Rattle.mtl_encode.specs.Exact.{AgreesWith, RulesAreExact, SatisfiesKept, clause_is_true, literal_is_true}
 use Rattle.mtl_encode.specs.Listing.{ListsRules}
+use Rattle.mtl_encode.specs.Needless.{AreExtremes, Extremes, is_needless}
 use Rattle.mtl_encode.specs.Models.{IsModel, value_at}
 use Rattle.mtl_encode.specs.Problems.{Fits, ReadsAs, read_literal}
 
@@ -81,30 +82,30 @@ time-of-node (x ∷ xs) e low =
 same-difference : (a b x : ℤ) → (a -ℤ x) -ℤ (b -ℤ x) ≡ a -ℤ b
 same-difference a b x = omega (arith, ints)
 
-module _ (s : Sought) (p : Problem) (values : List Bool) (numbers : List ℤ) (fits : Fits s p) (lists : ListsRules s p.rules) (once : AreOnce p.atoms) (model : IsModel p values numbers) where
+module _ (s : Sought) (out : Rule → Bool) (p : Problem) (values : List Bool) (numbers : List ℤ) (fits : Fits s p) (lists : ListsRules s out p.rules) (once : AreOnce p.atoms) (model : IsModel p values numbers) where
   -- the rule of a clause, with what its place holds
   record Held (rule : Rule) (c : List Literal) : Type 0 where
     place : ℕ
     low : place < length p.db
     read : ReadsAs p.atoms (clause_at p.db place) c
 
-  held : (rule : Rule) (c : List Literal) → clause_of s rule ≡ Ok c → Held rule c
-  held rule c is =
-      let (k, low, at) = lists.every rule c is in
+  held : (rule : Rule) (c : List Literal) → clause_of s rule ≡ Ok c → out rule ≡ false → Held rule c
+  held rule c is stays =
+      let (k, low, at) = lists.every rule c is stays in
       let there : slice_get p.rules k ≡ Some rule = slice_get-get_or p.rules k rule low ∙ ap (λ (r : Rule). Some r) at in
       let of = fits.clauses k rule there in
       let same : of.clause ≡ c = cc (of.of_rule, is) in
       record { place = k; low = omega (arith, low, fits.count); read = subst (ReadsAs p.atoms (clause_at p.db k)) same of.read }
 
-  satisfies : SatisfiesRules s (value_in p.atoms values)
-  satisfies rule c is =
-      let h = held rule c is in
+  satisfies : SatisfiesKept s out (value_in p.atoms values)
+  satisfies rule c is stays =
+      let h = held rule c is stays in
       sym (clause-same p.atoms values once (clause_at p.db h.place) c h.read) ∙ model.clauses h.place [] h.low
 
   -- an order atom that occurs has the value that the times of its rows give it
-  agrees : AgreesWith s (value_in p.atoms values) (times_of numbers)
+  agrees : AgreesWith s out (value_in p.atoms values) (times_of numbers)
   agrees e f c occurs =
-      let h = held occurs.rule occurs.clause occurs.is_clause in
+      let h = held occurs.rule occurs.clause occurs.is_clause occurs.kept in
       let (j, l, low, at, is) = occurs.stands in
       let lits = clause_at p.db h.place in
       let lit : Lit = slice_index_or lits j (record { var = 0; positive = true }) in
@@ -123,11 +124,13 @@ module _ (s : Sought) (p : Problem) (values : List Bool) (numbers : List ℤ) (f
       (record { count = model.numbers_count ∙ fits.nodes; meets = model.edges })
 
 -- what satisfies the problem gives an admissible timing in which the formula has the value sought
-pub model-exact : RulesAreExact → BoundsAreAdmissible → (log : Logged) (f : Form) (value : Bool) (p : Problem) (values : List Bool) (numbers : List ℤ) → IsLog log → Fits (sought_of log f value) p
-    → ListsRules (sought_of log f value) p.rules → AreOnce p.atoms → IsModel p values numbers → Admissible log (times_of numbers) × (truth log (times_of numbers) 0 f ≡ value)
-model-exact exact law log f value p values numbers valid fits lists once model =
-    let ok = admissible (sought_of log f value) p values numbers fits lists once model law in (
+pub model-exact : RulesAreExact → BoundsAreAdmissible → (log : Logged) (f : Form) (value : Bool) (x : Extremes) (p : Problem) (values : List Bool) (numbers : List ℤ) → IsLog log → AreExtremes log x
+    → Fits (sought_of log f value) p → ListsRules (sought_of log f value) (is_needless x (sought_of log f value)) p.rules → AreOnce p.atoms → IsModel p values numbers
+    → Admissible log (times_of numbers) × (truth log (times_of numbers) 0 f ≡ value)
+model-exact exact law log f value x p values numbers valid are fits lists once model =
+    let s = sought_of log f value in
+    let out : Rule → Bool = is_needless x s in
+    let ok = admissible s out p values numbers fits lists once model law in (
       ok,
-      exact log f value (value_in p.atoms values) (times_of numbers) valid ok
-          (satisfies (sought_of log f value) p values numbers fits lists once model) (agrees (sought_of log f value) p values numbers fits lists once model),
+      exact log f value x (value_in p.atoms values) (times_of numbers) valid are ok (satisfies s out p values numbers fits lists once model) (agrees s out p values numbers fits lists once model),
     )

@@ -1,9 +1,13 @@
 -- What the rules say of constants, propositions, negations and conjunctions, and of the value sought.
-use Rattle.std.proofs.Common.{◌≡◌, ◌∙◌, sym, refl, subst, ℕ, suc, ◌+◌, ◌<◌, Bool, true, false, not, ◌&&◌, if◌then◌else◌, List, [], ◌∷◌, length, Option, Some, None, Ok, Err, ℤ, ◌-ℤ◌, arith}
-use Rattle.std.specs.Prelude.{int_le, slice_get}
+use Rattle.std.proofs.Common.{◌≡◌, ◌∙◌, sym, refl, subst, ℕ, suc, ◌+◌, ◌<◌, Bool, true, false, not, ◌&&◌, if◌then◌else◌, List, [], ◌∷◌, length, Option, Some, None, Ok, Err, inl, inr, ℤ, pos, ◌-ℤ◌, arith}
+use Rattle.std.specs.Prelude.{int_le, int_lt, slice_get}
+use Rattle.std.specs.List.{range_with_len}
 use Rattle.std.specs.Option.{option_map_or}
+use Rattle.std.proofs.lemmas.Bool.{cases_Bool}
 use Rattle.mt_model.specs.State.{Change}
 use Rattle.mt_model.specs.Timing.{time_of}
+use Rattle.mt_model.proofs.Members.{any_some}
+use Rattle.mt_model.proofs.PositionLemmas.{below}
 use Rattle.axiom_rules.specs.declared.fault.RuleFault.TheVariants.{Kind, Range}
 use Rattle.axiom_rules.specs.declared.literal.Atom.{Atom}
 use Rattle.axiom_rules.specs.declared.literal.Atom.TheVariants.{First, Node, Order}
@@ -13,32 +17,34 @@ use Rattle.axiom_rules.specs.Parts.{after, not_after}
 use Rattle.axiom_rules.specs.Rules.{has_come, is, is_not}
 use Rattle.axiom_rules.specs.Rules as rule
 use Rattle.axiom_rules.specs.Sought.{Sought}
-use Rattle.axiom_rules.proofs.BoolLemmas.{not_true}
+use Rattle.axiom_rules.proofs.BoolLemmas.{apart, not_true}
 use Rattle.axiom_rules.proofs.ChangeLemmas.{first_passes, is_by, last_of}
 use Rattle.axiom_rules.proofs.PartLemmas.{part_holds}
-use Rattle.mtl_encode.specs.Exact.{SatisfiesRules}
+use Rattle.mtl_encode.specs.Exact.{SatisfiesKept}
+use Rattle.mtl_encode.specs.Needless.{Extremes, is_needless, is_never_first}
 use Rattle.mtl_encode.proofs.ClauseUses.{is_both, is_negation, is_sense, last_of_1, last_of_2, last_of_3}
+use Rattle.mtl_encode.proofs.ExtremeUses.{BoundsTimes, is-after, is-not-after}
 use Rattle.mtl_encode.proofs.PartUses.{WrittenIsTrue}
 use Rattle.mtl_encode.proofs.RuleUses.{after-true, event-true, kind-true, not_after-true, of_event-true, of_events-true, of_node_event-true, of_node_event_change-true, of_nothing-true}
 use Rattle.mtl_encode.proofs.StateExact.{FollowsChanges, state-exact}
 
-module _ (s : Sought) (v : Atom → Bool) (satisfied : SatisfiesRules s v) where
+module _ (s : Sought) (x : Extremes) (v : Atom → Bool) (satisfied : SatisfiesKept s (is_needless x s) v) where
   -- a node that is `true`
   pub constant-exact : (k e : ℕ) → k < length s.trees → e < length s.log.rows → is_constant (shape_at s k) ≡ true → v (Node k e) ≡ true
-  constant-exact k e low in_ constant = last_of_1 (v (Node k e)) (subst (λ b. WrittenIsTrue v (if b then Ok (is (Node k e) ∷ []) else Err Kind)) constant (of_node_event-true s v satisfied 3 rule.rule_3 refl k e low in_))
+  constant-exact k e low in_ constant = last_of_1 (v (Node k e)) (subst (λ b. WrittenIsTrue v (if b then Ok (is (Node k e) ∷ []) else Err Kind)) constant (of_node_event-true s (is_needless x s) v satisfied 3 rule.rule_3 refl k e low in_ refl))
 
   -- a node that is the negation of node a
   pub negation-exact : (k e a : ℕ) → k < length s.trees → e < length s.log.rows → operand_in (shape_at s k) ≡ Some a → v (Node k e) ≡ not (v (Node a e))
   negation-exact k e a low in_ of_a = is_negation (v (Node k e)) (v (Node a e))
-      (kind-true s v satisfied (operand_in (shape_at s k)) a (λ a. Ok (is_not (Node k e) ∷ is_not (Node a e) ∷ [])) of_a (of_node_event-true s v satisfied 4 rule.rule_4 refl k e low in_))
-      (kind-true s v satisfied (operand_in (shape_at s k)) a (λ a. Ok (is (Node k e) ∷ is (Node a e) ∷ [])) of_a (of_node_event-true s v satisfied 5 rule.rule_5 refl k e low in_))
+      (kind-true s (is_needless x s) v satisfied (operand_in (shape_at s k)) a (λ a. Ok (is_not (Node k e) ∷ is_not (Node a e) ∷ [])) of_a (of_node_event-true s (is_needless x s) v satisfied 4 rule.rule_4 refl k e low in_ refl))
+      (kind-true s (is_needless x s) v satisfied (operand_in (shape_at s k)) a (λ a. Ok (is (Node k e) ∷ is (Node a e) ∷ [])) of_a (of_node_event-true s (is_needless x s) v satisfied 5 rule.rule_5 refl k e low in_ refl))
 
   -- a node that is the conjunction of nodes a and b
   pub conjunction-exact : (k e a b : ℕ) → k < length s.trees → e < length s.log.rows → sides_in (shape_at s k) ≡ Some (a, b) → v (Node k e) ≡ (v (Node a e) && v (Node b e))
   conjunction-exact k e a b low in_ of_both = is_both (v (Node k e)) (v (Node a e)) (v (Node b e))
-      (kind-true s v satisfied (sides_in (shape_at s k)) (a, b) (λ sides. Ok (is_not (Node k e) ∷ is (Node sides.0 e) ∷ [])) of_both (of_node_event-true s v satisfied 6 rule.rule_6 refl k e low in_))
-      (kind-true s v satisfied (sides_in (shape_at s k)) (a, b) (λ sides. Ok (is_not (Node k e) ∷ is (Node sides.1 e) ∷ [])) of_both (of_node_event-true s v satisfied 7 rule.rule_7 refl k e low in_))
-      (kind-true s v satisfied (sides_in (shape_at s k)) (a, b) (λ sides. Ok (is (Node k e) ∷ is_not (Node sides.0 e) ∷ is_not (Node sides.1 e) ∷ [])) of_both (of_node_event-true s v satisfied 8 rule.rule_8 refl k e low in_))
+      (kind-true s (is_needless x s) v satisfied (sides_in (shape_at s k)) (a, b) (λ sides. Ok (is_not (Node k e) ∷ is (Node sides.0 e) ∷ [])) of_both (of_node_event-true s (is_needless x s) v satisfied 6 rule.rule_6 refl k e low in_ refl))
+      (kind-true s (is_needless x s) v satisfied (sides_in (shape_at s k)) (a, b) (λ sides. Ok (is_not (Node k e) ∷ is (Node sides.1 e) ∷ [])) of_both (of_node_event-true s (is_needless x s) v satisfied 7 rule.rule_7 refl k e low in_ refl))
+      (kind-true s (is_needless x s) v satisfied (sides_in (shape_at s k)) (a, b) (λ sides. Ok (is (Node k e) ∷ is_not (Node sides.0 e) ∷ is_not (Node sides.1 e) ∷ [])) of_both (of_node_event-true s (is_needless x s) v satisfied 8 rule.rule_8 refl k e low in_ refl))
 
   module _ (t : List ℤ) (agrees : (e f : ℕ) (c : ℤ) → v (Order e f c) ≡ int_le (time_of t e -ℤ time_of t f) c) where
     come-true : (cs : List Change) (place e : ℕ) → part_holds v (has_come cs place e) ≡ option_map_or (is_by t (time_of t e)) (slice_get cs place) false
@@ -54,7 +60,7 @@ module _ (s : Sought) (v : Atom → Bool) (satisfied : SatisfiesRules s v) where
       where
         changed : v (Node k e) ≡ true → first_passes (is_by t (time_of t e)) cs ≡ true
         changed holds = sym (come-true cs 0 e) ∙ last_of_2 (not (v (Node k e))) (part_holds v (has_come cs 0 e))
-            (kind-true s v satisfied (changes_in (shape_at s k)) cs (λ changes. Ok (is_not (Node k e) ∷ has_come changes 0 e ∷ [])) of_changes (of_node_event-true s v satisfied 1 rule.rule_1 refl k e low in_))
+            (kind-true s (is_needless x s) v satisfied (changes_in (shape_at s k)) cs (λ changes. Ok (is_not (Node k e) ∷ has_come changes 0 e ∷ [])) of_changes (of_node_event-true s (is_needless x s) v satisfied 1 rule.rule_1 refl k e low in_ refl))
             (not_true (v (Node k e)) holds)
 
         second : (place : ℕ) (o : Option Change) (c : Change) → o ≡ Some c
@@ -72,16 +78,33 @@ module _ (s : Sought) (v : Atom → Bool) (satisfied : SatisfiesRules s v) where
         follows place c there begun next =
             let step : place + 1 ≡ suc place = omega arith in
             second place (slice_get cs place) c there
-            (kind-true s v satisfied (changes_in (shape_at s k)) cs (λ changes. option_map_or (λ c. Ok (after c.row e ∷ has_come changes (place + 1) e ∷ Says (record { atom = Node k e; positive = c.sets }) ∷ [])) (slice_get changes place) (Err Range)) of_changes
-            (of_node_event_change-true s v satisfied 2 rule.rule_2 refl k e place low in_))
+            (kind-true s (is_needless x s) v satisfied (changes_in (shape_at s k)) cs (λ changes. option_map_or (λ c. Ok (after c.row e ∷ has_come changes (place + 1) e ∷ Says (record { atom = Node k e; positive = c.sets }) ∷ [])) (slice_get changes place) (Err Range)) of_changes
+            (of_node_event_change-true s (is_needless x s) v satisfied 2 rule.rule_2 refl k e place low in_ refl))
             begun (rw step next)
 
-    -- some event is a first one, and no event is earlier
-    pub first-exact : (e : ℕ) × (e < length s.log.rows) × (v (First e) ≡ true) × ((x : ℕ) → x < length s.log.rows → int_le (time_of t e) (time_of t x) ≡ true)
-    first-exact =
-        let (e, in_, first) = event-true s v satisfied (λ e. is (First e)) (of_nothing-true s v satisfied 11 rule.rule_11 refl) in
-        (e, in_, first, λ x low. sym (not_after-true v s.log t s.trees agrees e x) ∙ last_of_2 (not (v (First e))) (part_holds v (not_after e x)) (of_events-true s v satisfied 9 rule.rule_9 refl e x in_ low) (not_true (v (First e)) first))
+    module _ (bounded : BoundsTimes x t (length s.log.rows)) where
+      not-later : (e y : ℕ) → e < length s.log.rows → y < length s.log.rows → v (First e) ≡ true → int_le (time_of t e) (time_of t y) ≡ true
+      not-later e y in_ low first = elim (cases_Bool (int_le (pos 0) (x.least e y))) [
+        | inl never ↦ is-not-after (time_of t e) (time_of t y) (x.least e y) never (bounded.least e y in_ low)
+        | inr may ↦ sym (not_after-true v s.log t s.trees agrees e y) ∙ last_of_2 (not (v (First e))) (part_holds v (not_after e y)) (of_events-true s (is_needless x s) v satisfied 9 rule.rule_9 refl e y in_ low may) (not_true (v (First e)) first)
+      ]
 
-  -- at a first event the root has the value sought
-  pub root-exact : (e : ℕ) → e < length s.log.rows → v (First e) ≡ true → v (Node s.root e) ≡ s.value
-  root-exact e in_ first = is_sense s.value (v (Node s.root e)) (last_of_2 (not (v (First e))) (if s.value then v (Node s.root e) else not (v (Node s.root e))) (of_event-true s v satisfied 24 rule.rule_24 refl e in_) (not_true (v (First e)) first))
+      -- some event is a first one, and no event is earlier
+      pub first-exact : (e : ℕ) × (e < length s.log.rows) × (v (First e) ≡ true) × ((y : ℕ) → y < length s.log.rows → int_le (time_of t e) (time_of t y) ≡ true)
+      first-exact =
+          let (e, in_, first) = event-true s (is_needless x s) v satisfied (λ e. is (First e)) (of_nothing-true s (is_needless x s) v satisfied 11 rule.rule_11 refl refl) in
+          (e, in_, first, λ y low. not-later e y in_ low first)
+
+      may-be-first : (e : ℕ) → e < length s.log.rows → ((y : ℕ) → y < length s.log.rows → int_le (time_of t e) (time_of t y) ≡ true) → is_never_first x (length s.log.rows) e ≡ false
+      may-be-first e in_ earliest = elim (cases_Bool (is_never_first x (length s.log.rows) e)) [
+        | inr fails ↦ fails
+        | inl never ↦
+            let (y, among, before) = any_some (λ f. int_lt (x.greatest e f) (pos 0)) (range_with_len 0 (length s.log.rows)) never in
+            let low = below (length s.log.rows) y among in
+            absurd (apart _ (earliest y low) (is-after (time_of t e) (time_of t y) (x.greatest e y) before (bounded.greatest e y in_ low)))
+      ]
+
+      -- at a first event the root has the value sought
+      pub root-exact : (e : ℕ) → e < length s.log.rows → v (First e) ≡ true → ((y : ℕ) → y < length s.log.rows → int_le (time_of t e) (time_of t y) ≡ true) → v (Node s.root e) ≡ s.value
+      root-exact e in_ first earliest = is_sense s.value (v (Node s.root e)) (last_of_2 (not (v (First e))) (if s.value then v (Node s.root e) else not (v (Node s.root e)))
+          (of_event-true s (is_needless x s) v satisfied 24 rule.rule_24 refl e in_ (may-be-first e in_ earliest)) (not_true (v (First e)) first))

@@ -22,7 +22,9 @@ use Rattle.axiom_rules.specs.NodeShapes.{changes_in, changes_named, is_constant,
 use Rattle.axiom_rules.specs.Sought.{Sought}
 use Rattle.axiom_rules.proofs.ChangeLemmas.{is_by, last_of}
 use Rattle.axiom_rules.proofs.MeaningLemmas.{at_row, near-ahead, row_at}
-use Rattle.mtl_encode.specs.Exact.{SatisfiesRules}
+use Rattle.mtl_encode.specs.Exact.{SatisfiesKept}
+use Rattle.mtl_encode.specs.Needless.{Extremes, is_dead, is_needless}
+use Rattle.mtl_encode.proofs.ExtremeUses.{BoundsTimes}
 use Rattle.mtl_encode.proofs.NodeLemmas.{IsThere, child-there, shape-is}
 use Rattle.mtl_encode.proofs.NodeUses.{conjunction-exact, constant-exact, negation-exact, proposition-exact}
 use Rattle.mtl_encode.proofs.ReachExact.{reach-exact}
@@ -32,7 +34,8 @@ use Rattle.mtl_encode.proofs.ReachUses.{reach-allowed}
 to_themselves : {X : Type 0} (F : Frame X) → Carries F F (λ x. x)
 to_themselves F = record { into = λ x a. a; onto = λ y b. (y, b, refl); not_after = λ x y a b. refl; instant = λ x a. refl }
 
-module _ (s : Sought) (v : Atom → Bool) (satisfied : SatisfiesRules s v) (t : List ℤ) (agrees : (e f : ℕ) (c : ℤ) → v (Order e f c) ≡ int_le (time_of t e -ℤ time_of t f) c) (count : length t ≡ length s.log.rows)
+module _ (s : Sought) (x : Extremes) (v : Atom → Bool) (satisfied : SatisfiesKept s (is_needless x s) v) (t : List ℤ) (agrees : (e f : ℕ) (c : ℤ) → v (Order e f c) ≡ int_le (time_of t e -ℤ time_of t f) c)
+    (bounded : BoundsTimes x t (length s.log.rows)) (count : length t ≡ length s.log.rows)
     (same : (f g : Form) → (same_form f g ≡ true) ↔ (f ≡ g)) (cores : (k : ℕ) → k < length s.trees → IsCore (tree_at s.trees k))
     (once : (j k : ℕ) → j < length s.trees → k < length s.trees → tree_at s.trees j ≡ tree_at s.trees k → j ≡ k) (children_first : (k : ℕ) → k < length s.trees → All (StandsBefore s.trees k) (children_of (tree_at s.trees k))) where
   abbrev told : Form → ℕ → Bool
@@ -57,18 +60,18 @@ module _ (s : Sought) (v : Atom → Bool) (satisfied : SatisfiesRules s v) (t : 
   state-named instant host name (Some h) = refl
 
   exact-prop : (host name : List ℕ) → IsExact (Prop host name)
-  exact-prop host name k e low tree in_ = proposition-exact s v satisfied t agrees k e (changes_named s.log host name) low in_ (ap changes_in (is-shape k (Prop host name) low tree)) ∙ state-named (time_of t e) host name (host_named s.log host)
+  exact-prop host name k e low tree in_ = proposition-exact s x v satisfied t agrees k e (changes_named s.log host name) low in_ (ap changes_in (is-shape k (Prop host name) low tree)) ∙ state-named (time_of t e) host name (host_named s.log host)
 
   exact-not : (f : Form) → IsExact f → IsExact (Not f)
   exact-not f exact k e low tree in_ =
       let a = child k 0 (Not f) f low tree (omega arith) refl in
-      negation-exact s v satisfied k e (number_of s.trees f) low in_ (ap operand_in (is-shape k (Not f) low tree)) ∙ ap not (exact (number_of s.trees f) e a.low a.tree in_)
+      negation-exact s x v satisfied k e (number_of s.trees f) low in_ (ap operand_in (is-shape k (Not f) low tree)) ∙ ap not (exact (number_of s.trees f) e a.low a.tree in_)
 
   exact-and : (f g : Form) → IsExact f → IsExact g → IsExact (And f g)
   exact-and f g exact_f exact_g k e low tree in_ =
       let a = child k 0 (And f g) f low tree (omega arith) refl in
       let b = child k 1 (And f g) g low tree (omega arith) refl in
-      conjunction-exact s v satisfied k e (number_of s.trees f) (number_of s.trees g) low in_ (ap sides_in (is-shape k (And f g) low tree))
+      conjunction-exact s x v satisfied k e (number_of s.trees f) (number_of s.trees g) low in_ (ap sides_in (is-shape k (And f g) low tree))
       ∙ rw (exact_f (number_of s.trees f) e a.low a.tree in_, exact_g (number_of s.trees g) e b.low b.tree in_) refl
 
   exact-reach : (direction : Direction) (I : Interval) (f g : Form) → IsExact f → IsExact g → (k e : ℕ) → k < length s.trees → e < length s.log.rows
@@ -83,14 +86,15 @@ module _ (s : Sought) (v : Atom → Bool) (satisfied : SatisfiesRules s v) (t : 
       let left : ℕ → Bool = λ x. v (Node l x) in
       let right : ℕ → Bool = λ x. v (Node r x) in
       let point = at_row s.log t s.trees direction e (omega (arith, in_, count)) in
-      reach-exact O near left right (λ x. v (Node k x)) (λ i j. v (Wit k i j)) (λ i j. v (Span k i j)) (λ i m. v (Gap k i m)) (reach-allowed s v satisfied t agrees k low direction I l r node count) (near-ahead s.log t s.trees direction I) e point
+      reach-exact O near (is_dead x (record { direction = direction; interval = I; left = l; right = r })) (is_constant (shape_at s l)) left right (λ x. v (Node k x)) (λ i j. v (Wit k i j)) (λ i j. v (Span k i j)) (λ i m. v (Gap k i m))
+      (reach-allowed s x v satisfied t agrees bounded k low direction I l r node count a.low) (near-ahead s.log t s.trees direction I) e point
       ∙ reaches_same O O (λ x. x) (to_themselves O) near near (λ x y c d. refl) left (told f) (λ x c. exact_f l x a.low a.tree (in-log direction x c)) right (told g) (λ x c. exact_g r x b.low b.tree (in-log direction x c)) e point
     where
       in-log : (direction : Direction) (x : ℕ) → Among (met direction (rows_in t)).points x → x < length s.log.rows
       in-log direction x among = let less = row_at s.log t s.trees direction x among in omega (arith, less, count)
 
   pub node-exact : (f : Form) → IsExact f
-  node-exact True k e low tree in_ = constant-exact s v satisfied k e low in_ (ap is_constant (is-shape k True low tree))
+  node-exact True k e low tree in_ = constant-exact s x v satisfied k e low in_ (ap is_constant (is-shape k True low tree))
   node-exact False k e low tree in_ = absurd (cc (is_core k False low tree))
   node-exact (Prop host name) k e low tree in_ = exact-prop host name k e low tree in_
   node-exact (Not f) k e low tree in_ = exact-not f (node-exact f) k e low tree in_

@@ -7,13 +7,14 @@ use Rattle.axiom_rules.specs.declared.literal.Atom.{Atom}
 use Rattle.axiom_rules.specs.declared.literal.Literal.{Literal}
 use Rattle.axiom_rules.specs.declared.part.Part.{Part}
 use Rattle.axiom_rules.specs.declared.part.Part.TheVariants.{Says, Known}
+use Rattle.axiom_rules.specs.declared.rule.Rule.{Rule}
 use Rattle.axiom_rules.specs.Clauses.{Row, are_there, clause_of, row_of}
 use Rattle.axiom_rules.specs.Literals.{has_literal, negated}
 use Rattle.axiom_rules.specs.Parts.{Written, clause_of_parts, each_once, is_true, literals_in, opposes_itself}
 use Rattle.axiom_rules.specs.Sought.{Sought}
 use Rattle.axiom_rules.proofs.AddingLemmas.{once-among, stands}
 use Rattle.axiom_rules.proofs.PartLemmas.{part_holds, valued}
-use Rattle.mtl_encode.specs.Exact.{SatisfiesRules}
+use Rattle.mtl_encode.specs.Exact.{SatisfiesKept}
 
 module _ (v : Atom → Bool) where
   once-true : (ls : List Literal) → list_any (valued v) (each_once ls) ≡ true → list_any (valued v) ls ≡ true
@@ -61,12 +62,13 @@ module _ (v : Atom → Bool) where
   WrittenIsTrue (Ok parts) = list_any (part_holds v) parts ≡ true
   WrittenIsTrue (Err fault) = Unit {0}
 
-  -- what the rule of a number writes is true, for arguments that are there
-  pub written-true : (s : Sought) → SatisfiesRules s v → (number : ℕ) (args : List ℕ) (row : Row) → row_of number ≡ Some row → are_there s row.arguments args ≡ true → WrittenIsTrue (row.writes s args)
-  written-true s satisfied number args row is there = go (row.writes s args) refl
+  -- what the rule of a number writes is true, for arguments that are there, where it isn't left out
+  pub written-true : (s : Sought) (out : Rule → Bool) → SatisfiesKept s out v → (number : ℕ) (args : List ℕ) (row : Row) → row_of number ≡ Some row → are_there s row.arguments args ≡ true
+      → out (record { number = number; args = args }) ≡ false → WrittenIsTrue (row.writes s args)
+  written-true s out satisfied number args row is there kept = go (row.writes s args) refl
     where
       go : (w : Written) → row.writes s args ≡ w → WrittenIsTrue w
       go (Err fault) written = tt
       go (Ok parts) written = parts-true parts (λ c clause.
           let whole : clause_of s (record { number = number; args = args }) ≡ Ok c = rw (is, there, written) clause in
-          satisfied (record { number = number; args = args }) c whole)
+          satisfied (record { number = number; args = args }) c whole kept)

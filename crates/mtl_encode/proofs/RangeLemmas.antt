@@ -1,10 +1,9 @@
 -- Lists that go over a range of numbers.
-use Rattle.std.proofs.Common.{◌≡◌, ap, refl, ℕ, zero, suc, ◌+◌, ◌*◌, ◌<◌, ◌≤◌, Bool, false, List, [], ◌∷◌, ◌++◌, length, ◌⊎◌, inl, inr, arith}
-use Rattle.std.specs.Prelude.{◌≢◌, AllPairs, Contains, filter, slice_index_or}
+use Rattle.std.proofs.Common.{◌≡◌, ap, refl, ℕ, zero, suc, ◌+◌, ◌*◌, ◌<◌, ◌≤◌, List, [], ◌∷◌, ◌++◌, length, ◌⊎◌, inl, inr, arith}
+use Rattle.std.specs.Prelude.{◌≢◌, AllPairs, Contains, slice_index_or, sum_by}
 use Rattle.std.specs.List.{flat_map, range_with_len}
-use Rattle.std.proofs.Math.Nat.{suc-mul}
-use Rattle.std.proofs.lemmas.Bool.{cases_Bool}
-use Rattle.std.proofs.lemmas.List.{length-append}
+use Rattle.std.proofs.Math.Nat.{mul-add, suc-mul}
+use Rattle.std.proofs.lemmas.List.Sums.{sum_by-append, sum_by-cons}
 use Rattle.mt_model.proofs.Members.{Among}
 
 among-left : {X : Type 0} (xs ys : List X) (x : X) → Among xs x → Among (xs ++ ys) x
@@ -31,14 +30,6 @@ pub place-of : {X : Type 0} (xs : List X) (x : X) → Among xs x → Contains xs
 place-of [] x in_ = absurd in_
 place-of (y ∷ xs) x (inl here) = (0, omega arith, here)
 place-of (y ∷ xs) x (inr there) = let (k, low, is) = place-of xs x there in (suc k, omega (arith, low), is)
-
--- what passes a test is no more than there is
-pub filtered-short : {X : Type 0} (p : X → Bool) (xs : List X) → length (filter p xs) ≤ length xs
-filtered-short p [] = omega arith
-filtered-short p (x ∷ xs) = elim (cases_Bool (p x)) [
-  | inl is ↦ rw is (let ih = filtered-short p xs in omega (arith, ih))
-  | inr fails ↦ rw fails (let ih = filtered-short p xs in omega (arith, ih))
-]
 
 -- no element stands twice
 abbrev pub Apart : {X : Type 0} → List X → Type 0
@@ -87,40 +78,64 @@ module _ {X : Type 0} (f : ℕ → List X) where
       let keys : key p ≡ key q = ap key same in
       omega (arith, low, first, later, keys))
 
-  -- the lists of the numbers before one, and its own, are no longer than those of all
-  part-from : (a i n : ℕ) → i < n → length (flat_map f (range_with_len a i)) + length (f (a + i)) ≤ length (flat_map f (range_with_len a n))
+  -- nothing, where none of the numbers has anything
+  pub flat-nothing : (a n : ℕ) → ((x : ℕ) → a ≤ x → x < a + n → f x ≡ []) → flat_map f (range_with_len a n) ≡ []
+  flat-nothing a zero none = refl
+  flat-nothing a (suc n) none = rw (none a (omega arith) (omega arith)) (flat-nothing (a + 1) n (λ x low high. none x (omega (arith, low)) (omega (arith, high))))
+
+  -- the first ones are enough where the others have nothing
+  pub flat-first : (c n a : ℕ) → c ≤ n → ((x : ℕ) → a + c ≤ x → x < a + n → f x ≡ []) → flat_map f (range_with_len a n) ≡ flat_map f (range_with_len a c)
+  flat-first zero n a few none = flat-nothing a n (λ x low high. none x (omega (arith, low)) high)
+  flat-first (suc c) zero a few none = absurd (omega (arith, few))
+  flat-first (suc c) (suc n) a few none = ap (λ rest. f a ++ rest) (flat-first c n (a + 1) (omega (arith, few)) (λ x low high. none x (omega (arith, low)) (omega (arith, high))))
+
+-- sums over the lists of numbers
+module _ {X : Type 0} (w : X → ℕ) (f : ℕ → List X) where
+  flat-next : (a n : ℕ) → sum_by w (flat_map f (range_with_len a (suc n))) ≡ sum_by w (f a) + sum_by w (flat_map f (range_with_len (a + 1) n))
+  flat-next a n = sum_by-append w (f a) (flat_map f (range_with_len (a + 1) n))
+
+  -- the lists of the numbers before one, and its own, sum up to no more than those of all
+  part-from : (a i n : ℕ) → i < n → sum_by w (flat_map f (range_with_len a i)) + sum_by w (f (a + i)) ≤ sum_by w (flat_map f (range_with_len a n))
   part-from a i zero less = absurd (omega arith)
-  part-from a zero (suc n) less = let e : a + 0 ≡ a = omega arith in rw e (omega (arith, length-append (f a) (flat_map f (range_with_len (a + 1) n))))
+  part-from a zero (suc n) less = let e : a + 0 ≡ a = omega arith in let next = flat-next a n in rw e (omega (arith, next))
   part-from a (suc i) (suc n) less =
       let ih = part-from (a + 1) i n (omega arith) in
       let e : a + 1 + i ≡ a + suc i = omega arith in
       let later = rw e at ih in
-      omega (arith, later, length-append (f a) (flat_map f (range_with_len (a + 1) i)), length-append (f a) (flat_map f (range_with_len (a + 1) n)))
+      let few = flat-next a i in
+      let more = flat-next a n in
+      omega (arith, later, few, more)
 
-  pub part-short : (i n : ℕ) → i < n → length (flat_map f (range_with_len 0 i)) + length (f i) ≤ length (flat_map f (range_with_len 0 n))
-  part-short i n less = let e : 0 + i ≡ i = omega arith in rw e at (part-from 0 i n less)
+  pub part-low : (i n : ℕ) → i < n → sum_by w (flat_map f (range_with_len 0 i)) + sum_by w (f i) ≤ sum_by w (flat_map f (range_with_len 0 n))
+  part-low i n less = let e : 0 + i ≡ i = omega arith in rw e at (part-from 0 i n less)
 
-  -- nothing, where no number has anything
-  pub flat-nothing : (a n : ℕ) → ((x : ℕ) → f x ≡ []) → flat_map f (range_with_len a n) ≡ []
-  flat-nothing a zero none = refl
-  flat-nothing a (suc n) none = rw (none a) (flat-nothing (a + 1) n none)
-
-  -- the length, where no number has more than m elements
-  pub flat-within : (m a n : ℕ) → ((x : ℕ) → length (f x) ≤ m) → length (flat_map f (range_with_len a n)) ≤ n * m
+  -- where no list sums up to more than m
+  pub flat-within : (m a n : ℕ) → ((x : ℕ) → sum_by w (f x) ≤ m) → sum_by w (flat_map f (range_with_len a n)) ≤ n * m
   flat-within m a zero each = omega arith
   flat-within m a (suc n) each =
       let ih = flat-within m (a + 1) n each in
       let more = suc-mul n m in
-      omega (arith, ih, each a, more, length-append (f a) (flat_map f (range_with_len (a + 1) n)))
+      let next = flat-next a n in
+      omega (arith, ih, each a, more, next)
 
-  -- the length, where the numbers of elements that fail a test have nothing
-  pub passing-within : {T : Type 0} (p : T → Bool) (d : T) (m a : ℕ) (xs : List T) → ((k : ℕ) → k < length xs → p (slice_index_or xs k d) ≡ false → f (a + k) ≡ [])
-      → ((x : ℕ) → length (f x) ≤ m) → length (flat_map f (range_with_len a (length xs))) ≤ length (filter p xs) * m
-  passing-within p d m a [] none each = omega arith
-  passing-within p d m a (x ∷ xs) none each =
-      let ih = passing-within p d m (a + 1) xs (λ k low fails. let e : a + suc k ≡ a + 1 + k = omega arith in rw e at (none (suc k) (omega (arith, low)) fails)) each in
-      let both = length-append (f a) (flat_map f (range_with_len (a + 1) (length xs))) in
-      elim (cases_Bool (p x)) [
-        | inl is ↦ rw is (let more = suc-mul (length (filter p xs)) m in omega (arith, ih, both, each a, more))
-        | inr fails ↦ rw fails (let e : a + 0 ≡ a = omega arith in let empty : length (f a) ≡ 0 = ap length (rw e at (none 0 (omega arith) fails)) in omega (arith, ih, both, empty))
-      ]
+  -- where the list of each number sums up to no more than m times what is counted of it
+  pub flat-by : (count : ℕ → ℕ) (m a n : ℕ) → ((x : ℕ) → sum_by w (f x) ≤ m * count x) → sum_by w (flat_map f (range_with_len a n)) ≤ m * sum_by count (range_with_len a n)
+  flat-by count m a zero each = omega arith
+  flat-by count m a (suc n) each =
+      let ih = flat-by count m (a + 1) n each in
+      let next = flat-next a n in
+      let sum = sum_by-cons count a (range_with_len (a + 1) n) in
+      let apart = mul-add m (count a) (sum_by count (range_with_len (a + 1) n)) in
+      rw sum (omega (arith, ih, each a, next, apart))
+
+  -- or of the element that stands at it
+  pub flat-places : {T : Type 0} (count : T → ℕ) (d : T) (m a : ℕ) (xs : List T) → ((k : ℕ) → k < length xs → sum_by w (f (a + k)) ≤ m * count (slice_index_or xs k d))
+      → sum_by w (flat_map f (range_with_len a (length xs))) ≤ m * sum_by count xs
+  flat-places count d m a [] each = omega arith
+  flat-places count d m a (x ∷ xs) each =
+      let ih = flat-places count d m (a + 1) xs (λ k low. let e : a + suc k ≡ a + 1 + k = omega arith in rw e at (each (suc k) (omega (arith, low)))) in
+      let here = let e : a + 0 ≡ a = omega arith in rw e at (each 0 (omega arith)) in
+      let next = flat-next a (length xs) in
+      let sum = sum_by-cons count x xs in
+      let apart = mul-add m (count x) (sum_by count xs) in
+      rw sum (omega (arith, ih, here, next, apart))

@@ -1,5 +1,5 @@
 -- What each row of the rules says of truth values that satisfy the rules.
-use Rattle.std.proofs.Common.{◌≡◌, ◌∙◌, sym, ap, refl, subst, ℕ, ◌<◌, Bool, true, not, List, [], ◌∷◌, length, Option, Some, ℤ, pos, ◌-ℤ◌, neg_ℤ, lt-ltb}
+use Rattle.std.proofs.Common.{◌≡◌, ◌∙◌, sym, ap, refl, subst, ℕ, ◌<◌, Bool, true, false, not, List, [], ◌∷◌, length, Option, Some, ℤ, pos, ◌-ℤ◌, neg_ℤ, lt-ltb}
 use Rattle.std.specs.Prelude.{int_le}
 use Rattle.std.specs.List.{list_any, range_with_len}
 use Rattle.std.proofs.lemmas.Bool.{and_from}
@@ -16,6 +16,7 @@ use Rattle.formula_arena.specs.declared.direction.Direction.TheVariants.{Ahead, 
 use Rattle.axiom_rules.specs.declared.literal.Atom.{Atom}
 use Rattle.axiom_rules.specs.declared.literal.Atom.TheVariants.{Order}
 use Rattle.axiom_rules.specs.declared.part.Part.{Part}
+use Rattle.axiom_rules.specs.declared.rule.Rule.{Rule}
 use Rattle.axiom_rules.specs.Clauses.{of_event, of_events, of_node_event, of_node_event_change, of_node_events, of_node_three_events, of_nothing, row_of}
 use Rattle.axiom_rules.specs.Holds.{means}
 use Rattle.axiom_rules.specs.Parts.{Written, after, not_after, order}
@@ -23,10 +24,11 @@ use Rattle.axiom_rules.specs.Rules.{for_each_event, is_from, is_not_from, is_not
 use Rattle.axiom_rules.specs.Sought.{Sought}
 use Rattle.axiom_rules.proofs.MeaningLemmas.{distance, from, is_from-says, is_not_from-says, is_not_up_to-says, is_up_to-says, met_after-says, not_met_after-says}
 use Rattle.axiom_rules.proofs.PartLemmas.{any-map, not_after_is, not_order-says, order-says, part_holds}
-use Rattle.mtl_encode.specs.Exact.{SatisfiesRules}
+use Rattle.mtl_encode.specs.Exact.{SatisfiesKept}
+use Rattle.mtl_encode.specs.Instances.{rule_at}
 use Rattle.mtl_encode.proofs.PartUses.{WrittenIsTrue, written-true}
 
-module _ (s : Sought) (v : Atom → Bool) (satisfied : SatisfiesRules s v) where
+module _ (s : Sought) (out : Rule → Bool) (v : Atom → Bool) (satisfied : SatisfiesKept s out v) where
   -- a node, an event
   abbrev pub IsNodeOf : ℕ → Type 0
   IsNodeOf k = k < length s.trees
@@ -34,32 +36,32 @@ module _ (s : Sought) (v : Atom → Bool) (satisfied : SatisfiesRules s v) where
   abbrev pub IsEventOf : ℕ → Type 0
   IsEventOf e = e < length s.log.rows
 
-  pub of_nothing-true : (number : ℕ) (write : Sought → Written) → row_of number ≡ Some (of_nothing write) → WrittenIsTrue v (write s)
-  of_nothing-true number write is = written-true v s satisfied number (0 ∷ 0 ∷ 0 ∷ 0 ∷ []) (of_nothing write) is refl
+  pub of_nothing-true : (number : ℕ) (write : Sought → Written) → row_of number ≡ Some (of_nothing write) → out (rule_at number 0 0 0 0) ≡ false → WrittenIsTrue v (write s)
+  of_nothing-true number write is kept = written-true v s out satisfied number (0 ∷ 0 ∷ 0 ∷ 0 ∷ []) (of_nothing write) is refl kept
 
-  pub of_event-true : (number : ℕ) (write : Sought → ℕ → Written) → row_of number ≡ Some (of_event write) → (e : ℕ) → IsEventOf e → WrittenIsTrue v (write s e)
-  of_event-true number write is e a = written-true v s satisfied number (e ∷ 0 ∷ 0 ∷ 0 ∷ []) (of_event write) is (and_from _ _ (lt-ltb e (length s.log.rows) a) refl)
+  pub of_event-true : (number : ℕ) (write : Sought → ℕ → Written) → row_of number ≡ Some (of_event write) → (e : ℕ) → IsEventOf e → out (rule_at number e 0 0 0) ≡ false → WrittenIsTrue v (write s e)
+  of_event-true number write is e a kept = written-true v s out satisfied number (e ∷ 0 ∷ 0 ∷ 0 ∷ []) (of_event write) is (and_from _ _ (lt-ltb e (length s.log.rows) a) refl) kept
 
-  pub of_events-true : (number : ℕ) (write : Sought → ℕ → ℕ → Written) → row_of number ≡ Some (of_events write) → (e x : ℕ) → IsEventOf e → IsEventOf x → WrittenIsTrue v (write s e x)
-  of_events-true number write is e x a b =
-      written-true v s satisfied number (e ∷ x ∷ 0 ∷ 0 ∷ []) (of_events write) is (and_from _ _ (lt-ltb e (length s.log.rows) a) (and_from _ _ (lt-ltb x (length s.log.rows) b) refl))
+  pub of_events-true : (number : ℕ) (write : Sought → ℕ → ℕ → Written) → row_of number ≡ Some (of_events write) → (e x : ℕ) → IsEventOf e → IsEventOf x → out (rule_at number e x 0 0) ≡ false → WrittenIsTrue v (write s e x)
+  of_events-true number write is e x a b kept =
+      written-true v s out satisfied number (e ∷ x ∷ 0 ∷ 0 ∷ []) (of_events write) is (and_from _ _ (lt-ltb e (length s.log.rows) a) (and_from _ _ (lt-ltb x (length s.log.rows) b) refl)) kept
 
-  pub of_node_event-true : (number : ℕ) (write : Sought → ℕ → ℕ → Written) → row_of number ≡ Some (of_node_event write) → (k e : ℕ) → IsNodeOf k → IsEventOf e → WrittenIsTrue v (write s k e)
-  of_node_event-true number write is k e low a =
-      written-true v s satisfied number (k ∷ e ∷ 0 ∷ 0 ∷ []) (of_node_event write) is (and_from _ _ (lt-ltb k (length s.trees) low) (and_from _ _ (lt-ltb e (length s.log.rows) a) refl))
+  pub of_node_event-true : (number : ℕ) (write : Sought → ℕ → ℕ → Written) → row_of number ≡ Some (of_node_event write) → (k e : ℕ) → IsNodeOf k → IsEventOf e → out (rule_at number k e 0 0) ≡ false → WrittenIsTrue v (write s k e)
+  of_node_event-true number write is k e low a kept =
+      written-true v s out satisfied number (k ∷ e ∷ 0 ∷ 0 ∷ []) (of_node_event write) is (and_from _ _ (lt-ltb k (length s.trees) low) (and_from _ _ (lt-ltb e (length s.log.rows) a) refl)) kept
 
-  pub of_node_event_change-true : (number : ℕ) (write : Sought → ℕ → ℕ → ℕ → Written) → row_of number ≡ Some (of_node_event_change write) → (k e place : ℕ) → IsNodeOf k → IsEventOf e → WrittenIsTrue v (write s k e place)
-  of_node_event_change-true number write is k e place low a =
-      written-true v s satisfied number (k ∷ e ∷ place ∷ 0 ∷ []) (of_node_event_change write) is (and_from _ _ (lt-ltb k (length s.trees) low) (and_from _ _ (lt-ltb e (length s.log.rows) a) refl))
+  pub of_node_event_change-true : (number : ℕ) (write : Sought → ℕ → ℕ → ℕ → Written) → row_of number ≡ Some (of_node_event_change write) → (k e place : ℕ) → IsNodeOf k → IsEventOf e → out (rule_at number k e place 0) ≡ false → WrittenIsTrue v (write s k e place)
+  of_node_event_change-true number write is k e place low a kept =
+      written-true v s out satisfied number (k ∷ e ∷ place ∷ 0 ∷ []) (of_node_event_change write) is (and_from _ _ (lt-ltb k (length s.trees) low) (and_from _ _ (lt-ltb e (length s.log.rows) a) refl)) kept
 
-  pub of_node_events-true : (number : ℕ) (write : Sought → ℕ → ℕ → ℕ → Written) → row_of number ≡ Some (of_node_events write) → (k i j : ℕ) → IsNodeOf k → IsEventOf i → IsEventOf j → WrittenIsTrue v (write s k i j)
-  of_node_events-true number write is k i j low a b =
-      written-true v s satisfied number (k ∷ i ∷ j ∷ 0 ∷ []) (of_node_events write) is (and_from _ _ (lt-ltb k (length s.trees) low) (and_from _ _ (lt-ltb i (length s.log.rows) a) (and_from _ _ (lt-ltb j (length s.log.rows) b) refl)))
+  pub of_node_events-true : (number : ℕ) (write : Sought → ℕ → ℕ → ℕ → Written) → row_of number ≡ Some (of_node_events write) → (k i j : ℕ) → IsNodeOf k → IsEventOf i → IsEventOf j → out (rule_at number k i j 0) ≡ false → WrittenIsTrue v (write s k i j)
+  of_node_events-true number write is k i j low a b kept =
+      written-true v s out satisfied number (k ∷ i ∷ j ∷ 0 ∷ []) (of_node_events write) is (and_from _ _ (lt-ltb k (length s.trees) low) (and_from _ _ (lt-ltb i (length s.log.rows) a) (and_from _ _ (lt-ltb j (length s.log.rows) b) refl))) kept
 
-  pub of_node_three_events-true : (number : ℕ) (write : Sought → ℕ → ℕ → ℕ → ℕ → Written) → row_of number ≡ Some (of_node_three_events write) → (k i j m : ℕ) → IsNodeOf k → IsEventOf i → IsEventOf j → IsEventOf m → WrittenIsTrue v (write s k i j m)
-  of_node_three_events-true number write is k i j m low a b c =
-      written-true v s satisfied number (k ∷ i ∷ j ∷ m ∷ []) (of_node_three_events write) is
-      (and_from _ _ (lt-ltb k (length s.trees) low) (and_from _ _ (lt-ltb i (length s.log.rows) a) (and_from _ _ (lt-ltb j (length s.log.rows) b) (and_from _ _ (lt-ltb m (length s.log.rows) c) refl))))
+  pub of_node_three_events-true : (number : ℕ) (write : Sought → ℕ → ℕ → ℕ → ℕ → Written) → row_of number ≡ Some (of_node_three_events write) → (k i j m : ℕ) → IsNodeOf k → IsEventOf i → IsEventOf j → IsEventOf m → out (rule_at number k i j m) ≡ false → WrittenIsTrue v (write s k i j m)
+  of_node_three_events-true number write is k i j m low a b c kept =
+      written-true v s out satisfied number (k ∷ i ∷ j ∷ m ∷ []) (of_node_three_events write) is
+      (and_from _ _ (lt-ltb k (length s.trees) low) (and_from _ _ (lt-ltb i (length s.log.rows) a) (and_from _ _ (lt-ltb j (length s.log.rows) b) (and_from _ _ (lt-ltb m (length s.log.rows) c) refl)))) kept
 
   -- what is written of a node that is of the kind
   pub kind-true : {X : Type 0} (o : Option X) (x : X) (write : X → Written) → o ≡ Some x → WrittenIsTrue v (of_kind o write) → WrittenIsTrue v (write x)

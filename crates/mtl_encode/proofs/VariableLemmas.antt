@@ -1,10 +1,10 @@
 -- Clauses over other variables read as they did.
-use Rattle.std.proofs.Common.{◌≡◌, ◌∙◌, sym, ap, refl, subst, ℕ, suc, ◌+◌, ◌<◌, ◌≤◌, true, false, List, [], ◌∷◌, ◌++◌, length, map, take, get_or, Some, ◌⊎◌, inl, inr, arith}
+use Rattle.std.proofs.Common.{◌≡◌, ◌∙◌, sym, refl, subst, ℕ, suc, ◌+◌, ◌<◌, ◌≤◌, true, false, List, [], ◌∷◌, ◌++◌, length, map, get_or, Some, ◌⊎◌, inl, inr, arith}
 use Rattle.std.specs.Prelude.{All, Any, Contains, slice_get, slice_index, slice_index_or}
 use Rattle.std.specs.Cmp.{IsEquivalence}
 use Rattle.std.specs.List.{AllByRecursion, IsDistinct}
 use Rattle.std.proofs.lemmas.Bool.{cases_Bool}
-use Rattle.std.proofs.lemmas.List.{get_or-map, get_or_append_left, get_or_default, length-map, map-append, take_more}
+use Rattle.std.proofs.lemmas.List.{get_or-map, get_or_append_left, get_or_default, length-map}
 use Rattle.std.proofs.Math.Seq.{get_or-append_seam}
 use Rattle.std.proofs.lemmas.Map.Keys.{IsDistinct-cons}
 use Rattle.std.proofs.lemmas.Map.Made.{length-le_from_is_member}
@@ -12,7 +12,7 @@ use Rattle.std.proofs.lemmas.Option.{get_or_from_slice_get, slice_get-get_or, sl
 use Rattle.mt_model.proofs.Members.{Among, any_some, same_bool, some_any}
 use Rattle.clause_db.specs.declared.lit.Lit.{Lit}
 use Rattle.clause_db.specs.Clauses.{clause_at}
-use Rattle.clause_db.specs.Literals.{HasVarsOnce}
+use Rattle.clause_db.specs.Renaming.{AreApart, AreBelow, moved}
 use Rattle.axiom_rules.specs.declared.literal.Atom.{Atom}
 use Rattle.axiom_rules.specs.declared.literal.Atom.TheVariants.{First}
 use Rattle.axiom_rules.specs.declared.literal.Literal.{Literal}
@@ -27,7 +27,7 @@ use Rattle.mtl_encode.proofs.RangeLemmas.{among-at, place-of}
 use Rattle.mtl_encode.specs.declared.clauses.Clauses.{Clauses}
 use Rattle.mtl_encode.specs.Growth.{AreClauses}
 use Rattle.mtl_encode.specs.Problems.{IsClauseOf, ReadsAs, StandsIn, read_literal}
-use Rattle.mtl_encode.specs.Variables.{AreApart, AreBelow, AreMoved, moved}
+use Rattle.mtl_encode.specs.Variables.{AreMoved}
 
 -- literals that are read have variables of atoms
 lits-below : (atoms : List Atom) (lits : List Lit) (clause : List Literal) → ReadsAs atoms lits clause → All (λ l. l.var < length atoms) lits
@@ -58,15 +58,6 @@ module _ (old new : List Atom) (places : List ℕ) (moves : AreMoved old new pla
       let again : slice_get new (slice_index places w) ≡ Some (get_or old v (First 0)) = rw (← same) new-v in
       let equal : get_or old v (First 0) ≡ get_or old w (First 0) = cc in
       once.once v w (get_or old w (First 0)) (rw (← equal) at-v) at-w
-
-pub vars-moved : (places : List ℕ) (lits : List Lit) → HasVarsOnce lits → All (λ l. l.var < length places) lits → AreApart places → HasVarsOnce (map (moved places) lits)
-vars-moved places lits once below apart i j d less low same =
-    let e : Lit = record { var = 0; positive = true } in
-    let count = length-map lits (moved places) in
-    let at-i = get_or-map (moved places) lits i e d (omega (arith, less, low, count)) in
-    let at-j = get_or-map (moved places) lits j e d (omega (arith, low, count)) in
-    let moved-same : slice_index places (slice_index_or lits i e).var ≡ slice_index places (slice_index_or lits j e).var = sym (ap (λ (l : Lit). l.var) at-i) ∙ same ∙ ap (λ (l : Lit). l.var) at-j in
-    once i j e less (omega (arith, low, count)) (apart _ _ (below i e (omega (arith, less, low, count))) (below j e (omega (arith, low, count))) moved-same)
 
 -- equality of atoms is one
 atoms-equal : IsEquivalence same_atom
@@ -113,7 +104,6 @@ module _ (s : Sought) (old new : Clauses) (places : List ℕ) (held : AreClauses
 
   pub clauses-moved : AreClauses s new
   clauses-moved = record {
-    rows = held.rows;
     count = rw (db, rules) (held.count ∙ sym (length-map old.db (map (moved places))));
     clauses = λ n rule there. clause-moved n rule (rw rules at there);
     atoms = rw rules atom-moved;
@@ -148,7 +138,3 @@ place-next atoms old new list v x a count at keeps is before w b low is-w = elim
   where
     before_or_last : (w v : ℕ) → w < v + 1 → (w < v) ⊎ (w ≡ v)
     before_or_last w v low = grind arith
-
--- one clause more
-pub clause-next : {X Y : Type 0} (g : X → Y) (xs : List X) (n : ℕ) (d : X) → n < length xs → map g (take (n + 1) xs) ≡ map g (take n xs) ++ g (get_or xs n d) ∷ []
-clause-next g xs n d low = ap (map g) (take_more xs n d low) ∙ map-append g (take n xs) (get_or xs n d ∷ [])

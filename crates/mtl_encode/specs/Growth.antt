@@ -1,11 +1,11 @@
 -- Clauses that grow by those of further rules.
-use Rattle.std.specs.Prelude.{◌≡◌, ℕ, ◌+◌, ◌*◌, ◌^◌, ◌≤◌, List, [], ◌∷◌, ◌++◌, length, All, Any, Some, slice_get}
-use Rattle.mt_model.specs.declared.limits.TheConstants.{MAX_ROWS}
+use Rattle.std.specs.Prelude.{◌≡◌, ℕ, ◌^◌, ◌≤◌, List, [], ◌∷◌, ◌++◌, length, sum_by, All, Any, Some, slice_get}
 use Rattle.clause_db.specs.Clauses.{clause_at}
 use Rattle.axiom_rules.specs.declared.literal.Atom.{Atom}
 use Rattle.axiom_rules.specs.declared.literal.Literal.{Literal}
 use Rattle.axiom_rules.specs.declared.rule.Rule.{Rule}
 use Rattle.axiom_rules.specs.Atoms.{with_atom}
+use Rattle.axiom_rules.specs.ClauseLengths.{most_literals}
 use Rattle.axiom_rules.specs.Sought.{Sought}
 use Rattle.mtl_encode.specs.declared.clauses.Clauses.{Clauses}
 use Rattle.mtl_encode.specs.Problems.{IsClauseOf, StandsIn}
@@ -15,21 +15,20 @@ abbrev pub with_atoms : List Atom → List Literal → List Atom
 with_atoms atoms [] = atoms
 with_atoms atoms (l ∷ ls) = with_atoms (with_atom atoms l.atom) ls
 
--- no clause has more literals: one for each row, and five
-abbrev pub most_literals : ℕ
-most_literals = MAX_ROWS + 5
+-- no more literals than this are in the clauses of these rules together
+unfoldable pub most_literals_of : Sought → List Rule → ℕ
+most_literals_of s rules = sum_by (λ rule. most_literals s rule.number) rules
 
--- so many rules have so few literals that there are variables for all their atoms
-abbrev pub HasRoom : ℕ → Type 0
-HasRoom rules = most_literals * rules ≤ 2 ^ 29
+-- the clauses of these rules have so few literals that there are variables for all their atoms
+abbrev pub HasRoom : Sought → List Rule → Type 0
+HasRoom s rules = most_literals_of s rules ≤ 2 ^ 29
 
 -- the clauses are those of the rules, over the atoms in them
 pub record AreClauses (s : Sought) (held : Clauses) : Type 0 where
-  pub rows : length s.log.rows ≤ MAX_ROWS
   pub count : length held.rules ≡ length held.db
   pub clauses : (n : ℕ) (rule : Rule) → slice_get held.rules n ≡ Some rule → IsClauseOf s held.atoms rule (clause_at held.db n)
   pub atoms : All (λ a. Any (StandsIn s a) held.rules) held.atoms
-  pub few : length held.atoms ≤ most_literals * length held.rules
+  pub few : length held.atoms ≤ most_literals_of s held.rules
 
 -- the clauses have become those of further rules too
 pub record Gains (s : Sought) (old new : Clauses) (gained : List Rule) : Type 0 where

@@ -1,21 +1,31 @@
--- The rules that have a clause, in the order of their numbers and their arguments.
-use Rattle.std.specs.Prelude.{ℕ, ◌+◌, if◌then◌else◌, List, [], ◌∷◌, length, map, is_ok, slice_index}
+-- The rules that are kept, in the order of their numbers and their arguments.
+use Rattle.std.specs.Prelude.{ℕ, ◌+◌, ◌==◌, nat_lt, Bool, not, ◌&&◌, ◌||◌, if◌then◌else◌, List, [], ◌∷◌, length, map, is_ok, slice_index}
 use Rattle.std.specs.List.{flat_map, range_with_len}
 use Rattle.std.specs.Option.{option_map_or}
+use Rattle.skew_bounds.specs.Differences.{Differences}
 use Rattle.axiom_rules.specs.declared.rule.Argument.{Argument}
 use Rattle.axiom_rules.specs.declared.rule.Argument.TheVariants.{ANode, AnEvent, AChange, Unused}
 use Rattle.axiom_rules.specs.declared.rule.Rule.{Rule}
 use Rattle.axiom_rules.specs.declared.rule.TheConstants.{MAX_RULE}
 use Rattle.axiom_rules.specs.Clauses.{clause_of, row_of}
 use Rattle.axiom_rules.specs.Sought.{Sought}
+use Rattle.mtl_encode.specs.Needless.{extremes_of, is_needless}
 
 -- the rule of a number with four arguments
 abbrev pub rule_at : ℕ → ℕ → ℕ → ℕ → ℕ → Rule
 rule_at number a b c d = record { number = number; args = a ∷ b ∷ c ∷ d ∷ [] }
 
--- a rule, if it has a clause
-abbrev pub kept : Sought → Rule → List Rule
-kept s rule = if is_ok (clause_of s rule) then rule ∷ [] else []
+-- a rule, if it has a clause and isn't left out
+abbrev pub kept : Sought → (Rule → Bool) → Rule → List Rule
+kept s out rule = if is_ok (clause_of s rule) && not (out rule) then rule ∷ [] else []
+
+-- what a table of differences leaves out
+abbrev pub out_by : Differences → Sought → Rule → Bool
+out_by d s = is_needless (extremes_of d) s
+
+-- whether rules of a number are about until and since nodes alone
+abbrev pub is_of_reach : ℕ → Bool
+is_of_reach number = (nat_lt 11 number && nat_lt number 24) || number == 28
 
 -- one more than the greatest argument of its kind; a proposition has at most one change a row
 abbrev pub count_of : Sought → Argument → ℕ
@@ -24,10 +34,10 @@ count_of s AnEvent = length s.log.rows
 count_of s AChange = length s.log.rows
 count_of s Unused = 1
 
--- the rules of a number that have a clause, with their last arguments below these counts
-module _ (s : Sought) (number : ℕ) (counts : List ℕ) where
+-- the rules of a number that are kept, with their last arguments below these counts
+module _ (s : Sought) (out : Rule → Bool) (number : ℕ) (counts : List ℕ) where
   abbrev pub with_three : ℕ → ℕ → ℕ → List Rule
-  with_three a b c = flat_map (λ d. kept s (rule_at number a b c d)) (range_with_len 0 (slice_index counts 3))
+  with_three a b c = flat_map (λ d. kept s out (rule_at number a b c d)) (range_with_len 0 (slice_index counts 3))
 
   abbrev pub with_two : ℕ → ℕ → List Rule
   with_two a b = flat_map (with_three a b) (range_with_len 0 (slice_index counts 2))
@@ -38,10 +48,10 @@ module _ (s : Sought) (number : ℕ) (counts : List ℕ) where
   abbrev pub with_none : List Rule
   with_none = flat_map with_one (range_with_len 0 (slice_index counts 0))
 
--- the rules of a number that have a clause
-abbrev pub of_number : Sought → ℕ → List Rule
-of_number s number = option_map_or (λ row. with_none s number (map (count_of s) row.arguments)) (row_of number) []
+-- the rules of a number that are kept
+abbrev pub of_number : Sought → (Rule → Bool) → ℕ → List Rule
+of_number s out number = option_map_or (λ row. with_none s out number (map (count_of s) row.arguments)) (row_of number) []
 
--- all rules that have a clause
-abbrev pub instances : Sought → List Rule
-instances s = flat_map (of_number s) (range_with_len 0 (MAX_RULE + 1))
+-- all rules that are kept
+abbrev pub instances : Sought → (Rule → Bool) → List Rule
+instances s out = flat_map (of_number s out) (range_with_len 0 (MAX_RULE + 1))

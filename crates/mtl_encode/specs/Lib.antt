@@ -1,4 +1,6 @@
 pub mod Size
+pub mod SizeLaws
+pub mod Needless
 pub mod Listing
 pub mod Kept
 pub mod Problems

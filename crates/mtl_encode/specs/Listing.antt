@@ -1,5 +1,5 @@
 -- Which rules a problem has.
-use Rattle.std.specs.Prelude.{◌≡◌, ◌≢◌, List, Ok, All, AllPairs, Contains}
+use Rattle.std.specs.Prelude.{◌≡◌, ◌≢◌, Bool, false, List, Ok, All, AllPairs, Contains}
 use Rattle.axiom_rules.specs.declared.literal.Literal.{Literal}
 use Rattle.axiom_rules.specs.declared.rule.Rule.{Rule}
 use Rattle.axiom_rules.specs.Clauses.{clause_of}
@@ -9,8 +9,12 @@ use Rattle.axiom_rules.specs.Sought.{Sought}
 abbrev pub HasClause : Sought → Rule → Type 0
 HasClause s rule = (c : List Literal) × (clause_of s rule ≡ Ok c)
 
--- the list has each rule that has a clause, once, and no others
-pub record ListsRules (s : Sought) (rules : List Rule) : Type 0 where
-  pub only : All (HasClause s) rules
+-- the rule has a clause, and isn't left out
+abbrev pub IsKept : Sought → (Rule → Bool) → Rule → Type 0
+IsKept s out rule = HasClause s rule × (out rule ≡ false)
+
+-- the list has each such rule once, and no others
+pub record ListsRules (s : Sought) (out : Rule → Bool) (rules : List Rule) : Type 0 where
+  pub only : All (IsKept s out) rules
   pub once : AllPairs (λ q r. q ≢ r) rules
-  pub every : (rule : Rule) (c : List Literal) → clause_of s rule ≡ Ok c → Contains rules rule
+  pub every : (rule : Rule) (c : List Literal) → clause_of s rule ≡ Ok c → out rule ≡ false → Contains rules rule

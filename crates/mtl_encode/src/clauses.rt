@@ -1,14 +1,16 @@
 //! Clauses of rules, over atoms that get their variables as they come.
 
-ghost use Rattle.std.specs.Prelude.{◌≡◌, ◌≤◌, ◌<◌, ◌+◌, ◌-◌, ◌^◌, [], ◌∷◌, length, OnOk, IfOk, Ok, Some};
+ghost use Rattle.std.specs.Prelude.{◌≡◌, ◌≤◌, ◌<◌, ◌+◌, ◌-◌, ◌^◌, [], ◌∷◌, ◌++◌, length, OnOk, IfOk, Ok, Some};
 ghost use Rattle.axiom_rules.specs.Atoms.{with_atom};
 ghost use Rattle.axiom_rules.specs.Clauses.{clause_of};
 ghost use Rattle.mtl_encode.specs.Growth.{AreClauses, Gains, HasRoom, with_atoms};
-ghost use Rattle.mtl_encode.specs.Instances.{kept};
+ghost use Rattle.mtl_encode.specs.Instances.{kept, out_by};
 ghost use Rattle.mtl_encode.specs.Problems.{ReadsAs, read_literal};
 
+use crate::needless::is_needless;
 use axiom_rules::{AtomTable, Literal, Rule, RuleFault, RuleList, Rules, clauses_have_atoms_once};
 use clause_db::{Db, Lit};
+use skew_bounds::Tight;
 use smallvec::SmallVec;
 use std::alloc::{AllocError, Global};
 
@@ -67,7 +69,7 @@ impl Clauses {
     ) -> Result<(), AllocError>
         requires clauses { AreClauses rules.now self.old }
         requires clause { clause_of rules.now rule ≡ Ok clause.now }
-        requires room { HasRoom (length self.old.rules + 1) }
+        requires room { HasRoom rules.now (self.old.rules ++ rule ∷ []) }
         ensures { OnOk result (Gains rules.now self.old self.new (rule ∷ [])) }
     {
         clauses_have_atoms_once();
@@ -76,12 +78,21 @@ impl Clauses {
         self.rules.push(rule)
     }
 
-    /// Adds a rule with its clause, where it has one.
-    pub fn add(&mut self, alloc: Global, rules: &Rules, rule: Rule) -> Result<(), AllocError>
+    /// Adds a rule with its clause, where it has one and isn't needless.
+    pub fn add(
+        &mut self,
+        alloc: Global,
+        rules: &Rules,
+        tight: &Tight,
+        rule: Rule,
+    ) -> Result<(), AllocError>
         requires clauses { AreClauses rules.now self.old }
-        requires room { HasRoom (length self.old.rules + length (kept rules.now rule)) }
-        ensures { OnOk result (Gains rules.now self.old self.new (kept rules.now rule)) }
+        requires room { HasRoom rules.now (self.old.rules ++ kept rules.now (out_by tight.now rules.now) rule) }
+        ensures { OnOk result (Gains rules.now self.old self.new (kept rules.now (out_by tight.now rules.now) rule)) }
     {
+        if is_needless(rules, tight, &rule) {
+            return Ok(());
+        }
         let mut clause: SmallVec<Literal, 8, Global> = SmallVec::new(alloc);
         match rules.clause_of(&rule, &mut clause) {
             Ok(()) => self.push(alloc, rules, rule, clause.as_slice()),

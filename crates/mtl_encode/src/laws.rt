@@ -1,4 +1,5 @@
 ghost use Rattle.mtl_encode.specs.Exact.{MeaningsSatisfyRules, RulesAreExact};
+ghost use Rattle.mtl_encode.specs.SizeLaws.{SizesAreUnique, SmallCubesAreSmall};
 
 use axiom_rules::rules_hold;
 use formula_arena::{cores_are_cores, nodes_are_subtrees, truth_of_core};
@@ -22,3 +23,14 @@ pub fn meanings_satisfy_rules()
 {
     rules_hold();
 }
+
+/// A log and the nodes of a formula have one size.
+pub fn sizes_are_unique()
+    ensures unique { SizesAreUnique }
+{}
+
+/// Where the number of until and since nodes times the cube of the number of rows is at most 262,144, the size isn't above
+/// the limit.
+pub fn small_cubes_are_small()
+    ensures small { SmallCubesAreSmall }
+{}

@@ -6,11 +6,12 @@ mod clauses;
 mod encoding;
 mod laws;
 mod listing;
+mod needless;
 mod problem;
 mod size;
 mod variables;
 
-pub use encoding::encode;
-pub use laws::{meanings_satisfy_rules, rules_are_exact};
+pub use encoding::{encode, encode_by};
+pub use laws::{meanings_satisfy_rules, rules_are_exact, sizes_are_unique, small_cubes_are_small};
 pub use problem::Problem;
 pub use size::{MAX_SIZE, size_of};

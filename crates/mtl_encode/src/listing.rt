@@ -1,11 +1,15 @@
 //! Goes through the numbers and arguments of rules, and adds those that have a clause.
 
-ghost use Rattle.std.specs.Prelude.{◌≡◌, ◌+◌, ◌<◌, ℕ, List, [], length, true, OnOk};
+ghost use Rattle.std.specs.Prelude.{◌≡◌, ◌≤◌, ◌<◌, ◌++◌, ℕ, [], length, map, slice_index, true, false, None, OnOk, is_ok};
+ghost use Rattle.axiom_rules.specs.Clauses.{clause_of};
+ghost use Rattle.axiom_rules.specs.NodeShapes.{reach_in, shape_at};
 ghost use Rattle.mtl_encode.specs.Growth.{AreClauses, Gains, HasRoom};
-ghost use Rattle.mtl_encode.specs.Instances.{count_of as count_of_argument, instances, of_number, with_none, with_one, with_three, with_two};
+ghost use Rattle.mtl_encode.specs.Instances.{count_of as count_of_argument, instances, is_of_reach as is_number_of_reach, of_number, out_by, rule_at, with_none, with_one, with_three, with_two};
 
 use crate::clauses::Clauses;
+use crate::needless::needs_no_span;
 use axiom_rules::{Argument, MAX_RULE, Rule, Rules, arguments_of};
+use skew_bounds::Tight;
 use std::alloc::{AllocError, Global};
 
 // One more than the greatest argument of its kind.
@@ -20,18 +24,46 @@ fn count_of(rules: &Rules, nodes: u32, argument: Argument) -> u32
     }
 }
 
-// Whether rules of the number are about until and since nodes alone.
-fn is_of_reach(number: u8) -> bool
-    ensures { result ≡ true → (11 < number) × (number < 24) }
+// One more than the greatest arguments of these kinds.
+fn counts_of(rules: &Rules, nodes: u32, arguments: [Argument; 4]) -> [u32; 4]
+    requires { nodes ≡ length rules.now.trees }
+    ensures { result ≡ map (count_of_argument rules.now) arguments }
 {
-    matches!(number, 12..=23)
+    arguments.map(|argument| count_of(rules, nodes, argument))
 }
 
-// Whether no rule of the number has a clause for this node.
+// Whether rules of the number are about until and since nodes alone.
+fn is_of_reach(number: u8) -> bool
+    ensures { result ≡ is_number_of_reach number }
+{
+    (11 < number && number < 24) || number == 28
+}
+
+// Whether rules of the number are about until and since nodes, and this node is none.
 fn passes_over(rules: &Rules, number: u8, node: u32) -> bool
-    ensures { (counts : List ℕ) → result ≡ true → with_one rules.now number counts node ≡ [] }
+    ensures of_reach { result ≡ true → is_number_of_reach number ≡ true }
+    ensures no_reach { result ≡ true → reach_in (shape_at rules.now node) ≡ None }
 {
     is_of_reach(number) && !rules.is_reach(node)
+}
+
+// Whether rules of the number are about the events of a span, and none is needed from event i to event j.
+fn passes_over_span(rules: &Rules, tight: &Tight, number: u8, k: u32, i: u32, j: u32) -> bool
+    ensures { result ≡ true → (m : ℕ) → out_by tight.now rules.now (rule_at number k i j m) ≡ true }
+{
+    (number == 19 || number == 21) && needs_no_span(rules, tight, k, i, j)
+}
+
+// How many third arguments are gone through where the first one is this: a proposition has rules for its changes alone.
+fn third_count(rules: &Rules, number: u8, counts: [u32; 4], a: u32) -> u32
+    ensures at_most { result ≤ slice_index counts 2 }
+    ensures no_clause { (b c d : ℕ) → result ≤ c → c < slice_index counts 2 → is_ok (clause_of rules.now (rule_at number a b c d)) ≡ false }
+{
+    if number == 2 {
+        counts[2].min(rules.change_count(a))
+    } else {
+        counts[2]
+    }
 }
 
 impl Clauses {
@@ -40,6 +72,7 @@ impl Clauses {
         &mut self,
         alloc: Global,
         rules: &Rules,
+        tight: &Tight,
         number: u8,
         counts: [u32; 4],
         a: u32,
@@ -47,12 +80,15 @@ impl Clauses {
         c: u32,
     ) -> Result<(), AllocError>
         requires clauses { AreClauses rules.now self.old }
-        requires room { HasRoom (length self.old.rules + length (with_three rules.now number counts a b c)) }
-        ensures { OnOk result (Gains rules.now self.old self.new (with_three rules.now number counts a b c)) }
+        requires room { HasRoom rules.now (self.old.rules ++ with_three rules.now (out_by tight.now rules.now) number counts a b c) }
+        ensures { OnOk result (Gains rules.now self.old self.new (with_three rules.now (out_by tight.now rules.now) number counts a b c)) }
     {
+        if passes_over_span(rules, tight, number, a, b, c) {
+            return Ok(());
+        }
         for d in 0..counts[3] {
             let args = [a, b, c, d];
-            self.add(alloc, rules, Rule { number, args })?;
+            self.add(alloc, rules, tight, Rule { number, args })?;
         }
         Ok(())
     }
@@ -62,17 +98,18 @@ impl Clauses {
         &mut self,
         alloc: Global,
         rules: &Rules,
+        tight: &Tight,
         number: u8,
         counts: [u32; 4],
         a: u32,
         b: u32,
     ) -> Result<(), AllocError>
         requires clauses { AreClauses rules.now self.old }
-        requires room { HasRoom (length self.old.rules + length (with_two rules.now number counts a b)) }
-        ensures { OnOk result (Gains rules.now self.old self.new (with_two rules.now number counts a b)) }
+        requires room { HasRoom rules.now (self.old.rules ++ with_two rules.now (out_by tight.now rules.now) number counts a b) }
+        ensures { OnOk result (Gains rules.now self.old self.new (with_two rules.now (out_by tight.now rules.now) number counts a b)) }
     {
-        for c in 0..counts[2] {
-            self.add_with_three(alloc, rules, number, counts, a, b, c)?;
+        for c in 0..third_count(rules, number, counts, a) {
+            self.add_with_three(alloc, rules, tight, number, counts, a, b, c)?;
         }
         Ok(())
     }
@@ -82,19 +119,20 @@ impl Clauses {
         &mut self,
         alloc: Global,
         rules: &Rules,
+        tight: &Tight,
         number: u8,
         counts: [u32; 4],
         a: u32,
     ) -> Result<(), AllocError>
         requires clauses { AreClauses rules.now self.old }
-        requires room { HasRoom (length self.old.rules + length (with_one rules.now number counts a)) }
-        ensures { OnOk result (Gains rules.now self.old self.new (with_one rules.now number counts a)) }
+        requires room { HasRoom rules.now (self.old.rules ++ with_one rules.now (out_by tight.now rules.now) number counts a) }
+        ensures { OnOk result (Gains rules.now self.old self.new (with_one rules.now (out_by tight.now rules.now) number counts a)) }
     {
         if passes_over(rules, number, a) {
             return Ok(());
         }
         for b in 0..counts[1] {
-            self.add_with_two(alloc, rules, number, counts, a, b)?;
+            self.add_with_two(alloc, rules, tight, number, counts, a, b)?;
         }
         Ok(())
     }
@@ -104,15 +142,16 @@ impl Clauses {
         &mut self,
         alloc: Global,
         rules: &Rules,
+        tight: &Tight,
         number: u8,
         counts: [u32; 4],
     ) -> Result<(), AllocError>
         requires clauses { AreClauses rules.now self.old }
-        requires room { HasRoom (length self.old.rules + length (with_none rules.now number counts)) }
-        ensures { OnOk result (Gains rules.now self.old self.new (with_none rules.now number counts)) }
+        requires room { HasRoom rules.now (self.old.rules ++ with_none rules.now (out_by tight.now rules.now) number counts) }
+        ensures { OnOk result (Gains rules.now self.old self.new (with_none rules.now (out_by tight.now rules.now) number counts)) }
     {
         for a in 0..counts[0] {
-            self.add_with_one(alloc, rules, number, counts, a)?;
+            self.add_with_one(alloc, rules, tight, number, counts, a)?;
         }
         Ok(())
     }
@@ -122,32 +161,39 @@ impl Clauses {
         &mut self,
         alloc: Global,
         rules: &Rules,
+        tight: &Tight,
         nodes: u32,
         number: u8,
     ) -> Result<(), AllocError>
         requires nodes { nodes ≡ length rules.now.trees }
         requires clauses { AreClauses rules.now self.old }
-        requires room { HasRoom (length self.old.rules + length (of_number rules.now number)) }
-        ensures { OnOk result (Gains rules.now self.old self.new (of_number rules.now number)) }
+        requires room { HasRoom rules.now (self.old.rules ++ of_number rules.now (out_by tight.now rules.now) number) }
+        ensures { OnOk result (Gains rules.now self.old self.new (of_number rules.now (out_by tight.now rules.now) number)) }
     {
         match arguments_of(number) {
             Some(arguments) => {
-                let counts = arguments.map(|argument| count_of(rules, nodes, argument));
-                self.add_with_none(alloc, rules, number, counts)
+                let counts = counts_of(rules, nodes, arguments);
+                self.add_with_none(alloc, rules, tight, number, counts)
             }
             None => Ok(()),
         }
     }
 
-    /// Adds all rules that have a clause.
-    pub fn add_all(&mut self, alloc: Global, rules: &Rules, nodes: u32) -> Result<(), AllocError>
+    /// Adds all rules that have a clause and aren't needless.
+    pub fn add_all(
+        &mut self,
+        alloc: Global,
+        rules: &Rules,
+        tight: &Tight,
+        nodes: u32,
+    ) -> Result<(), AllocError>
         requires nodes { nodes ≡ length rules.now.trees }
         requires clauses { AreClauses rules.now self.old }
-        requires room { HasRoom (length self.old.rules + length (instances rules.now)) }
-        ensures { OnOk result (Gains rules.now self.old self.new (instances rules.now)) }
+        requires room { HasRoom rules.now (self.old.rules ++ instances rules.now (out_by tight.now rules.now)) }
+        ensures { OnOk result (Gains rules.now self.old self.new (instances rules.now (out_by tight.now rules.now))) }
     {
         for number in 0..MAX_RULE + 1 {
-            self.add_number(alloc, rules, nodes, number)?;
+            self.add_number(alloc, rules, tight, nodes, number)?;
         }
         Ok(())
     }

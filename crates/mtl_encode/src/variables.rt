@@ -1,12 +1,12 @@
 //! The order of the variables, in which a search tries the atoms that it knows nothing of.
 
-ghost use Rattle.std.specs.Prelude.{◌≡◌, ◌≤◌, ◌<◌, ◌+◌, ◌-◌, ◌^◌, ℕ, length, map, slice_index, All, Contains, OnOk, IfOk};
+ghost use Rattle.std.specs.Prelude.{◌≡◌, ◌≤◌, ◌<◌, ◌+◌, ◌-◌, ◌^◌, length, All, Contains, OnOk, IfOk};
 ghost use Rattle.mtl_encode.specs.Growth.{AreClauses};
-ghost use Rattle.mtl_encode.specs.Variables.{AreApart, AreBelow, AreMoved, moved};
+ghost use Rattle.mtl_encode.specs.Variables.{AreMoved};
 
 use crate::clauses::Clauses;
 use axiom_rules::{Atom, AtomTable, Rules};
-use clause_db::{ClauseRef, Db, Lit, Var};
+use clause_db::Var;
 use mt_model::Log;
 use std::alloc::{AllocError, Global};
 
@@ -27,18 +27,18 @@ fn local_at(log: &Log, e: u32) -> i128 {
 }
 
 // Orders come first, since they decide what the timing is, and of them those of events near in local time,
-// which the log leaves open. The others follow from them: formulas after their parts, then what until and
-// since are made of.
+// which the log leaves open. The others follow from them: nodes after their parts, an until or a since after what it is
+// made of, and first events last.
 fn rank_of(log: &Log, atom: Atom, var: u32) -> Ranked
     ensures { result.var ≡ var }
 {
     let (kind, key) = match atom {
         Atom::Order { e, f, .. } => (0, local_at(log, e).abs_diff(local_at(log, f))),
-        Atom::First { .. } => (1, 0),
-        Atom::Node { k, .. } => (2, k as u128),
-        Atom::Wit { .. } => (3, 0),
-        Atom::Span { .. } => (4, 0),
-        Atom::Gap { .. } => (5, 0),
+        Atom::Span { k, .. } => (1, 4 * k as u128),
+        Atom::Gap { k, .. } => (1, 4 * k as u128 + 1),
+        Atom::Wit { k, .. } => (1, 4 * k as u128 + 2),
+        Atom::Node { k, .. } => (1, 4 * k as u128 + 3),
+        Atom::First { .. } => (2, 0),
     };
     Ranked { kind, key, var }
 }
@@ -89,41 +89,6 @@ fn places_of(
     Ok(list)
 }
 
-// The literal of the variable that stands at the place of a literal's own.
-fn moved_lit(places: &[u32], lit: Lit) -> Lit
-    requires { lit.var < length places.now }
-    ensures { result ≡ moved places.now lit }
-{
-    let place = lit.var().get() as usize;
-    Lit::new(Var::new(places[place]), lit.positive())
-}
-
-// Such literals.
-fn moved_lits(alloc: Global, places: &[u32], lits: &[Lit]) -> Result<Vec<Lit>, AllocError>
-    requires { All (λ l. l.var < length places.now) lits.now }
-    ensures { IfOk result (λ list. list.items ≡ map (moved places.now) lits.now) }
-{
-    let mut list = Vec::new(alloc);
-    for lit in lits {
-        list.push(moved_lit(places, *lit))?;
-    }
-    Ok(list)
-}
-
-// Clauses of such literals.
-fn moved_clauses(alloc: Global, places: &[u32], db: &Db) -> Result<Db, AllocError>
-    requires below { AreBelow (length places.now) db.now }
-    requires apart { AreApart places.now }
-    ensures { IfOk result (λ clauses. clauses ≡ map (map (moved places.now)) db.now) }
-{
-    let mut clauses = Db::new(alloc);
-    for n in 0..db.len() {
-        let lits = moved_lits(alloc, places, db.lits(ClauseRef::new(n)))?;
-        clauses.add(&lits)?;
-    }
-    Ok(clauses)
-}
-
 // Atoms in the order in which a search is to try them, and the place there of each one by its variable.
 #[derive(Drop)]
 pub struct Ordered {
@@ -162,7 +127,7 @@ impl Clauses {
         let ordered = ordered_atoms(alloc, rules.log(), &atoms)?;
         // That each atom has one variable, their number is known with.
         let _ = (atoms.len(), ordered.atoms.len());
-        let db = moved_clauses(alloc, &ordered.places, &db)?;
+        let db = db.renamed(&ordered.places);
         Ok(Clauses {
             db,
             rules: listed,

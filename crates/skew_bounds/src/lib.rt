@@ -25,5 +25,5 @@ pub use consistency::{Consistency, edges_of, settle, step_of};
 pub use differences::Tight;
 pub use edges::edge_of;
 pub use list::bounds;
-pub use tightening::{TightFault, tight};
+pub use tightening::{TightFault, tight, tight_from};
 pub use times::times_of;

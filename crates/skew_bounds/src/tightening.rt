@@ -1,4 +1,5 @@
 ghost use Rattle.std.specs.Prelude.{IfErr, IfOk, OnOk};
+ghost use Rattle.mt_model.specs.Timing.{Admissible};
 ghost use Rattle.skew_bounds.specs.Consistency.{IsConflict};
 ghost use Rattle.skew_bounds.specs.Tight.{IfCycle, IsConsistent, IsInconsistent, IsTight};
 
@@ -40,10 +41,16 @@ pub fn tight(alloc: Global, log: &Log) -> Result<Tight, TightFault>
 {
     conflict_excludes_timings();
     match settle(alloc, log)? {
-        Consistency::Timing(times) => {
-            let table = table_of(alloc, log, times.as_slice())?;
-            Ok(Tight::new(table))
-        }
+        Consistency::Timing(times) => Ok(tight_from(alloc, log, times.as_slice())?),
         Consistency::Conflict(steps) => Err(TightFault::Cycle(steps)),
     }
+}
+
+/// The same where a timing is known that the log admits, from which the searches begin. An error is want of memory.
+pub fn tight_from(alloc: Global, log: &Log, times: &[i128]) -> Result<Tight, AllocError>
+    requires admissible { Admissible log.now times.now }
+    ensures exact { IfOk result (IsTight log.now) }
+{
+    let table = table_of(alloc, log, times)?;
+    Ok(Tight::new(table))
 }

@@ -7,8 +7,8 @@ use Rattle.mt_model.specs.Log.{Logged}
 use Rattle.mt_model.specs.State.{unknown_host}
 use Rattle.formula_arena.specs.Nodes.{nodes_of}
 use Rattle.formula_arena.specs.declared.arena.TheConstants.{MAX_NODES}
-use Rattle.mtl_encode.specs.Size.{size}
-use Rattle.mtl_encode.specs.declared.size.TheConstants.{MAX_SIZE}
+use Rattle.mtl_encode.specs.Size.{IsSmall}
+use Rattle.mtl_encode.proofs.SizeBounds.{small-cubes}
 use Rattle.demo_log.specs.DemoFormula.{demo_formula}
 use Rattle.demo_log.specs.DemoLog.{demo_host, demo_row, log_of_seed}
 
@@ -36,5 +36,5 @@ demo-known seed = ap (λ hosts. unknown_host (with-hosts seed hosts) demo_formul
 pub demo-few : length (nodes_of demo_formula) ≤ MAX_NODES
 demo-few = omega arith
 
-pub demo-small : (seed : ℕ) → size (log_of_seed seed) (nodes_of demo_formula) ≤ MAX_SIZE
-demo-small seed = omega arith
+pub demo-small : (seed : ℕ) → IsSmall (log_of_seed seed) (nodes_of demo_formula)
+demo-small seed = small-cubes (log_of_seed seed) (nodes_of demo_formula) (omega arith)

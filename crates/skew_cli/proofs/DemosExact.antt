@@ -6,8 +6,7 @@ use Rattle.mt_model.specs.Log.{Logged}
 use Rattle.mt_model.specs.State.{unknown_host}
 use Rattle.formula_arena.specs.Nodes.{nodes_of}
 use Rattle.formula_arena.specs.declared.arena.TheConstants.{MAX_NODES}
-use Rattle.mtl_encode.specs.Size.{size}
-use Rattle.mtl_encode.specs.declared.size.TheConstants.{MAX_SIZE}
+use Rattle.mtl_encode.specs.Size.{IsSmall}
 use Rattle.report_text.specs.declared.report.Report.{Report}
 use Rattle.verdict.specs.Claims.{Claims}
 use Rattle.verdict.specs.Right.{IsRight}
@@ -36,8 +35,11 @@ module _ (seed : ℕ) (log : Logged) (f : Form) (same_log : log ≡ log_of_seed 
   never-large : (r : Refusal) → TellsLarge f log r → ⊥
   never-large r told =
       let few : length (nodes_of f) ≤ MAX_NODES = rw same_form demo-few in
-      let small : size log (nodes_of f) ≤ MAX_SIZE = rw (same_log, same_form) (demo-small seed) in
-      elim told [ inl many ↦ omega (arith, many.1, few) | inr large ↦ omega (arith, large.2, small) ]
+      let small : IsSmall log (nodes_of f) = rw (same_log, same_form) (demo-small seed) in
+      elim told [
+        | inl many ↦ absurd (omega (arith, many.1, few))
+        | inr large ↦ let (n, _, is) = large.1 in let low = small n is.size in let high = is.large in absurd (omega (arith, low, high))
+      ]
 
   pub right-made : (result : Result Report Stop) → IfOk result (IsRight log f DEFAULT_CONFLICTS) → IfOk result (IsRight (log_of_seed seed) demo_formula DEFAULT_CONFLICTS)
   right-made result right =

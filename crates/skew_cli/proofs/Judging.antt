@@ -1,9 +1,8 @@
 -- What a verdict on a formula and a log comes to, where the formula's hosts are in the log.
-use Rattle.std.proofs.Common.{◌≡◌, ap, subst, refl, inl, inr, ℕ, ◌<◌, List}
+use Rattle.std.proofs.Common.{◌≡◌, refl, inl, inr, ℕ, List}
 use Rattle.std.specs.Prelude.{codes}
 use Rattle.mt_model.specs.Form.{Form}
 use Rattle.mt_model.specs.Log.{Logged}
-use Rattle.mtl_encode.specs.declared.size.TheConstants.{MAX_SIZE}
 use Rattle.report_text.specs.declared.report.Report.{Report}
 use Rattle.verdict.specs.declared.answer.Part.{Part}
 use Rattle.verdict.specs.AuditPlace.{AuditPlace, IsAccepted}
@@ -23,12 +22,12 @@ module _ (log : Logged) (f : Form) where
   many-told h = inl (refl, h.many)
 
   pub large-told : (n : ℕ) → IsTooLarge log f n → TellsLarge f log (refusal.Size n)
-  large-told n h = inr (h.nodes.few, ap refusal.Size h.size, subst (λ m. MAX_SIZE < m) h.size h.large)
+  large-told n h = inr (h.nodes.few, (n, refl, record { size = h.size; large = h.large }))
 
   module _ (conflicts : ℕ) (r : Report) where
     -- a problem that is too large is refused before the report is judged
     pub audit-large : (n : ℕ) → IsTooLarge log f n → At (OnSize f log (AuditOfReport conflicts f log r)) (refusal.Size n)
-    audit-large n h = size-refused f log (AuditOfReport conflicts f log r) (refusal.Size n) (ap refusal.Size h.size) (subst (λ m. MAX_SIZE < m) h.size h.large)
+    audit-large n h = size-refused f log (AuditOfReport conflicts f log r) (refusal.Size n) n refl (record { size = h.size; large = h.large })
 
     module _ (judged : IsJudged log f) where
       pub audit-refused : (p : Part) (k : ℕ) → AuditPlace log f conflicts r p k → At (OnSize f log (AuditOfReport conflicts f log r)) (refusal.Part (refused_part p) k)

@@ -1,5 +1,5 @@
 -- What is asked of an answer where the tests before it are known to pass.
-use Rattle.std.proofs.Common.{◌≡◌, subst, ℕ, ◌<◌, ◌≤◌, true, false, List, length, Some, None, Ok, arith}
+use Rattle.std.proofs.Common.{◌≡◌, subst, ℕ, ◌<◌, ◌≤◌, true, false, List, length, Some, None, Ok, inl, inr, arith}
 use Rattle.std.specs.Prelude.{MatchResult, nat_lt}
 use Rattle.std.proofs.lemmas.Bool.Decides.{nat_tests}
 use Rattle.mt_model.specs.Form.{Form}
@@ -9,8 +9,7 @@ use Rattle.mt_port.specs.Port.{Files, file_of}
 use Rattle.log_read.specs.LogOf.{log_of}
 use Rattle.formula_arena.specs.Nodes.{nodes_of}
 use Rattle.formula_arena.specs.declared.arena.TheConstants.{MAX_NODES}
-use Rattle.mtl_encode.specs.Size.{size}
-use Rattle.mtl_encode.specs.declared.size.TheConstants.{MAX_SIZE}
+use Rattle.mtl_encode.specs.Size.{IsSmall}
 use Rattle.mtl_parse.specs.FormulaOf.{FormulaOf}
 use Rattle.mtl_parse.specs.Laws.{TextsAreUnambiguous}
 use Rattle.report_text.specs.declared.report.Report.{Report}
@@ -53,8 +52,9 @@ module _ (out : List ℕ) (s : Status) where
   pub pass-nodes : (f : Form) (next : List ℕ → Status → Type 0) → length (nodes_of f) ≤ MAX_NODES → OnNodes f next out s → next out s
   pass-nodes f next few h = let less : nat_lt MAX_NODES (length (nodes_of f)) ≡ false = grind (arith, nat_tests) in rw less at h
 
-  pub pass-size : (f : Form) (log : Logged) (next : List ℕ → Status → Type 0) → size log (nodes_of f) ≤ MAX_SIZE → OnSize f log next out s → next out s
-  pass-size f log next small h = let less : nat_lt MAX_SIZE (size log (nodes_of f)) ≡ false = grind (arith, nat_tests) in rw less at h
+  pub pass-size : (f : Form) (log : Logged) (next : List ℕ → Status → Type 0) → IsSmall log (nodes_of f) → OnSize f log next out s → next out s
+  pass-size f log next small (inl h) = let (n, is, refused) = h in let low = small n is.size in let high = is.large in absurd (omega (arith, low, high))
+  pass-size f log next small (inr h) = h.1
 
   pub pass-report : BytesAreUnambiguous → (bytes : List ℕ) (next : Report → List ℕ → Status → Type 0) (r : Report) → ReportOf bytes (Ok r) → OnReport bytes next out s → next r out s
   pass-report unambiguous bytes next r is h = subst (λ reading. MatchResult reading (λ r. next r out s) (λ fault. RefusesReport fault out s)) (unambiguous bytes h.0 (Ok r) h.1 is) h.2

@@ -1,5 +1,5 @@
 -- What a command has read where it answers no refusal.
-use Rattle.std.proofs.Common.{◌≡◌, subst, refl, ℕ, ◌≤◌, Bool, true, false, List, length, Option, Some, None, Ok, Err, arith}
+use Rattle.std.proofs.Common.{◌≡◌, subst, refl, ℕ, ◌≤◌, Bool, true, false, List, length, Option, Some, None, Ok, Err, inl, inr, arith}
 use Rattle.std.specs.Prelude.{IsSomeAnd, MatchOption, MatchResult, Result, nat_lt}
 use Rattle.std.specs.Bool.{MatchBool}
 use Rattle.std.proofs.lemmas.Bool.Decides.{nat_tests}
@@ -11,8 +11,7 @@ use Rattle.log_read.specs.declared.fault.LogFault.{LogFault}
 use Rattle.log_read.specs.LogOf.{log_of}
 use Rattle.formula_arena.specs.Nodes.{nodes_of}
 use Rattle.formula_arena.specs.declared.arena.TheConstants.{MAX_NODES}
-use Rattle.mtl_encode.specs.Size.{size}
-use Rattle.mtl_encode.specs.declared.size.TheConstants.{MAX_SIZE}
+use Rattle.mtl_encode.specs.Size.{IsSmall}
 use Rattle.mtl_parse.specs.declared.fault.FormulaFault.{FormulaFault}
 use Rattle.mtl_parse.specs.FormulaOf.{FormulaOf}
 use Rattle.mtl_parse.specs.Places.{host_byte}
@@ -125,12 +124,9 @@ module _ (out : List ℕ) (s : Status) (verdict : IsVerdict s) where
       go true is h = not-refused refusal.Nodes h
       go false is h = (grind (arith, nat_tests, is), h)
 
-  pub reach-size : (f : Form) (log : Logged) (next : List ℕ → Status → Type 0) → OnSize f log next out s → (size log (nodes_of f) ≤ MAX_SIZE) × next out s
-  reach-size f log next h = go (nat_lt MAX_SIZE (size log (nodes_of f))) refl h
-    where
-      go : (more : Bool) → nat_lt MAX_SIZE (size log (nodes_of f)) ≡ more → MatchBool more (Refuses (refusal.Size (size log (nodes_of f))) out s) (next out s) → (size log (nodes_of f) ≤ MAX_SIZE) × next out s
-      go true is h = not-refused (refusal.Size (size log (nodes_of f))) h
-      go false is h = (grind (arith, nat_tests, is), h)
+  pub reach-size : (f : Form) (log : Logged) (next : List ℕ → Status → Type 0) → OnSize f log next out s → IsSmall log (nodes_of f) × next out s
+  reach-size f log next (inl h) = let (n, large, refused) = h in not-refused (refusal.Size n) refused
+  reach-size f log next (inr h) = h
 
   pub reach-report : (bytes : List ℕ) (next : Report → List ℕ → Status → Type 0) → OnReport bytes next out s → (r : Report) × ReportOf bytes (Ok r) × next r out s
   reach-report bytes next h = go h.0 h.1 h.2

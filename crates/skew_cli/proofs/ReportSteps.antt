@@ -1,12 +1,9 @@
 -- From what was found of a report's file and of a size to what is asked for.
-use Rattle.std.proofs.Common.{◌≡◌, refl, ℕ, ◌<◌, ◌≤◌, true, false, List, Ok, Err, inl, inr, arith}
-use Rattle.std.specs.Prelude.{nat_lt}
-use Rattle.std.proofs.lemmas.Bool.Decides.{nat_tests}
+use Rattle.std.proofs.Common.{◌≡◌, refl, ℕ, List, Ok, Err, inl, inr}
 use Rattle.mt_model.specs.Form.{Form}
 use Rattle.mt_model.specs.Log.{Logged}
 use Rattle.formula_arena.specs.Nodes.{nodes_of}
-use Rattle.mtl_encode.specs.Size.{size}
-use Rattle.mtl_encode.specs.declared.size.TheConstants.{MAX_SIZE}
+use Rattle.mtl_encode.specs.Size.{IsSmall}
 use Rattle.report_text.specs.declared.fault.ReportFault.TheVariants as report
 use Rattle.report_text.specs.declared.report.Report.{Report}
 use Rattle.report_text.specs.ReportOf.{ReportOf}
@@ -17,7 +14,7 @@ use Rattle.skew_commands.specs.declared.refusal.Refusal.TheVariants as refusal
 use Rattle.skew_commands.specs.Refusals.{status_of, text_of}
 use Rattle.skew_commands.specs.Tests.{OnNodes}
 use Rattle.skew_commands.proofs.Steps.{At, nodes-few, nodes-refused}
-use Rattle.skew_cli.specs.ReportTests.{OnReport, OnSize, TellsFaultyLine, TellsLarge}
+use Rattle.skew_cli.specs.ReportTests.{IsLarge, OnReport, OnSize, TellsFaultyLine, TellsLarge}
 
 module _ (bytes : List ℕ) (next : Report → List ℕ → Status → Type 0) where
   pub report-refused : (r : Refusal) → TellsFaultyLine bytes r → At (OnReport bytes next) r
@@ -27,12 +24,12 @@ module _ (bytes : List ℕ) (next : Report → List ℕ → Status → Type 0) w
   report-read r out s is h = (Ok r, is, h)
 
 module _ (f : Form) (log : Logged) (next : List ℕ → Status → Type 0) where
-  pub size-refused : (r : Refusal) → r ≡ refusal.Size (size log (nodes_of f)) → MAX_SIZE < size log (nodes_of f) → At (OnSize f log next) r
-  size-refused r told large = let more : nat_lt MAX_SIZE (size log (nodes_of f)) ≡ true = grind (arith, nat_tests) in rw (more, told) (refl, refl)
+  pub size-refused : (r : Refusal) (n : ℕ) → r ≡ refusal.Size n → IsLarge f log n → At (OnSize f log next) r
+  size-refused r n told large = inl (n, large, rw told (refl, refl))
 
-  pub size-small : (out : List ℕ) (s : Status) → size log (nodes_of f) ≤ MAX_SIZE → next out s → OnSize f log next out s
-  size-small out s small h = let less : nat_lt MAX_SIZE (size log (nodes_of f)) ≡ false = grind (arith, nat_tests) in rw less h
+  pub size-small : (out : List ℕ) (s : Status) → IsSmall log (nodes_of f) → next out s → OnSize f log next out s
+  size-small out s small h = inr (small, h)
 
   pub large-refused : (r : Refusal) → TellsLarge f log r → At (OnNodes f (OnSize f log next)) r
   large-refused r (inl h) = nodes-refused f (OnSize f log next) r h
-  large-refused r (inr h) = nodes-few f (OnSize f log next) (line (text_of r)) (status_of r) h.0 (size-refused r h.1 h.2)
+  large-refused r (inr (few, large)) = let (n, told, is) = large in nodes-few f (OnSize f log next) (line (text_of r)) (status_of r) few (size-refused r n told is)

@@ -18,5 +18,5 @@ pub fn limits_are_numbers()
     ensures default { DEFAULT_CONFLICTS ≡ 200000 }
     ensures conflicts { MAX_CONFLICTS ≡ 1000000 }
     ensures seed { MAX_SEED ≡ 18446744073709551615 }
-    ensures size { MAX_SIZE ≡ 262144 }
+    ensures size { MAX_SIZE ≡ 4194304 }
 {}

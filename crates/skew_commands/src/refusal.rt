@@ -49,7 +49,7 @@ pub enum Refusal {
     TimesNumber { line: u32 },
     /// The times file lacks the line, or has one too many.
     TimesCount { line: u32 },
-    /// The number of until and since nodes times the cube of the number of rows is above 262,144.
+    /// The size of the formula and the log together is above 4,194,304.
     Size { size: u128 },
     /// No report begins with the lines of the report file up to this one.
     Report { line: u32 },

@@ -7,7 +7,7 @@ use Rattle.formula_arena.specs.declared.fault.ArenaFault.{ArenaFault}
 use Rattle.formula_arena.specs.declared.fault.ArenaFault.TheVariants as arena
 use Rattle.formula_arena.specs.Nodes.{nodes_of}
 use Rattle.formula_arena.specs.declared.arena.TheConstants.{MAX_NODES}
-use Rattle.mtl_encode.specs.Size.{size}
+use Rattle.mtl_encode.specs.Size.{IsSize, IsSmall}
 use Rattle.mtl_encode.specs.declared.size.TheConstants.{MAX_SIZE}
 use Rattle.verdict.specs.declared.fault.VerdictFault.{VerdictFault}
 use Rattle.verdict.specs.declared.fault.VerdictFault.TheVariants as fault
@@ -17,10 +17,10 @@ pub record HasFewNodes (log : Logged) (f : Form) : Type 0 where
   pub hosts : unknown_host log f ≡ None
   pub few : length (nodes_of f) ≤ MAX_NODES
 
--- the formula is judged of the log: moreover the problem of both is small enough
+-- the formula is judged of the log: moreover the size of their problem isn't above the limit
 pub record IsJudged (log : Logged) (f : Form) : Type 0 where
   pub nodes : HasFewNodes log f
-  pub small : size log (nodes_of f) ≤ MAX_SIZE
+  pub small : IsSmall log (nodes_of f)
 
 -- the hosts of the formula are in the log, and it has too many nodes
 pub record HasTooManyNodes (log : Logged) (f : Form) : Type 0 where
@@ -30,7 +30,7 @@ pub record HasTooManyNodes (log : Logged) (f : Form) : Type 0 where
 -- the formula has few enough nodes, and the size of its problem, which is this one, is too large
 pub record IsTooLarge (log : Logged) (f : Form) (n : ℕ) : Type 0 where
   pub nodes : HasFewNodes log f
-  pub size : n ≡ size log (nodes_of f)
+  pub size : IsSize log (nodes_of f) n
   pub large : MAX_SIZE < n
 
 -- the formula isn't judged of the log, and this says why; want of memory says nothing

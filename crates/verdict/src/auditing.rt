@@ -13,7 +13,7 @@ ghost use Rattle.verdict.specs.Right.{IsRight, IsWitness};
 
 use crate::judges::{checker, replayer};
 use crate::laws::{accepted_reports_are_true, audits_are_exact, right_reports_are_accepted};
-use crate::nodes::nodes_of;
+use crate::nodes::{differences, nodes_of, small_enough};
 use crate::{Audit, Part, VerdictFault};
 use mt_model::{Formula, Log, Step};
 use proof_check::{Check, check_cycle};
@@ -200,6 +200,8 @@ pub fn audit(
     audits_are_exact();
     right_reports_are_accepted();
     let _ = log.rows();
-    nodes_of(alloc, log, f)?;
+    let nodes = nodes_of(alloc, log, f)?;
+    let tight = differences(alloc, log)?;
+    small_enough(log, f, &nodes, tight.as_ref())?;
     Ok(audit_of(alloc, log, f, budget, report)?)
 }

@@ -5,7 +5,7 @@ ghost use Rattle.mt_model.specs.Form.{form_of};
 ghost use Rattle.mt_model.specs.Timing.{Admissible};
 ghost use Rattle.mt_model.specs.Truth.{truth};
 ghost use Rattle.formula_arena.specs.Nodes.{nodes_of as nodes_of_form};
-ghost use Rattle.skew_bounds.specs.Tight.{IsConsistent};
+ghost use Rattle.skew_bounds.specs.Tight.{IsConsistent, IsTight};
 ghost use Rattle.report_text.specs.Spelled.{IsSpelledSection};
 ghost use Rattle.verdict.specs.Claims.{Claims};
 ghost use Rattle.verdict.specs.Faults.{IsFault, IsJudged};
@@ -14,12 +14,12 @@ ghost use Rattle.verdict.specs.Right.{IsRight, IsRightSection};
 use crate::VerdictFault;
 use crate::judges::replayer;
 use crate::laws::right_reports_are_true;
-use crate::nodes::{Nodes, nodes_of};
+use crate::nodes::{Nodes, nodes_of, small_enough};
 use cdcl_core::{Found, search};
-use mt_model::{Formula, Log, Times, bounds_are_admissible};
-use mtl_encode::encode;
+use mt_model::{Formula, Log, Times, bounds_are_admissible, conflict_excludes_timings};
+use mtl_encode::encode_by;
 use report_text::{Report, Section};
-use skew_bounds::{Consistency, settle, times_of};
+use skew_bounds::{Consistency, Tight, settle, tight_from, times_of};
 use std::alloc::{AllocError, Global};
 
 // What a search finds of a value, with so many conflicts at most.
@@ -28,6 +28,7 @@ fn searched(
     log: &Log,
     f: &Formula,
     nodes: &Nodes,
+    tight: &Tight,
     value: bool,
     budget: u32,
 ) -> Result<Section, AllocError>
@@ -37,6 +38,7 @@ fn searched(
     requires judged { IsJudged log.now (form_of f.now) }
     requires nodes { nodes.now.arena ≡ nodes_of_form (form_of f.now) }
     requires root { nodes.now.root + 1 ≡ length nodes.now.arena }
+    requires tight { IsTight log.now tight.now }
     ensures right { IfOk result (IsRightSection log.now (form_of f.now) budget value) }
     ensures spelled { IfOk result (IsSpelledSection (length log.now.rows)) }
 {
@@ -44,7 +46,7 @@ fn searched(
     // What a log and a formula are, their parts are known with.
     let _ = log.rows();
     let _ = f.tree();
-    let problem = encode(alloc, log, &nodes.arena, nodes.root, value)?;
+    let problem = encode_by(alloc, log, &nodes.arena, nodes.root, value, tight)?;
     match search(alloc, problem, budget)? {
         Found::Model {
             values: _,
@@ -72,6 +74,7 @@ fn verdicts(
     log: &Log,
     f: &Formula,
     nodes: &Nodes,
+    tight: &Tight,
     times: Times,
     budget: u32,
 ) -> Result<Report, AllocError>
@@ -80,11 +83,12 @@ fn verdicts(
     requires judged { IsJudged log.now (form_of f.now) }
     requires nodes { nodes.now.arena ≡ nodes_of_form (form_of f.now) }
     requires root { nodes.now.root + 1 ≡ length nodes.now.arena }
+    requires tight { IsTight log.now tight.now }
     requires admissible { Admissible log.now times }
     ensures right { IfOk result (IsRight log.now (form_of f.now) budget) }
 {
     let value = value_in(alloc, log, f, times.as_slice())?;
-    let other = searched(alloc, log, f, nodes, !value, budget)?;
+    let other = searched(alloc, log, f, nodes, tight, !value, budget)?;
     let events = log.rows().len() as u32;
     let witness = Section::Witness(times);
     if value {
@@ -117,10 +121,19 @@ pub fn decide(alloc: Global, log: &Log, f: &Formula, budget: u32) -> Result<Repo
     ensures fault { IfErr result (IsFault log.now (form_of f.now)) }
 {
     right_reports_are_true();
+    bounds_are_admissible();
+    conflict_excludes_timings();
     let events = log.rows().len() as u32;
     let nodes = nodes_of(alloc, log, f)?;
     match settle(alloc, log)? {
-        Consistency::Conflict(steps) => Ok(Report::Inconsistent { events, steps }),
-        Consistency::Timing(times) => Ok(verdicts(alloc, log, f, &nodes, times, budget)?),
+        Consistency::Conflict(steps) => {
+            small_enough(log, f, &nodes, None)?;
+            Ok(Report::Inconsistent { events, steps })
+        }
+        Consistency::Timing(times) => {
+            let tight = tight_from(alloc, log, times.as_slice())?;
+            small_enough(log, f, &nodes, Some(&tight))?;
+            Ok(verdicts(alloc, log, f, &nodes, &tight, times, budget)?)
+        }
     }
 }

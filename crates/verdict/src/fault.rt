@@ -11,8 +11,7 @@ pub enum VerdictFault {
     /// The formula has more than 512 nodes.
     #[error("more than 512 nodes")]
     TooManyNodes,
-    /// The size of the problem is above 262,144: the number of until and since nodes times the cube of the number
-    /// of rows.
+    /// The size of the problem is above 4,194,304 (`mtl_encode::size_of`).
     #[error("size {size}")]
     TooLarge { size: u128 },
     #[error("out of memory")]

@@ -63,7 +63,8 @@ fn is_gap(direction: Direction, times: &[i128], side: &[bool], e: usize, m: usiz
     requires m_in { m < length times.now }
     ensures { result ≡ is_gap_of (rows_from direction times.now) (value_at side.now) e m }
 {
-    is_not_after(direction, times, e, m) && !side[m]
+    // What is read at once comes first: this is asked of each two rows.
+    !side[m] && is_not_after(direction, times, e, m)
 }
 
 // Whether row m is not after the first gap, where there is one.
@@ -81,6 +82,9 @@ fn first_gap(direction: Direction, times: &[i128], side: &[bool], e: usize) -> O
     requires e_in { e < length times.now }
     ensures { IsFirstGap (rows_from direction times.now) (value_at side.now) e (length times.now) result }
 {
+    if !side[e] {
+        return Some(e);
+    }
     let mut first = None;
     for m in 0..times.len() {
         if is_gap(direction, times, side, e, m) && is_before_gap(direction, times, first, m) {
@@ -108,10 +112,10 @@ fn is_witness(
     requires m_in { m < length times.now }
     ensures { result ≡ ((rows_from direction times.now).not_after e m && (is_near_from direction times.now interval.now e m && value_at right.now m && option_map_or (λ g. (rows_from direction times.now).not_after m g) gap true)) }
 {
-    is_not_after(direction, times, e, m)
-        && (is_near(direction, times, interval, e, m)
-            && right[m]
-            && is_before_gap(direction, times, gap, m))
+    right[m]
+        && is_not_after(direction, times, e, m)
+        && is_near(direction, times, interval, e, m)
+        && is_before_gap(direction, times, gap, m)
 }
 
 fn has_witness(

@@ -1,4 +1,4 @@
-use Rattle.std.proofs.Common.{◌∙◌, ap, refl, ℕ, ◌+◌, ◌<◌, List, length, None, arith}
+use Rattle.std.proofs.Common.{◌∙◌, ap, sym, subst, refl, ℕ, ◌+◌, ◌<◌, List, length, None, inl, inr, arith}
 use Rattle.std.proofs.lemmas.List.{get_or_push, length_push}
 use Rattle.neg_cycle.specs.declared.system.Edge.{Edge}
 use Rattle.clause_db.specs.declared.lit.Lit.{Lit}
@@ -8,6 +8,7 @@ use Rattle.propagate.specs.Reach.{IsLast}
 use Rattle.propagate.proofs.TrailLemmas.{few_literals, trail_decided}
 use Rattle.cdcl_core.specs.Running.{IsRun}
 use Rattle.cdcl_core.proofs.Descents.{run_decided, run_grown, running_next, running_room, running_same}
+use Rattle.cdcl_core.proofs.Scanned.{below_or_last, decided_free, decided_taken, grown_free}
 use Rattle.cdcl_core.proofs.descent.descend.Goals as goal
 
 -- a decision is the last literal of its trail
@@ -47,6 +48,19 @@ returns-in-None-clause-descended c = λ base run.
       settled,
       λ v low free. c.in-None.ensures.none v (omega (arith, low, same)) free,
     )
+
+pub unassigned-requires-clause-before : goal.unassigned-requires-clause-before
+unassigned-requires-clause-before c = λ w low free. c.decisions.invariant.before w low (grown_free c.decisions.trail c.propagate.new.self c.propagate.ensures.grown w free)
+
+pub sense_of-requires : goal.sense_of-requires
+sense_of-requires c =
+    let in_step = rw c.in-Quiet.is at c.in_ok-reached.ensures.in_step in
+    let running = running_same c.args.vars c.args.db.now c.args.links.now c.decisions.trail c.decisions.graph c.decisions.invariant.running c.propagate.new.self c.propagate.new.graph c.propagate.ensures.grown.vars
+    c.propagate.ensures.edges.limits
+    (λ base run. run_grown c.args.db.now c.args.links.now base c.decisions.trail c.propagate.new.self c.decisions.graph c.propagate.new.graph c.level.ensures.trail c.propagate.ensures.closed in_step run) in
+    let few = c.in-Some.ensures.some.0 in
+    let count = running.linked in
+    record { var = omega (arith, few, count); edges = running.run.step.linked.edges }
 
 pub decide-requires-clause-room : goal.decide-requires-clause-room
 decide-requires-clause-room c =
@@ -93,6 +107,12 @@ decisions-preserved c =
       running = running_same c.args.vars db links c.decisions.trail c.decisions.graph c.decisions.invariant.running c.decide.new.self c.decide.new.graph
           (ap (λ (x : Assigned). x.vars) c.decide.ensures.trail ∙ c.propagate.ensures.grown.vars) (record { nodes = new.nodes ∙ old.nodes; capacity = new.capacity ∙ old.capacity }) keeps;
       limits = record { nodes = new.nodes ∙ old.nodes ∙ c.decisions.invariant.limits.nodes; capacity = new.capacity ∙ old.capacity ∙ c.decisions.invariant.limits.capacity };
+      before = λ w low free.
+          let rest = rw c.decide.ensures.trail at free in
+          elim (below_or_last w c.in-Some.var (rw c.get-start.ensures.number at low)) [
+            | inl less ↦ c.in-Some.ensures.least w less (decided_free u lit mark w rest)
+            | inr is ↦ decided_taken u lit mark (subst (λ (v : ℕ). IsUnassigned (decided u lit mark).entries v) (is ∙ sym c.new-lit.ensures.variable) rest)
+          ];
       run = λ base run. keeps base (c.decisions.invariant.run base run);
     }
 

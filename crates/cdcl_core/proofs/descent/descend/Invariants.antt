@@ -1,6 +1,7 @@
-use Rattle.std.proofs.Common.{◌-◌, List, length}
+use Rattle.std.proofs.Common.{ℕ, ◌-◌, ◌<◌, List, length}
 use Rattle.neg_cycle.specs.declared.system.Edge.{Edge}
 use Rattle.difference_graph.specs.Graphs.{HasSameLimits}
+use Rattle.propagate.specs.Trails.{IsUnassigned}
 use Rattle.cdcl_core.specs.Running.{IsRun, IsRunning}
 use Rattle.cdcl_core.proofs.descent.descend.Given as goal
 
@@ -8,6 +9,7 @@ abbrev pub invariant-decisions : goal.invariant-decisions
 invariant-decisions l = record {
   running : IsRunning l.vars l.db l.links l.trail l.graph;
   limits : HasSameLimits l.fn.graph l.graph;
+  before : (w : ℕ) → w < l.start → IsUnassigned l.trail.entries w → ⊥;
   run : (base : List Edge) → IsRun l.db l.links base l.fn.trail l.fn.graph → IsRun l.db l.links base l.trail l.graph;
 }
 

@@ -1,7 +1,17 @@
-use Rattle.std.proofs.Common.{length}
-use Rattle.mtl_encode.proofs.Cubes.{times_cube}
-use Rattle.mtl_encode.specs.Size.{reaches_in}
+use Rattle.std.proofs.Common.{inr}
+use Rattle.mtl_encode.proofs.TightExtremes.{tight-consistent, tight-extremes}
+use Rattle.mtl_encode.specs.Needless.{extremes_of}
 use Rattle.mtl_encode.proofs.size.size_of.Goals as goal
 
-pub returns : goal.returns
-returns c = record { size = rw (c.reaches.ensures, c.rows.ensures.same) (times_cube (length (reaches_in c.args.arena.now)) (length c.args.log.now.rows)) }
+pub returns-in-Some : goal.returns-in-Some
+returns-in-Some c =
+    let log = c.args.log.now in
+    let is = rw c.in-Some.is at c.requires.tight in
+    record {
+      size = inr (record {
+        consistent = tight-consistent log c.in-Some.tight.now is c.rows.ensures.valid.some_rows;
+        extremes = extremes_of c.in-Some.tight.now;
+        are = tight-extremes log c.in-Some.tight.now is;
+        size = rw (← is.events) c.nodes_size.ensures.size;
+      });
+    }

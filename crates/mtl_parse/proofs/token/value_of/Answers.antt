@@ -1,4 +1,4 @@
-use Rattle.mt_model.proofs.Digits.{IsUtf8-digits, digits_model}
+use Rattle.decimal.proofs.Digits.{IsUtf8-digits, digits_model}
 use Rattle.mtl_parse.proofs.Digits.{SomeIff-result_ok, ascii_digits}
 use Rattle.std.proofs.lemmas.Str.Parse.{parse_digits}
 use Rattle.mtl_parse.proofs.token.value_of.Goals as goal

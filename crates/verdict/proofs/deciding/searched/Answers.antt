@@ -6,8 +6,8 @@ use Rattle.cdcl_core.proofs.Posing.{posed}
 use Rattle.verdict.proofs.Searching.{model_right, model_spelled, refuted_right, refuted_spelled, spent_right, spent_spelled}
 use Rattle.verdict.proofs.deciding.searched.Goals as goal
 
-pub encode-requires : goal.encode-requires
-encode-requires c = record { size = rw c.requires.nodes c.requires.judged.small }
+pub encode_by-requires : goal.encode_by-requires
+encode_by-requires c = record { size = rw c.requires.nodes c.requires.judged.small; consistent = c.requires.consistent; tight = c.requires.tight }
 
 pub search-requires-clause-posed : goal.search-requires-clause-posed
 search-requires-clause-posed c = posed c.bounds_are_admissible.ensures c.args.log.now (form_of c.args.f.now) c.args.value c.in_ok-problem.problem c.requires.consistent.timing

@@ -6,13 +6,13 @@ pub invariant_of-self-2 : goal.invariant_of-self-2
 invariant_of-self-2 c =
     let old = c.self.inside in
     let count = clauses_count 0 old.lits.items old.ends.items in
-    let end : c.len-end.result ≡ length old.lits.items + length c.args.lits.now = omega (arith, c.len-end.ensures, c.in_ok-extend_from_slice.ensures.len, old.lits.ok.0) in
+    let end : c.in-Some.end ≡ length old.lits.items + length c.args.lits.now = omega (arith, c.in-Some.ensures.end, c.len-2.ensures, old.lits.ok.0) in
     rw (c.in_ok-extend_from_slice.ensures.items, c.in_ok-push.ensures.items, c.in_ok-reserve.ensures.items)
-    (flat_push old.lits.items c.args.lits.now old.ends.items c.len-end.result c.self.invariant c.requires.once (omega (arith, c.requires.room, count, ap length c.self.view_is)) end)
+    (flat_push old.lits.items c.args.lits.now old.ends.items c.in-Some.end c.self.invariant c.requires.once (omega (arith, c.requires.room, count, ap length c.self.view_is)) end)
 
 pub returns-clause-ok : goal.returns-clause-ok
 returns-clause-ok c =
     let old = c.self.inside in
-    let end : c.len-end.result ≡ length old.lits.items + length c.args.lits.now = omega (arith, c.len-end.ensures, c.in_ok-extend_from_slice.ensures.len, old.lits.ok.0) in
+    let end : c.in-Some.end ≡ length old.lits.items + length c.args.lits.now = omega (arith, c.in-Some.ensures.end, c.len-2.ensures, old.lits.ok.0) in
     rw (c.in_ok-extend_from_slice.ensures.items, c.in_ok-push.ensures.items, c.in_ok-reserve.ensures.items, ← c.self.view_is)
-    (clauses_push 0 old.lits.items c.args.lits.now old.ends.items c.len-end.result c.self.invariant.rising end)
+    (clauses_push 0 old.lits.items c.args.lits.now old.ends.items c.in-Some.end c.self.invariant.rising end)

@@ -1,0 +1,25 @@
+//! Literals over other variables.
+
+ghost use Rattle.std.specs.Prelude.{◌≡◌, ◌<◌, length, map, All};
+ghost use Rattle.clause_db.specs.Renaming.{moved};
+
+use crate::{Lit, Var};
+
+/// Turns each literal to that of the variable that stands at the place of its own.
+pub fn rename(lits: &mut [Lit], places: &[u32])
+    requires below { All (λ l. l.var < length places.now) lits.old }
+    ensures literals { lits.new ≡ map (moved places.now) lits.old }
+{
+    for lit in lits.iter_mut() {
+        *lit = renamed_lit(*lit, places);
+    }
+}
+
+// The literal of the variable that stands at the place of a literal's own.
+fn renamed_lit(lit: Lit, places: &[u32]) -> Lit
+    requires below { lit.var < length places.now }
+    ensures literal { result ≡ moved places.now lit }
+{
+    let place = lit.var().get() as usize;
+    Lit::new(Var::new(places[place]), lit.positive())
+}

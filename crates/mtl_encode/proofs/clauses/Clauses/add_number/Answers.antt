@@ -1,0 +1,29 @@
+use Rattle.std.proofs.Common.{◌≡◌, ◌∙◌, sym, ap, subst, ℕ, Bool, List, [], ◌++◌, map, Option, Some, None, option_map}
+use Rattle.std.specs.Prelude.{OnOk}
+use Rattle.std.specs.Option.{option_map_or}
+use Rattle.axiom_rules.specs.declared.rule.Argument.{Argument}
+use Rattle.axiom_rules.specs.declared.rule.Rule.{Rule}
+use Rattle.axiom_rules.specs.Clauses.{Row, row_of}
+use Rattle.axiom_rules.specs.Sought.{Sought}
+use Rattle.mtl_encode.specs.Growth.{Gains, HasRoom}
+use Rattle.mtl_encode.specs.Instances.{count_of, of_number, out_by, with_none}
+use Rattle.mtl_encode.proofs.clauses.Clauses.add_number.Goals as goal
+
+-- the rules of a number whose arguments are of these kinds
+number-of : (s : Sought) (out : Rule → Bool) (number : ℕ) (arguments : List Argument) (counts : List ℕ) → Some arguments ≡ option_map (λ row. row.arguments) (row_of number) → counts ≡ map (count_of s) arguments
+    → with_none s out number counts ≡ of_number s out number
+number-of s out number arguments counts is are = go (row_of number) is
+  where
+    go : (o : Option Row) → Some arguments ≡ option_map (λ row. row.arguments) o → with_none s out number counts ≡ option_map_or (λ row. with_none s out number (map (count_of s) row.arguments)) o []
+    go None is = absurd (cc)
+    go (Some row) is = let same : arguments ≡ row.arguments = cc in ap (with_none s out number) (are ∙ ap (map (count_of s)) same)
+
+same : (c : goal.After-add_with_none-arg-1) → with_none c.args.rules.now (out_by c.args.tight.now c.args.rules.now) c.args.number c.counts_of-counts.result ≡ of_number c.args.rules.now (out_by c.args.tight.now c.args.rules.now) c.args.number
+same c = number-of c.args.rules.now (out_by c.args.tight.now c.args.rules.now) c.args.number c.in-Some.arguments c.counts_of-counts.result (sym c.in-Some.is ∙ c.arguments_of.ensures) c.counts_of-counts.ensures
+
+pub add_with_none-requires-clause-room : goal.add_with_none-requires-clause-room
+add_with_none-requires-clause-room c = subst (λ rules. HasRoom c.args.rules.now (c.args.self.now.rules ++ rules)) (sym (same c)) c.requires.room
+
+pub returns-in-Some : goal.returns-in-Some
+returns-in-Some c = subst (λ rules. OnOk c.add_with_none.result (Gains c.args.rules.now c.args.self.now c.add_with_none.new.self rules))
+    (number-of c.args.rules.now (out_by c.args.tight.now c.args.rules.now) c.args.number c.in-Some.arguments c.counts_of-counts.result (sym c.in-Some.is ∙ c.arguments_of.ensures) c.counts_of-counts.ensures) c.add_with_none.ensures

@@ -1,0 +1,127 @@
+-- Which instances of rules are needless: those that the least and the greatest differences of events' times make true, or of no use.
+use Rattle.std.specs.Prelude.{◌≡◌, ◌⊎◌, ℕ, zero, suc, ◌<◌, ◌≤◌, Bool, true, false, ◌&&◌, ◌||◌, if◌then◌else◌, nat_lt, List, [], ◌∷◌, length, Option, None, slice_get, ℤ, pos, int_le, int_lt}
+use Rattle.std.specs.List.{list_any, range_with_len}
+use Rattle.std.specs.Option.{option_map_or}
+use Rattle.mt_model.specs.declared.tree.Interval.{Interval}
+use Rattle.mt_model.specs.Log.{Logged}
+use Rattle.skew_bounds.specs.Differences.{Differences}
+use Rattle.skew_bounds.specs.Tight.{IsGreatestDifference, IsLeastDifference, events_of, greatest_of, least_of}
+use Rattle.formula_arena.specs.declared.direction.Direction.{Direction}
+use Rattle.formula_arena.specs.declared.direction.Direction.TheVariants.{Ahead, Behind}
+use Rattle.axiom_rules.specs.declared.reach.Reach.{Reach}
+use Rattle.axiom_rules.specs.declared.rule.Rule.{Rule}
+use Rattle.axiom_rules.specs.Clauses.{arg}
+use Rattle.axiom_rules.specs.NodeShapes.{is_constant, reach_in, shape_at}
+use Rattle.axiom_rules.specs.Sought.{Sought}
+use Rattle.mtl_encode.specs.declared.needless.Needless.{Needless}
+use Rattle.mtl_encode.specs.declared.needless.Needless.TheVariants.{Never, NeverLater, NeverFirst, Reaches}
+use Rattle.mtl_encode.specs.declared.needless.OfReach.{OfReach}
+use Rattle.mtl_encode.specs.declared.needless.OfReach.TheVariants.{AlwaysFrom, AlwaysUpTo, Dead, DeadOrFree, NotWithin, NotPast, FreeOrNotBefore, Free}
+
+-- how much later than event e event f is at most, and at least
+pub record Extremes : Type 0 where
+  pub greatest : ℕ → ℕ → ℤ
+  pub least : ℕ → ℕ → ℤ
+
+-- over all timings that the log admits, and 0 where there is no such event
+pub record AreExtremes (log : Logged) (x : Extremes) : Type 0 where
+  pub greatest : (e f : ℕ) → e < length log.rows → f < length log.rows → IsGreatestDifference log e f (x.greatest e f)
+  pub least : (e f : ℕ) → e < length log.rows → f < length log.rows → IsLeastDifference log e f (x.least e f)
+  pub greatest_beyond : (e f : ℕ) → (length log.rows ≤ e) ⊎ (length log.rows ≤ f) → x.greatest e f ≡ pos 0
+  pub least_beyond : (e f : ℕ) → (length log.rows ≤ e) ⊎ (length log.rows ≤ f) → x.least e f ≡ pos 0
+
+-- those that a table of differences tells
+abbrev pub extremes_of : Differences → Extremes
+extremes_of d = record {
+  greatest = λ e f. if nat_lt e (events_of d) && nat_lt f (events_of d) then greatest_of d e f else pos 0;
+  least = λ e f. if nat_lt e (events_of d) && nat_lt f (events_of d) then least_of d e f else pos 0;
+}
+
+-- which test leaves out instances of rule 1, of rule 2 and so on
+abbrev pub tests : List Needless
+tests =
+    Never ∷ Never ∷ Never ∷ Never ∷ Never ∷ Never ∷ Never ∷ Never
+    ∷ NeverLater ∷ NeverFirst ∷ Never
+    ∷ Reaches AlwaysFrom ∷ Reaches AlwaysUpTo ∷ Reaches Dead ∷ Reaches DeadOrFree ∷ Reaches DeadOrFree ∷ Never ∷ Reaches Dead
+    ∷ Reaches NotWithin ∷ Reaches DeadOrFree ∷ Reaches NotPast ∷ Reaches FreeOrNotBefore ∷ Reaches Free
+    ∷ NeverFirst ∷ Never ∷ Never ∷ Never ∷ Reaches Dead ∷ []
+
+abbrev pub test_of : ℕ → Option Needless
+test_of zero = None
+test_of (suc n) = slice_get tests n
+
+module _ (x : Extremes) where
+  -- how far event j is from event i at most, as a node looks, and at least
+  abbrev pub farthest : Direction → ℕ → ℕ → ℤ
+  farthest Ahead i j = x.greatest i j
+  farthest Behind i j = x.greatest j i
+
+  abbrev pub nearest : Direction → ℕ → ℕ → ℤ
+  nearest Ahead i j = x.least i j
+  nearest Behind i j = x.least j i
+
+  -- an event is never first where another one is always earlier
+  abbrev pub is_never_first : ℕ → ℕ → Bool
+  is_never_first rows e = list_any (λ f. int_lt (x.greatest e f) (pos 0)) (range_with_len 0 rows)
+
+  -- event j is always in the interval's reach from below, it may be, and the same from above
+  abbrev pub is_always_from : Reach → ℕ → ℕ → Bool
+  is_always_from u i j = int_le (pos u.interval.low) (nearest u.direction i j)
+
+  abbrev pub is_never_from : Reach → ℕ → ℕ → Bool
+  is_never_from u i j = int_lt (farthest u.direction i j) (pos u.interval.low)
+
+  abbrev pub may_be_from : Reach → ℕ → ℕ → Bool
+  may_be_from u i j = int_le (pos u.interval.low) (farthest u.direction i j)
+
+  abbrev pub is_always_up_to : Reach → ℕ → ℕ → Bool
+  is_always_up_to u i j = option_map_or (λ b. int_le (farthest u.direction i j) (pos b)) u.interval.high true
+
+  abbrev pub is_never_up_to : Reach → ℕ → ℕ → Bool
+  is_never_up_to u i j = option_map_or (λ b. int_lt (pos b) (nearest u.direction i j)) u.interval.high false
+
+  -- a pair of events is dead for an until or a since where its distance is never in the interval
+  abbrev pub is_dead : Reach → ℕ → ℕ → Bool
+  is_dead u i j = is_never_from u i j || is_never_up_to u i j
+
+  -- and live where it may be: some number of the interval lies from the least to the greatest distance
+  abbrev pub is_live : Direction → Interval → ℕ → ℕ → Bool
+  is_live direction I i j = int_le (pos I.low) (farthest direction i j) && option_map_or (λ b. int_le (nearest direction i j) (pos b)) I.high true
+
+  -- event m is always before event i as the node looks, and never before it
+  abbrev pub is_always_before : Reach → ℕ → ℕ → Bool
+  is_always_before u m i = int_lt (farthest u.direction i m) (pos 0)
+
+  abbrev pub is_never_before : Reach → ℕ → ℕ → Bool
+  is_never_before u m i = int_le (pos 0) (nearest u.direction i m)
+
+  module _ (s : Sought) where
+    -- the left side is `true`
+    abbrev pub has_constant : Reach → Bool
+    has_constant u = is_constant (shape_at s u.left)
+
+    -- where a test of an until or a since leaves the instance of these arguments out
+    abbrev pub leaves_out_reach : OfReach → Reach → List ℕ → Bool
+    leaves_out_reach AlwaysFrom u args = is_always_from u (arg args 1) (arg args 2) || (is_dead u (arg args 1) (arg args 2) && may_be_from u (arg args 1) (arg args 2))
+    leaves_out_reach AlwaysUpTo u args = is_always_up_to u (arg args 1) (arg args 2) || is_never_from u (arg args 1) (arg args 2)
+    leaves_out_reach Dead u args = is_dead u (arg args 1) (arg args 2)
+    leaves_out_reach DeadOrFree u args = is_dead u (arg args 1) (arg args 2) || has_constant u
+    leaves_out_reach NotWithin u args = is_dead u (arg args 1) (arg args 2) || has_constant u || is_always_before u (arg args 3) (arg args 1) || is_never_before u (arg args 3) (arg args 2)
+    leaves_out_reach NotPast u args = is_dead u (arg args 1) (arg args 2) || has_constant u || is_always_before u (arg args 3) (arg args 2)
+    leaves_out_reach FreeOrNotBefore u args = has_constant u || is_never_before u (arg args 2) (arg args 1)
+    leaves_out_reach Free u args = has_constant u
+
+    -- where a test leaves the instance of these arguments out
+    abbrev pub leaves_out : Needless → List ℕ → Bool
+    leaves_out Never args = false
+    leaves_out NeverLater args = int_le (pos 0) (x.least (arg args 0) (arg args 1))
+    leaves_out NeverFirst args = is_never_first (length s.log.rows) (arg args 0)
+    leaves_out (Reaches test) args = option_map_or (λ u. leaves_out_reach test u args) (reach_in (shape_at s (arg args 0))) false
+
+    -- the instance of a rule is left out
+    abbrev pub is_needless : Rule → Bool
+    is_needless rule = option_map_or (λ test. leaves_out test rule.args) (test_of rule.number) false
+
+    -- no span of an until or a since is needed from one event to another
+    abbrev pub needs_no_span : ℕ → ℕ → ℕ → Bool
+    needs_no_span k i j = option_map_or (λ u. is_dead u i j || has_constant u) (reach_in (shape_at s k)) false

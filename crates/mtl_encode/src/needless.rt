@@ -1,0 +1,259 @@
+//! Which instances of rules are needless, by the least and the greatest differences of events.
+
+ghost use Rattle.std.specs.Prelude.{◌≡◌, pos, length};
+ghost use Rattle.std.specs.Option.{option_map_or};
+ghost use Rattle.mtl_encode.specs.Needless as needless;
+
+use axiom_rules::{MAX_RULE, Reach, Rule, Rules};
+use formula_arena::Direction;
+use mt_model::EventId;
+use skew_bounds::Tight;
+
+/// Where an instance of a rule on an until or a since is left out. What is said of an until is said of a since with
+/// the events met the other way round.
+#[derive(Clone, Copy, Debug, PartialEq, Eq)]
+pub enum OfReach {
+    /// The pair is always in reach from below, or is dead and may be in reach from below.
+    AlwaysFrom,
+    /// The pair is always in reach from above, or never from below.
+    AlwaysUpTo,
+    /// The pair is dead: its distance is never in the interval.
+    Dead,
+    /// It is dead, or the left side is `true`.
+    DeadOrFree,
+    /// So it is, or the third event is always before the first one, or never before the second one.
+    NotWithin,
+    /// It is dead, or the left side is `true`, or the third event is always before the second one.
+    NotPast,
+    /// The left side is `true`, or the second event is never before the first one.
+    FreeOrNotBefore,
+    /// The left side is `true`.
+    Free,
+}
+
+/// Where an instance of a rule is left out, since its clause is true in each timing that the log admits, or serves nothing.
+#[derive(Clone, Copy, Debug, PartialEq, Eq)]
+pub enum Needless {
+    /// Nowhere.
+    Never,
+    /// The second event is never before the first one.
+    NeverLater,
+    /// The event is never a first one.
+    NeverFirst,
+    /// By what its until or since is.
+    Reaches(OfReach),
+}
+
+// The test of rule 1, of rule 2 and so on.
+const TESTS: [Needless; MAX_RULE as usize] = [
+    Needless::Never,
+    Needless::Never,
+    Needless::Never,
+    Needless::Never,
+    Needless::Never,
+    Needless::Never,
+    Needless::Never,
+    Needless::Never,
+    Needless::NeverLater,
+    Needless::NeverFirst,
+    Needless::Never,
+    Needless::Reaches(OfReach::AlwaysFrom),
+    Needless::Reaches(OfReach::AlwaysUpTo),
+    Needless::Reaches(OfReach::Dead),
+    Needless::Reaches(OfReach::DeadOrFree),
+    Needless::Reaches(OfReach::DeadOrFree),
+    Needless::Never,
+    Needless::Reaches(OfReach::Dead),
+    Needless::Reaches(OfReach::NotWithin),
+    Needless::Reaches(OfReach::DeadOrFree),
+    Needless::Reaches(OfReach::NotPast),
+    Needless::Reaches(OfReach::FreeOrNotBefore),
+    Needless::Reaches(OfReach::Free),
+    Needless::NeverFirst,
+    Needless::Never,
+    Needless::Never,
+    Needless::Never,
+    Needless::Reaches(OfReach::Dead),
+];
+
+// The test of a rule's number.
+fn test_of(number: u8) -> Option<Needless>
+    ensures { result ≡ needless.test_of number }
+{
+    if number == 0 {
+        None
+    } else {
+        TESTS.get(number as usize - 1).copied()
+    }
+}
+
+// The greatest `t_f - t_e`, and 0 where there is no such event.
+fn greatest(tight: &Tight, e: u32, f: u32) -> i128
+    ensures { result ≡ (needless.extremes_of tight.now).greatest e f }
+{
+    let events = tight.events();
+    if (e as usize) < events && (f as usize) < events {
+        tight.greatest(EventId::new(e), EventId::new(f))
+    } else {
+        0
+    }
+}
+
+// The least one.
+fn least(tight: &Tight, e: u32, f: u32) -> i128
+    ensures { result ≡ (needless.extremes_of tight.now).least e f }
+{
+    let events = tight.events();
+    if (e as usize) < events && (f as usize) < events {
+        tight.least(EventId::new(e), EventId::new(f))
+    } else {
+        0
+    }
+}
+
+// How far event j is from event i at most, as a node looks.
+pub fn farthest(tight: &Tight, direction: Direction, i: u32, j: u32) -> i128
+    ensures { result ≡ needless.farthest (needless.extremes_of tight.now) direction i j }
+{
+    match direction {
+        Direction::Ahead => greatest(tight, i, j),
+        Direction::Behind => greatest(tight, j, i),
+    }
+}
+
+// And at least.
+pub fn nearest(tight: &Tight, direction: Direction, i: u32, j: u32) -> i128
+    ensures { result ≡ needless.nearest (needless.extremes_of tight.now) direction i j }
+{
+    match direction {
+        Direction::Ahead => least(tight, i, j),
+        Direction::Behind => least(tight, j, i),
+    }
+}
+
+// Whether another event is always before an event.
+fn is_never_first(tight: &Tight, events: u32, e: u32) -> bool
+    ensures { result ≡ needless.is_never_first (needless.extremes_of tight.now) events e }
+{
+    (0..events).any(|f| greatest(tight, e, f) < 0)
+}
+
+fn is_always_from(tight: &Tight, u: &Reach, i: u32, j: u32) -> bool
+    ensures { result ≡ needless.is_always_from (needless.extremes_of tight.now) u.now i j }
+{
+    u.interval.low as i128 <= nearest(tight, u.direction, i, j)
+}
+
+fn is_never_from(tight: &Tight, u: &Reach, i: u32, j: u32) -> bool
+    ensures { result ≡ needless.is_never_from (needless.extremes_of tight.now) u.now i j }
+{
+    farthest(tight, u.direction, i, j) < u.interval.low as i128
+}
+
+fn may_be_from(tight: &Tight, u: &Reach, i: u32, j: u32) -> bool
+    ensures { result ≡ needless.may_be_from (needless.extremes_of tight.now) u.now i j }
+{
+    u.interval.low as i128 <= farthest(tight, u.direction, i, j)
+}
+
+fn is_always_up_to(tight: &Tight, u: &Reach, i: u32, j: u32) -> bool
+    ensures { result ≡ needless.is_always_up_to (needless.extremes_of tight.now) u.now i j }
+{
+    match u.interval.high {
+        Some(high) => farthest(tight, u.direction, i, j) <= high as i128,
+        None => true,
+    }
+}
+
+fn is_never_up_to(tight: &Tight, u: &Reach, i: u32, j: u32) -> bool
+    ensures { result ≡ needless.is_never_up_to (needless.extremes_of tight.now) u.now i j }
+{
+    match u.interval.high {
+        Some(high) => (high as i128) < nearest(tight, u.direction, i, j),
+        None => false,
+    }
+}
+
+// Whether the distance of two events is never in the interval.
+fn is_dead(tight: &Tight, u: &Reach, i: u32, j: u32) -> bool
+    ensures { result ≡ needless.is_dead (needless.extremes_of tight.now) u.now i j }
+{
+    is_never_from(tight, u, i, j) || is_never_up_to(tight, u, i, j)
+}
+
+// Whether event m is always before event i, as the node looks.
+fn is_always_before(tight: &Tight, u: &Reach, m: u32, i: u32) -> bool
+    ensures { result ≡ needless.is_always_before (needless.extremes_of tight.now) u.now m i }
+{
+    farthest(tight, u.direction, i, m) < 0
+}
+
+// And never.
+fn is_never_before(tight: &Tight, u: &Reach, m: u32, i: u32) -> bool
+    ensures { result ≡ needless.is_never_before (needless.extremes_of tight.now) u.now m i }
+{
+    0 <= nearest(tight, u.direction, i, m)
+}
+
+// Whether a test of an until or a since leaves the instance of these arguments out.
+fn leaves_out_reach(rules: &Rules, tight: &Tight, test: OfReach, u: &Reach, args: [u32; 4]) -> bool
+    ensures { result ≡ needless.leaves_out_reach (needless.extremes_of tight.now) rules.now test u.now args }
+{
+    let [_, i, j, m] = args;
+    let is_free = rules.is_constant(u.left);
+    match test {
+        OfReach::AlwaysFrom => {
+            is_always_from(tight, u, i, j)
+                || (is_dead(tight, u, i, j) && may_be_from(tight, u, i, j))
+        }
+        OfReach::AlwaysUpTo => is_always_up_to(tight, u, i, j) || is_never_from(tight, u, i, j),
+        OfReach::Dead => is_dead(tight, u, i, j),
+        OfReach::DeadOrFree => is_dead(tight, u, i, j) || is_free,
+        OfReach::NotWithin => {
+            is_dead(tight, u, i, j)
+                || is_free
+                || is_always_before(tight, u, m, i)
+                || is_never_before(tight, u, m, j)
+        }
+        OfReach::NotPast => is_dead(tight, u, i, j) || is_free || is_always_before(tight, u, m, j),
+        OfReach::FreeOrNotBefore => is_free || is_never_before(tight, u, j, i),
+        OfReach::Free => is_free,
+    }
+}
+
+// Whether a test leaves the instance of these arguments out.
+fn leaves_out(rules: &Rules, tight: &Tight, test: Needless, args: [u32; 4]) -> bool
+    ensures { result ≡ needless.leaves_out (needless.extremes_of tight.now) rules.now test args }
+{
+    let [k, i, ..] = args;
+    match test {
+        Needless::Never => false,
+        Needless::NeverLater => 0 <= least(tight, k, i),
+        Needless::NeverFirst => is_never_first(tight, rules.events(), k),
+        Needless::Reaches(test) => match rules.reach_at(k) {
+            Some(u) => leaves_out_reach(rules, tight, test, &u, args),
+            None => false,
+        },
+    }
+}
+
+/// Whether no span of an until or a since is needed from one event to another: the pair is dead, or the left side is
+/// `true`.
+pub fn needs_no_span(rules: &Rules, tight: &Tight, k: u32, i: u32, j: u32) -> bool
+    ensures { result ≡ needless.needs_no_span (needless.extremes_of tight.now) rules.now k i j }
+{
+    match rules.reach_at(k) {
+        Some(u) => is_dead(tight, &u, i, j) || rules.is_constant(u.left),
+        None => false,
+    }
+}
+
+/// Whether an instance of a rule is needless.
+pub fn is_needless(rules: &Rules, tight: &Tight, rule: &Rule) -> bool
+    ensures { result ≡ needless.is_needless (needless.extremes_of tight.now) rules.now rule.now }
+{
+    match test_of(rule.number) {
+        Some(test) => leaves_out(rules, tight, test, rule.args),
+        None => false,
+    }
+}
