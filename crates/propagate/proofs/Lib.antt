@@ -1,5 +1,6 @@
 pub mod TrailLemmas
 pub mod TableLemmas
+pub mod UnwatchedLemmas
 pub mod WatchingLemmas
 pub mod StoredLemmas
 pub mod ClauseLemmas

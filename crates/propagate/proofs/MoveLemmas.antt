@@ -1,6 +1,6 @@
 -- The visits of the clauses that watch a literal which became false.
 use Rattle.std.proofs.Common.{◌≡◌, ◌≢◌, ◌∙◌, ap, sym, subst, refl, ℕ, ◌+◌, ◌<◌, ◌≤◌, ◌⊎◌, inl, inr, List, [], ◌∷◌, ◌++◌, length, get_or, set, arith, Option, Some, Result, Ok, Err}
-use Rattle.std.specs.Prelude.{IfOk, OnErr}
+use Rattle.std.specs.Prelude.{IfOk, IsSome, OnErr}
 use Rattle.std.specs.List.{Contains, swap_remove}
 use Rattle.std.proofs.lemmas.Bool.{cases_eq}
 use Rattle.std.proofs.lemmas.List.{get_or_default}
@@ -55,6 +55,10 @@ other_below db links t g c f o work next both =
     let known = work.watched.known in
     let held : c < length db = let within = known_at t.watching.watches c both.0 both.1 in omega (arith, known, within) in
     All-contains (λ (l : Lit). l.var < t.vars) (clause_at db c) o (work.reasons.variables c [] held) (other_in t db c f o work.trail work.watched next both)
+
+-- a clause that was watched still is
+pub step_watched : (t s : Assigned) (f o best : Lit) (c : ℕ) → AreWatchedOf t.watching c f o → s ≡ rewatched t (listing t.watching best (watchers_of t.watching best ++ c ∷ [])) t.taken → IsSome (watch_at s.watching c)
+step_watched t s f o best c both added = rw (ap (λ (x : Assigned). x.watching.watches) added, both.1) refl
 
 -- a clause that is moved, step by step
 module _ (t : Assigned) (f o best : Lit) (c place : ℕ) (trail : IsTrail t) (in_range : best.var < t.vars) (next : IsNextFalse t f) (here : IsWatcherAt t.watching f place c) (both : AreWatchedOf t.watching c f o) (other_apart : o ≢ f)

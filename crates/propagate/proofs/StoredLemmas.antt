@@ -84,5 +84,10 @@ module _ (xs : List Entry) (places : List (Option ℕ)) (ls : List Level) (w : W
       → IsStored xs places ls (record { watches = watches; watchers = w.watchers }) n ec lc
   stored_up r watches is new = rw is (stored_watching (watching w (w.watches ++ r ∷ [])) refl (all_listed_up w r new stored.trail.listed))
 
-  pub stored_set : (i c : ℕ) (q : Watch) → i ≡ c → c < length w.watches → IsListed w c q → IsStored xs places ls (record { watches = set w.watches i (Some q); watchers = w.watchers }) n ec lc
-  stored_set i c q at within new = rw at (stored_watching (watching w (set w.watches c (Some q))) refl (all_listed_set w c q within new stored.trail.listed))
+  pub stored_taken_up : (r : Option Watch) (watches : List (Option Watch)) → (watches ≡ w.watches ++ r ∷ []) ⊎ (watches ≡ w.watches) → ((p : Watch) → r ≡ Some p → IsListed w (length w.watches) p)
+      → IsStored xs places ls (record { watches = watches; watchers = w.watchers }) n ec lc
+  stored_taken_up r watches (inl more) new = stored_up r watches more new
+  stored_taken_up r watches (inr same) new = rw same stored
+
+  pub stored_set : (c : ℕ) (q : Watch) (watches : List (Option Watch)) → watches ≡ set w.watches c (Some q) → c < length w.watches → IsListed w c q → IsStored xs places ls (record { watches = watches; watchers = w.watchers }) n ec lc
+  stored_set c q watches is within new = rw is (stored_watching (watching w (set w.watches c (Some q))) refl (all_listed_set w c q within new stored.trail.listed))

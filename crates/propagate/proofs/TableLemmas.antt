@@ -1,5 +1,6 @@
 -- The table of places, as literals come and go.
 use Rattle.std.proofs.Common.{◌≡◌, ◌≢◌, ◌∙◌, ap, sym, refl, ℕ, zero, suc, ◌+◌, ◌-◌, ◌<◌, ◌≤◌, inl, inr, List, [], ◌∷◌, ◌++◌, length, take, min, set, arith, get_or, length-set, Option, Some, None, get_or-set_same, get_or-set_other}
+use Rattle.std.specs.Prelude.{◌↔◌, IsNone}
 use Rattle.std.proofs.lemmas.Bool.{cases_eq, cases_lt}
 use Rattle.std.proofs.lemmas.List.{length_push, get_or_read}
 use Rattle.std.proofs.lemmas.List.Elements.{All-from_get_or}
@@ -26,6 +27,11 @@ read_place places v i r same below is =
 -- a variable without a place isn't assigned
 pub table_none : (xs : List Entry) (places : List (Option ℕ)) (v : ℕ) → IsTable xs places → get_or places v None ≡ None → IsUnassigned xs v
 table_none xs places v table none = All-from_get_or (λ (e : Entry). e.lit.var ≢ v) xs no_entry (λ k within same. none_is none (ap (λ w. get_or places w None) (sym same) ∙ table.here k within))
+
+-- a variable has no place where it is unassigned
+pub place_none : (xs : List Entry) (places : List (Option ℕ)) (v : ℕ) (r : Option ℕ) → IsTable xs places → get_or places v None ≡ r → IsNone r ↔ IsUnassigned xs v
+place_none xs places v None table is = (λ none. table_none xs places v table is, λ free. refl)
+place_none xs places v (Some k) table is = (λ none. absurd cc, λ free. let at = table.there v k is in absurd (free k no_entry at.0 at.1))
 
 -- an assigned variable isn't unassigned, and it is in range
 pub assigned_not : (xs : List Entry) (v : ℕ) → IsAssigned xs v → IsUnassigned xs v → ⊥

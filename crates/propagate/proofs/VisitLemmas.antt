@@ -14,7 +14,7 @@ use Rattle.clause_db.specs.Clauses.{clause_at}
 use Rattle.propagate.specs.declared.watch.Watch.{Watch}
 use Rattle.propagate.specs.declared.moves.Reached.{Reached}
 use Rattle.propagate.specs.declared.moves.Reached.TheVariants as reached
-use Rattle.propagate.specs.Watching.{Watching, AreWatchedOf, IsListed, IsUnwatched, IsWatcherAt, listing, lists_at, watch_at, with_list, watchers_of, watching}
+use Rattle.propagate.specs.Watching.{Watching, unwatched, AreWatchedOf, IsListed, IsUnwatched, IsWatcherAt, listing, lists_at, watch_at, with_list, watchers_of, watching}
 use Rattle.propagate.specs.Trails.{Assigned, entry_at, literals, up_to, IsTrail, rewatched}
 use Rattle.propagate.specs.Watched.{AreGuarded, AreTwoOf, AreWatched, IsTrueAt, IsTrueUpTo}
 use Rattle.propagate.specs.Clauses.{AreSettled}
@@ -24,6 +24,7 @@ use Rattle.propagate.specs.Best.{AreBest, AreFalseUpTo, IsBest}
 use Rattle.propagate.specs.Visits.{AreShortMet, IsAmong, IsMet, IsMetIfShort, IsMoved, IsNextFalse, IsRewatched, IsUnmoved, IsVisited}
 use Rattle.propagate.proofs.ClauseLemmas.{literal_at, literal_held}
 use Rattle.propagate.proofs.PlaceLemmas.{cases_contains, same_literal, up_to_held, up_to_here}
+use Rattle.propagate.proofs.UnwatchedLemmas.{unwatched_has}
 use Rattle.propagate.proofs.WatchingLemmas.{listed_elsewhere, listed_here, listed_more, listed_new, removed_left, removed_length}
 use Rattle.propagate.proofs.WatchedLemmas.{guard_fewer, some_is, watched_again, watched_lists, watched_up}
 use Rattle.propagate.proofs.GuardLemmas.{guard_beside, guard_next, guard_open, guard_true, guards_best, other_apart, rule_of_other, two_best}
@@ -76,6 +77,21 @@ short_met t db trail closed op c held short = met_so (closed 0 op c [] held) whe
   met_so : IsSettled negation (literals (up_to 0 t.entries)) (clause_at db c) → Any (Contains (literals t.entries)) (clause_at db c)
   met_so (inl (k, x, within, is, here)) = (k, x, within, is, up_to_held t.entries 0 x (up_to_here t.entries t.levels 0 op trail.levels x here))
   met_so (inr two) = absurd (two.differ (two_apart (clause_at db c) two.one two.other two.has_one two.has_other short))
+
+-- where those of which no two literals are watched are met, all short ones are
+pub all_short_met : (t s : Assigned) (db : List (List Lit)) (place : ℕ) → AreWatched s db → length db ≤ length t.watching.watches → s.watching ≡ t.watching → length (unwatched s.watching.watches) ≤ place
+    → ((k : ℕ) → k < place → IsMetIfShort s (clause_at db (get_or (unwatched t.watching.watches) k 0))) → AreShortMet s db
+all_short_met t s db place watched known same all met c held short = by_watch (watch_at s.watching c) refl where
+  watches : s.watching.watches ≡ t.watching.watches
+  watches = ap (λ (w : Watching). w.watches) same
+
+  by_watch : (r : Option Watch) → watch_at s.watching c ≡ r → Any (Contains (literals s.entries)) (clause_at db c)
+  by_watch None none =
+      let at = unwatched_has s.watching.watches c (omega (arith, held, known, ap length watches)) none in
+      let here = ap (λ xs. get_or (unwatched xs) at.0 0) (sym watches) ∙ at.2 in
+      let within = at.1 in
+      rw here at (met at.0 (omega (arith, within, all))) short
+  by_watch (Some p) is = let two = watched.two c p is in absurd (two.differ (two_apart (clause_at db c) p.first p.second two.has_first two.has_second short))
 
 pub met_grown : (t s : Assigned) (clause : List Lit) → IsGrown t s → IsMetIfShort t clause → IsMetIfShort s clause
 met_grown t s clause grown was short = let any = was short in (any.0, any.1, any.2, any.3, held_grown t s any.1 grown any.4)

@@ -1,5 +1,5 @@
 -- Watched literals: two of each clause that was taken up, after Moskewicz, Madigan, Zhao, Zhang and Malik (2001).
-use Rattle.std.specs.Prelude.{◌≡◌, ◌≢◌, ◌⊎◌, ℕ, ◌<◌, List, [], length, set, Bool, true, false, Option, Some, None, Contains, slice_index_or}
+use Rattle.std.specs.Prelude.{◌≡◌, ◌≢◌, ◌⊎◌, ℕ, ◌+◌, ◌<◌, List, [], ◌∷◌, length, set, Bool, true, false, Option, Some, None, Contains, slice_index_or}
 use Rattle.clause_db.specs.declared.lit.Lit.{Lit}
 use Rattle.propagate.specs.declared.watch.Watch.{Watch}
 
@@ -12,6 +12,16 @@ pub record Watching : Type 0 where
 -- the two watched literals of a clause, if it has any
 abbrev pub watch_at : Watching → ℕ → Option Watch
 watch_at w c = slice_index_or w.watches c None
+
+-- the clauses of the list, counted from this number, of which no two literals are watched
+abbrev pub unwatched_from : ℕ → List (Option Watch) → List ℕ
+unwatched_from n [] = []
+unwatched_from n (None ∷ watches) = n ∷ unwatched_from (n + 1) watches
+unwatched_from n (Some p ∷ watches) = unwatched_from (n + 1) watches
+
+-- the clauses of which no two literals are watched
+abbrev pub unwatched : List (Option Watch) → List ℕ
+unwatched watches = unwatched_from 0 watches
 
 -- of a variable's lists the first is that of the positive literal, the second that of the negative one
 abbrev pub list_in : List ℕ × List ℕ → Bool → List ℕ

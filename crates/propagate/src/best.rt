@@ -16,6 +16,13 @@ pub struct Falsified {
     pub level: u32,
 }
 
+// A literal of a clause, and its place there.
+#[derive(Clone, Copy, Debug)]
+pub struct Found {
+    pub lit: Lit,
+    pub place: usize,
+}
+
 // The two literals of a clause that are best watched, and None where it has no two.
 pub fn best_two(trail: &Trail, clause: &[Lit]) -> Option<Watch>
     requires in_range { All (λ l. l.var < trail.now.vars) clause.now }
@@ -23,14 +30,57 @@ pub fn best_two(trail: &Trail, clause: &[Lit]) -> Option<Watch>
     ensures two { IfSome result (AreBest trail.now.entries clause.now) }
     ensures short { IsNone result → length clause.now < 2 }
 {
-    let first = best_beside(trail, clause, None)?;
-    let second = best_beside(trail, clause, Some(first))?;
-    Some(Watch { first, second })
+    let first = best_beside(trail, clause, None, 0)?;
+    let second = best_beside(trail, clause, Some(first.lit), first.place)?;
+    Some(Watch {
+        first: first.lit,
+        second: second.lit,
+    })
 }
 
 // The literal of a clause, beside another one, that is best watched: one that isn't false, or else one
-// that became false last.
-pub fn best_beside(trail: &Trail, clause: &[Lit], beside: Option<Lit>) -> Option<Lit>
+// that became false last. The search for one that isn't false begins at a place of the clause and goes round once.
+pub fn best_beside(trail: &Trail, clause: &[Lit], beside: Option<Lit>, from: usize) -> Option<Found>
+    requires in_range { All (λ l. l.var < trail.now.vars) clause.now }
+    ensures best { IfSome result (λ f. IsBest trail.now.entries clause.now beside f.lit) }
+    ensures none { IsNone result → All (λ x. beside ≡ Some x) clause.now }
+{
+    let from = from.min(clause.len());
+    if let Some(found) = open_beside(trail, clause, beside, from, clause.len()) {
+        return Some(found);
+    }
+    if let Some(found) = open_beside(trail, clause, beside, 0, from) {
+        return Some(found);
+    }
+    let lit = last_beside(trail, clause, beside)?;
+    Some(Found { lit, place: from })
+}
+
+// The first literal of a part of a clause, beside another one, that isn't false.
+fn open_beside(
+    trail: &Trail,
+    clause: &[Lit],
+    beside: Option<Lit>,
+    from: usize,
+    to: usize,
+) -> Option<Found>
+    requires in_range { All (λ l. l.var < trail.now.vars) clause.now }
+    requires within { to ≤ length clause.now }
+    ensures open { IfSome result (λ f. IsBest trail.now.entries clause.now beside f.lit) }
+{
+    // With the number it is known that no variable is assigned twice.
+    let _ = trail.len();
+    for place in from..to {
+        let lit = clause[place];
+        if beside != Some(lit) && trail.truth(lit) != Some(false) {
+            return Some(Found { lit, place });
+        }
+    }
+    None
+}
+
+// The literal of a clause, beside another one, that is best watched, by the levels of those that are false.
+fn last_beside(trail: &Trail, clause: &[Lit], beside: Option<Lit>) -> Option<Lit>
     requires in_range { All (λ l. l.var < trail.now.vars) clause.now }
     ensures best { IfSome result (IsBest trail.now.entries clause.now beside) }
     ensures none { IsNone result → All (λ x. beside ≡ Some x) clause.now }

@@ -12,6 +12,7 @@ mod take_up;
 mod trail;
 mod visit;
 mod watch;
+mod watches;
 
 pub use laws::{
     added_clause_keeps_step, new_trail_is_in_step, room_for_all_is_room, set_links_are_linked,

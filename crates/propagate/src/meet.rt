@@ -1,6 +1,6 @@
 //! Literals that are made true, since the others of their clauses are false.
 
-ghost use Rattle.std.specs.Prelude.{◌≡◌, ℕ, ◌<◌, length, Some, Contains};
+ghost use Rattle.std.specs.Prelude.{◌≡◌, ℕ, ◌<◌, ◌≤◌, length, Some, Contains};
 ghost use Rattle.hint_refutation.specs.Hints.{LeavesOnly};
 ghost use Rattle.clause_db.specs.Literals.{negation};
 ghost use Rattle.clause_db.specs.Clauses.{clause_at};
@@ -69,6 +69,7 @@ impl Trail {
     // Meets the clauses of fewer than two literals, which above level 0 are met already.
     pub(crate) fn meet_short(&mut self, db: &Db, links: &Links, graph: &mut Graph) -> Reached
         requires work { IsAtWork db.now links.now self.old graph.old }
+        requires known { length db.now ≤ length self.old.watching.watches }
         ensures reached { IsReached db.now links.now self.old graph.old result self.new graph.new }
         ensures short { IfQuiet result (AreShortMet self.new db.now) }
     {
@@ -82,12 +83,14 @@ impl Trail {
     // Meets the clauses of fewer than two literals.
     fn meet_all_short(&mut self, db: &Db, links: &Links, graph: &mut Graph) -> Reached
         requires work { IsAtWork db.now links.now self.old graph.old }
+        requires known { length db.now ≤ length self.old.watching.watches }
         ensures reached { IsReached db.now links.now self.old graph.old result self.new graph.new }
         ensures short { IfQuiet result (AreShortMet self.new db.now) }
     {
-        for c in 0..db.len() {
-            match self.meet_one(ClauseRef::new(c), db, links, graph) {
-                Reached::Quiet => {}
+        let mut place = 0;
+        'short: while let Some(clause) = self.unwatched(place) {
+            match self.meet_one(clause, db, links, graph) {
+                Reached::Quiet => place += 1,
                 stopped => return stopped,
             }
         }
@@ -99,6 +102,7 @@ impl Trail {
         requires work { IsAtWork db.now links.now self.old graph.old }
         requires held { clause < length db.now }
         ensures reached { IsReached db.now links.now self.old graph.old result self.new graph.new }
+        ensures unmoved { IsUnmoved self.old self.new }
         ensures short { IfQuiet result (IsMetIfShort self.new (clause_at db.now clause)) }
     {
         match db.lits(clause) {

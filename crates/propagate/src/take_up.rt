@@ -51,7 +51,7 @@ impl Trail {
     {
         match best_two(self, db.lits(clause)) {
             None => {
-                self.take_up(None)?;
+                self.take_up(clause, None)?;
                 Ok(Reached::Quiet)
             }
             Some(watch) => {
@@ -77,6 +77,6 @@ impl Trail {
     {
         self.add_watcher(watch.first, clause)?;
         self.add_watcher(watch.second, clause)?;
-        self.take_up(Some(watch))
+        self.take_up(clause, Some(watch))
     }
 }

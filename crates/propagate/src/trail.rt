@@ -1,9 +1,9 @@
 //! The trail.
 
-ghost use Rattle.std.specs.Prelude.{◌≡◌, ◌↔◌, ℕ, ◌+◌, ◌^◌, ◌<◌, ◌≤◌, [], ◌∷◌, ◌++◌, length, min, take, set, Some, IfOk, OnOk, OnErr, IfSome, IsNone, IsTrue, Contains, slice_index_or, vec_capacity};
+ghost use Rattle.std.specs.Prelude.{◌≡◌, ◌↔◌, ℕ, ◌+◌, ◌^◌, ◌<◌, ◌≤◌, [], ◌∷◌, ◌++◌, length, min, take, set, Some, IfOk, OnOk, OnErr, IfSome, IsNone, IsSome, IsTrue, Contains, slice_index_or, vec_capacity};
 ghost use Rattle.std.specs.List.{swap_remove};
 ghost use Rattle.clause_db.specs.Literals.{negation};
-ghost use Rattle.propagate.specs.Watching.{IsListed, IsUnwatched, IsWatcherAt, listing, watch_at, watchers_of, watching};
+ghost use Rattle.propagate.specs.Watching.{IsListed, IsUnwatched, IsWatcherAt, listing, unwatched, watch_at, watchers_of, watching};
 ghost use Rattle.propagate.specs.Trails.{HasEntry, IsAssigned, IsTrail, IsUnassigned, IsUntaken, cut_to, decided, entry_at, followed, literals, mark_of, rewatched, start_of};
 ghost use Rattle.propagate.specs.Watched.{IsTrueAt, IsTrueUpTo};
 ghost use Rattle.propagate.specs.Clauses.{IsTruth};
@@ -12,6 +12,7 @@ ghost use Rattle.propagate.specs.Stored.{IsTable};
 use crate::entry::{Entry, Level};
 use crate::room::push_within;
 use crate::watch::{Watch, Watchers};
+use crate::watches::Watches;
 use clause_db::{ClauseRef, Lit, Var};
 use std::alloc::{AllocError, Global};
 use std::marker::Model;
@@ -23,7 +24,7 @@ pub struct Trail {
     entries: Vec<Entry>,
     places: Vec<Option<u32>>,
     levels: Vec<Level>,
-    watches: Vec<Option<Watch>>,
+    watches: Watches,
     watchers: Vec<Watchers>,
     taken: u32,
 }
@@ -36,9 +37,9 @@ impl Model for Trail {
 
     ghost Value = { Assigned };
 
-    ghost view = { λ t. record { vars = length t.places.items; entries = t.entries.items; levels = t.levels.items; watching = record { watches = t.watches.items; watchers = t.watchers.items }; taken = t.taken } };
+    ghost view = { λ t. record { vars = length t.places.items; entries = t.entries.items; levels = t.levels.items; watching = record { watches = t.watches; watchers = t.watchers.items }; taken = t.taken } };
 
-    ghost invariant = { λ t. IsStored t.entries.items t.places.items t.levels.items (record { watches = t.watches.items; watchers = t.watchers.items }) t.taken (vec_capacity t.entries) (vec_capacity t.levels) };
+    ghost invariant = { λ t. IsStored t.entries.items t.places.items t.levels.items (record { watches = t.watches; watchers = t.watchers.items }) t.taken (vec_capacity t.entries) (vec_capacity t.levels) };
 }
 
 impl Trail {
@@ -55,7 +56,7 @@ impl Trail {
             entries: Vec::with_capacity(alloc, vars as usize)?,
             places: vec![in alloc; None; vars as usize]?,
             levels: Vec::with_capacity(alloc, vars as usize)?,
-            watches: Vec::new(alloc),
+            watches: Watches::new(alloc),
             watchers: no_watchers(alloc, vars)?,
             taken: 0,
         })
@@ -71,6 +72,15 @@ impl Trail {
             None => None,
             Some(place) => Some(self.entries[place as usize].lit.positive()),
         }
+    }
+
+    /// The place of a variable's literal in the order of assignment, and None where the variable is unassigned.
+    pub fn place(&self, var: Var) -> Option<u32>
+        requires in_range { var < self.now.vars }
+        ensures unassigned { IsNone result ↔ IsUnassigned self.now.entries var }
+        ensures place { IfSome result (λ k. (k < length self.now.entries) × ((entry_at self.now.entries k).lit.var ≡ var)) }
+    {
+        self.places[var.get() as usize]
     }
 
     /// The present level.
@@ -228,12 +238,21 @@ impl Trail {
     pub(crate) fn watch(&self, clause: ClauseRef) -> Option<Watch>
         ensures watch { result ≡ watch_at self.now.watching clause }
     {
-        let place = clause.get() as usize;
-        if place < self.watches.len() {
-            self.watches[place]
-        } else {
-            None
-        }
+        self.watches.get(clause)
+    }
+
+    // Where in a clause the next search for a literal to watch begins.
+    pub(crate) fn cursor(&self, clause: ClauseRef) -> usize {
+        self.watches.cursor(clause)
+    }
+
+    // The clause at a place among those that were taken up and of which no two literals are watched, and None behind the last.
+    pub(crate) fn unwatched(&self, place: usize) -> Option<ClauseRef>
+        ensures some { IfSome result (λ c. (place < length (unwatched self.now.watching.watches)) × (slice_index_or (unwatched self.now.watching.watches) place 0 ≡ c)) }
+        ensures none { IsNone result → length (unwatched self.now.watching.watches) ≤ place }
+        ensures few { IfSome result (λ _. place + 1 < 2 ^ 64) }
+    {
+        self.watches.unwatched(place)
     }
 
     // The clause at a place among the watchers of a literal, and None behind the last.
@@ -270,26 +289,31 @@ impl Trail {
     }
 
     // Takes a clause up that has no two literals, or stands among the watchers of two.
-    pub(crate) fn take_up(&mut self, watch: Option<Watch>) -> Result<(), AllocError>
+    pub(crate) fn take_up(
+        &mut self,
+        clause: ClauseRef,
+        watch: Option<Watch>,
+    ) -> Result<(), AllocError>
+        requires next { clause ≡ length self.old.watching.watches }
         requires listed { IfSome watch (λ p. IsListed self.old.watching (length self.old.watching.watches) p) }
         ensures ok { OnOk result (self.new ≡ rewatched self.old (watching self.old.watching (self.old.watching.watches ++ watch ∷ [])) self.old.taken) }
         ensures err { OnErr result (self.new ≡ self.old) }
         ensures before { IsTrail self.old }
         ensures after { IsTrail self.new }
     {
-        self.watches.push(watch)?;
-        Ok(())
+        self.watches.push(clause, watch)
     }
 
-    // Watches two other literals of a clause, among whose watchers it stands.
-    pub(crate) fn set_watch(&mut self, clause: ClauseRef, watch: Watch)
+    // Watches two other literals of a clause, among whose watchers it stands. The next search begins at a place of the clause.
+    pub(crate) fn set_watch(&mut self, clause: ClauseRef, watch: Watch, cursor: usize)
         requires known { clause < length self.old.watching.watches }
+        requires watched { IsSome (watch_at self.old.watching clause) }
         requires listed { IsListed self.old.watching clause watch }
         ensures trail { self.new ≡ rewatched self.old (watching self.old.watching (set self.old.watching.watches clause (Some watch))) self.old.taken }
         ensures before { IsTrail self.old }
         ensures after { IsTrail self.new }
     {
-        self.watches[clause.get() as usize] = Some(watch);
+        self.watches.set(clause, watch, cursor);
     }
 
     // How many literals were taken, from the first on.

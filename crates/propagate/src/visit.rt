@@ -6,7 +6,7 @@ ghost use Rattle.propagate.specs.Trails.{IsTrail, rewatched};
 ghost use Rattle.propagate.specs.Reach.{IfQuiet, IsAtWork, IsProgress, IsReached};
 ghost use Rattle.propagate.specs.Visits.{HasMoved, HasVisited, IsNextFalse, IsRewatched};
 
-use crate::best::best_beside;
+use crate::best::{Found, best_beside};
 use crate::watch::Watch;
 use crate::{Links, Reached, Trail};
 use clause_db::{ClauseRef, Db, Lit};
@@ -114,9 +114,9 @@ impl Trail {
         ensures visited { IfOk result (λ v. HasVisited db.now links.now lit clause place self.old graph.old v self.new graph.new) }
         ensures memory { OnErr result (IsProgress db.now links.now self.old graph.old self.new graph.new) }
     {
-        match best_beside(self, db.lits(clause), Some(other)) {
+        match best_beside(self, db.lits(clause), Some(other), self.cursor(clause)) {
             None => unreachable!(),
-            Some(best) => match self.meet_beside(best, other, clause, db, links, graph) {
+            Some(best) => match self.meet_beside(best.lit, other, clause, db, links, graph) {
                 Reached::Quiet => self.move_watch(clause, lit, best, other, place),
                 stopped => Ok(Visit::Stopped(stopped)),
             },
@@ -128,30 +128,30 @@ impl Trail {
         &mut self,
         clause: ClauseRef,
         lit: Lit,
-        best: Lit,
+        best: Found,
         other: Lit,
         place: usize,
     ) -> Result<Visit, AllocError>
         requires trail { IsTrail self.old }
-        requires in_range { best.var < self.old.vars }
+        requires in_range { best.lit.var < self.old.vars }
         requires next { IsNextFalse self.old lit }
         requires here { IsWatcherAt self.old.watching lit place clause }
         requires both { AreWatchedOf self.old.watching clause lit other }
         requires apart { other ≢ lit }
         ensures same { self.new ≡ rewatched self.old self.new.watching self.old.taken }
         ensures trail { IsTrail self.new }
-        ensures rewatched { IsRewatched self.old.watching self.new.watching clause (record { first = best; second = other }) }
-        ensures moved { IfOk result (HasMoved self.old self.new lit (record { first = best; second = other }) clause place) }
+        ensures rewatched { IsRewatched self.old.watching self.new.watching clause (record { first = best.lit; second = other }) }
+        ensures moved { IfOk result (HasMoved self.old self.new lit (record { first = best.lit; second = other }) clause place) }
     {
-        if self.true_up_to(best.negated(), self.level_of(lit.var())) {
+        if self.true_up_to(best.lit.negated(), self.level_of(lit.var())) {
             return Ok(Visit::Stayed);
         }
-        self.add_watcher(best, clause)?;
+        self.add_watcher(best.lit, clause)?;
         let watch = Watch {
-            first: best,
+            first: best.lit,
             second: other,
         };
-        self.set_watch(clause, watch);
+        self.set_watch(clause, watch, best.place);
         self.drop_watcher(lit, place);
         Ok(Visit::Moved)
     }

@@ -6,7 +6,7 @@ invariant_of-self c =
     let inside = c.self.inside in
     let known = rw (← c.self.view_is) at c.requires.known in
     let listed = rw (← c.self.view_is) at c.requires.listed in
-    stored_set inside.entries.items inside.places.items inside.levels.items _ _ _ _ c.self.invariant c.get.result c.args.clause c.args.watch c.get.ensures.place known listed
+    stored_set inside.entries.items inside.places.items inside.levels.items _ _ _ _ c.self.invariant c.args.clause c.args.watch c.set.new.self c.set.ensures.watch known listed
 
 pub returns-clause-after : goal.returns-clause-after
 returns-clause-after c = (invariant_of-self c).trail

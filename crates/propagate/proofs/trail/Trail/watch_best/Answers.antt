@@ -5,12 +5,12 @@ pub returns-in-Quiet-clause-visited : goal.returns-in-Quiet-clause-visited
 returns-in-Quiet-clause-visited c =
     let best = rw c.lits.ensures.clause at c.in-Some.ensures.best in
     if_ok_more c.move_watch.result _ _
-    (best_visited c.args.db.now c.args.links.now c.args.self.now c.args.graph.now c.meet_beside.new.self c.meet_beside.new.graph c.move_watch.new.self c.args.clause c.args.place c.args.lit c.args.other c.in-Some.best c.requires.work c.requires.next
+    (best_visited c.args.db.now c.args.links.now c.args.self.now c.args.graph.now c.meet_beside.new.self c.meet_beside.new.graph c.move_watch.new.self c.args.clause c.args.place c.args.lit c.args.other c.in-Some.best.lit c.requires.work c.requires.next
     c.requires.here c.requires.both best c.in-Quiet.ensures.reached c.meet_beside.ensures.unmoved c.in-Quiet.ensures.met c.move_watch.ensures.same c.move_watch.ensures.trail c.move_watch.ensures.rewatched) c.move_watch.ensures.moved
 
 pub returns-in-Quiet-clause-memory : goal.returns-in-Quiet-clause-memory
 returns-in-Quiet-clause-memory c =
     let best = rw c.lits.ensures.clause at c.in-Some.ensures.best in
     on_err c.move_watch.result _
-    (best_progress c.args.db.now c.args.links.now c.args.self.now c.args.graph.now c.meet_beside.new.self c.meet_beside.new.graph c.move_watch.new.self c.args.clause c.args.place c.args.lit c.args.other c.in-Some.best c.requires.work c.requires.next
+    (best_progress c.args.db.now c.args.links.now c.args.self.now c.args.graph.now c.meet_beside.new.self c.meet_beside.new.graph c.move_watch.new.self c.args.clause c.args.place c.args.lit c.args.other c.in-Some.best.lit c.requires.work c.requires.next
     c.requires.here c.requires.both best c.in-Quiet.ensures.reached c.meet_beside.ensures.unmoved c.in-Quiet.ensures.met c.move_watch.ensures.same c.move_watch.ensures.trail c.move_watch.ensures.rewatched)

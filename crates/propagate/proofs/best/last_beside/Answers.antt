@@ -4,8 +4,8 @@ use Rattle.std.proofs.lemmas.List.{take_all, take_more}
 use Rattle.std.proofs.lemmas.List.Elements.{Contains-get_or}
 use Rattle.propagate.specs.declared.best.Falsified.{Falsified}
 use Rattle.propagate.proofs.BestLemmas.{open_best, seen_beside, seen_false}
-use Rattle.propagate.proofs.best.best_beside.Goals as goal
-use Rattle.propagate.proofs.best.best_beside.Goals.{then-ne+in-Some, else-ne}
+use Rattle.propagate.proofs.best.last_beside.Goals as goal
+use Rattle.propagate.proofs.best.last_beside.Goals.{then-ne+in-Some, else-ne}
 
 if_none_at : (r : Option Falsified) (P : Type 0) → (IsNone r → P) → r ≡ None → P
 if_none_at r P none is = let f = rw is at none in f (search rules)

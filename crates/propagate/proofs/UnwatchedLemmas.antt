@@ -1,0 +1,67 @@
+-- The clauses of which no two literals are watched, as clauses are added and watched anew.
+use Rattle.std.proofs.Common.{◌≡◌, ◌∙◌, ap, sym, refl, ℕ, zero, suc, ◌+◌, ◌<◌, ◌≤◌, ◌≢◌, List, [], ◌∷◌, ◌++◌, length, set, get_or, arith, Option, Some, None}
+use Rattle.std.specs.Prelude.{IsSome}
+use Rattle.propagate.specs.declared.watch.Watch.{Watch}
+use Rattle.propagate.specs.Watching.{unwatched, unwatched_from}
+
+none_some : {p : Watch} → None ≡ Some p → ⊥
+none_some e = cc
+
+some_none : {p : Watch} → Some p ≡ None → ⊥
+some_none e = cc
+
+more_none : (n : ℕ) (xs : List (Option Watch)) (m : ℕ) → m ≡ n + length xs → unwatched_from n (xs ++ None ∷ []) ≡ unwatched_from n xs ++ m ∷ []
+more_none n [] m is = ap (λ k. k ∷ []) (omega (arith, is))
+more_none n (None ∷ xs) m is = ap (λ ys. n ∷ ys) (more_none (n + 1) xs m (omega (arith, is)))
+more_none n (Some p ∷ xs) m is = more_none (n + 1) xs m (omega (arith, is))
+
+more_some : (n : ℕ) (xs : List (Option Watch)) (p : Watch) → unwatched_from n (xs ++ Some p ∷ []) ≡ unwatched_from n xs
+more_some n [] p = refl
+more_some n (None ∷ xs) p = ap (λ ys. n ∷ ys) (more_some (n + 1) xs p)
+more_some n (Some q ∷ xs) p = more_some (n + 1) xs p
+
+-- a clause more of which no two literals are watched, and one of which two are
+pub unwatched_more : (xs : List (Option Watch)) (c : ℕ) → c ≡ length xs → unwatched (xs ++ None ∷ []) ≡ unwatched xs ++ c ∷ []
+unwatched_more xs c is = more_none 0 xs c (omega (arith, is))
+
+pub unwatched_same : (xs : List (Option Watch)) (r : Option Watch) → (r ≡ None → ⊥) → unwatched (xs ++ r ∷ []) ≡ unwatched xs
+unwatched_same xs None watched = absurd (watched refl)
+unwatched_same xs (Some p) watched = more_some 0 xs p
+
+-- a clause that is watched anew
+unwatched_set_from : (n : ℕ) (xs : List (Option Watch)) (c : ℕ) (q : Watch) → (get_or xs c None ≡ None → ⊥) → unwatched_from n (set xs c (Some q)) ≡ unwatched_from n xs
+unwatched_set_from n [] c q watched = refl
+unwatched_set_from n (None ∷ xs) zero q watched = absurd (watched refl)
+unwatched_set_from n (Some p ∷ xs) zero q watched = refl
+unwatched_set_from n (None ∷ xs) (suc c) q watched = ap (λ ys. n ∷ ys) (unwatched_set_from (n + 1) xs c q watched)
+unwatched_set_from n (Some p ∷ xs) (suc c) q watched = unwatched_set_from (n + 1) xs c q watched
+
+not_none : (r : Option Watch) → IsSome r → r ≡ None → ⊥
+not_none (Some p) some none = some_none none
+not_none None some none = absurd cc
+
+pub unwatched_set : (xs : List (Option Watch)) (i c : ℕ) (q : Watch) → i ≡ c → IsSome (get_or xs c None) → unwatched (set xs i (Some q)) ≡ unwatched xs
+unwatched_set xs i c q at some = rw at (unwatched_set_from 0 xs c q (not_none (get_or xs c None) some))
+
+-- each clause of which no two literals are watched is among them
+has_from : (n : ℕ) (xs : List (Option Watch)) (c m : ℕ) → c < length xs → m ≡ n + c → get_or xs c None ≡ None → (k : ℕ) × (k < length (unwatched_from n xs)) × (get_or (unwatched_from n xs) k 0 ≡ m)
+has_from n [] c m within is none = absurd (omega (arith, within))
+has_from n (None ∷ xs) zero m within is none = (0, omega arith, omega (arith, is))
+has_from n (Some p ∷ xs) zero m within is none = absurd (some_none none)
+has_from n (None ∷ xs) (suc c) m within is none =
+    let at = has_from (n + 1) xs c m (omega (arith, within)) (omega (arith, is)) none in
+    (suc at.0, omega (arith, at.1), at.2)
+has_from n (Some p ∷ xs) (suc c) m within is none = has_from (n + 1) xs c m (omega (arith, within)) (omega (arith, is)) none
+
+pub unwatched_has : (xs : List (Option Watch)) (c : ℕ) → c < length xs → get_or xs c None ≡ None → (k : ℕ) × (k < length (unwatched xs)) × (get_or (unwatched xs) k 0 ≡ c)
+unwatched_has xs c within none = has_from 0 xs c c within (omega arith) none
+
+-- they are clauses of the list
+below_from : (n : ℕ) (xs : List (Option Watch)) (k : ℕ) → k < length (unwatched_from n xs) → get_or (unwatched_from n xs) k 0 < n + length xs
+below_from n [] k within = absurd (omega (arith, within))
+below_from n (None ∷ xs) zero within = omega arith
+below_from n (None ∷ xs) (suc k) within = let below = below_from (n + 1) xs k (omega (arith, within)) in omega (arith, below)
+below_from n (Some p ∷ xs) k within = let below = below_from (n + 1) xs k within in omega (arith, below)
+
+pub unwatched_below : (xs : List (Option Watch)) (k : ℕ) → k < length (unwatched xs) → get_or (unwatched xs) k 0 < length xs
+unwatched_below xs k within = let below = below_from 0 xs k within in omega (arith, below)
