@@ -1,5 +1,5 @@
 -- What the walk has set aside when it has come to the trail's start.
-use Rattle.std.proofs.Common.{◌≡◌, ◌≢◌, ◌∙◌, ap, sym, subst, refl, ℕ, zero, suc, ◌-◌, ◌<◌, ◌≤◌, inl, inr, List, [], ◌∷◌, length, arith, get_or, cond, Bool, true, false, Option}
+use Rattle.std.proofs.Common.{◌≡◌, ◌≢◌, ◌∙◌, ap, sym, subst, refl, ℕ, zero, suc, ◌-◌, ◌<◌, ◌≤◌, inl, inr, List, [], ◌∷◌, length, arith, get_or, cond, Bool, true, false}
 use Rattle.std.specs.Prelude.{map, filter, nat_le}
 use Rattle.std.specs.List.{All, Contains}
 use Rattle.std.proofs.lemmas.Bool.{cases_eq, cases_lt}
@@ -20,7 +20,6 @@ use Rattle.propagate.proofs.ClauseLemmas.{literal_held}
 use Rattle.analyze.specs.Asserting.{IsFalseSince, IsAsserting, IsJump, IsUnitBelow, HasTwoAbove}
 use Rattle.analyze.specs.Resolving.{denied, level_of, IsLeft, AreAside, IsWork}
 use Rattle.analyze.proofs.Order.{undone, distinct, rising, read_entry, since_from}
-use Rattle.analyze.proofs.Marked.{some_here, marked_by}
 
 le_true : (a b : ℕ) → a ≤ b → nat_le a b ≡ true
 le_true a b le = grind (arith, nat_tests)
@@ -144,10 +143,9 @@ module _ (t : Assigned) (trail : IsTrail t) where
     low e = nat_le e.level (length t.levels - 1)
 
 -- the walk is at the trail's start
-module _ (t : Assigned) (db : List (List Lit)) (trail : IsTrail t) (conflict : ℕ) (kinds : List (Option Bool)) (count : ℕ) (aside hints : List ℕ)
-    (w : IsWork t db conflict 0 kinds count aside hints) where
-  is_aside : (k : ℕ) → IsLeft kinds aside k → Contains aside k
-  is_aside k (inl m) = let none = w.marks.within k m in absurd (omega (arith, none))
+module _ (t : Assigned) (db : List (List Lit)) (trail : IsTrail t) (conflict : ℕ) (marked aside hints : List ℕ) (w : IsWork t db conflict 0 marked aside hints) where
+  is_aside : (k : ℕ) → IsLeft marked aside k → Contains aside k
+  is_aside k (inl m) = let none = w.below k m in absurd (omega (arith, none))
   is_aside k (inr has) = has
 
   refuting : RefutesGiving negation (map negation (map (denied t.entries) aside)) (clauses_at db hints) w.given
@@ -182,12 +180,7 @@ module _ (t : Assigned) (db : List (List Lit)) (trail : IsTrail t) (conflict : �
 
   pub some_aside : 0 < length t.levels → 0 < length aside
   some_aside pos = elim (w.phase pos) [
-    | inl a ↦
-        let counted = w.marks.count_is in
-        let many = a.1 in
-        let i = some_here kinds (omega (arith, counted, many)) in
-        let none = w.marks.within i.0 (marked_by kinds i.0 true i.2) in
-        absurd (omega (arith, none))
+    | inl a ↦ let i = a.1 in let none = w.below i.0 i.1 in absurd (omega (arith, none))
     | inr b ↦ b.0
   ]
 

@@ -1,5 +1,4 @@
 pub mod Order
-pub mod Tables
 pub mod Marked
 pub mod Steps
 pub mod Begun

@@ -1,149 +1,123 @@
 -- Marks, one at a time.
-use Rattle.std.proofs.Common.{◌≡◌, ◌∙◌, ap, sym, subst, refl, ℕ, suc, ◌+◌, ◌<◌, ◌⊎◌, inl, inr, List, [], ◌∷◌, ◌++◌, length, set, get_or, arith, Bool, true, false, not, cond, Option, None, Some, get_or-set_same, get_or-set_other, length-set}
-use Rattle.std.specs.Prelude.{◌↔◌, IsSome, is_some}
+use Rattle.std.proofs.Common.{◌≡◌, ◌∙◌, ap, sym, subst, refl, ℕ, zero, suc, ◌<◌, ◌≤◌, ◌⊎◌, inl, inr, List, [], ◌∷◌, ◌++◌, length, arith, true, false, Some}
+use Rattle.std.specs.List.{All, Contains, slice_get}
+use Rattle.std.specs.Cmp.{nat_cmp_is}
+use Rattle.std.specs.Ordering.{nat_cmp, match_ordering, is_lt}
+use Rattle.std.specs.BTreeSet.{insert_key}
+use Rattle.std.specs.declared.cmp.Ordering.{Ordering}
+use Rattle.std.specs.declared.cmp.Ordering.TheVariants.{Less, Equal, Greater}
 use Rattle.std.proofs.lemmas.Bool.{cases_eq, cases_lt}
-use Rattle.std.proofs.lemmas.List.{get_or_past, get_or_read}
-use Rattle.std.proofs.lemmas.List.Sums.{sum_by-set}
-use Rattle.std.proofs.lemmas.List.Elements.{Contains-append_left, Contains-push, Contains-push_cases}
+use Rattle.std.proofs.lemmas.List.Elements.{All-contains, Contains-append_left, Contains-push, Contains-push_cases}
+use Rattle.hint_refutation.proofs.Lists.{contains_cases, contains_first, contains_later}
 use Rattle.clause_db.specs.declared.lit.Lit.{Lit}
 use Rattle.propagate.specs.Trails.{Assigned, entry_at, IsTrail}
-use Rattle.analyze.specs.Marks.{mark_at, is_here, count_here, IsMarked, IsPut, IsMarks, IsMarkedBy}
+use Rattle.analyze.specs.Marks.{AreBelow, HasMarkHere, IsMarkedBy, IsPut}
 use Rattle.analyze.specs.Resolving.{level_of}
-use Rattle.analyze.proofs.Order.{distinct}
+use Rattle.analyze.proofs.Order.{distinct, rising}
 
--- what a write adds to the count and takes from it
-pub count_set : (xs : List (Option Bool)) (i : ℕ) (m : Option Bool) → i < length xs
-    → count_here (set xs i m) + cond (is_here (mark_at xs i)) 1 0 ≡ count_here xs + cond (is_here m) 1 0
-count_set xs i m below = sum_by-set (λ x. cond (is_here x) 1 0) xs i m None below
+-- how two numbers compare
+equal_is : (x y : ℕ) → nat_cmp x y ≡ Equal → x ≡ y
+equal_is x y same = elim (cases_eq x y) [
+  | inl is ↦ is
+  | inr other ↦ elim (cases_lt x y) [
+    | inl less ↦ let is = nat_cmp_is x y Less less in absurd cc
+    | inr least ↦ let more : y < x = omega (arith, least, other) in let is = nat_cmp_is x y Greater more in absurd cc
+  ]
+]
 
--- a mark more counts one, if it is of the present level
-pub count_put : (xs : List (Option Bool)) (i : ℕ) (here : Bool) → i < length xs → mark_at xs i ≡ None → count_here (set xs i (Some here)) ≡ count_here xs + cond here 1 0
-count_put xs i here below none =
-    let both = rw none at (count_set xs i (Some here) below) in
-    omega (arith, both)
+less_is : (x y : ℕ) → nat_cmp x y ≡ Less → x < y
+less_is x y same = elim (cases_lt x y) [
+  | inl less ↦ less
+  | inr least ↦ elim (cases_eq x y) [
+    | inl is ↦ let at = nat_cmp_is x y Equal is in absurd cc
+    | inr other ↦ let more : y < x = omega (arith, least, other) in let at = nat_cmp_is x y Greater more in absurd cc
+  ]
+]
 
-here_is : (m : Option Bool) → is_here m ≡ true → m ≡ Some true
-here_is (Some true) is = refl
-here_is (Some false) is = absurd cc
-here_is None is = absurd cc
+not_less_is : (x y : ℕ) → is_lt (nat_cmp x y) ≡ false → y ≤ x
+not_less_is x y same = elim (cases_lt x y) [
+  | inl less ↦ let at : is_lt (nat_cmp x y) ≡ true = rw (← nat_cmp_is x y Less less) refl in absurd cc
+  | inr least ↦ least
+]
 
-pub some_here : (xs : List (Option Bool)) → 0 < count_here xs → (i : ℕ) × (i < length xs) × (mark_at xs i ≡ Some true)
-some_here [] many = absurd (omega arith)
-some_here (Some true ∷ xs) many = (0, omega arith, refl)
-some_here (Some false ∷ xs) many = let found = some_here xs many in (suc found.0, omega (arith, found.1), found.2)
-some_here (None ∷ xs) many = let found = some_here xs many in (suc found.0, omega (arith, found.1), found.2)
+-- the marks that are left are before the one that was taken off
+pub below_popped : (p : ℕ) (marked : List ℕ) → All (λ q. nat_cmp q p ≡ Less) marked → AreBelow p marked
+below_popped p marked all k has = less_is k p (All-contains (λ (q : ℕ). nat_cmp q p ≡ Less) marked k all has)
 
-pub here_counts : (xs : List (Option Bool)) (i : ℕ) → i < length xs → mark_at xs i ≡ Some true → 0 < count_here xs
-here_counts xs i below is =
-    let both = rw is at (count_set xs i None below) in
-    omega (arith, both)
+-- the greatest mark tells whether one is of the present level
+pub last_has : (marked : List ℕ) (n p : ℕ) → slice_get marked n ≡ Some p → Contains marked p
+last_has [] n p is = absurd cc
+last_has (x ∷ xs) zero p is = let same : x ≡ p = cc in rw same (contains_first p xs)
+last_has (x ∷ xs) (suc n) p is = contains_later x p xs (last_has xs n p is)
 
-unmarked : (m : Option Bool) → m ≡ None → IsSome m → ⊥
-unmarked m none marked = absurd cc
+pub greatest_here : (t : Assigned) → IsTrail t → (marked : List ℕ) (p : ℕ) → AreBelow (length t.entries) marked → Contains marked p → All (λ q. is_lt (nat_cmp p q) ≡ false) marked → HasMarkHere t marked → level_of t.entries p ≡ length t.levels
+greatest_here t trail marked p within has all (k, at, level) =
+    let le = not_less_is p k (All-contains (λ (q : ℕ). is_lt (nat_cmp p q) ≡ false) marked k all at) in
+    let p_in = within p has in
+    let rises = rising t trail k p le p_in in
+    let most = trail.levels.top p p_in in
+    omega (arith, rises, most, level)
 
-pub not_marked : (xs : List (Option Bool)) (k : ℕ) → mark_at xs k ≡ None → IsMarked xs k → ⊥
-not_marked xs k none marked = unmarked (mark_at xs k) none marked
+-- a number that is put into ascending ones stands among them, and so do these
+pub inserted : (xs : List ℕ) (k : ℕ) → Contains (insert_key nat_cmp xs k) k
+inserted [] k = contains_first k []
+inserted (x ∷ xs) k = by (inserted xs k) (nat_cmp k x) refl where
+  by : Contains (insert_key nat_cmp xs k) k → (r : Ordering) → nat_cmp k x ≡ r → Contains (match_ordering r (k ∷ x ∷ xs) (x ∷ xs) (x ∷ insert_key nat_cmp xs k)) k
+  by rest Less is = contains_first k (x ∷ xs)
+  by rest Equal is = rw (equal_is k x is) (contains_first x xs)
+  by rest Greater is = contains_later x k (insert_key nat_cmp xs k) rest
 
-pub marked_by : (xs : List (Option Bool)) (k : ℕ) (b : Bool) → mark_at xs k ≡ Some b → IsMarked xs k
-marked_by xs k b is = rw is refl
-
-pub mark_of : (xs : List (Option Bool)) (k : ℕ) → IsMarked xs k → (b : Bool) × (mark_at xs k ≡ Some b)
-mark_of xs k marked = some (mark_at xs k) marked where
-  some : (m : Option Bool) → IsSome m → (b : Bool) × (m ≡ Some b)
-  some (Some b) is = (b, refl)
-  some None is = absurd cc
-
-pub marked_below : (xs : List (Option Bool)) (k : ℕ) → IsMarked xs k → k < length xs
-marked_below xs k marked = elim (cases_lt k (length xs)) [ inl b ↦ b | inr past ↦ absurd (not_marked xs k (get_or_past xs k None past) marked) ]
-
-module _ (place : ℕ) (here : Bool) (old new : List (Option Bool)) (below : place < length old) where
-  put_kept : IsPut place here old new → (k : ℕ) → IsMarked old k → IsMarked new k
-  put_kept (inl w) k marked = rw w.1 marked
-  put_kept (inr w) k marked = elim (cases_eq k place) [
-    | inl is ↦ rw (w.1, is, get_or-set_same old place (Some here) None below) refl
-    | inr other ↦ rw (w.1, get_or-set_other old place k (Some here) None other) marked
+pub insert_kept : (xs : List ℕ) (k q : ℕ) → Contains xs q → Contains (insert_key nat_cmp xs k) q
+insert_kept [] k q has = absurd (omega (arith, has.1))
+insert_kept (x ∷ xs) k q has = by (insert_kept xs k q) (nat_cmp k x) where
+  by : (Contains xs q → Contains (insert_key nat_cmp xs k) q) → (r : Ordering) → Contains (match_ordering r (k ∷ x ∷ xs) (x ∷ xs) (x ∷ insert_key nat_cmp xs k)) q
+  by rest Less = contains_later k q (x ∷ xs) has
+  by rest Equal = has
+  by rest Greater = elim (contains_cases x q xs has) [
+    | inl is ↦ rw (← is) (contains_first x (insert_key nat_cmp xs k))
+    | inr later ↦ contains_later x q (insert_key nat_cmp xs k) (rest later)
   ]
 
-  put_here : IsPut place here old new → IsMarked new place
-  put_here (inl w) = rw w.1 w.0
-  put_here (inr w) = rw (w.1, get_or-set_same old place (Some here) None below) refl
-
-  put_only : IsPut place here old new → (k : ℕ) → IsMarked new k → IsMarked old k ⊎ (k ≡ place)
-  put_only (inl w) k marked = inl (rw w.1 at marked)
-  put_only (inr w) k marked = elim (cases_eq k place) [
-    | inl is ↦ inr is
-    | inr other ↦ inl (rw (w.1, get_or-set_other old place k (Some here) None other) at marked)
+pub insert_only : (xs : List ℕ) (k q : ℕ) → Contains (insert_key nat_cmp xs k) q → Contains xs q ⊎ (k ≡ q)
+insert_only [] k q has = elim (contains_cases k q [] has) [ inl is ↦ inr is | inr none ↦ inl none ]
+insert_only (x ∷ xs) k q has = by (insert_only xs k q) (nat_cmp k x) has where
+  by : (Contains (insert_key nat_cmp xs k) q → Contains xs q ⊎ (k ≡ q)) → (r : Ordering) → Contains (match_ordering r (k ∷ x ∷ xs) (x ∷ xs) (x ∷ insert_key nat_cmp xs k)) q → Contains (x ∷ xs) q ⊎ (k ≡ q)
+  by rest Less has = elim (contains_cases k q (x ∷ xs) has) [ inl is ↦ inr is | inr old ↦ inl old ]
+  by rest Equal has = inl has
+  by rest Greater has = elim (contains_cases x q (insert_key nat_cmp xs k) has) [
+    | inl is ↦ inl (rw is (contains_first q xs))
+    | inr later ↦ elim (rest later) [ inl old ↦ inl (contains_later x q xs old) | inr new ↦ inr new ]
   ]
 
-  put_size : IsPut place here old new → length new ≡ length old
-  put_size (inl w) = ap length w.1
-  put_size (inr w) = ap length w.1 ∙ length-set old place (Some here)
+-- the place of the variable is marked, or it isn't before the given one
+module _ (t : Assigned) (trail : IsTrail t) (before v place : ℕ) (within : place < length t.entries) (var : (entry_at t.entries place).lit.var ≡ v) (old new : List ℕ) where
+  pub put_place : place < before → new ≡ insert_key nat_cmp old place → IsPut t.entries before v old new
+  put_place less is = rw is (record {
+    kept = λ k has. insert_kept old place k has;
+    added = λ k k_less k_in same. let at = distinct t trail k place k_in within (same ∙ sym var) in rw at (inserted old place);
+    only = λ k has. elim (insert_only old place k has) [ inl was ↦ inl was | inr at ↦ inr (rw (← at) less, rw (← at) within, rw (← at) var) ];
+  })
 
-same_value : (a b : Bool) → Some a ≡ Some b → a ≡ b
-same_value a b same = cc
+  pub put_none : before ≤ place → new ≡ old → IsPut t.entries before v old new
+  put_none past is = rw is (record {
+    kept = λ k has. has;
+    added = λ k k_less k_in same. let at = distinct t trail k place k_in within (same ∙ sym var) in absurd (omega (arith, at, k_less, past));
+    only = λ k has. inl has;
+  })
 
--- the marks with one more
-pub put_marks : (t : Assigned) (before place count new_count : ℕ) (here : Bool) (old new : List (Option Bool)) → IsMarks t before old count → place < before → place < length t.entries
-    → (here ≡ true) ↔ (level_of t.entries place ≡ length t.levels) → IsPut place here old new → new_count ≡ count_here new → IsMarks t before new new_count
-put_marks t before place count new_count here old new marks front within level (inl w) counted = rw w.1 (record { size = marks.size; count_is = counted ∙ ap count_here w.1; within = marks.within; kind = marks.kind })
-put_marks t before place count new_count here old new marks front within level (inr w) counted = record {
-  size = put_size place here old new below (inr w) ∙ marks.size;
-  count_is = counted;
-  within = λ k marked. elim (put_only place here old new below (inr w) k marked) [ inl m ↦ marks.within k m | inr is ↦ omega arith ];
-  kind = λ k b mark. elim (cases_eq k place) [
-    | inl is ↦
-        let at : mark_at new k ≡ Some here = rw (w.1, is, get_or-set_same old place (Some here) None below) refl in
-        let value : b ≡ here = same_value b here (sym mark ∙ at) in
-        rw (is, value) level
-    | inr other ↦
-        let same : mark_at new k ≡ mark_at old k = rw (w.1, get_or-set_other old place k (Some here) None other) refl in
-        marks.kind k b (sym same ∙ mark)
-  ];
-} where
-  below : place < length old
-  below = omega (arith, marks.size)
-
-pub marked_none : (t : Assigned) (before : ℕ) (old : List (Option Bool)) → IsMarkedBy t.entries before [] old old
+-- what a clause's literals mark, one literal at a time
+pub marked_none : (t : Assigned) (before : ℕ) (old : List ℕ) → IsMarkedBy t.entries before [] old old
 marked_none t before old = record { kept = λ k marked. marked; added = λ k l front within has same. absurd (omega (arith, has.1)); only = λ k marked. inl marked }
 
-module _ (t : Assigned) (trail : IsTrail t) (before : ℕ) (front : List Lit) (x : Lit) (old new : List (Option Bool)) (by : IsMarkedBy t.entries before front old new) where
-  -- the literal's place is before the given one, and is marked
-  pub marked_put : (place : ℕ) (here : Bool) (newer : List (Option Bool)) → place < before → place < length t.entries → (entry_at t.entries place).lit.var ≡ x.var → place < length new → IsPut place here new newer
-      → IsMarkedBy t.entries before (front ++ x ∷ []) old newer
-  marked_put place here newer less within var below put = record {
-    kept = λ k marked. put_kept place here new newer below put k (by.kept k marked);
-    added = λ k l k_less k_within has same. elim (Contains-push_cases front x l has) [
-      | inl earlier ↦ put_kept place here new newer below put k (by.added k l k_less k_within earlier same)
-      | inr is ↦
-          let var_is : l.var ≡ x.var = ap (λ (y : Lit). y.var) (sym is) in
-          let k_is : k ≡ place = distinct t trail k place k_within within (same ∙ var_is ∙ sym var) in
-          rw k_is (put_here place here new newer below put)
-    ];
-    only = λ k marked. elim (put_only place here new newer below put k marked) [
-      | inl m ↦ elim (by.only k m) [ inl o ↦ inl o | inr w ↦ inr (w.0, w.1, (w.2.0, Contains-append_left front (x ∷ []) w.2.0 w.2.1, w.2.2)) ]
-      | inr is ↦ inr (rw is less, rw is within, (x, Contains-push front x, rw is var))
-    ];
-  }
-
-  -- the literal's place isn't before the given one
-  pub marked_past : (place : ℕ) → (place < before → ⊥) → place < length t.entries → (entry_at t.entries place).lit.var ≡ x.var → IsMarkedBy t.entries before (front ++ x ∷ []) old new
-  marked_past place past within var = record {
-    kept = by.kept;
-    added = λ k l k_less k_within has same. elim (Contains-push_cases front x l has) [
-      | inl earlier ↦ by.added k l k_less k_within earlier same
-      | inr is ↦
-          let k_is : k ≡ place = distinct t trail k place k_within within (same ∙ ap (λ (y : Lit). y.var) (sym is) ∙ sym var) in
-          absurd (past (subst (λ (i : ℕ). i < before) k_is k_less))
-    ];
-    only = λ k marked. elim (by.only k marked) [ inl o ↦ inl o | inr w ↦ inr (w.0, w.1, (w.2.0, Contains-append_left front (x ∷ []) w.2.0 w.2.1, w.2.2)) ];
-  }
-
--- what a read of the marks gives
-pub read_none : (kinds : List (Option Bool)) (size p : ℕ) (m : Option Bool) (none : Bool) → length kinds ≡ size → p < size → m ≡ get_or kinds p m → is_some m ≡ not none → none ≡ true → mark_at kinds p ≡ None
-read_none kinds size p m none is below got some holds = sym (get_or_read kinds p m (omega (arith, is, below)) got None) ∙ nothing m (some ∙ ap not holds) where
-  nothing : (x : Option Bool) → is_some x ≡ false → x ≡ None
-  nothing None same = refl
-  nothing (Some b) same = absurd cc
-
-pub read_marked : (kinds : List (Option Bool)) (size p : ℕ) (m : Option Bool) (none : Bool) → length kinds ≡ size → p < size → m ≡ get_or kinds p m → is_some m ≡ not none → none ≡ false → IsMarked kinds p
-read_marked kinds size p m none is below got some fails = ap is_some (sym (get_or_read kinds p m (omega (arith, is, below)) got None)) ∙ some ∙ ap not fails
+pub marked_more : (t : Assigned) (before : ℕ) (front : List Lit) (x : Lit) (old new newer : List ℕ) → IsMarkedBy t.entries before front old new → IsPut t.entries before x.var new newer → IsMarkedBy t.entries before (front ++ x ∷ []) old newer
+marked_more t before front x old new newer by put = record {
+  kept = λ k has. put.kept k (by.kept k has);
+  added = λ k l less within has same. elim (Contains-push_cases front x l has) [
+    | inl earlier ↦ put.kept k (by.added k l less within earlier same)
+    | inr is ↦ put.added k less within (same ∙ ap (λ (y : Lit). y.var) (sym is))
+  ];
+  only = λ k has. elim (put.only k has) [
+    | inl was ↦ elim (by.only k was) [ inl o ↦ inl o | inr w ↦ inr (w.0, w.1, (w.2.0, Contains-append_left front (x ∷ []) w.2.0 w.2.1, w.2.2)) ]
+    | inr at ↦ inr (at.0, at.1, (x, Contains-push front x, at.2))
+  ];
+}

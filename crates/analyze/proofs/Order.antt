@@ -4,7 +4,7 @@ use Rattle.std.specs.Prelude.{IsNone}
 use Rattle.std.specs.List.{Contains}
 use Rattle.std.proofs.lemmas.Bool.{cases_eq, cases_lt}
 use Rattle.std.proofs.lemmas.List.{get_or-take, get_or_default, get_or_read, length-take}
-use Rattle.std.proofs.lemmas.List.Elements.{All-contains, All-get_or}
+use Rattle.std.proofs.lemmas.List.Elements.{All-contains}
 use Rattle.hint_refutation.proofs.Lists.{all_from}
 use Rattle.clause_db.specs.declared.lit.Lit.{Lit}
 use Rattle.clause_db.specs.Literals.{negation}
@@ -15,7 +15,7 @@ use Rattle.propagate.specs.Trails.{Assigned, no_entry, entry_at, literals, AreLe
 use Rattle.propagate.specs.Clauses.{HasReasons, IsFalsified}
 use Rattle.propagate.proofs.ClauseLemmas.{literal_at}
 use Rattle.analyze.specs.Asserting.{IsFalseSince}
-use Rattle.analyze.specs.Places.{AreAssigned, ArePlaces}
+use Rattle.analyze.specs.Marks.{AreAssigned}
 use Rattle.analyze.specs.Resolving.{level_of}
 
 pub undone : (l : Lit) → negation (negation l) ≡ l
@@ -110,14 +110,6 @@ since_from xs P k l within is level = (k, entry_at xs k, within, get_or_default 
 -- the place of a variable that is assigned
 pub assigned_at : (xs : List Entry) (k v : ℕ) → k < length xs → (entry_at xs k).lit.var ≡ v → IsAssigned xs v
 assigned_at xs k v within same = (k, entry_at xs k, within, get_or_default xs k (entry_at xs k) no_entry within, same)
-
--- what a table of places has at a variable that is assigned
-pub place_in : (xs : List Entry) (places : List ℕ) (v : ℕ) → ArePlaces xs places → IsAssigned xs v → (v < length places) × (get_or places v 0 < length xs) × ((entry_at xs (get_or places v 0)).lit.var ≡ v)
-place_in xs places v table (k, e, within, at, var) =
-    let here : (entry_at xs k).lit.var ≡ v = ap (λ (y : Entry). y.lit.var) (read_entry xs k e within at) ∙ var in
-    let below : (entry_at xs k).lit.var < length places = All-get_or (λ (y : Entry). y.lit.var < length places) xs k no_entry within table.below in
-    let place : get_or places v 0 ≡ k = subst (λ (i : ℕ). get_or places i 0 ≡ k) here (table.place k within) in
-    (subst (λ (i : ℕ). i < length places) here below, rw place within, rw place here)
 
 -- the variables of a false clause, and of a reason, are assigned
 pub falsified_assigned : (xs : List Entry) (clause : List Lit) → IsFalsified xs clause → AreAssigned xs clause

@@ -1,4 +1,4 @@
 pub mod Asserting
-pub mod Places
 pub mod Marks
 pub mod Resolving
+pub mod Working

@@ -1,14 +1,13 @@
 -- The walk down a trail that resolves a false clause with the reasons of its literals.
-use Rattle.std.specs.Prelude.{◌≡◌, ◌⊎◌, ℕ, ◌<◌, ◌≤◌, List, length, reverse, Option, Some, Bool, Contains, slice_index_or}
+use Rattle.std.specs.Prelude.{◌≡◌, ◌⊎◌, ℕ, ◌<◌, ◌≤◌, List, length, Some, Contains, slice_index_or}
 use Rattle.hint_refutation.specs.Hints.{RefutesGiving, StandsIn, AreSpent}
 use Rattle.clause_db.specs.declared.lit.Lit.{Lit}
 use Rattle.clause_db.specs.Literals.{negation}
 use Rattle.clause_db.specs.Clauses.{clause_at, clauses_at, AreHeld}
 use Rattle.propagate.specs.declared.entry.Entry.{Entry}
 use Rattle.propagate.specs.Trails.{Assigned, entry_at}
-use Rattle.analyze.specs.declared.resolve.Work.{Work}
 use Rattle.analyze.specs.Asserting.{EndsIn}
-use Rattle.analyze.specs.Marks.{IsMarked, IsMarks}
+use Rattle.analyze.specs.Marks.{AreBelow, HasMarkHere}
 
 -- the negation of the literal at a place
 abbrev pub denied : List Entry → ℕ → Lit
@@ -18,30 +17,30 @@ denied entries k = negation (entry_at entries k).lit
 abbrev pub level_of : List Entry → ℕ → ℕ
 level_of entries k = (entry_at entries k).level
 
--- the clause is the reason of the literal at the place, whose level is 0, or the present one where there is another mark of it
-abbrev pub IsAway : Assigned → ℕ → ℕ → ℕ → Type 0
-IsAway t p count c = ((entry_at t.entries p).reason ≡ Some c) × ((level_of t.entries p ≡ 0) ⊎ ((0 < level_of t.entries p) × (level_of t.entries p ≡ length t.levels) × (2 ≤ count)))
+-- the clause is the reason of the literal at the place, whose level is 0, or the present one where another mark is of it
+abbrev pub IsAway : Assigned → ℕ → List ℕ → ℕ → Type 0
+IsAway t p marked c = ((entry_at t.entries p).reason ≡ Some c) × ((level_of t.entries p ≡ 0) ⊎ ((0 < level_of t.entries p) × (level_of t.entries p ≡ length t.levels) × HasMarkHere t marked))
 
--- the level is above 0; where it is the present one, there is no other mark of that level, or all earlier levels are lower
-abbrev pub IsAside : Assigned → ℕ → ℕ → Type 0
-IsAside t p count = (0 < level_of t.entries p) × (level_of t.entries p ≡ length t.levels → (count ≤ 1) ⊎ ((i : ℕ) → i < p → level_of t.entries i < level_of t.entries p))
+-- the level is above 0; where it is the present one, no other mark is of that level, or all earlier levels are lower
+abbrev pub IsAside : Assigned → ℕ → List ℕ → Type 0
+IsAside t p marked = (0 < level_of t.entries p) × (level_of t.entries p ≡ length t.levels → (HasMarkHere t marked → ⊥) ⊎ ((i : ℕ) → i < p → level_of t.entries i < level_of t.entries p))
 
 -- the place is left: it is marked, or was set aside for the clause
-abbrev pub IsLeft : List (Option Bool) → List ℕ → ℕ → Type 0
-IsLeft kinds aside k = IsMarked kinds k ⊎ Contains aside k
+abbrev pub IsLeft : List ℕ → List ℕ → ℕ → Type 0
+IsLeft marked aside k = Contains marked k ⊎ Contains aside k
 
 -- what is assumed is a literal of the trail whose place is left, or is before the given one
-pub record IsAssumed (entries : List Entry) (place : ℕ) (kinds : List (Option Bool)) (aside : List ℕ) (a : Lit) : Type 0 where
+pub record IsAssumed (entries : List Entry) (place : ℕ) (marked aside : List ℕ) (a : Lit) : Type 0 where
   pub at : ℕ
   pub within : at < length entries
   pub is : (entry_at entries at).lit ≡ a
-  pub left : IsLeft kinds aside at ⊎ (at < place)
+  pub left : IsLeft marked aside at ⊎ (at < place)
 
 -- the hints refute whatever has the literals that are left, and else only literals before the given place
-abbrev pub CanRefute : List Entry → List (List Lit) → ℕ → List (Option Bool) → List ℕ → List ℕ → List Lit → Type 0
-CanRefute entries db place kinds aside hints given =
-    (assumed : List Lit) → ((k : ℕ) → IsLeft kinds aside k → Contains assumed (entry_at entries k).lit)
-    → ((a : Lit) → Contains assumed a → IsAssumed entries place kinds aside a) → RefutesGiving negation assumed (clauses_at db hints) given
+abbrev pub CanRefute : List Entry → List (List Lit) → ℕ → List ℕ → List ℕ → List ℕ → List Lit → Type 0
+CanRefute entries db place marked aside hints given =
+    (assumed : List Lit) → ((k : ℕ) → IsLeft marked aside k → Contains assumed (entry_at entries k).lit)
+    → ((a : Lit) → Contains assumed a → IsAssumed entries place marked aside a) → RefutesGiving negation assumed (clauses_at db hints) given
 
 -- two literals of the clause became false at the present level
 pub record HasTwoHere (t : Assigned) (clause : List Lit) : Type 0 where
@@ -63,20 +62,17 @@ pub record AreAside (t : Assigned) (place : ℕ) (aside : List ℕ) : Type 0 whe
   pub lower : (j : ℕ) → 0 < j → j < length aside → (0 < level_of t.entries (slice_index_or aside j 0)) × (level_of t.entries (slice_index_or aside j 0) < length t.levels)
 
 -- the walk has come down to a place
-pub record IsWork (t : Assigned) (db : List (List Lit)) (conflict : ℕ) (place : ℕ) (kinds : List (Option Bool)) (count : ℕ) (aside hints : List ℕ) : Type 0 where
-  pub marks : IsMarks t place kinds count
+pub record IsWork (t : Assigned) (db : List (List Lit)) (conflict : ℕ) (place : ℕ) (marked aside hints : List ℕ) : Type 0 where
+  pub below : AreBelow place marked
+  pub within : place ≤ length t.entries
   pub are_aside : AreAside t place aside
   -- at a level above 0 the first place is set aside when the last mark of that level goes
-  pub phase : 0 < length t.levels → ((length aside ≡ 0) × (0 < count)) ⊎ ((0 < length aside) × (count ≡ 0))
+  pub phase : 0 < length t.levels → ((length aside ≡ 0) × HasMarkHere t marked) ⊎ ((0 < length aside) × (HasMarkHere t marked → ⊥))
   pub held : AreHeld db hints
   pub ends : EndsIn conflict hints
   pub given : List Lit
-  pub refutes : CanRefute t.entries db place kinds aside hints given
+  pub refutes : CanRefute t.entries db place marked aside hints given
   pub spent : AreSpent negation (clauses_at db hints) given
-  pub stands : (k : ℕ) → IsLeft kinds aside k → StandsIn (clauses_at db hints) (denied t.entries k)
+  pub stands : (k : ℕ) → IsLeft marked aside k → StandsIn (clauses_at db hints) (denied t.entries k)
   -- all that is left above level 0 came from the conflict, unless that has two literals of the present level
-  pub two : HasTwoHere t (clause_at db conflict) ⊎ ((k : ℕ) → IsLeft kinds aside k → 0 < level_of t.entries k → Contains (clause_at db conflict) (denied t.entries k))
-
--- the same of the walk as it is kept, with the hints from the last one
-abbrev pub IsWorking : Assigned → List (List Lit) → ℕ → ℕ → Work → Type 0
-IsWorking t db conflict place w = IsWork t db conflict place w.marks.kinds.items w.marks.count w.aside.items (reverse w.hints.items)
+  pub two : HasTwoHere t (clause_at db conflict) ⊎ ((k : ℕ) → IsLeft marked aside k → 0 < level_of t.entries k → Contains (clause_at db conflict) (denied t.entries k))

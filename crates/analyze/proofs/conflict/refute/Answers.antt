@@ -10,9 +10,9 @@ returns c =
     let aside = c.in_ok-work.work.aside.items in
     let from_first = reverse c.in_ok-work.work.hints.items in
     let w = c.in_ok-work.ensures.work in
-    let none : aside ≡ [] = none_aside t db trail c.args.conflict _ _ aside from_first w c.requires.level in
+    let none : aside ≡ [] = none_aside t db trail c.args.conflict _ aside from_first w c.requires.level in
     record {
-      refute = rw c.in_order.ensures.order (rw none at (refute_denied t db trail c.args.conflict _ _ aside from_first w));
-      used = rw c.in_order.ensures.order (rw none at (used_for t db trail c.args.conflict _ _ aside from_first w));
+      refute = rw c.in_order.ensures.order (rw none at (refute_denied t db trail c.args.conflict _ aside from_first w));
+      used = rw c.in_order.ensures.order (rw none at (used_for t db trail c.args.conflict _ aside from_first w));
       last = rw c.in_order.ensures.order w.ends;
     }
