@@ -1,3 +1,4 @@
+pub mod LinkPlaces
 pub mod TrailLemmas
 pub mod TableLemmas
 pub mod UnwatchedLemmas

@@ -1,4 +1,5 @@
 pub mod Links
+pub mod LinkPlaces
 pub mod Watching
 pub mod Trails
 pub mod Stored

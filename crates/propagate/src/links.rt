@@ -3,6 +3,7 @@
 ghost use Rattle.std.specs.Prelude.{◌≡◌, ◌<◌, length, replicate, set, IfOk, Some, None};
 ghost use Rattle.propagate.specs.Links.{edge_of, edges_at};
 
+use crate::room::push_within;
 use clause_db::{Lit, Var};
 use neg_cycle::Edge;
 use std::alloc::{AllocError, Global};
@@ -12,16 +13,21 @@ use std::marker::Model;
 /// the edge of the positive literal, and that of the negative one.
 #[derive(Drop)]
 pub struct Links {
-    edges: Vec<Option<(Edge, Edge)>>,
+    // Where the edges of each variable stand among all edges: most variables have none.
+    places: Vec<Option<u32>>,
+    edges: Vec<(Edge, Edge)>,
 }
 
 impl Model for Links {
-    ghost use Rattle.std.specs.Prelude.{List, Option};
+    ghost use Rattle.std.specs.Prelude.{List, Option, length, map, vec_capacity};
     ghost use Rattle.neg_cycle.specs.declared.system.Edge.{Edge};
+    ghost use Rattle.propagate.specs.LinkPlaces.{ArePlaces, pair_at};
 
     ghost Value = { List (Option (Edge × Edge)) };
 
-    ghost view = { λ l. l.edges.items };
+    ghost view = { λ l. map (pair_at l.edges.items) l.places.items };
+
+    ghost invariant = { λ l. ArePlaces l.places.items (length l.edges.items) (vec_capacity l.edges) };
 }
 
 impl Links {
@@ -30,7 +36,8 @@ impl Links {
         ensures none { IfOk result (λ l. l ≡ replicate vars None) }
     {
         Ok(Links {
-            edges: vec![in alloc; None; vars as usize]?,
+            places: vec![in alloc; None; vars as usize]?,
+            edges: Vec::with_capacity(alloc, vars as usize)?,
         })
     }
 
@@ -40,7 +47,15 @@ impl Links {
         requires in_range { var < length self.old }
         ensures edges { self.new ≡ set self.old var (Some (yes, no)) }
     {
-        self.edges[var.get() as usize] = Some((yes, no));
+        let at = var.get() as usize;
+        match self.places[at] {
+            None => {
+                let place = self.edges.len() as u32;
+                push_within(&mut self.edges, (yes, no));
+                self.places[at] = Some(place);
+            }
+            Some(place) => self.edges[place as usize] = (yes, no),
+        }
     }
 
     /// The edges of the last `set` of the variable, and None where there was none.
@@ -48,17 +63,18 @@ impl Links {
         requires in_range { var < length self.now }
         ensures edges { result ≡ edges_at self.now var }
     {
-        let at = var.get() as usize;
-        self.edges[at]
+        match self.places[var.get() as usize] {
+            None => None,
+            Some(place) => Some(self.edges[place as usize]),
+        }
     }
 
     // The edge of a literal, if it has one.
     pub(crate) fn edge(&self, lit: Lit) -> Option<Edge>
         ensures edge { result ≡ edge_of self.now lit }
     {
-        let place = lit.var().get() as usize;
-        if place < self.edges.len() {
-            match self.edges[place] {
+        if (lit.var().get() as usize) < self.places.len() {
+            match self.get(lit.var()) {
                 None => None,
                 Some((yes, no)) => Some(if lit.positive() { yes } else { no }),
             }
