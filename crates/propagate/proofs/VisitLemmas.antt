@@ -1,5 +1,6 @@
 -- What is done with a clause that is taken up or visited.
 use Rattle.std.proofs.Common.{◌≡◌, ◌≢◌, ◌∙◌, ap, sym, subst, refl, ℕ, ◌+◌, ◌<◌, ◌≤◌, ◌⊎◌, inl, inr, List, [], ◌∷◌, ◌++◌, length, get_or, arith, Option, Some, None, get_or-set_same, get_or-set_other, set, length-set}
+use Rattle.std.specs.Prelude.{IsSome}
 use Rattle.std.specs.List.{All, Any, Contains, swap_remove}
 use Rattle.std.proofs.lemmas.Bool.{cases_eq}
 use Rattle.std.proofs.lemmas.List.{get_or_default, length_push}
@@ -16,7 +17,7 @@ use Rattle.propagate.specs.declared.moves.Reached.{Reached}
 use Rattle.propagate.specs.declared.moves.Reached.TheVariants as reached
 use Rattle.propagate.specs.Watching.{Watching, unwatched, AreWatchedOf, IsListed, IsUnwatched, IsWatcherAt, listing, lists_at, watch_at, with_list, watchers_of, watching}
 use Rattle.propagate.specs.Trails.{Assigned, entry_at, literals, up_to, IsTrail, rewatched}
-use Rattle.propagate.specs.Watched.{AreGuarded, AreTwoOf, AreWatched, IsTrueAt, IsTrueUpTo}
+use Rattle.propagate.specs.Watched.{AreAllWatched, AreGuarded, AreTwoOf, AreWatched, IsTrueAt, IsTrueUpTo}
 use Rattle.propagate.specs.Clauses.{AreSettled}
 use Rattle.propagate.specs.Closed.{Closed}
 use Rattle.propagate.specs.Reach.{IfQuiet, IsGrown, IsProgress, IsReached}
@@ -98,6 +99,13 @@ met_grown t s clause grown was short = let any = was short in (any.0, any.1, any
 
 pub short_grown : (t s : Assigned) (db : List (List Lit)) → IsGrown t s → AreShortMet t db → AreShortMet s db
 short_grown t s db grown was c held = met_grown t s (clause_at db c) grown (was c held)
+
+-- where all clauses are taken up, those of two literals or more are watched
+pub all_watched : (t : Assigned) (db : List (List Lit)) → AreWatched t db → length db ≤ length t.watching.watches → AreAllWatched t db
+all_watched t db watched known c held long = by_watch (watch_at t.watching c) refl where
+  by_watch : (r : Option Watch) → watch_at t.watching c ≡ r → IsSome (watch_at t.watching c)
+  by_watch None none = let short = watched.short c (omega (arith, held, known)) none in absurd (omega (arith, short, long))
+  by_watch (Some p) is = rw is refl
 
 -- where all is taken, and all clauses are taken up, each is settled
 pub all_settled : (t : Assigned) (db : List (List Lit)) → AreWatched t db → t.taken ≡ length t.entries → length db ≤ length t.watching.watches → AreShortMet t db → AreSettled t.entries db

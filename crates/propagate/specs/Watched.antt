@@ -1,5 +1,5 @@
 -- The watch rule: no watched literal is false, but where the other one is true since a level not above.
-use Rattle.std.specs.Prelude.{◌≡◌, ◌≢◌, ℕ, ◌<◌, ◌≤◌, List, length, Some, None, Contains}
+use Rattle.std.specs.Prelude.{◌≡◌, ◌≢◌, ℕ, ◌<◌, ◌≤◌, List, length, Some, None, IsSome, Contains}
 use Rattle.clause_db.specs.declared.lit.Lit.{Lit}
 use Rattle.clause_db.specs.Literals.{negation}
 use Rattle.clause_db.specs.Clauses.{clause_at}
@@ -30,6 +30,10 @@ IsGuarded entries n l other = (k : ℕ) → k < n → (entry_at entries k).lit �
 pub record AreGuarded (entries : List Entry) (n : ℕ) (p : Watch) : Type 0 where
   pub first : IsGuarded entries n p.first p.second
   pub second : IsGuarded entries n p.second p.first
+
+-- each clause of two literals or more is watched
+abbrev pub AreAllWatched : Assigned → List (List Lit) → Type 0
+AreAllWatched t db = (c : ℕ) → c < length db → 2 ≤ length (clause_at db c) → IsSome (watch_at t.watching c)
 
 -- of the first so many clauses, those with two literals have two that are watched, and keep the watch rule but where the
 -- negation of a watched literal isn't yet taken

@@ -9,7 +9,7 @@ ghost use Rattle.clause_db.specs.declared.lit.Lit.{Lit};
 ghost use Rattle.propagate.specs.Links.{edge_of};
 ghost use Rattle.propagate.specs.Trails.{IsTrail, IsUnassigned, IsUntaken, cut_to, decided, followed, mark_of};
 ghost use Rattle.propagate.specs.Clauses.{AreSettled, HasReasons};
-ghost use Rattle.propagate.specs.Watched.{AreWatched};
+ghost use Rattle.propagate.specs.Watched.{AreAllWatched, AreWatched};
 ghost use Rattle.propagate.specs.Steps.{AreMarksHeld, HasRoomFor, InStep, IsLinked, IsRefused, LacksLast};
 ghost use Rattle.propagate.specs.Closed.{Closed, ClosedAt};
 ghost use Rattle.propagate.specs.Visits.{AreShortMet};
@@ -114,6 +114,9 @@ impl Trail {
         ensures closed { Closed self.old db.now → Closed self.new db.now }
         ensures closed_at { IfOk result (λ r. IfQuiet r (ClosedAt self.new db.now (length self.new.levels))) }
 
+        // At Quiet each clause of two literals or more is watched.
+        ensures every { IfOk result (λ r. IfQuiet r (AreAllWatched self.new db.now)) }
+
         // At Quiet each literal is taken, and else none of the present level is.
         ensures taken { IfOk result (λ r. IfQuiet r (self.new.taken ≡ length self.new.entries)) }
         ensures untaken { IfOk result (λ r. UnlessQuiet r (IsUntaken self.new)) }
@@ -139,6 +142,7 @@ impl Trail {
         requires work { IsAtWork db.now links.now self.old graph.old }
         ensures reached { IfOk result (λ r. IsReached db.now links.now self.old graph.old r self.new graph.new) }
         ensures settled { IfOk result (λ r. IfQuiet r (AreSettled self.new.entries db.now)) }
+        ensures every { IfOk result (λ r. IfQuiet r (AreAllWatched self.new db.now)) }
         ensures taken { IfOk result (λ r. IfQuiet r (self.new.taken ≡ length self.new.entries)) }
         ensures memory { OnErr result (IsProgress db.now links.now self.old graph.old self.new graph.new) }
     {
@@ -154,6 +158,7 @@ impl Trail {
         requires known { length db.now ≤ length self.old.watching.watches }
         ensures reached { IfOk result (λ r. IsReached db.now links.now self.old graph.old r self.new graph.new) }
         ensures settled { IfOk result (λ r. IfQuiet r (AreSettled self.new.entries db.now)) }
+        ensures every { IfOk result (λ r. IfQuiet r (AreAllWatched self.new db.now)) }
         ensures taken { IfOk result (λ r. IfQuiet r (self.new.taken ≡ length self.new.entries)) }
         ensures memory { OnErr result (IsProgress db.now links.now self.old graph.old self.new graph.new) }
     {
@@ -175,6 +180,7 @@ impl Trail {
         requires short { AreShortMet self.old db.now }
         ensures reached { IfOk result (λ r. IsReached db.now links.now self.old graph.old r self.new graph.new) }
         ensures settled { IfOk result (λ r. IfQuiet r (AreSettled self.new.entries db.now)) }
+        ensures every { IfOk result (λ r. IfQuiet r (AreAllWatched self.new db.now)) }
         ensures taken { IfOk result (λ r. IfQuiet r (self.new.taken ≡ length self.new.entries)) }
         ensures memory { OnErr result (IsProgress db.now links.now self.old graph.old self.new graph.new) }
     {

@@ -20,6 +20,7 @@ pub returns-in_default : goal.returns-in_default
 returns-in_default c = record {
   reached = c.meet_short.ensures.reached;
   settled = if_quiet_stopped _ _ (λ same. c.in_default.not-Quiet same);
+  every = if_quiet_stopped _ _ (λ same. c.in_default.not-Quiet same);
   taken = if_quiet_stopped _ _ (λ same. c.in_default.not-Quiet same);
   memory = tt;
 }

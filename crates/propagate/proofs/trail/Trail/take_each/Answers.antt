@@ -2,7 +2,7 @@ use Rattle.std.proofs.Common.{arith}
 use Rattle.propagate.proofs.TrailLemmas.{few_literals}
 use Rattle.propagate.proofs.ReachLemmas.{if_quiet_stopped, progress_more, reached_more}
 use Rattle.propagate.proofs.MoveLemmas.{on_err}
-use Rattle.propagate.proofs.VisitLemmas.{all_settled, short_grown}
+use Rattle.propagate.proofs.VisitLemmas.{all_settled, all_watched, short_grown}
 use Rattle.propagate.proofs.trail.Trail.take_each.Goals as goal
 
 pub returns-in_err-stopped-clause-memory : goal.returns-in_err-stopped-clause-memory
@@ -14,6 +14,7 @@ pub returns-in_default : goal.returns-in_default
 returns-in_default c = record {
   reached = reached_more c.args.db.now c.args.links.now c.args.self.now c.literals.self c.visit_watchers.new.self c.args.graph.now c.literals.graph c.visit_watchers.new.graph c.literals.invariant.progress _ c.in_ok-stopped.ensures.reached;
   settled = if_quiet_stopped _ _ (λ same. c.in_default.not-Quiet same);
+  every = if_quiet_stopped _ _ (λ same. c.in_default.not-Quiet same);
   taken = if_quiet_stopped _ _ (λ same. c.in_default.not-Quiet same);
   memory = tt;
 }
@@ -43,3 +44,6 @@ returns-clause-settled c =
     let work = c.literals.invariant.progress.work in
     let most = work.trail.taken in
     all_settled c.literals.self c.args.db.now work.watched (omega (arith, most, c.literals-test.false, c.taken.ensures.taken, c.len.ensures.count)) c.literals.invariant.known c.literals.invariant.short
+
+pub returns-clause-every : goal.returns-clause-every
+returns-clause-every c = all_watched c.literals.self c.args.db.now c.literals.invariant.progress.work.watched c.literals.invariant.known
