@@ -9,9 +9,9 @@ use Rattle.propagate.specs.declared.entry.Entry.{Entry}
 use Rattle.propagate.specs.declared.best.Falsified.{Falsified}
 use Rattle.propagate.specs.Trails.{Assigned, entry_at, literals, IsTrail}
 use Rattle.propagate.specs.Watched.{IsTrueAt, IsTrueUpTo}
-use Rattle.propagate.specs.Best.{IsBest, IsLastFalse, IsSeen}
+use Rattle.propagate.specs.Best.{AreFalseWithin, IsBest, IsLastFalse, IsSeen}
 use Rattle.propagate.proofs.ClauseLemmas.{literal_held}
-use Rattle.propagate.proofs.PlaceLemmas.{at_up_to, same_literal, up_to_more}
+use Rattle.propagate.proofs.PlaceLemmas.{at_up_to, same_literal, up_to_more, up_to_top}
 
 some_is : {X : Type 0} {x y : X} → Some x ≡ Some y → x ≡ y
 some_is {X} {x} {y} e = cc
@@ -30,6 +30,20 @@ last_best t clause beside f trail seen = record {
       let same = same_literal t k at.0 (negation f.lit) trail within at.1 is at.2 in
       let level = ap (λ j. (entry_at t.entries j).level) same ∙ at.3 in
       rw level seen.others;
+}
+
+-- where all others are false, one that became false at the present level is best
+pub top_best : (t : Assigned) (clause : List Lit) (beside : Option Lit) (l : Lit) → IsTrail t → Contains clause l → beside ≢ Some l → IsTrueAt t.entries (negation l) (length t.levels) → AreFalseWithin t.entries clause 0 (length clause) beside → IsBest t.entries clause beside l
+top_best t clause beside l trail has other at others = record {
+  has = has;
+  differs = other;
+  last = λ k within is j d j_in.
+      let same = same_literal t k at.0 (negation l) trail within at.1 is at.2 in
+      let level = ap (λ i. (entry_at t.entries i).level) same ∙ at.3 in
+      elim (others j d (omega arith) j_in) [
+        | inl is ↦ inl is
+        | inr held ↦ inr (up_to_top t (negation (get_or clause j d)) (entry_at t.entries k).level trail (omega (arith, level)) held)
+      ];
 }
 
 module _ (es : List Entry) (front : List Lit) (x : Lit) (beside : Option Lit) where

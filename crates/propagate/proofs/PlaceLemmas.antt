@@ -44,6 +44,13 @@ not_both t l trail held denied =
 pub up_to_held : (es : List Entry) (m : ℕ) (l : Lit) → IsTrueUpTo es m l → Contains (literals es) l
 up_to_held es m l (k, within, is, level) = literal_held es k l within is
 
+-- a literal that is true is so since the present level or a lower one
+pub up_to_top : (t : Assigned) (l : Lit) (m : ℕ) → IsTrail t → length t.levels ≤ m → Contains (literals t.entries) l → IsTrueUpTo t.entries m l
+up_to_top t l m trail le held =
+    let at = literal_at t.entries l held in
+    let top = trail.levels.top held.0 at.0 in
+    (held.0, at.0, at.1, omega (arith, top, le))
+
 pub up_to_more : (es : List Entry) (m n : ℕ) (l : Lit) → m ≤ n → IsTrueUpTo es m l → IsTrueUpTo es n l
 up_to_more es m n l le (k, within, is, level) = (k, within, is, omega (arith, level, le))
 

@@ -1,16 +1,20 @@
 -- The literals of a clause that are best watched: those that aren't false, or else those that became false last.
-use Rattle.std.specs.Prelude.{◌≡◌, ◌≢◌, ◌⊎◌, ℕ, ◌<◌, List, length, Option, Some, None, All, Contains}
+use Rattle.std.specs.Prelude.{◌≡◌, ◌≢◌, ◌⊎◌, ℕ, ◌<◌, ◌≤◌, List, length, Option, Some, None, All, Contains, slice_index_or}
 use Rattle.clause_db.specs.declared.lit.Lit.{Lit}
 use Rattle.clause_db.specs.Literals.{negation}
 use Rattle.propagate.specs.declared.entry.Entry.{Entry}
 use Rattle.propagate.specs.declared.watch.Watch.{Watch}
 use Rattle.propagate.specs.declared.best.Falsified.{Falsified}
-use Rattle.propagate.specs.Trails.{entry_at}
+use Rattle.propagate.specs.Trails.{entry_at, literals}
 use Rattle.propagate.specs.Watched.{IsTrueAt, IsTrueUpTo}
 
 -- the literals of the clause, but perhaps for one, are false since that level or lower ones
 abbrev pub AreFalseUpTo : List Entry → ℕ → List Lit → Option Lit → Type 0
 AreFalseUpTo entries m clause but = All (λ x. (but ≡ Some x) ⊎ IsTrueUpTo entries m (negation x)) clause
+
+-- the literals of a part of the clause, but perhaps for one, are false
+abbrev pub AreFalseWithin : List Entry → List Lit → ℕ → ℕ → Option Lit → Type 0
+AreFalseWithin entries clause from to but = (k : ℕ) (d : Lit) → from ≤ k → k < to → (but ≡ Some (slice_index_or clause k d)) ⊎ Contains (literals entries) (negation (slice_index_or clause k d))
 
 -- a literal of the clause beside another one; where it is false, so are the others, and none became false at a higher level
 pub record IsBest (entries : List Entry) (clause : List Lit) (beside : Option Lit) (l : Lit) : Type 0 where

@@ -1,9 +1,9 @@
 //! The literals of a clause that are best watched.
 
-ghost use Rattle.std.specs.Prelude.{◌≡◌, ◌<◌, length, All, Option, Some, IfSome, IsNone, ◌≤◌, ◌⊎◌};
-ghost use Rattle.clause_db.specs.Literals.{HasVarsOnce};
-ghost use Rattle.propagate.specs.Trails.{IsTrail};
-ghost use Rattle.propagate.specs.Best.{AreBest, IsBest};
+ghost use Rattle.std.specs.Prelude.{◌≡◌, ◌≢◌, ◌<◌, length, true, false, All, Contains, Option, Some, IfSome, IsNone, ◌≤◌, ◌⊎◌};
+ghost use Rattle.clause_db.specs.Literals.{HasVarsOnce, negation};
+ghost use Rattle.propagate.specs.Trails.{IsTrail, literals};
+ghost use Rattle.propagate.specs.Best.{AreBest, AreFalseWithin, IsBest};
 
 use crate::Trail;
 use crate::watch::Watch;
@@ -39,25 +39,62 @@ pub fn best_two(trail: &Trail, clause: &[Lit]) -> Option<Watch>
 }
 
 // The literal of a clause, beside another one, that is best watched: one that isn't false, or else one
-// that became false last. The search for one that isn't false begins at a place of the clause and goes round once.
+// that became false last. The search for one that isn't false begins at a place of the clause.
 pub fn best_beside(trail: &Trail, clause: &[Lit], beside: Option<Lit>, from: usize) -> Option<Found>
     requires in_range { All (λ l. l.var < trail.now.vars) clause.now }
     ensures best { IfSome result (λ f. IsBest trail.now.entries clause.now beside f.lit) }
     ensures none { IsNone result → All (λ x. beside ≡ Some x) clause.now }
 {
-    let from = from.min(clause.len());
-    if let Some(found) = open_beside(trail, clause, beside, from, clause.len()) {
-        return Some(found);
-    }
-    if let Some(found) = open_beside(trail, clause, beside, 0, from) {
+    if let Some(found) = open_beside(trail, clause, beside, from) {
         return Some(found);
     }
     let lit = last_beside(trail, clause, beside)?;
     Some(Found { lit, place: from })
 }
 
+// The same where a literal beside the other one is false. At the present level none became false later.
+pub fn best_after(
+    trail: &Trail,
+    clause: &[Lit],
+    beside: Lit,
+    fallen: Lit,
+    from: usize,
+) -> Option<Found>
+    requires in_range { All (λ l. l.var < trail.now.vars) clause.now }
+    requires has { Contains clause.now fallen }
+    requires apart { beside ≢ fallen }
+    requires fallen { Contains (literals trail.now.entries) (negation fallen) }
+    ensures best { IfSome result (λ f. IsBest trail.now.entries clause.now (Some beside) f.lit) }
+    ensures none { IsNone result → All (λ x. Some beside ≡ Some x) clause.now }
+{
+    if let Some(found) = open_beside(trail, clause, Some(beside), from) {
+        return Some(found);
+    }
+    if trail.level_of(fallen.var()) == trail.level() {
+        return Some(Found {
+            lit: fallen,
+            place: from,
+        });
+    }
+    let lit = last_beside(trail, clause, Some(beside))?;
+    Some(Found { lit, place: from })
+}
+
+// A literal of a clause, beside another one, that isn't false. The search begins at a place of the clause and goes round once.
+fn open_beside(trail: &Trail, clause: &[Lit], beside: Option<Lit>, from: usize) -> Option<Found>
+    requires in_range { All (λ l. l.var < trail.now.vars) clause.now }
+    ensures open { IfSome result (λ f. IsBest trail.now.entries clause.now beside f.lit) }
+    ensures none { IsNone result → AreFalseWithin trail.now.entries clause.now 0 (length clause.now) beside }
+{
+    let from = from.min(clause.len());
+    match open_within(trail, clause, beside, from, clause.len()) {
+        Some(found) => Some(found),
+        None => open_within(trail, clause, beside, 0, from),
+    }
+}
+
 // The first literal of a part of a clause, beside another one, that isn't false.
-fn open_beside(
+fn open_within(
     trail: &Trail,
     clause: &[Lit],
     beside: Option<Lit>,
@@ -67,16 +104,33 @@ fn open_beside(
     requires in_range { All (λ l. l.var < trail.now.vars) clause.now }
     requires within { to ≤ length clause.now }
     ensures open { IfSome result (λ f. IsBest trail.now.entries clause.now beside f.lit) }
+    ensures none { IsNone result → AreFalseWithin trail.now.entries clause.now from to beside }
 {
-    // With the number it is known that no variable is assigned twice.
-    let _ = trail.len();
     for place in from..to {
         let lit = clause[place];
-        if beside != Some(lit) && trail.truth(lit) != Some(false) {
+        if may_be_watched(trail, lit, beside) {
             return Some(Found { lit, place });
         }
     }
     None
+}
+
+// Whether a literal differs from another one and isn't false.
+fn may_be_watched(trail: &Trail, lit: Lit, beside: Option<Lit>) -> bool
+    requires in_range { lit.var < trail.now.vars }
+    ensures open { result ≡ true → (beside ≢ Some lit) × (Contains (literals trail.now.entries) (negation lit) → ⊥) }
+    ensures closed { result ≡ false → (beside ≡ Some lit) ⊎ Contains (literals trail.now.entries) (negation lit) }
+{
+    // With the number it is known that no variable is assigned twice.
+    let _ = trail.len();
+    if beside == Some(lit) {
+        return false;
+    }
+    match trail.truth(lit) {
+        Some(false) => false,
+        Some(true) => true,
+        None => true,
+    }
 }
 
 // The literal of a clause, beside another one, that is best watched, by the levels of those that are false.

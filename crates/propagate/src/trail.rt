@@ -221,10 +221,21 @@ impl Trail {
         // With the number it is known that no variable is assigned twice.
         let _ = self.len();
         match self.truth(lit) {
-            Some(true) => self.level_of(lit.var()) <= level,
+            Some(true) => self.reached_by(lit, level),
             Some(false) => false,
             None => false,
         }
+    }
+
+    // Whether a true literal is so since that level or a lower one.
+    fn reached_by(&self, lit: Lit, level: u32) -> bool
+        requires held { Contains (literals self.now.entries) lit }
+        ensures since { IsTrue result ↔ IsTrueUpTo self.now.entries level lit }
+    {
+        if self.level() <= level {
+            return true;
+        }
+        self.level_of(lit.var()) <= level
     }
 
     // How many clauses were taken up.

@@ -6,7 +6,7 @@ ghost use Rattle.propagate.specs.Trails.{IsTrail, rewatched};
 ghost use Rattle.propagate.specs.Reach.{IfQuiet, IsAtWork, IsProgress, IsReached};
 ghost use Rattle.propagate.specs.Visits.{HasMoved, HasVisited, IsNextFalse, IsRewatched};
 
-use crate::best::{Found, best_beside};
+use crate::best::{Found, best_after};
 use crate::watch::Watch;
 use crate::{Links, Reached, Trail};
 use clause_db::{ClauseRef, Db, Lit};
@@ -114,7 +114,7 @@ impl Trail {
         ensures visited { IfOk result (λ v. HasVisited db.now links.now lit clause place self.old graph.old v self.new graph.new) }
         ensures memory { OnErr result (IsProgress db.now links.now self.old graph.old self.new graph.new) }
     {
-        match best_beside(self, db.lits(clause), Some(other), self.cursor(clause)) {
+        match best_after(self, db.lits(clause), other, lit, self.cursor(clause)) {
             None => unreachable!(),
             Some(best) => match self.meet_beside(best.lit, other, clause, db, links, graph) {
                 Reached::Quiet => self.move_watch(clause, lit, best, other, place),

@@ -1,5 +1,17 @@
+use Rattle.propagate.proofs.ClauseLemmas.{literal_held}
+use Rattle.propagate.proofs.GuardLemmas.{other_apart, this_in}
+use Rattle.clause_db.specs.Literals.{negation}
 use Rattle.propagate.proofs.MoveLemmas.{best_progress, best_visited, if_ok_more, on_err}
 use Rattle.propagate.proofs.trail.Trail.watch_best.Goals as goal
+
+pub best_after-requires-clause-has : goal.best_after-requires-clause-has
+best_after-requires-clause-has c = rw c.lits.ensures.clause (this_in c.args.self.now c.args.db.now c.args.clause c.args.lit c.args.other c.requires.work.trail c.requires.work.watched c.requires.next c.requires.both)
+
+pub best_after-requires-clause-apart : goal.best_after-requires-clause-apart
+best_after-requires-clause-apart c = other_apart c.args.self.now c.args.db.now c.args.clause c.args.lit c.args.other c.requires.work.trail c.requires.work.watched c.requires.next c.requires.both
+
+pub best_after-requires-clause-fallen : goal.best_after-requires-clause-fallen
+best_after-requires-clause-fallen c = literal_held c.args.self.now.entries c.args.self.now.taken (negation c.args.lit) c.requires.next.more c.requires.next.is
 
 pub returns-in-Quiet-clause-visited : goal.returns-in-Quiet-clause-visited
 returns-in-Quiet-clause-visited c =
