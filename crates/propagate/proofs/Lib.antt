@@ -2,6 +2,7 @@ pub mod LinkPlaces
 pub mod TrailLemmas
 pub mod TableLemmas
 pub mod UnwatchedLemmas
+pub mod ValueLemmas
 pub mod WatchingLemmas
 pub mod StoredLemmas
 pub mod ClauseLemmas

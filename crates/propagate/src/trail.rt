@@ -7,7 +7,7 @@ ghost use Rattle.propagate.specs.Watching.{IsListed, IsUnwatched, IsWatcherAt, l
 ghost use Rattle.propagate.specs.Trails.{HasEntry, IsAssigned, IsTrail, IsUnassigned, IsUntaken, cut_to, decided, entry_at, followed, literals, mark_of, rewatched, start_of};
 ghost use Rattle.propagate.specs.Watched.{IsTrueAt, IsTrueUpTo};
 ghost use Rattle.propagate.specs.Clauses.{IsTruth};
-ghost use Rattle.propagate.specs.Stored.{IsTable};
+ghost use Rattle.propagate.specs.Stored.{AreValues, IsTable};
 
 use crate::entry::{Entry, Level};
 use crate::room::push_within;
@@ -23,6 +23,8 @@ use std::marker::Model;
 pub struct Trail {
     entries: Vec<Entry>,
     places: Vec<Option<u32>>,
+    // The values of variables, which are asked for most.
+    values: Vec<Option<bool>>,
     levels: Vec<Level>,
     watches: Watches,
     watchers: Vec<Watchers>,
@@ -33,13 +35,13 @@ impl Model for Trail {
     ghost use Rattle.std.specs.Prelude.{length, vec_capacity};
     ghost use Rattle.propagate.specs.Watching.{Watching};
     ghost use Rattle.propagate.specs.Trails.{Assigned};
-    ghost use Rattle.propagate.specs.Stored.{IsStored};
+    ghost use Rattle.propagate.specs.Stored.{IsKept};
 
     ghost Value = { Assigned };
 
     ghost view = { λ t. record { vars = length t.places.items; entries = t.entries.items; levels = t.levels.items; watching = record { watches = t.watches; watchers = t.watchers.items }; taken = t.taken } };
 
-    ghost invariant = { λ t. IsStored t.entries.items t.places.items t.levels.items (record { watches = t.watches; watchers = t.watchers.items }) t.taken (vec_capacity t.entries) (vec_capacity t.levels) };
+    ghost invariant = { λ t. IsKept t.entries.items t.places.items t.values.items t.levels.items (record { watches = t.watches; watchers = t.watchers.items }) t.taken (vec_capacity t.entries) (vec_capacity t.levels) };
 }
 
 impl Trail {
@@ -55,6 +57,7 @@ impl Trail {
         Ok(Trail {
             entries: Vec::with_capacity(alloc, vars as usize)?,
             places: vec![in alloc; None; vars as usize]?,
+            values: vec![in alloc; None; vars as usize]?,
             levels: Vec::with_capacity(alloc, vars as usize)?,
             watches: Watches::new(alloc),
             watchers: no_watchers(alloc, vars)?,
@@ -68,10 +71,7 @@ impl Trail {
         ensures unassigned { IsNone result ↔ IsUnassigned self.now.entries var }
         ensures value { IfSome result (λ b. HasEntry self.now.entries var (λ e. e.lit.positive ≡ b)) }
     {
-        match self.places[var.get() as usize] {
-            None => None,
-            Some(place) => Some(self.entries[place as usize].lit.positive()),
-        }
+        self.values[var.get() as usize]
     }
 
     /// The place of a variable's literal in the order of assignment, and None where the variable is unassigned.
@@ -152,7 +152,9 @@ impl Trail {
                 reason: Some(clause.get()),
             },
         );
-        self.places[lit.var().get() as usize] = Some(place);
+        let at = lit.var().get() as usize;
+        self.places[at] = Some(place);
+        self.values[at] = Some(lit.positive());
     }
 
     // Opens a level with a literal, where the graph holds so many edges.
@@ -174,7 +176,9 @@ impl Trail {
             },
         );
         push_within(&mut self.levels, Level { start, mark });
-        self.places[lit.var().get() as usize] = Some(start);
+        let at = lit.var().get() as usize;
+        self.places[at] = Some(start);
+        self.values[at] = Some(lit.positive());
     }
 
     // How many edges the graph held when the level above this one began.
@@ -193,7 +197,12 @@ impl Trail {
         ensures after { IsTrail self.new }
     {
         let start = self.levels[level as usize].start;
-        forget(&mut self.entries, &mut self.places, start as usize);
+        forget(
+            &mut self.entries,
+            &mut self.places,
+            &mut self.values,
+            start as usize,
+        );
         self.levels.truncate(level as usize);
         self.taken = lesser(self.taken, start);
     }
@@ -395,18 +404,27 @@ fn no_watchers(alloc: Global, vars: u32) -> Result<Vec<Watchers>, AllocError>
     Ok(watchers)
 }
 
-// Takes the entries from a place on off a trail, and their places off its table.
-fn forget(entries: &mut Vec<Entry>, places: &mut Vec<Option<u32>>, start: usize)
+// Takes the entries from a place on off a trail, and their places and values off its tables.
+fn forget(
+    entries: &mut Vec<Entry>,
+    places: &mut Vec<Option<u32>>,
+    values: &mut Vec<Option<bool>>,
+    start: usize,
+)
     requires table { IsTable entries.old.items places.old.items }
+    requires values { AreValues entries.old.items places.old.items values.old.items }
     requires within { start ≤ length entries.old.items }
     ensures entries { entries.new.items ≡ take start entries.old.items }
     ensures capacity { vec_capacity entries.new ≡ vec_capacity entries.old }
     ensures table { IsTable entries.new.items places.new.items }
+    ensures values { AreValues entries.new.items places.new.items values.new.items }
     ensures count { length places.new.items ≡ length places.old.items }
 {
     'entries: while entries.len() > start {
         if let Some(entry) = entries.pop() {
-            places[entry.lit.var().get() as usize] = None;
+            let at = entry.lit.var().get() as usize;
+            places[at] = None;
+            values[at] = None;
         }
     }
 }

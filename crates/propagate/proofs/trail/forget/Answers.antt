@@ -2,6 +2,7 @@ use Rattle.std.proofs.Common.{◌≡◌, ◌∙◌, ◌+◌, refl, ◌++◌, [],
 use Rattle.std.proofs.lemmas.List.{take_at, take-take, length_push}
 use Rattle.propagate.specs.declared.entry.Entry.{Entry}
 use Rattle.propagate.proofs.TableLemmas.{table_pop}
+use Rattle.propagate.proofs.ValueLemmas.{values_pop}
 use Rattle.propagate.proofs.trail.forget.Goals as goal
 
 pub entries-preserved-in-Some : goal.entries-preserved-in-Some
@@ -15,9 +16,10 @@ entries-preserved-in-Some c =
     let sizes : length old ≡ length new + 1 = ap length popped ∙ more in
     let front : new ≡ take (length new) init =
     sym (take_at new (c.in-Some.entry ∷ []) (length new) refl) ∙ ap (λ (xs : List Entry). take (length new) xs) (sym popped ∙ inv.front) ∙ take-take (length new) (length old) init (omega (arith, sizes)) in
-    let place = c.get.ensures.number ∙ c.var.ensures.variable in
+    let place = c.get-at.ensures.number ∙ c.var.ensures.variable in
     rw place (record {
       table = table_pop new c.in-Some.entry c.entries.places.items (rw popped at inv.table);
+      values = values_pop new c.in-Some.entry c.entries.places.items c.entries.values.items (rw popped at inv.values) (rw popped at inv.table);
       front = front;
       count = length-set c.entries.places.items c.in-Some.entry.lit.var _ ∙ inv.count;
       capacity = c.in-Some.ensures.capacity ∙ inv.capacity;

@@ -6,5 +6,5 @@ pub overflow_add-self : goal.overflow_add-self
 overflow_add-self c =
     let inside = c.self.inside in
     let more : inside.taken < length inside.entries.items = rw (← c.self.view_is) at c.requires.more in
-    let most = few_literals _ c.self.invariant.trail in
-    omega (arith, more, most, c.self.invariant.few)
+    let most = few_literals _ c.self.invariant.stored.trail in
+    omega (arith, more, most, c.self.invariant.stored.few)

@@ -4,9 +4,12 @@ use Rattle.propagate.proofs.TableLemmas.{untaken}
 use Rattle.propagate.proofs.trail.Trail.untake.Goals as goal
 
 pub invariant_of-self : goal.invariant_of-self
-invariant_of-self c =
-    let inside = c.self.inside in
-    stored_taken inside.entries.items inside.places.items inside.levels.items _ _ _ _ c.self.invariant c.lesser-self-inside.result (omega (arith, c.lesser-self-inside.ensures.lesser, c.self.invariant.trail.taken))
+invariant_of-self c = record {
+  stored =
+      let inside = c.self.inside in
+      stored_taken inside.entries.items inside.places.items inside.levels.items _ _ _ _ c.self.invariant.stored c.lesser-self-inside.result (omega (arith, c.lesser-self-inside.ensures.lesser, c.self.invariant.stored.trail.taken));
+  valued = c.self.invariant.valued;
+}
 
 pub returns-clause-trail : goal.returns-clause-trail
 returns-clause-trail c = rw (← c.self.view_is) refl
@@ -15,10 +18,10 @@ pub returns-clause-untaken : goal.returns-clause-untaken
 returns-clause-untaken c = λ k less.
     let inside = c.self.inside in
     let start = rw c.deref.ensures.value at c.present_start.ensures in
-    untaken inside.entries.items inside.levels.items inside.taken _ k c.self.invariant.trail.levels c.self.invariant.trail.taken start.lowest start.above (rw c.lesser-self-inside.ensures.lesser at less)
+    untaken inside.entries.items inside.levels.items inside.taken _ k c.self.invariant.stored.trail.levels c.self.invariant.stored.trail.taken start.lowest start.above (rw c.lesser-self-inside.ensures.lesser at less)
 
 pub returns-clause-fewer : goal.returns-clause-fewer
 returns-clause-fewer c = rw (← c.self.view_is) (omega (arith, c.lesser-self-inside.ensures.lesser))
 
 pub returns-clause-after : goal.returns-clause-after
-returns-clause-after c = (invariant_of-self c).trail
+returns-clause-after c = (invariant_of-self c).stored.trail
