@@ -1,9 +1,9 @@
 -- The stored edges, as those of a variable are set.
-use Rattle.std.proofs.Common.{◌≡◌, ◌≢◌, ◌∙◌, ap, sym, refl, ℕ, zero, suc, ◌+◌, ◌<◌, ◌≤◌, ◌^◌, inl, inr, List, [], ◌∷◌, ◌++◌, length, map, set, get_or, arith, Option, Some, None, cond, Bool, true, false, get_or-set_same, get_or-set_other, length-set}
+use Rattle.std.proofs.Common.{◌≡◌, ◌≢◌, ◌∙◌, ap, sym, refl, ℕ, zero, suc, ◌+◌, ◌<◌, ◌≤◌, ◌^◌, inl, inr, List, [], ◌∷◌, ◌++◌, length, map, set, get_or, arith, Option, Some, None, cond, get_or-set_same, get_or-set_other, length-set}
 use Rattle.std.specs.Prelude.{replicate}
 use Rattle.std.specs.List.{count_by, slice_get}
-use Rattle.std.proofs.lemmas.Bool.{cases_eq, cases_lt}
-use Rattle.std.proofs.lemmas.List.{ext_get_or, get_or-map, get_or_past, get_or_read, length-map, length-replicate, length_push, map-set}
+use Rattle.std.proofs.lemmas.Bool.{cases_eq}
+use Rattle.std.proofs.lemmas.List.{ext_get_or, get_or-map, length-map, length_push, map-set}
 use Rattle.std.proofs.lemmas.List.Sums.{sum_by-set}
 use Rattle.neg_cycle.specs.declared.system.Edge.{Edge}
 use Rattle.propagate.specs.LinkPlaces.{ArePlaces, is_free, pair_at}

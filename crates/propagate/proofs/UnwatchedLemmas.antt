@@ -1,5 +1,5 @@
 -- The clauses of which no two literals are watched, as clauses are added and watched anew.
-use Rattle.std.proofs.Common.{◌≡◌, ◌∙◌, ap, sym, refl, ℕ, zero, suc, ◌+◌, ◌<◌, ◌≤◌, ◌≢◌, List, [], ◌∷◌, ◌++◌, length, set, get_or, arith, Option, Some, None}
+use Rattle.std.proofs.Common.{◌≡◌, ap, refl, ℕ, zero, suc, ◌+◌, ◌<◌, List, [], ◌∷◌, ◌++◌, length, set, get_or, arith, Option, Some, None}
 use Rattle.std.specs.Prelude.{IsSome}
 use Rattle.propagate.specs.declared.watch.Watch.{Watch}
 use Rattle.propagate.specs.Watching.{unwatched, unwatched_from}

@@ -1,5 +1,5 @@
 -- The values of variables, as literals come and go.
-use Rattle.std.proofs.Common.{◌≡◌, ◌≢◌, ◌∙◌, ap, sym, refl, ℕ, zero, suc, ◌<◌, inl, inr, List, [], ◌∷◌, ◌++◌, length, set, get_or, arith, Bool, Option, Some, None, get_or-set_same, get_or-set_other, length-set}
+use Rattle.std.proofs.Common.{◌≡◌, ◌≢◌, ◌∙◌, sym, refl, ℕ, zero, suc, ◌<◌, inl, inr, List, [], ◌∷◌, ◌++◌, length, set, get_or, arith, Bool, Option, Some, None, get_or-set_same, get_or-set_other, length-set}
 use Rattle.std.specs.Prelude.{◌↔◌, IfSome, IsNone, replicate}
 use Rattle.std.proofs.lemmas.Bool.{cases_eq}
 use Rattle.std.proofs.lemmas.List.{get_or_default, get_or_read, length-replicate, length_push}

@@ -1,4 +1,4 @@
-use Rattle.std.proofs.Common.{◌≡◌, ◌∙◌, ◌<◌, sym, length, arith, eqb, true}
+use Rattle.std.proofs.Common.{◌≡◌, ◌∙◌, sym, arith, eqb, true}
 use Rattle.std.proofs.lemmas.Bool.Decides.{nat_tests}
 use Rattle.analyze.proofs.Marked.{greatest_here, last_has}
 use Rattle.analyze.proofs.mark.has_mark_here.Goals as goal

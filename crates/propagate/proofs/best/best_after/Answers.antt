@@ -1,6 +1,5 @@
-use Rattle.std.proofs.Common.{◌≢◌, ◌∙◌, ap, sym, refl, rules, Some, None}
+use Rattle.std.proofs.Common.{◌≢◌, ◌∙◌, refl, Some}
 use Rattle.clause_db.specs.Literals.{negation}
-use Rattle.clause_db.specs.declared.lit.Lit.{Lit}
 use Rattle.propagate.proofs.BestLemmas.{top_best}
 use Rattle.propagate.proofs.PlaceLemmas.{held_assigned, held_at}
 use Rattle.propagate.proofs.best.best_after.Goals as goal

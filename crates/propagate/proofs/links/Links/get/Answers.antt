@@ -1,5 +1,4 @@
-use Rattle.std.proofs.Common.{◌≡◌, ◌∙◌, ◌<◌, sym, length, arith}
-use Rattle.propagate.specs.LinkPlaces.{pair_at}
+use Rattle.std.proofs.Common.{◌∙◌, ◌<◌, sym, length, arith}
 use Rattle.propagate.proofs.LinkPlaces.{pair_read, view_below}
 use Rattle.propagate.proofs.TableLemmas.{read_place}
 use Rattle.propagate.proofs.links.Links.get.Goals as goal

@@ -1,4 +1,4 @@
-use Rattle.std.proofs.Common.{◌≡◌, ◌∙◌, ◌<◌, sym, length, arith}
+use Rattle.std.proofs.Common.{◌≡◌, ◌∙◌, ◌<◌, length, arith}
 use Rattle.propagate.proofs.LinkPlaces.{again_view, more_places, more_view, view_below}
 use Rattle.propagate.proofs.TableLemmas.{read_place}
 use Rattle.propagate.proofs.links.Links.set.Goals as goal

@@ -1,4 +1,4 @@
-use Rattle.std.proofs.Common.{◌≡◌, ℕ, ◌-◌, ◌<◌, length, get_or}
+use Rattle.std.proofs.Common.{ℕ, ◌-◌, ◌<◌, length, get_or}
 use Rattle.clause_db.specs.Clauses.{clause_at}
 use Rattle.propagate.specs.Watching.{unwatched}
 use Rattle.propagate.specs.Reach.{IsProgress}

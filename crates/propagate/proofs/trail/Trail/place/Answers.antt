@@ -1,5 +1,4 @@
 use Rattle.std.proofs.Common.{◌<◌, length}
-use Rattle.propagate.specs.Trails.{IsUnassigned}
 use Rattle.propagate.proofs.TableLemmas.{place_none, read_place}
 use Rattle.propagate.proofs.trail.Trail.place.Goals as goal
 

@@ -1,4 +1,4 @@
-use Rattle.std.proofs.Common.{◌≡◌, ◌∙◌, ◌<◌, sym, length, arith}
+use Rattle.std.proofs.Common.{◌∙◌, ◌<◌, sym, length, arith}
 use Rattle.propagate.proofs.ValueLemmas.{value_read, value_tells}
 use Rattle.propagate.proofs.trail.Trail.value.Goals as goal
 

@@ -1,6 +1,4 @@
-use Rattle.std.proofs.Common.{◌≡◌, ◌∙◌, ap, sym, ℕ, List, Option, None, get_or}
-use Rattle.std.specs.Prelude.{IsSome}
-use Rattle.propagate.specs.declared.watch.Watch.{Watch}
+use Rattle.std.proofs.Common.{◌∙◌, sym}
 use Rattle.propagate.proofs.UnwatchedLemmas.{unwatched_set}
 use Rattle.propagate.proofs.watches.Watches.set.Goals as goal
 
