@@ -15,7 +15,7 @@ use Rattle.axiom_rules.proofs.AddingLemmas.{atom-itself}
 use Rattle.axiom_rules.proofs.BoolLemmas.{apart}
 use Rattle.axiom_rules.proofs.ShapeLemmas.{slice-end}
 
-has-var : (atoms : List Atom) (v : ℕ) (a : Atom) → IsVar atoms v a → has_atom atoms a ≡ true
+pub has-var : (atoms : List Atom) (v : ℕ) (a : Atom) → IsVar atoms v a → has_atom atoms a ≡ true
 has-var [] v a is = absurd (cc)
 has-var (b ∷ atoms) zero a is = let same : b ≡ a = cc in or_left (same_atom a b) (has_atom atoms a) (rw same (atom-itself a))
 has-var (b ∷ atoms) (suc v) a is = or_right (same_atom a b) (has_atom atoms a) (has-var atoms v a is)

@@ -9,6 +9,7 @@ pub mod Clauses
 pub mod ClauseLengths
 pub mod Shapes
 pub mod Atoms
+pub mod AtomIndex
 pub mod Adding
 pub mod Each
 pub mod Laws

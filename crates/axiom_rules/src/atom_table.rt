@@ -1,9 +1,10 @@
-ghost use Rattle.std.specs.Prelude.{◌≡◌, ◌<◌, ◌-◌, ◌^◌, [], length, IfOk, OnOk, OnErr};
+ghost use Rattle.std.specs.Prelude.{◌≡◌, ◌≢◌, ◌<◌, ◌-◌, ◌^◌, [], length, All, AllPairs, IfOk, OnOk, OnErr};
+ghost use Rattle.axiom_rules.specs.AtomIndex.{AreTaken};
 ghost use Rattle.axiom_rules.specs.Atoms.{AreOnce, IsVar, with_atom};
 
+use crate::atom_index::AtomIndex;
 use crate::literal::Atom;
 use clause_db::Var;
-use indexmap::IndexSet;
 use std::alloc::{AllocError, Global};
 use std::marker::Model;
 
@@ -12,19 +13,20 @@ use std::marker::Model;
 /// Look-ups hash without random state.
 #[derive(Debug, Drop)]
 pub struct AtomTable {
-    atoms: IndexSet<Atom>,
+    atoms: Vec<Atom>,
+    index: AtomIndex,
 }
 
 impl Model for AtomTable {
     ghost use Rattle.std.specs.Prelude.{List};
     ghost use Rattle.axiom_rules.specs.declared.literal.Atom.{Atom};
-    ghost use Rattle.axiom_rules.specs.Atoms.{AreOnce};
+    ghost use Rattle.axiom_rules.specs.AtomIndex.{IsTable};
 
     ghost Value = { List Atom };
 
-    ghost view = { λ t. t.atoms.keys };
+    ghost view = { λ t. t.atoms.items };
 
-    ghost invariant = { λ t. AreOnce t.atoms.keys };
+    ghost invariant = { λ t. IsTable t.atoms.items t.index };
 }
 
 impl AtomTable {
@@ -33,7 +35,8 @@ impl AtomTable {
         ensures empty { result ≡ [] }
     {
         AtomTable {
-            atoms: IndexSet::new(alloc),
+            atoms: Vec::new(alloc),
+            index: AtomIndex::new(alloc),
         }
     }
 
@@ -46,8 +49,15 @@ impl AtomTable {
         ensures err { OnErr result (self.new ≡ self.old) }
         ensures once { AreOnce self.new }
     {
-        let (place, _) = self.atoms.insert_full(atom)?;
-        Ok(Var::new(place as u32))
+        self.index.take_in(&self.atoms)?;
+        let place = match self.index.find(&self.atoms, atom) {
+            Some(place) => place,
+            None => {
+                self.atoms.push(atom)?;
+                self.atoms.len() as u32 - 1
+            }
+        };
+        Ok(Var::new(place))
     }
 
     /// The atom of a variable. Takes no memory.
@@ -55,7 +65,7 @@ impl AtomTable {
         requires { var < length self.now }
         ensures atom { IsVar self.now var result }
     {
-        *self.atoms.get_index(var.get() as usize).unwrap()
+        self.atoms[var.get() as usize]
     }
 
     /// The number of atoms. Takes no memory.
@@ -64,5 +74,24 @@ impl AtomTable {
         ensures once { AreOnce self.now }
     {
         self.atoms.len() as u32
+    }
+
+    /// The table of the atoms of these variables, in their order.
+    pub fn taken(&self, alloc: Global, vars: &[Var]) -> Result<AtomTable, AllocError>
+        requires below { All (λ v. v < length self.now) vars.now }
+        requires apart { AllPairs (λ v w. v ≢ w) vars.now }
+        requires few { length vars.now < 2 ^ 32 }
+        ensures atoms { IfOk result (AreTaken self.now vars.now) }
+    {
+        // That each atom has one variable, their number is known with.
+        let _ = self.len();
+        let mut atoms = Vec::new(alloc);
+        for var in vars {
+            atoms.push(self.atom(*var))?;
+        }
+        Ok(AtomTable {
+            atoms,
+            index: AtomIndex::new(alloc),
+        })
     }
 }

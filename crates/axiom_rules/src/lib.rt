@@ -1,6 +1,7 @@
 //! The rules of the certificate: which clauses there are, and that each holds in every timing that a log admits.
 #![tactic(auto)]
 
+mod atom_index;
 mod atom_table;
 mod clause;
 mod fault;
