@@ -29,3 +29,4 @@ mod ExactCases
 mod TightExtremes
 mod EncodeLemmas
 pub mod VariableLemmas
+mod OrderLemmas

@@ -125,3 +125,25 @@ module _ (x : Extremes) where
     -- no span of an until or a since is needed from one event to another
     abbrev pub needs_no_span : ℕ → ℕ → ℕ → Bool
     needs_no_span k i j = option_map_or (λ u. is_dead u i j || has_constant u) (reach_in (shape_at s k)) false
+
+-- a test of an until or a since leaves out each instance where the left side is `true`
+abbrev pub is_of_free : OfReach → Bool
+is_of_free DeadOrFree = true
+is_of_free NotWithin = true
+is_of_free NotPast = true
+is_of_free FreeOrNotBefore = true
+is_of_free Free = true
+is_of_free _ = false
+
+-- a test does
+abbrev pub leaves_out_free : Needless → Bool
+leaves_out_free (Reaches test) = is_of_free test
+leaves_out_free _ = false
+
+-- a node is an until or a since whose left side is `true`
+abbrev pub is_free : Sought → ℕ → Bool
+is_free s k = option_map_or (λ u. is_constant (shape_at s u.left)) (reach_in (shape_at s k)) false
+
+-- each instance of a rule for a node is left out, since the left side is `true`
+abbrev pub is_needless_throughout : Sought → ℕ → ℕ → Bool
+is_needless_throughout s number k = option_map_or leaves_out_free (test_of number) false && is_free s k

@@ -7,7 +7,7 @@ ghost use Rattle.mtl_encode.specs.Growth.{AreClauses, Gains, HasRoom};
 ghost use Rattle.mtl_encode.specs.Instances.{count_of as count_of_argument, instances, is_of_reach as is_number_of_reach, of_number, out_by, rule_at, with_none, with_one, with_three, with_two};
 
 use crate::clauses::Clauses;
-use crate::needless::needs_no_span;
+use crate::needless::{is_needless_throughout, needs_no_span};
 use axiom_rules::{Argument, MAX_RULE, Rule, Rules, arguments_of};
 use skew_bounds::Tight;
 use std::alloc::{AllocError, Global};
@@ -129,6 +129,9 @@ impl Clauses {
         ensures { OnOk result (Gains rules.now self.old self.new (with_one rules.now (out_by tight.now rules.now) number counts a)) }
     {
         if passes_over(rules, number, a) {
+            return Ok(());
+        }
+        if is_needless_throughout(rules, number, a) {
             return Ok(());
         }
         for b in 0..counts[1] {

@@ -1,6 +1,6 @@
 //! Which instances of rules are needless, by the least and the greatest differences of events.
 
-ghost use Rattle.std.specs.Prelude.{◌≡◌, pos, length};
+ghost use Rattle.std.specs.Prelude.{◌≡◌, false, pos, length};
 ghost use Rattle.std.specs.Option.{option_map_or};
 ghost use Rattle.mtl_encode.specs.Needless as needless;
 
@@ -246,6 +246,61 @@ pub fn needs_no_span(rules: &Rules, tight: &Tight, k: u32, i: u32, j: u32) -> bo
         Some(u) => is_dead(tight, &u, i, j) || rules.is_constant(u.left),
         None => false,
     }
+}
+
+// Whether a test of an until or a since leaves out each instance where the left side is `true`.
+fn is_of_free(test: OfReach) -> bool
+    ensures { result ≡ needless.is_of_free test }
+{
+    match test {
+        OfReach::AlwaysFrom => false,
+        OfReach::AlwaysUpTo => false,
+        OfReach::Dead => false,
+        OfReach::DeadOrFree => true,
+        OfReach::NotWithin => true,
+        OfReach::NotPast => true,
+        OfReach::FreeOrNotBefore => true,
+        OfReach::Free => true,
+    }
+}
+
+// Whether a test does.
+fn leaves_out_free(test: Needless) -> bool
+    ensures { result ≡ needless.leaves_out_free test }
+{
+    match test {
+        Needless::Reaches(test) => is_of_free(test),
+        Needless::Never => false,
+        Needless::NeverLater => false,
+        Needless::NeverFirst => false,
+    }
+}
+
+// Whether a node is an until or a since whose left side is `true`.
+fn is_free(rules: &Rules, k: u32) -> bool
+    ensures { result ≡ needless.is_free rules.now k }
+{
+    match rules.reach_at(k) {
+        Some(u) => rules.is_constant(u.left),
+        None => false,
+    }
+}
+
+// Whether the test of a rule leaves out each instance where the left side is `true`.
+fn is_needless_for_free(number: u8) -> bool
+    ensures { result ≡ option_map_or needless.leaves_out_free (needless.test_of number) false }
+{
+    match test_of(number) {
+        Some(test) => leaves_out_free(test),
+        None => false,
+    }
+}
+
+/// Whether each instance of a rule for a node is needless, since the left side of its until or since is `true`.
+pub fn is_needless_throughout(rules: &Rules, number: u8, k: u32) -> bool
+    ensures { result ≡ needless.is_needless_throughout rules.now number k }
+{
+    is_needless_for_free(number) && is_free(rules, k)
 }
 
 /// Whether an instance of a rule is needless.

@@ -1,8 +1,10 @@
 //! The order of the variables, in which a search tries the atoms that it knows nothing of.
 
-ghost use Rattle.std.specs.Prelude.{◌≡◌, ◌≤◌, ◌<◌, ◌+◌, ◌-◌, ◌^◌, length, All, Contains, OnOk, IfOk};
+ghost use Rattle.std.specs.Prelude.{◌≡◌, ◌≤◌, ◌<◌, ◌^◌, length, map, All, Contains, IfOk};
+ghost use Rattle.std.specs.List.{range_with_len};
+ghost use Rattle.std.specs.List.Sorted.{IsPermutation};
 ghost use Rattle.mtl_encode.specs.Growth.{AreClauses};
-ghost use Rattle.mtl_encode.specs.Variables.{AreMoved};
+ghost use Rattle.mtl_encode.specs.Variables.{AreMoved, ArePlaces, IsOrder};
 
 use crate::clauses::Clauses;
 use axiom_rules::{Atom, AtomTable, Rules};
@@ -10,11 +12,31 @@ use clause_db::Var;
 use mt_model::Log;
 use std::alloc::{AllocError, Global};
 
-/// A variable, with what orders it among the others: the kind of its atom, then a key of that kind.
+/// What an atom speaks of. Orders come first, since they decide what the timing is; the others follow from them.
+#[derive(Clone, Copy, Debug, PartialEq, Eq, PartialOrd, Ord)]
+pub enum Subject {
+    Order,
+    Node,
+    First,
+}
+
+/// What an atom says of a node: that it is true follows from the others.
+#[derive(Clone, Copy, Debug, PartialEq, Eq, PartialOrd, Ord)]
+pub enum Part {
+    Span,
+    Gap,
+    Wit,
+    Truth,
+}
+
+/// A variable with what orders it among the others.
 #[derive(Clone, Copy, Debug, PartialEq, Eq, PartialOrd, Ord)]
 pub struct Ranked {
-    pub kind: u8,
-    pub key: u128,
+    pub subject: Subject,
+    /// Of an order, how far its events are apart in local time: the log leaves open which of near ones come first. Of what
+    /// speaks of a node, the node, which comes after its parts.
+    pub key: u64,
+    pub part: Part,
     pub var: u32,
 }
 
@@ -26,67 +48,88 @@ fn local_at(log: &Log, e: u32) -> i128 {
     }
 }
 
-// Orders come first, since they decide what the timing is, and of them those of events near in local time,
-// which the log leaves open. The others follow from them: nodes after their parts, an until or a since after what it is
-// made of, and first events last.
-fn rank_of(log: &Log, atom: Atom, var: u32) -> Ranked
-    ensures { result.var ≡ var }
-{
-    let (kind, key) = match atom {
-        Atom::Order { e, f, .. } => (0, local_at(log, e).abs_diff(local_at(log, f))),
-        Atom::Span { k, .. } => (1, 4 * k as u128),
-        Atom::Gap { k, .. } => (1, 4 * k as u128 + 1),
-        Atom::Wit { k, .. } => (1, 4 * k as u128 + 2),
-        Atom::Node { k, .. } => (1, 4 * k as u128 + 3),
-        Atom::First { .. } => (2, 0),
-    };
-    Ranked { kind, key, var }
+// How far two events are apart in local time, or the most that a rank can say.
+fn apart(log: &Log, e: u32, f: u32) -> u64 {
+    u64::try_from(local_at(log, e).abs_diff(local_at(log, f))).unwrap_or(u64::MAX)
 }
 
-// The variables in the order of their ranks.
-fn order_of(alloc: Global, log: &Log, atoms: &AtomTable) -> Result<Vec<Ranked>, AllocError>
-    ensures below { IfOk result (λ list. All (λ r. r.var < length atoms.now) list.items) }
-    ensures count { IfOk result (λ list. length list.items ≡ length atoms.now) }
+// A variable of an atom that says something of a node.
+fn of_node(k: u32, part: Part, var: u32) -> Ranked
+    ensures { result.var ≡ var }
+{
+    Ranked {
+        subject: Subject::Node,
+        key: k as u64,
+        part,
+        var,
+    }
+}
+
+// A variable with the rank of its atom.
+fn rank(log: &Log, atom: Atom, var: u32) -> Ranked
+    ensures { result.var ≡ var }
+{
+    match atom {
+        Atom::Order { e, f, .. } => Ranked {
+            subject: Subject::Order,
+            key: apart(log, e, f),
+            part: Part::Truth,
+            var,
+        },
+        Atom::Span { k, .. } => of_node(k, Part::Span, var),
+        Atom::Gap { k, .. } => of_node(k, Part::Gap, var),
+        Atom::Wit { k, .. } => of_node(k, Part::Wit, var),
+        Atom::Node { k, .. } => of_node(k, Part::Truth, var),
+        Atom::First { .. } => Ranked {
+            subject: Subject::First,
+            key: 0,
+            part: Part::Truth,
+            var,
+        },
+    }
+}
+
+// The variables of a table with their ranks, in the order of these.
+fn sorted(alloc: Global, log: &Log, atoms: &AtomTable) -> Result<Vec<Ranked>, AllocError>
+    ensures { IfOk result (λ list. IsPermutation (range_with_len 0 (length atoms.now)) (map (λ r. r.var) list.items)) }
 {
     let mut list = Vec::new(alloc);
     for v in 0..atoms.len() {
-        list.push(rank_of(log, atoms.atom(Var::new(v)), v))?;
+        list.push(rank(log, atoms.atom(Var::new(v)), v))?;
     }
     list.sort_unstable();
     Ok(list)
 }
 
-// The atoms of these variables, in their order.
-fn taken(alloc: Global, atoms: &AtomTable, order: &[Ranked]) -> Result<AtomTable, AllocError>
-    requires below { All (λ r. r.var < length atoms.now) order.now }
-    requires few { length order.now < 2 ^ 32 - 1 }
-    ensures only { IfOk result (λ table. All (Contains atoms.now) table) }
-    ensures few { IfOk result (λ table. length table ≤ length order.now) }
+// The variables of these.
+fn vars_of(alloc: Global, list: &[Ranked]) -> Result<Vec<Var>, AllocError>
+    ensures { IfOk result (λ vars. vars.items ≡ map (λ r. r.var) list.now) }
 {
-    let mut table = AtomTable::new(alloc);
-    for r in order {
-        table.intern(atoms.atom(Var::new(r.var)))?;
+    let mut vars = Vec::new(alloc);
+    for ranked in list {
+        vars.push(Var::new(ranked.var))?;
     }
-    Ok(table)
+    Ok(vars)
 }
 
-// The variable in another table of each atom of a table, which is added where it isn't there.
-fn places_of(
-    alloc: Global,
-    atoms: &AtomTable,
-    table: &mut AtomTable,
-) -> Result<Vec<u32>, AllocError>
-    requires only { All (Contains atoms.now) table.old }
-    requires room { length table.old + length atoms.now ≤ 2 ^ 32 - 1 }
-    ensures only { OnOk result (All (Contains atoms.now) table.new) }
-    ensures places { IfOk result (λ list. AreMoved atoms.now table.new list.items) }
+// The variables of a table in the order of their ranks.
+fn order_of(alloc: Global, log: &Log, atoms: &AtomTable) -> Result<Vec<Var>, AllocError>
+    ensures { IfOk result (λ order. IsOrder (length atoms.now) order.items) }
 {
-    let mut list = Vec::new(alloc);
-    for v in 0..atoms.len() {
-        let var = table.intern(atoms.atom(Var::new(v)))?;
-        list.push(var.get())?;
+    vars_of(alloc, &sorted(alloc, log, atoms)?)
+}
+
+// The place of each variable in an order of all.
+fn places_of(alloc: Global, order: &[Var]) -> Result<Vec<u32>, AllocError>
+    requires order { IsOrder (length order.now) order.now }
+    requires few { length order.now ≤ 2 ^ 29 }
+    ensures { IfOk result (λ places. ArePlaces order.now places.items) }
+{
+    let mut places = vec![in alloc; 0; order.len()]?;
+    for n in 0..order.len() {
+        places[order[n].get() as usize] = n as u32;
     }
-    Ok(list)
+    Ok(places)
 }
 
 // Atoms in the order in which a search is to try them, and the place there of each one by its variable.
@@ -103,10 +146,10 @@ fn ordered_atoms(alloc: Global, log: &Log, atoms: &AtomTable) -> Result<Ordered,
     ensures places { IfOk result (λ o. AreMoved atoms.now o.atoms o.places.items) }
 {
     let order = order_of(alloc, log, atoms)?;
-    let mut table = taken(alloc, atoms, &order)?;
-    let places = places_of(alloc, atoms, &mut table)?;
+    let places = places_of(alloc, &order)?;
+    let taken = atoms.taken(alloc, &order)?;
     Ok(Ordered {
-        atoms: table,
+        atoms: taken,
         places,
     })
 }

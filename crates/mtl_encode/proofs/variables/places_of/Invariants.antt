@@ -1,13 +1,9 @@
-use Rattle.std.proofs.Common.{◌≡◌, ◌≤◌, ◌<◌, ◌+◌, ℕ, length}
-use Rattle.std.specs.Prelude.{All, Contains, slice_index}
-use Rattle.axiom_rules.specs.declared.literal.Atom.{Atom}
-use Rattle.axiom_rules.specs.Atoms.{IsVar}
+use Rattle.std.proofs.Common.{◌≡◌, ◌<◌, ℕ, length}
+use Rattle.std.specs.Prelude.{slice_index}
 use Rattle.mtl_encode.proofs.variables.places_of.Given as goal
 
-abbrev pub invariant-loop-v : goal.invariant-loop-v
-invariant-loop-v l = record {
-  only : All (Contains l.atoms) l.table;
-  few : length l.table ≤ length l.fn.table + l.v;
-  count : length l.list.items ≡ l.v;
-  each : (w : ℕ) (a : Atom) → w < l.v → IsVar l.atoms w a → IsVar l.table (slice_index l.list.items w) a;
+abbrev pub invariant-loop-n : goal.invariant-loop-n
+invariant-loop-n l = record {
+  count : length l.places.items ≡ length l.order;
+  each : (m : ℕ) → m < l.n → slice_index l.places.items (slice_index l.order m) ≡ m;
 }

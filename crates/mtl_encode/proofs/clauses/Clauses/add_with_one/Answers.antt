@@ -1,7 +1,9 @@
-use Rattle.std.proofs.Common.{refl}
+use Rattle.std.proofs.Common.{◌∙◌, refl, sym}
 use Rattle.std.specs.Prelude.{slice_index}
 use Rattle.mtl_encode.proofs.ClauseGrowth.{gains-next, gains-none, room-next}
 use Rattle.mtl_encode.proofs.ReachRules.{one-nothing}
+use Rattle.mtl_encode.proofs.SpanRules.{one-left-out, throughout}
+use Rattle.mtl_encode.specs.Needless.{extremes_of}
 use Rattle.mtl_encode.specs.Instances.{out_by, with_one, with_two}
 use Rattle.mtl_encode.proofs.clauses.Clauses.add_with_one.Goals as goal
 
@@ -14,3 +16,8 @@ loop-b-preserved c = gains-next c.args.rules.now (with_two c.args.rules.now (out
 pub returns-then-passes_over : goal.returns-then-passes_over
 returns-then-passes_over c = gains-none c.args.rules.now c.args.self.now c.args.self.now (with_one c.args.rules.now (out_by c.args.tight.now c.args.rules.now) c.args.number c.args.counts c.args.a) c.requires.clauses refl
     (one-nothing c.args.rules.now (out_by c.args.tight.now c.args.rules.now) c.args.a (c.passes_over.ensures.no_reach c.if-passes_over.true) c.args.number c.args.counts (c.passes_over.ensures.of_reach c.if-passes_over.true))
+
+pub returns-then-is_needless_throughout : goal.returns-then-is_needless_throughout
+returns-then-is_needless_throughout c = gains-none c.args.rules.now c.args.self.now c.args.self.now (with_one c.args.rules.now (out_by c.args.tight.now c.args.rules.now) c.args.number c.args.counts c.args.a) c.requires.clauses refl
+    (one-left-out c.args.rules.now (out_by c.args.tight.now c.args.rules.now) c.args.number c.args.counts c.args.a (λ i j m. throughout (extremes_of c.args.tight.now) c.args.rules.now c.args.number c.args.a i j m
+    (sym c.is_needless_throughout.ensures ∙ c.if-is_needless_throughout.true)))
