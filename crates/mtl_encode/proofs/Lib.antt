@@ -30,3 +30,4 @@ mod TightExtremes
 mod EncodeLemmas
 pub mod VariableLemmas
 mod OrderLemmas
+mod Rankings

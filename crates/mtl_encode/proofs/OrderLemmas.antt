@@ -1,11 +1,11 @@
 -- All variables in another order, and the place of each one.
-use Rattle.std.proofs.Common.{◌≡◌, ◌∙◌, sym, ap, subst, ℕ, zero, suc, ◌+◌, ◌<◌, List, [], ◌∷◌, ◌++◌, length, map, set, Some, inl, inr, add-one, arith}
+use Rattle.std.proofs.Common.{◌≡◌, ◌∙◌, sym, ap, subst, ℕ, ◌+◌, ◌<◌, List, length, set, Some, inl, inr, arith}
 use Rattle.std.specs.Prelude.{◌≢◌, ◌==◌, All, AllPairs, Contains, slice_get, slice_index, slice_index_or}
 use Rattle.std.specs.List.{range_with_len}
 use Rattle.std.specs.List.Sorted.{IsPermutation}
 use Rattle.std.proofs.lemmas.Bool.Decides.{Decides-eqb}
 use Rattle.std.proofs.lemmas.Bool.{cases_eq}
-use Rattle.std.proofs.lemmas.List.{map-append, get_or-set_other, get_or-set_same, get_or_default}
+use Rattle.std.proofs.lemmas.List.{get_or-set_other, get_or-set_same, get_or_default}
 use Rattle.std.proofs.lemmas.List.FromFn.{get_or-range_with_len, length-range_with_len}
 use Rattle.std.proofs.lemmas.List.Sorted.{All-permutation, Contains-permutation, length_permutation}
 use Rattle.std.proofs.lemmas.Map.Keys.{IsDistinct-IsPermutation}
@@ -14,7 +14,6 @@ use Rattle.std.proofs.lemmas.Option.{get_or_from_slice_get, slice_get-get_or, sl
 use Rattle.axiom_rules.specs.declared.literal.Atom.{Atom}
 use Rattle.axiom_rules.specs.declared.literal.Atom.TheVariants.{First}
 use Rattle.axiom_rules.specs.AtomIndex.{AreTaken}
-use Rattle.mtl_encode.specs.declared.variables.Ranked.{Ranked}
 use Rattle.mtl_encode.specs.Variables.{AreMoved, ArePlaces, IsOrder}
 
 -- the numbers below a number
@@ -42,14 +41,6 @@ order-of n order is = record {
   apart = AllPairs-from_IsDistinct Decides-eqb order (IsDistinct-IsPermutation (λ x y. x == y) eq-flips (range_with_len 0 n) order is (IsDistinct-from_AllPairs Decides-eqb (range_with_len 0 n) (range-apart n)));
   every = λ v low. Contains-permutation (range_with_len 0 n) order v is (v, omega (arith, low, length-range_with_len 0 n), range-at n v v low);
 }
-
-range-more-from : (a n j : ℕ) → a + n ≡ j → range_with_len a (suc n) ≡ range_with_len a n ++ j ∷ []
-range-more-from a zero j at = ap (λ (x : ℕ). x ∷ []) (omega (arith, at))
-range-more-from a (suc n) j at = ap (λ (xs : List ℕ). a ∷ xs) (range-more-from (a + 1) n j (omega (arith, at)))
-
--- the variables of those that are ranked, with one more
-pub vars-more : (list : List Ranked) (r : Ranked) (v : ℕ) → map (λ (r : Ranked). r.var) list ≡ range_with_len 0 v → r.var ≡ v → map (λ (r : Ranked). r.var) (list ++ r ∷ []) ≡ range_with_len 0 (v + 1)
-vars-more list r v is at = map-append (λ (r : Ranked). r.var) list (r ∷ []) ∙ (rw (is, at, add-one) (sym (range-more-from 0 v v (omega arith))))
 
 -- one place more is set
 pub place-set : (order places : List ℕ) (n size : ℕ) → IsOrder size order → length places ≡ size → n < length order

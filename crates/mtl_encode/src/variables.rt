@@ -1,10 +1,10 @@
 //! The order of the variables, in which a search tries the atoms that it knows nothing of.
 
-ghost use Rattle.std.specs.Prelude.{◌≡◌, ◌≤◌, ◌<◌, ◌^◌, length, map, All, Contains, IfOk};
+ghost use Rattle.std.specs.Prelude.{◌≡◌, ◌≤◌, ◌^◌, [], ◌∷◌, ◌++◌, length, map, All, Contains, IfOk, OnOk};
 ghost use Rattle.std.specs.List.{range_with_len};
 ghost use Rattle.std.specs.List.Sorted.{IsPermutation};
 ghost use Rattle.mtl_encode.specs.Growth.{AreClauses};
-ghost use Rattle.mtl_encode.specs.Variables.{AreMoved, ArePlaces, IsOrder};
+ghost use Rattle.mtl_encode.specs.Variables.{AreMoved, ArePlaces, IsOrder, vars_in};
 
 use crate::clauses::Clauses;
 use axiom_rules::{Atom, AtomTable, Rules};
@@ -12,11 +12,19 @@ use clause_db::Var;
 use mt_model::Log;
 use std::alloc::{AllocError, Global};
 
-/// What an atom speaks of. Orders come first, since they decide what the timing is; the others follow from them.
+/// An order: those come first, since they decide what the timing is, and of them those whose events are near in local
+/// time, since the log leaves open which of these comes first.
+#[derive(Clone, Copy, Debug, PartialEq, Eq, PartialOrd, Ord)]
+pub struct RankedOrder {
+    pub apart: u64,
+    pub var: u32,
+}
+
+/// What follows from the orders: what atoms say of nodes, of which each comes after its parts, and then which events are
+/// first ones.
 #[derive(Clone, Copy, Debug, PartialEq, Eq, PartialOrd, Ord)]
 pub enum Subject {
-    Order,
-    Node,
+    OfNode(u32),
     First,
 }
 
@@ -29,15 +37,19 @@ pub enum Part {
     Truth,
 }
 
-/// A variable with what orders it among the others.
+/// An atom that is no order.
 #[derive(Clone, Copy, Debug, PartialEq, Eq, PartialOrd, Ord)]
-pub struct Ranked {
+pub struct RankedOther {
     pub subject: Subject,
-    /// Of an order, how far its events are apart in local time: the log leaves open which of near ones come first. Of what
-    /// speaks of a node, the node, which comes after its parts.
-    pub key: u64,
     pub part: Part,
     pub var: u32,
+}
+
+/// Variables with what orders them.
+#[derive(Drop)]
+pub struct Ranking {
+    pub orders: Vec<RankedOrder>,
+    pub others: Vec<RankedOther>,
 }
 
 // The local time of an event, and 0 where there is none.
@@ -53,62 +65,92 @@ fn apart(log: &Log, e: u32, f: u32) -> u64 {
     u64::try_from(local_at(log, e).abs_diff(local_at(log, f))).unwrap_or(u64::MAX)
 }
 
-// A variable of an atom that says something of a node.
-fn of_node(k: u32, part: Part, var: u32) -> Ranked
-    ensures { result.var ≡ var }
-{
-    Ranked {
-        subject: Subject::Node,
-        key: k as u64,
-        part,
-        var,
+impl Ranking {
+    // Adds a variable of an order.
+    fn add_order(&mut self, apart: u64, var: u32) -> Result<(), AllocError>
+        ensures { OnOk result (IsPermutation (vars_in self.old ++ var ∷ []) (vars_in self.new)) }
+    {
+        self.orders.push(RankedOrder { apart, var })?;
+        Ok(())
+    }
+
+    // Adds a variable of another atom.
+    fn add_other(&mut self, subject: Subject, part: Part, var: u32) -> Result<(), AllocError>
+        ensures { OnOk result (IsPermutation (vars_in self.old ++ var ∷ []) (vars_in self.new)) }
+    {
+        self.others.push(RankedOther { subject, part, var })?;
+        Ok(())
+    }
+
+    // Adds the variable of an atom.
+    fn add(&mut self, log: &Log, atom: Atom, var: u32) -> Result<(), AllocError>
+        ensures { OnOk result (IsPermutation (vars_in self.old ++ var ∷ []) (vars_in self.new)) }
+    {
+        match atom {
+            Atom::Order { e, f, .. } => self.add_order(apart(log, e, f), var),
+            Atom::Span { k, .. } => self.add_other(Subject::OfNode(k), Part::Span, var),
+            Atom::Gap { k, .. } => self.add_other(Subject::OfNode(k), Part::Gap, var),
+            Atom::Wit { k, .. } => self.add_other(Subject::OfNode(k), Part::Wit, var),
+            Atom::Node { k, .. } => self.add_other(Subject::OfNode(k), Part::Truth, var),
+            Atom::First { .. } => self.add_other(Subject::First, Part::Truth, var),
+        }
     }
 }
 
-// A variable with the rank of its atom.
-fn rank(log: &Log, atom: Atom, var: u32) -> Ranked
-    ensures { result.var ≡ var }
+// The variables of a table with what orders them.
+fn ranking_of(alloc: Global, log: &Log, atoms: &AtomTable) -> Result<Ranking, AllocError>
+    ensures { IfOk result (λ ranking. IsPermutation (range_with_len 0 (length atoms.now)) (vars_in ranking)) }
 {
-    match atom {
-        Atom::Order { e, f, .. } => Ranked {
-            subject: Subject::Order,
-            key: apart(log, e, f),
-            part: Part::Truth,
-            var,
-        },
-        Atom::Span { k, .. } => of_node(k, Part::Span, var),
-        Atom::Gap { k, .. } => of_node(k, Part::Gap, var),
-        Atom::Wit { k, .. } => of_node(k, Part::Wit, var),
-        Atom::Node { k, .. } => of_node(k, Part::Truth, var),
-        Atom::First { .. } => Ranked {
-            subject: Subject::First,
-            key: 0,
-            part: Part::Truth,
-            var,
-        },
-    }
-}
-
-// The variables of a table with their ranks, in the order of these.
-fn sorted(alloc: Global, log: &Log, atoms: &AtomTable) -> Result<Vec<Ranked>, AllocError>
-    ensures { IfOk result (λ list. IsPermutation (range_with_len 0 (length atoms.now)) (map (λ r. r.var) list.items)) }
-{
-    let mut list = Vec::new(alloc);
+    let mut ranking = Ranking {
+        orders: Vec::new(alloc),
+        others: Vec::new(alloc),
+    };
     for v in 0..atoms.len() {
-        list.push(rank(log, atoms.atom(Var::new(v)), v))?;
+        ranking.add(log, atoms.atom(Var::new(v)), v)?;
     }
-    list.sort_unstable();
-    Ok(list)
+    Ok(ranking)
 }
 
-// The variables of these.
-fn vars_of(alloc: Global, list: &[Ranked]) -> Result<Vec<Var>, AllocError>
-    ensures { IfOk result (λ vars. vars.items ≡ map (λ r. r.var) list.now) }
+// The same in order. Other atoms stand in it group by group already, which a stable sort uses.
+fn sorted(ranking: Ranking) -> Result<Ranking, AllocError>
+    ensures { IfOk result (λ sorted. IsPermutation (vars_in ranking) (vars_in sorted)) }
+{
+    let Ranking {
+        mut orders,
+        mut others,
+    } = ranking;
+    orders.sort_unstable();
+    others.sort()?;
+    Ok(Ranking { orders, others })
+}
+
+// Adds the variables of orders.
+fn push_orders(vars: &mut Vec<Var>, orders: &[RankedOrder]) -> Result<(), AllocError>
+    ensures { OnOk result (vars.new.items ≡ vars.old.items ++ map (λ r. r.var) orders.now) }
+{
+    for order in orders {
+        vars.push(Var::new(order.var))?;
+    }
+    Ok(())
+}
+
+// Adds the variables of other atoms.
+fn push_others(vars: &mut Vec<Var>, others: &[RankedOther]) -> Result<(), AllocError>
+    ensures { OnOk result (vars.new.items ≡ vars.old.items ++ map (λ r. r.var) others.now) }
+{
+    for other in others {
+        vars.push(Var::new(other.var))?;
+    }
+    Ok(())
+}
+
+// The variables of a ranking.
+fn vars_of(alloc: Global, ranking: &Ranking) -> Result<Vec<Var>, AllocError>
+    ensures { IfOk result (λ vars. vars.items ≡ vars_in ranking.now) }
 {
     let mut vars = Vec::new(alloc);
-    for ranked in list {
-        vars.push(Var::new(ranked.var))?;
-    }
+    push_orders(&mut vars, &ranking.orders)?;
+    push_others(&mut vars, &ranking.others)?;
     Ok(vars)
 }
 
@@ -116,7 +158,8 @@ fn vars_of(alloc: Global, list: &[Ranked]) -> Result<Vec<Var>, AllocError>
 fn order_of(alloc: Global, log: &Log, atoms: &AtomTable) -> Result<Vec<Var>, AllocError>
     ensures { IfOk result (λ order. IsOrder (length atoms.now) order.items) }
 {
-    vars_of(alloc, &sorted(alloc, log, atoms)?)
+    let ranking = ranking_of(alloc, log, atoms)?;
+    vars_of(alloc, &sorted(ranking)?)
 }
 
 // The place of each variable in an order of all.
