@@ -1,14 +1,8 @@
 -- A table of atoms that gets one more.
-use Rattle.std.proofs.Common.{◌≡◌, ◌∙◌, sym, ap, refl, ℕ, zero, suc, ◌-◌, ◌<◌, ◌^◌, Bool, true, false, List, [], ◌∷◌, ◌++◌, length, Some, ◌⊎◌, inl, inr, arith}
-use Rattle.std.specs.List.{list_any}
+use Rattle.std.proofs.Common.{◌≡◌, ◌∙◌, sym, ap, ℕ, zero, suc, ◌-◌, ◌<◌, ◌^◌, true, false, List, [], ◌∷◌, length, Some, ◌⊎◌, inl, inr, arith}
 use Rattle.std.proofs.lemmas.Bool.{cases_Bool, or_left, or_right}
 use Rattle.std.proofs.lemmas.List.{length-append}
-use Rattle.std.proofs.Common.{if◌then◌else◌, ◌&&◌, ◌==◌}
-use Rattle.std.specs.Ordering.{int_eq}
-use Rattle.indexmap.specs.IndexSet.{insert_key}
-use Rattle.axiom_rules.specs.contracts.literal.AtomPartialEq.TheImpl.{eq-value as atom_eq}
 use Rattle.axiom_rules.specs.declared.literal.Atom.{Atom}
-use Rattle.axiom_rules.specs.declared.literal.Atom.TheVariants.{Order, Node, First, Wit, Span, Gap}
 use Rattle.axiom_rules.specs.Atoms.{AreOnce, IsVar, has_atom, with_atom}
 use Rattle.axiom_rules.specs.Literals.{same_atom}
 use Rattle.axiom_rules.proofs.AddingLemmas.{atom-itself}
@@ -31,24 +25,3 @@ once-added atoms a room once = elim (cases_Bool (has_atom atoms a)) [
     go v w b (inl old) (inr new) absent = absurd (apart (has_atom atoms a) (has-var atoms v a (old ∙ ap Some (sym new.1))) absent)
     go v w b (inr new) (inl old) absent = absurd (apart (has_atom atoms a) (has-var atoms w a (old ∙ ap Some (sym new.1))) absent)
     go v w b (inr new) (inr same) absent = new.0 ∙ sym same.0
-
-grouped : (a b c : Bool) → (a && (b && c)) ≡ (a && b && c)
-grouped true b c = refl
-grouped false b c = refl
-
--- the comparison of atoms is that of the definition
-eq-same : (a b : Atom) → atom_eq.it a b ≡ same_atom a b
-eq-same (Order e f c) (Order g h d) = grouped (e == g) (f == h) (int_eq c d)
-eq-same (Node k e) (Node l f) = refl
-eq-same (First e) (First f) = refl
-eq-same (Wit k i j) (Wit l g h) = grouped (k == l) (i == g) (j == h)
-eq-same (Span k i j) (Span l g h) = grouped (k == l) (i == g) (j == h)
-eq-same (Gap k i m) (Gap l g h) = grouped (k == l) (i == g) (m == h)
-eq-same _ _ = refl
-
-any-same : (a : Atom) (atoms : List Atom) → list_any (atom_eq.it a) atoms ≡ has_atom atoms a
-any-same a [] = refl
-any-same a (b ∷ atoms) = rw (eq-same a b, any-same a atoms) refl
-
-pub inserted : (atoms : List Atom) (a : Atom) → insert_key atom_eq.it atoms a ≡ with_atom atoms a
-inserted atoms a = ap (λ there. if there then atoms else atoms ++ a ∷ []) (any-same a atoms)
