@@ -1,6 +1,5 @@
 -- The first gap of a side, and what it says of the rows up to a witness.
-use borrow.Author.Count.{below_more}
-use Rattle.std.proofs.Common.{◌≡◌, ◌∙◌, sym, ap, refl, ℕ, ◌+◌, ◌<◌, Bool, true, false, not, ◌&&◌, List, length, Option, Some, None, arith, ℤ, inl, inr}
+use Rattle.std.proofs.Common.{◌≡◌, ◌∙◌, sym, ap, refl, ℕ, ◌<◌, Bool, true, false, not, ◌&&◌, List, length, Option, Some, None, arith, ℤ, inl, inr}
 use Rattle.std.specs.Option.{option_map_or}
 use Rattle.std.specs.List.{list_any, range_with_len}
 use Rattle.std.proofs.lemmas.Int.{ints}
@@ -11,7 +10,7 @@ use Rattle.mt_model.proofs.Members.{Among, any_same, same_bool, all_each, each_a
 use Rattle.mt_model.proofs.PositionLemmas.{below, within_has}
 use Rattle.formula_arena.specs.declared.direction.Direction.{Direction}
 use Rattle.formula_arena.specs.declared.direction.Direction.TheVariants.{Ahead, Behind}
-use Rattle.witness_replay.specs.Columns.{IsFirstGap, is_gap}
+use Rattle.witness_replay.specs.Columns.{IsFirstGap}
 use Rattle.witness_replay.specs.Directions.{rows_from}
 
 -- the order of the rows, either way: of two one is not after the other, and it goes along
@@ -19,48 +18,13 @@ either : (d : Direction) (t : List ℤ) (x y : ℕ) → (rows_from d t).not_afte
 either Ahead t x y h = grind (arith, ints)
 either Behind t x y h = grind (arith, ints)
 
-along : (d : Direction) (t : List ℤ) (x y z : ℕ) → (rows_from d t).not_after x y ≡ true → (rows_from d t).not_after y z ≡ true → (rows_from d t).not_after x z ≡ true
+pub along : (d : Direction) (t : List ℤ) (x y z : ℕ) → (rows_from d t).not_after x y ≡ true → (rows_from d t).not_after y z ≡ true → (rows_from d t).not_after x z ≡ true
 along Ahead t x y z h k = grind (arith, ints)
 along Behind t x y z h k = grind (arith, ints)
 
 pub points : (d : Direction) (t : List ℤ) → (rows_from d t).points ≡ range_with_len 0 (length t)
 points Ahead t = refl
 points Behind t = refl
-
-module _ (d : Direction) (t : List ℤ) (test : ℕ → Bool) (e : ℕ) where
-  abbrev F : Frame ℕ
-  F = rows_from d t
-
-  itself : (x : ℕ) → F.not_after x x ≡ true
-  itself x = elim (cases_Bool (F.not_after x x)) [
-    | inl is ↦ is
-    | inr fails ↦ either d t x x fails
-  ]
-
-  -- row n is a gap and not after the first gap among the rows below it: it is the first one
-  pub gap-new : (n : ℕ) (gap : Option ℕ) → IsFirstGap F test e n gap → is_gap F test e n ≡ true → option_map_or (λ g. F.not_after n g) gap true ≡ true → IsFirstGap F test e (n + 1) (Some n)
-  gap-new n None none here before = record {
-    within = omega arith;
-    gap = here;
-    first = below_more (λ m. is_gap F test e m ≡ true → F.not_after n m ≡ true) n (λ m less is. let no = none m less in absurd (cc)) (λ is. itself n);
-  }
-  gap-new n (Some g) some here before = record {
-    within = omega arith;
-    gap = here;
-    first = below_more (λ m. is_gap F test e m ≡ true → F.not_after n m ≡ true) n (λ m less is. along d t n g m before (some.first m less is)) (λ is. itself n);
-  }
-
-  -- any other row leaves it
-  pub gap-old : (n : ℕ) (gap : Option ℕ) → IsFirstGap F test e n gap → (is_gap F test e n ≡ true → option_map_or (λ g. F.not_after n g) gap true ≡ false) → IsFirstGap F test e (n + 1) gap
-  gap-old n None none fails = below_more (λ m. is_gap F test e m ≡ false) n none (elim (cases_Bool (is_gap F test e n)) [
-    | inl is ↦ let no = fails is in absurd (cc)
-    | inr is ↦ is
-  ])
-  gap-old n (Some g) some fails = record {
-    within = let low = some.within in omega arith;
-    gap = some.gap;
-    first = below_more (λ m. is_gap F test e m ≡ true → F.not_after g m ≡ true) n some.first (λ is. either d t n g (fails is));
-  }
 
 not-true : (a : Bool) → not a ≡ true → a ≡ false
 not-true true h = absurd (cc)
@@ -86,7 +50,7 @@ module _ (d : Direction) (t : List ℤ) (test : ℕ → Bool) (e : ℕ) (gap : O
   spans-before y (Some g) some spans = elim (cases_Bool (G.not_after y g)) [
     | inl is ↦ is
     | inr fails ↦
-        let (from_here, broken) = and_parts (G.not_after e g) (not (test g)) some.gap in
+        let (from_here, broken) = and_parts (G.not_after e g) (not (test g)) some.passed in
         let holds = implies-then (G.not_after e g && not (G.not_after y g)) (test g) (all_each _ G.points g spans (at_row g some.within)) (and_from (G.not_after e g) (not (G.not_after y g)) from_here (not-false (G.not_after y g) fails)) in
         let no = not-true (test g) broken in absurd (cc)
   ]

@@ -1,3 +1,7 @@
 mod StateLemmas
 mod GapLemmas
 mod TableLemmas
+mod TimelineLemmas
+mod SweepLemmas
+mod ReachLemmas
+mod FilledLemmas

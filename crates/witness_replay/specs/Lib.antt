@@ -1,6 +1,8 @@
 pub mod Judged
 pub mod Directions
 pub mod Columns
+pub mod Timelines
+pub mod Sweeps
 pub mod Tables
 pub use Rattle.mt_model.specs.Log
 pub use Rattle.mt_model.specs.Timing

@@ -6,9 +6,12 @@ ghost use Rattle.mt_model.specs.State.{state_named, state as state_of};
 ghost use Rattle.mt_model.specs.Timing.{time_of};
 ghost use Rattle.mt_model.specs.declared.limits.TheConstants.{MAX_TIME};
 ghost use Rattle.witness_replay.specs.Columns.{IsColumn, reaches_from, value_at};
+ghost use Rattle.witness_replay.specs.Timelines.{IsTimeline};
 
-use crate::operators::reaches_at;
+use crate::operators::is_reached;
 use crate::states::state;
+use crate::sweep::{Sweep, Wanted};
+use crate::timeline::{Moment, row_at};
 use formula_arena::Direction;
 use mt_model::{Interval, Log, Name};
 
@@ -64,22 +67,40 @@ pub fn fill_conjunction(left: &[bool], right: &[bool], column: &mut [bool])
     }
 }
 
-/// Where an until holds, or a since where it looks behind.
+/// Where an until holds, or a since where it looks behind. The rows are gone through from the one that is met last,
+/// and what is near comes nearer with each of them.
 pub fn fill_reaches(
     direction: Direction,
     times: &[i128],
+    moments: &[Moment],
     interval: &Interval,
     left: &[bool],
     right: &[bool],
     column: &mut [bool],
 )
     requires range { All (IsWithin MAX_TIME) times.now }
+    requires timeline { IsTimeline times.now moments.now }
     requires left_count { length left.now ≡ length times.now }
     requires right_count { length right.now ≡ length times.now }
     requires room { length column.old ≡ length times.now }
     ensures { IsColumn (length times.now) (reaches_from direction times.now interval.now left.now right.now) column.new }
 {
-    for e in 0..times.len() {
-        column[e] = reaches_at(direction, times, interval, left, right, e);
+    let failing = Wanted {
+        value: false,
+        low: 0,
+    };
+    let holding = Wanted {
+        value: true,
+        low: interval.low,
+    };
+    let mut gaps = Sweep::new(times.len());
+    let mut witnesses = Sweep::new(times.len());
+    for place in (0..times.len()).rev() {
+        let e = row_at(direction, moments, place);
+        gaps = gaps.advanced(direction, times, moments, left, failing, e);
+        witnesses = witnesses.advanced(direction, times, moments, right, holding, e);
+        let witness = witnesses.row(direction, moments);
+        let gap = gaps.row(direction, moments);
+        column[e] = is_reached(direction, times, interval, witness, gap, e);
     }
 }

@@ -11,8 +11,10 @@ ghost use Rattle.mt_model.specs.declared.limits.TheConstants.{MAX_TIME};
 ghost use Rattle.formula_arena.specs.Nodes.{tree_at};
 ghost use Rattle.witness_replay.specs.Columns.{IsColumn};
 ghost use Rattle.witness_replay.specs.Tables.{ColumnsAreTruths, column_at};
+ghost use Rattle.witness_replay.specs.Timelines.{IsTimeline};
 
 use crate::columns::{fill, fill_conjunction, fill_negation, fill_reaches, fill_states};
+use crate::timeline::{Moment, sort_rows};
 use formula_arena::{Arena, Core, Direction};
 use mt_model::{Log, NodeId, truth_by_rows};
 
@@ -30,12 +32,14 @@ fn fill_node(
     log: &Log,
     arena: &Arena,
     times: &[i128],
+    moments: &[Moment],
     node: NodeId,
     before: &[bool],
     target: &mut [bool],
 )
     requires count { length times.now ≡ length log.now.rows }
     requires range { All (IsWithin MAX_TIME) times.now }
+    requires timeline { IsTimeline times.now moments.now }
     requires node_in { node < length arena.now }
     requires before_room { length before.now ≡ node * length times.now }
     requires room { length target.old ≡ length times.now }
@@ -55,19 +59,43 @@ fn fill_node(
         }
         Core::Until(interval, f, g) => {
             let (left, right) = (column(before, rows, f), column(before, rows, g));
-            fill_reaches(Direction::Ahead, times, &interval, left, right, target);
+            fill_reaches(
+                Direction::Ahead,
+                times,
+                moments,
+                &interval,
+                left,
+                right,
+                target,
+            );
         }
         Core::Since(interval, f, g) => {
             let (left, right) = (column(before, rows, f), column(before, rows, g));
-            fill_reaches(Direction::Behind, times, &interval, left, right, target);
+            fill_reaches(
+                Direction::Behind,
+                times,
+                moments,
+                &interval,
+                left,
+                right,
+                target,
+            );
         }
     }
 }
 
 // Fills the column of a node where those of the nodes before it are filled.
-fn fill_next(log: &Log, arena: &Arena, times: &[i128], node: NodeId, table: &mut [bool])
+fn fill_next(
+    log: &Log,
+    arena: &Arena,
+    times: &[i128],
+    moments: &[Moment],
+    node: NodeId,
+    table: &mut [bool],
+)
     requires count { length times.now ≡ length log.now.rows }
     requires range { All (IsWithin MAX_TIME) times.now }
+    requires timeline { IsTimeline times.now moments.now }
     requires node_in { node < length arena.now }
     requires room { length table.old ≡ length arena.now * length times.now }
     requires before { ColumnsAreTruths log.now times.now arena.now node table.old }
@@ -75,18 +103,19 @@ fn fill_next(log: &Log, arena: &Arena, times: &[i128], node: NodeId, table: &mut
 {
     let rows = times.len();
     let (before, rest) = table.split_at_mut(node.get() as usize * rows);
-    fill_node(log, arena, times, node, before, &mut rest[..rows]);
+    fill_node(log, arena, times, moments, node, before, &mut rest[..rows]);
 }
 
 // Fills the table with the truth of each node at each row. What stands there before plays no part.
-fn evaluate(log: &Log, arena: &Arena, times: &[i128], table: &mut [bool])
+fn evaluate(log: &Log, arena: &Arena, times: &[i128], moments: &[Moment], table: &mut [bool])
     requires count { length times.now ≡ length log.now.rows }
     requires range { All (IsWithin MAX_TIME) times.now }
+    requires timeline { IsTimeline times.now moments.now }
     requires room { length table.old ≡ length arena.now * length times.now }
     ensures { ColumnsAreTruths log.now times.now arena.now (length arena.now) table.new }
 {
     for k in 0..arena.len() {
-        fill_next(log, arena, times, NodeId::new(k), table);
+        fill_next(log, arena, times, moments, NodeId::new(k), table);
     }
 }
 
@@ -105,23 +134,26 @@ fn first_row(times: &[i128]) -> usize
     first
 }
 
-/// The truth of a node at the first position of a timing. The table has room for a value of each node at each
-/// row, and what stands there before plays no part.
+/// The truth of a node at the first position of a timing. There is room for a moment of each row, and in the table
+/// for a value of each node at each row; what stands there before plays no part.
 pub fn truth_at_first(
     log: &Log,
     arena: &Arena,
     node: NodeId,
     times: &[i128],
+    moments: &mut [Moment],
     table: &mut [bool],
 ) -> bool
     requires count { length times.now ≡ length log.now.rows }
     requires range { All (IsWithin MAX_TIME) times.now }
     requires node_in { node < length arena.now }
+    requires moments_room { length moments.old ≡ length times.now }
     requires room { length table.old ≡ length arena.now * length times.now }
     ensures { result ≡ truth log.now times.now 0 (tree_at arena.now node) }
 {
     truth_by_rows();
     prove!(!log.rows().is_empty());
-    evaluate(log, arena, times, table);
+    sort_rows(times, moments);
+    evaluate(log, arena, times, moments, table);
     table[node.get() as usize * times.len() + first_row(times)]
 }

@@ -7,5 +7,7 @@ mod evaluator;
 mod operators;
 mod replayer;
 mod states;
+mod sweep;
+mod timeline;
 
 pub use replayer::Replayer;

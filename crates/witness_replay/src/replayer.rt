@@ -11,6 +11,7 @@ ghost use Rattle.formula_arena.specs.Nodes.{nodes_of};
 ghost use Rattle.formula_arena.specs.declared.arena.TheConstants.{MAX_NODES};
 
 use crate::evaluator::truth_at_first;
+use crate::timeline::Moment;
 use formula_arena::{Arena, ArenaFault, truth_of_core};
 use mt_model::{Bound, BoundList, Formula, Log, NodeId};
 use skew_bounds::{bounds, first_broken};
@@ -20,13 +21,15 @@ use std::marker::Model;
 /// Judges timings of one log by one formula, in memory that was taken when it was made.
 ///
 /// Contracts see it as the log and the core of the formula, of which it keeps copies. Its table has a truth
-/// value for each node of the formula at each row, and each timing writes it anew.
+/// value for each node of the formula at each row, and its moments are the rows of a timing; each timing writes
+/// them anew.
 #[derive(Drop)]
 pub struct Replayer {
     log: Log,
     arena: Arena,
     root: NodeId,
     bounds: BoundList,
+    moments: Vec<Moment>,
     table: Vec<bool>,
 }
 
@@ -42,7 +45,7 @@ impl Model for Replayer {
 
     ghost view = { λ r. record { log = r.log; core = tree_at r.arena r.root } };
 
-    ghost invariant = { λ r. IsReady r.log r.arena r.root r.bounds r.table.items };
+    ghost invariant = { λ r. IsReady r.log r.arena r.root r.bounds r.moments.items r.table.items };
 }
 
 // A truth value for each of so many nodes at each of so many rows.
@@ -51,6 +54,13 @@ fn make_table(alloc: Global, nodes: u32, rows: usize) -> Result<Vec<bool>, Alloc
     ensures { IfOk result (λ table. length table.items ≡ nodes * rows) }
 {
     vec![in alloc; false; nodes as usize * rows]
+}
+
+// A moment for each of so many rows.
+fn make_moments(alloc: Global, rows: usize) -> Result<Vec<Moment>, AllocError>
+    ensures { IfOk result (λ moments. length moments.items ≡ rows) }
+{
+    vec![in alloc; Moment { time: 0, row: 0 }; rows]
 }
 
 // A copy of a log, and its bounds.
@@ -75,6 +85,7 @@ impl Replayer {
     {
         let mut arena = Arena::new(alloc);
         let root = arena.intern(f)?;
+        let moments = make_moments(alloc, log.rows().len())?;
         let table = make_table(alloc, arena.len(), log.rows().len())?;
         let (log, bounds) = copy_with_bounds(alloc, log)?;
         Ok(Replayer {
@@ -82,6 +93,7 @@ impl Replayer {
             arena,
             root,
             bounds,
+            moments,
             table,
         })
     }
@@ -115,6 +127,13 @@ impl Replayer {
         ensures kept { self.new ≡ self.old }
     {
         truth_of_core();
-        truth_at_first(&self.log, &self.arena, self.root, times, &mut self.table)
+        truth_at_first(
+            &self.log,
+            &self.arena,
+            self.root,
+            times,
+            &mut self.moments,
+            &mut self.table,
+        )
     }
 }
