@@ -5,3 +5,4 @@ mod TimelineLemmas
 mod SweepLemmas
 mod ReachLemmas
 mod FilledLemmas
+mod LatestLemmas

@@ -83,7 +83,7 @@ module _ (d : Direction) (t : List ℤ) where
 
 -- the rows of a timeline in the order in which they are met
 module _ (d : Direction) (t : List ℤ) (moments : List Moment) (timeline : IsTimeline t moments) where
-  timed : (k : ℕ) → k < length t → IsTimed t (moment_at moments k)
+  pub timed : (k : ℕ) → k < length t → IsTimed t (moment_at moments k)
   timed k within =
       let k_in : k < length moments = omega (arith, timeline.full) in
       All-get_or (IsTimed t) moments k none k_in timeline.rows

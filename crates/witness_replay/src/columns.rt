@@ -9,7 +9,7 @@ ghost use Rattle.witness_replay.specs.Columns.{IsColumn, reaches_from, value_at}
 ghost use Rattle.witness_replay.specs.Timelines.{IsTimeline};
 
 use crate::operators::is_reached;
-use crate::states::state;
+use crate::states::Latest;
 use crate::sweep::{Sweep, Wanted};
 use crate::timeline::{Moment, row_at};
 use formula_arena::Direction;
@@ -24,24 +24,42 @@ pub fn fill(column: &mut [bool], value: bool)
     }
 }
 
-fn fill_states_of(log: &Log, times: &[i128], host: usize, name: &Name, column: &mut [bool])
+fn fill_states_of(
+    log: &Log,
+    times: &[i128],
+    moments: &[Moment],
+    host: usize,
+    name: &Name,
+    column: &mut [bool],
+)
     requires count { length times.now ≡ length log.now.rows }
+    requires timeline { IsTimeline times.now moments.now }
     requires room { length column.old ≡ length times.now }
     ensures { IsColumn (length times.now) (λ e. state_of log.now times.now (time_of times.now e) host name.now) column.new }
 {
-    for e in 0..times.len() {
-        column[e] = state(log, times, times[e], host, name);
+    let mut latest = Latest::new();
+    for place in 0..times.len() {
+        latest = latest.advanced(log, moments, host, name, place);
+        column[moments[place].row] = latest.state(log, host, name);
     }
 }
 
 /// The state of a proposition at each row.
-pub fn fill_states(log: &Log, times: &[i128], host: &Name, name: &Name, column: &mut [bool])
+pub fn fill_states(
+    log: &Log,
+    times: &[i128],
+    moments: &[Moment],
+    host: &Name,
+    name: &Name,
+    column: &mut [bool],
+)
     requires count { length times.now ≡ length log.now.rows }
+    requires timeline { IsTimeline times.now moments.now }
     requires room { length column.old ≡ length times.now }
     ensures { IsColumn (length times.now) (λ e. state_named log.now times.now (time_of times.now e) host.now name.now) column.new }
 {
     match log.host_named(host) {
-        Some(host) => fill_states_of(log, times, host, name, column),
+        Some(host) => fill_states_of(log, times, moments, host, name, column),
         None => fill(column, false),
     }
 }

@@ -51,7 +51,7 @@ fn fill_node(
         Core::True => fill(target, true),
         Core::Prop(prop) => {
             let (host, name) = arena.prop(prop);
-            fill_states(log, times, host, name, target);
+            fill_states(log, times, moments, host, name, target);
         }
         Core::Not(f) => fill_negation(column(before, rows, f), target),
         Core::And(f, g) => {

@@ -1,0 +1,94 @@
+-- The state of a proposition, from the last change among the rows up to an instant.
+use borrow.Author.Count.{below_more}
+use Rattle.std.proofs.Common.{◌≡◌, ap, refl, ℕ, ◌+◌, ◌-◌, ◌<◌, ◌≤◌, true, false, ◌&&◌, List, length, Option, Some, None, arith, ℤ, ◌≤ℤ◌, inl, inr}
+use Rattle.std.specs.Prelude.{int_le, is_some, nat_lt, MatchOption}
+use Rattle.std.specs.Option.{option_map_or}
+use Rattle.std.proofs.lemmas.Bool.{and_from, cases_Bool, cases_lt, lt-ltb, ltb-false}
+use Rattle.std.proofs.lemmas.Int.{ints}
+use Rattle.mt_model.specs.Log.{Logged}
+use Rattle.mt_model.specs.State.{Change, change_at, state}
+use Rattle.mt_model.specs.Timing.{time_of}
+use Rattle.formula_arena.specs.declared.direction.Direction.TheVariants.{Ahead}
+use Rattle.witness_replay.specs.LatestChanges.{AreAfter, AreBy, IsLastOf, IsLatest, changes_at, is_change, state_after}
+use Rattle.witness_replay.specs.Timelines.{AreRising, IsTimeline, moment_at}
+use Rattle.witness_replay.specs.declared.states.Latest.{Latest}
+use Rattle.witness_replay.specs.declared.timeline.Moment.{Moment}
+use Rattle.witness_replay.proofs.StateLemmas.{state_before-last, state_before-never}
+use Rattle.witness_replay.proofs.TimelineLemmas.{met-each, timed}
+
+-- where the next place is after an instant, all from it on are
+pub after-rest : (moments : List Moment) (instant : ℤ) (places : ℕ) → AreRising moments (length moments) → (nat_lt places (length moments) && int_le (moment_at moments places).time instant) ≡ false → AreAfter moments instant places
+after-rest moments instant places rising ends = λ k from within. elim (cases_Bool (int_le (moment_at moments places).time instant)) [
+  | inl by ↦
+      let is = and_from (nat_lt places (length moments)) (int_le (moment_at moments places).time instant) (lt-ltb places (length moments) (omega (arith, from, within))) by in absurd (cc)
+  | inr late ↦ let up = rising places k from within in grind (arith, ints)
+]
+
+-- one more place is taken in, whose row doesn't decide
+pub latest-kept : (log : Logged) (moments : List Moment) (host : ℕ) (name : List ℕ) (places : ℕ) (row : Option ℕ) → IsLatest log moments host name (record { places = places; row = row })
+    → (option_map_or (λ r. nat_lt r (moment_at moments places).row) row true && is_change log host name (moment_at moments places).row) ≡ false → IsLatest log moments host name (record { places = places + 1; row = row })
+latest-kept log moments host name places None none fails = below_more (λ k. changes_at log moments host name k ≡ false) places none fails
+latest-kept log moments host name places (Some r) some fails = record {
+  place = some.place;
+  within = let low = some.within in omega arith;
+  there = some.there;
+  passed = some.passed;
+  last = below_more (λ k. is_change log host name (moment_at moments k).row ≡ true → (moment_at moments k).row ≤ r) places some.last (λ is. elim (cases_Bool (nat_lt r (moment_at moments places).row)) [
+    | inl later ↦ let both = and_from (nat_lt r (moment_at moments places).row) (is_change log host name (moment_at moments places).row) later is in absurd (cc)
+    | inr before ↦ ltb-false r (moment_at moments places).row before
+  ]);
+}
+
+not-some : {X : Type 0} (o : Option X) → is_some o ≡ false → o ≡ None
+not-some None h = refl
+not-some (Some x) h = absurd (cc)
+
+-- the last change of those by an instant decides the state
+module _ (log : Logged) (t : List ℤ) (moments : List Moment) (count : length t ≡ length log.rows) (timeline : IsTimeline t moments) (host : ℕ) (name : List ℕ) (instant : ℤ) where
+  by-time : (k : ℕ) → k < length t → (moment_at moments k).time ≤ℤ instant → int_le (time_of t (moment_at moments k).row) instant ≡ true
+  by-time k within by =
+      let (_, is) = timed Ahead t moments timeline k within in
+      grind (arith, ints)
+
+  module _ (latest : Latest) (within : latest.places ≤ length moments) (by : AreBy moments instant latest.places) (after : AreAfter moments instant latest.places) where
+    -- a row by the instant is that of one of the first places
+    taken : (e : ℕ) → e < length t → int_le (time_of t e) instant ≡ true → (k : ℕ) × (k < latest.places) × ((moment_at moments k).row ≡ e)
+    taken e e_in early =
+        let (k, k_in, here) = met-each Ahead t moments timeline e e_in in
+        elim (cases_lt k latest.places) [
+          | inl less ↦ (k, less, here)
+          | inr rest ↦
+              let (_, is) = timed Ahead t moments timeline k k_in in
+              let late = after k rest (omega (arith, timeline.full)) in
+              let at : time_of t (moment_at moments k).row ≡ time_of t e = ap (time_of t) here in
+              absurd (grind (arith, ints))
+        ]
+
+    last-state : (r : ℕ) (c : Change) → IsLastOf (is_change log host name) moments latest.places r → change_at log host name r ≡ Some c → state log t instant host name ≡ c.sets
+    last-state r c some found =
+        let place_in : some.place < length t = let low = some.within in omega (arith, timeline.full, within) in
+        let (row_in, _) = timed Ahead t moments timeline some.place place_in in
+        let r_in : r < length log.rows = let same = some.there in omega (arith, row_in, count) in
+        let early : int_le (time_of t r) instant ≡ true = rw some.there at (by-time some.place place_in (by some.place some.within)) in
+        let rest : r + 1 + (length log.rows - (r + 1)) ≡ length log.rows = omega (arith, r_in) in
+        rw rest at (state_before-last log t instant host name r (length log.rows - (r + 1)) c found early (λ e later less early'.
+        let (k, k_in, here) = taken e (omega (arith, count, less, rest)) early' in
+        elim (cases_Bool (is_change log host name e)) [
+          | inl is ↦
+              let no : (moment_at moments k).row ≤ r = some.last k k_in (rw here is) in
+              absurd (omega (arith, no, here, later))
+          | inr none ↦ not-some (change_at log host name e) none
+        ]))
+
+    pub state-latest : IsLatest log moments host name latest → state log t instant host name ≡ state_after log host name latest.row
+    state-latest is = go latest.row is
+      where
+        found : (r : ℕ) (made : Option Change) → change_at log host name r ≡ made → is_some made ≡ true → IsLastOf (is_change log host name) moments latest.places r → state log t instant host name ≡ option_map_or (λ c. c.sets) made false
+        found r None made is some = absurd (cc)
+        found r (Some c) made is some = last-state r c some made
+
+        go : (row : Option ℕ) → MatchOption row ((k : ℕ) → k < latest.places → changes_at log moments host name k ≡ false) (IsLastOf (is_change log host name) moments latest.places) → state log t instant host name ≡ state_after log host name row
+        go None none = state_before-never log t instant host name (length log.rows) (λ e less early.
+            let (k, k_in, here) = taken e (omega (arith, count, less)) early in
+            not-some (change_at log host name e) (rw here at (none k k_in)))
+        go (Some r) some = found r (change_at log host name r) refl some.passed some

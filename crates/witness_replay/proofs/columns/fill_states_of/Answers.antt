@@ -1,0 +1,40 @@
+use Rattle.std.proofs.Common.{◌≡◌, ◌∙◌, sym, ◌<◌, length, arith}
+use Rattle.std.proofs.lemmas.Int.{ints}
+use Rattle.mt_model.specs.State.{state}
+use Rattle.mt_model.specs.Timing.{time_of}
+use Rattle.formula_arena.specs.declared.direction.Direction.TheVariants.{Ahead}
+use Rattle.witness_replay.specs.Timelines.{moment_at, row_met}
+use Rattle.witness_replay.proofs.FilledLemmas.{filled-on}
+use Rattle.witness_replay.proofs.LatestLemmas.{state-latest}
+use Rattle.witness_replay.proofs.TimelineLemmas.{met-each, met-in, timed}
+use Rattle.witness_replay.proofs.columns.fill_states_of.Goals as goal
+
+pub loop-place-preserved : goal.loop-place-preserved
+loop-place-preserved c =
+    let log = c.args.log.now in
+    let t = c.args.times.now in
+    let ms = c.args.moments.now in
+    let p = c.loop-place.place in
+    let in_ : p < length t = omega arith in
+    let latest = c.advanced-latest.ensures in
+    let (_, timed-here) = timed Ahead t ms c.requires.timeline p in_ in
+    let value : c.state.result ≡ state log t (time_of t (moment_at ms p).row) c.args.host c.args.name.now =
+    c.state.ensures ∙ sym (rw timed-here at (state-latest log t ms c.requires.count c.requires.timeline c.args.host c.args.name.now (moment_at ms p).time c.advanced-latest.result latest.within latest.by latest.after latest.latest)) in
+    record {
+      latest = latest.latest;
+      within = latest.within;
+      by = λ k after within j less.
+          let up = c.requires.timeline.rising p k (omega (arith, after)) within in
+          let early = latest.by j less in
+          grind (arith, ints);
+      filled = filled-on (row_met Ahead ms) (λ e. state log t (time_of t e) c.args.host c.args.name.now) p c.loop-place.column c.state.result
+          (let met = met-in Ahead t ms c.requires.timeline p in_ in omega arith) value c.loop-place.invariant.filled;
+    }
+
+pub returns : goal.returns
+returns c = record {
+  full = omega arith;
+  each = λ e within.
+      let (k, k_in, here) = met-each Ahead c.args.times.now c.args.moments.now c.requires.timeline e within in
+      rw (← here) (c.loop-place.invariant.filled k (omega arith));
+}

@@ -1,0 +1,7 @@
+use Rattle.std.proofs.Common.{◌∙◌, sym}
+use Rattle.witness_replay.specs.Timelines.{moment_at}
+use Rattle.witness_replay.proofs.LatestLemmas.{after-rest}
+use Rattle.witness_replay.proofs.states.Latest.advanced.Goals as goal
+
+pub returns-clause-after : goal.returns-clause-after
+returns-clause-after c = after-rest c.args.moments.now (moment_at c.args.moments.now c.args.place).time c.loop-latest.latest.places c.requires.rising (sym c.has_more.ensures ∙ c.loop-latest-test.false)
