@@ -1,8 +1,8 @@
 -- Numbers that are lowered one after another: what a step keeps, and what the end shows.
-use Rattle.std.proofs.Common.{◌≡◌, ◌≢◌, ◌∙◌, sym, subst, refl, ℕ, suc, ◌+◌, ◌-◌, ◌^◌, ◌<◌, ◌⊎◌, inl, inr, List, [], ◌∷◌, ◌++◌, length, set, arith, ℤ, pos, ◌+ℤ◌, ◌≤ℤ◌, ◌<ℤ◌, get_or, length-set, get_or-set_other}
-use Rattle.std.specs.Prelude.{All}
-use Rattle.std.proofs.lemmas.Int.{ints}
-use Rattle.std.proofs.lemmas.Bool.{cases_eq}
+use Rattle.std.proofs.Common.{◌≡◌, ◌≢◌, ◌∙◌, sym, subst, refl, ℕ, suc, ◌+◌, ◌-◌, ◌^◌, ◌<◌, ◌⊎◌, inl, inr, List, [], ◌∷◌, ◌++◌, length, set, arith, false, ℤ, pos, ◌+ℤ◌, ◌≤ℤ◌, ◌<ℤ◌, get_or, length-set, get_or-set_other}
+use Rattle.std.specs.Prelude.{All, Bool, IsTrue, ◌↔◌}
+use Rattle.std.proofs.lemmas.Int.{ints, by_lt_z}
+use Rattle.std.proofs.lemmas.Bool.{cases_eq, false≢true}
 use Rattle.std.proofs.lemmas.Grind.{get_or-set_at}
 use Rattle.std.proofs.lemmas.List.{get_or_default, length_push}
 use Rattle.std.proofs.lemmas.List.Elements.{All-push, All-contains}
@@ -13,12 +13,13 @@ use Rattle.difference_graph.specs.Gaps.{IsNumber, IsNearNumber}
 use Rattle.difference_graph.specs.Repairs.{slack, IsTightest, BeginsNone, LeadsOn, IsTrace, IsLowered, IsRepair, MeetsOthers}
 use Rattle.difference_graph.proofs.TreeLemmas.{begins_last, begins_still, tree_push, tree_nil, tree_short}
 
--- one edge more has no less slack
-pub least_more : (edges : List Edge) (numbers : List ℤ) (place : ℕ) (least : ℤ) → ((q : ℕ) → q < place → least ≤ℤ slack numbers (edge_at edges q)) → least ≤ℤ slack numbers (edge_at edges place) → (q : ℕ) → q < place + 1 → least ≤ℤ slack numbers (edge_at edges q)
-least_more edges numbers place least each last q below = elim (cases_eq q place) [
-  | inl e ↦ subst (λ (k : ℕ). least ≤ℤ slack numbers (edge_at edges k)) (sym e) last
-  | inr other ↦ each q (omega (arith, below, other))
-]
+-- an edge that is met has slack
+pub meets : (numbers : List ℤ) (e : Edge) → Meets numbers e → pos 0 ≤ℤ slack numbers e
+meets numbers e met = omega (arith, ints, met)
+
+-- an edge that is not met has too little
+pub misses : (numbers : List ℤ) (e : Edge) (r : Bool) → (IsTrue r ↔ Meets numbers e) → r ≡ false → slack numbers e <ℤ pos 0
+misses numbers e r is not_met = by_lt_z (slack numbers e) (pos 0) (λ below. below) (λ least. absurd (false≢true (sym not_met ∙ is.1 (omega (arith, ints, least)))))
 
 module _ (edges : List Edge) (end : ℕ) (old : List ℤ) (others : MeetsOthers edges end old) (new : List ℤ) (places : List ℕ) (r : IsRepair edges end old new places) where
   -- no number rose
@@ -26,7 +27,7 @@ module _ (edges : List Edge) (end : ℕ) (old : List ℤ) (others : MeetsOthers 
   fell v = elim (r.each v) [ inl same ↦ omega (arith, ints, same) | inr lowered ↦ omega (arith, ints, lowered.below) ]
 
   -- an edge that is missed begins at a node that has its old number
-  missed_from : (p : ℕ) → p < length edges → slack new (edge_at edges p) <ℤ pos 0 → number_of new (edge_at edges p).from ≡ number_of old (edge_at edges p).from
+  pub missed_from : (p : ℕ) → p < length edges → slack new (edge_at edges p) <ℤ pos 0 → number_of new (edge_at edges p).from ≡ number_of old (edge_at edges p).from
   missed_from p below missed = elim (r.each (edge_at edges p).from) [
     | inl same ↦ same
     | inr lowered ↦ let met = r.met p below lowered.below in absurd (omega (arith, ints, met, missed))
@@ -51,13 +52,13 @@ module _ (edges : List Edge) (end : ℕ) (old : List ℤ) (others : MeetsOthers 
     at_from : number_of (set new (edge_at edges p).from y) (edge_at edges p).from ≡ number_of new (edge_at edges p).from +ℤ slack new (edge_at edges p)
     at_from = get_or-set_at new (edge_at edges p).from (edge_at edges p).from y (pos 0) refl inside ∙ omega (arith, ints, is_y)
 
-    at_other : (v : ℕ) → v ≢ (edge_at edges p).from → number_of (set new (edge_at edges p).from y) v ≡ number_of new v
+    pub at_other : (v : ℕ) → v ≢ (edge_at edges p).from → number_of (set new (edge_at edges p).from y) v ≡ number_of new v
     at_other v other = get_or-set_other new (edge_at edges p).from v y (pos 0) other
 
     at_same : (v : ℕ) → v ≡ (edge_at edges p).from → number_of (set new (edge_at edges p).from y) v ≡ number_of new v +ℤ slack new (edge_at edges p)
     at_same v e = subst (λ (k : ℕ). number_of (set new (edge_at edges p).from y) k ≡ number_of new k +ℤ slack new (edge_at edges p)) (sym e) at_from
 
-    old_at : (v : ℕ) → v ≡ (edge_at edges p).from → number_of new v ≡ number_of old v
+    pub old_at : (v : ℕ) → v ≡ (edge_at edges p).from → number_of new v ≡ number_of old v
     old_at v e = subst (λ (k : ℕ). number_of new k ≡ number_of old k) (sym e) (missed_from p t.within missed)
 
     falls : (v : ℕ) → number_of (set new (edge_at edges p).from y) v ≤ℤ number_of new v
@@ -70,7 +71,7 @@ module _ (edges : List Edge) (end : ℕ) (old : List ℤ) (others : MeetsOthers 
     met_old q v below to e = others q below (λ at_end. apart (sym e ∙ sym to ∙ at_end))
 
     -- what the edge misses now, by whether it begins or ends at the node that is lowered
-    begins_here : (q : ℕ) → q < length edges → (edge_at edges q).from ≡ (edge_at edges p).from → pos 0 ≤ℤ slack (set new (edge_at edges p).from y) (edge_at edges q)
+    pub begins_here : (q : ℕ) → q < length edges → (edge_at edges q).from ≡ (edge_at edges p).from → pos 0 ≤ℤ slack (set new (edge_at edges p).from y) (edge_at edges q)
     begins_here q below from = elim (cases_eq (edge_at edges q).to (edge_at edges p).from) [
       | inl to ↦ omega (arith, ints, at_same (edge_at edges q).from from, at_same (edge_at edges q).to to, old_at (edge_at edges q).from from, old_at (edge_at edges q).to to, met_old q (edge_at edges q).to below refl to)
       | inr other ↦ omega (arith, ints, at_same (edge_at edges q).from from, at_other (edge_at edges q).to other, t.least q below)
@@ -126,7 +127,7 @@ module _ (edges : List Edge) (end : ℕ) (old : List ℤ) (others : MeetsOthers 
     ]
 
     -- none of the edges before begins here
-    begins_new : BeginsNone edges places (edge_at edges p).from
+    pub begins_new : BeginsNone edges places (edge_at edges p).from
     begins_new k d within =
         let below = r.below k d within in
         λ same. absurd (omega (arith, ints, below, old_at (edge_at edges (get_or places k d)).from same))

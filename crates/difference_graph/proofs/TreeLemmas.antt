@@ -19,7 +19,7 @@ use Rattle.difference_graph.specs.Repairs.{Begins, BeginsNone, LeadsOn, IsTree, 
 any_left : {X : Type 0} (P : X → Type 0) (xs : List X) (y : X) → Any P xs → Any P (xs ++ y ∷ [])
 any_left P xs y (k, x, within, is, holds) = (k, x, omega (arith, length_push xs y, within), get_or_append_left xs (y ∷ []) x k within ∙ is, holds)
 
-any_last : {X : Type 0} (P : X → Type 0) (xs : List X) (y : X) → Any P (xs ++ y ∷ []) → (P y → ⊥) → Any P xs
+pub any_last : {X : Type 0} (P : X → Type 0) (xs : List X) (y : X) → Any P (xs ++ y ∷ []) → (P y → ⊥) → Any P xs
 any_last P xs y (k, x, within, is, holds) not = elim (cases_eq k (length xs)) [
   | inl e ↦
       let last : y ≡ x = sym (get_or-append_seam xs y [] x) ∙ subst (λ (i : ℕ). get_or (xs ++ y ∷ []) i x ≡ x) e is in

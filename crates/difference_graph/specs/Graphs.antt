@@ -1,9 +1,13 @@
 -- Difference constraints that are held one after another, with numbers that meet them all.
-use Rattle.std.specs.Prelude.{◌≡◌, ℕ, ◌<◌, ◌≤◌, List, length, map, All, ℤ, pos, ◌-ℤ◌}
+use Rattle.std.specs.Prelude.{◌≡◌, ℕ, ◌<◌, ◌≤◌, List, length, map, All, vec_capacity, ℤ, pos, ◌-ℤ◌}
 use Rattle.neg_cycle.specs.declared.system.Edge.{Edge}
 use Rattle.neg_cycle.specs.declared.system.TheConstants.{MAX_NODES, MAX_EDGES}
 use Rattle.neg_cycle.specs.Systems.{IsEdge, IsSystem, IsPotential, Meets, number_of}
 use Rattle.difference_graph.specs.Gaps.{IsNumber}
+use Rattle.difference_graph.specs.Incoming.{AreIncoming}
+use Rattle.difference_graph.specs.Work.{HasWorkRoom}
+use Rattle.difference_graph.specs.declared.held.Held.{Held}
+use Rattle.difference_graph.specs.declared.work.Work.{Work}
 use Rattle.difference_graph.specs.declared.push.Push.{Push}
 use Rattle.difference_graph.specs.declared.push.Push.TheVariants.{Kept, Cycle}
 
@@ -58,9 +62,10 @@ pub record IsGraph (held : List Edge) (limit : ℕ) (current : List ℤ) : Type 
   pub met : All (Meets current) held
   pub numbers : All IsNumber current
 
--- room for so many edges and for the work of a push over so many nodes
-pub record HasRoom (nodes limit edge_room lowered order_room walk_room : ℕ) : Type 0 where
-  pub edges : limit ≤ edge_room
-  pub copy : lowered ≡ nodes
-  pub order : nodes ≤ order_room
-  pub walk : nodes < walk_room
+-- the held edges are found by their ends, and there is room for so many edges and for the work of a push over so many nodes
+pub record HasRoom (nodes limit : ℕ) (held : Held) (work : Work) : Type 0 where
+  pub incoming : AreIncoming held.edges.items held.last.items held.before.items
+  pub ends : length held.last.items ≡ nodes
+  pub edges : limit ≤ vec_capacity held.edges
+  pub before : limit ≤ vec_capacity held.before
+  pub repair : HasWorkRoom nodes limit work

@@ -4,10 +4,16 @@
 
 mod gaps;
 mod graph;
+mod held;
+mod met;
 mod numbers;
 mod push;
+mod queue;
 mod repair;
 mod room;
+mod trace;
+mod waiting;
+mod work;
 
 pub use graph::{Graph, graphs_are_solved};
 pub use push::Push;

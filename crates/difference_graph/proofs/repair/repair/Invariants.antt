@@ -1,15 +1,16 @@
-use Rattle.std.proofs.Common.{◌≡◌, ◌-◌, ◌≤◌, length}
-use Rattle.std.specs.Prelude.{vec_capacity}
-use Rattle.difference_graph.specs.Repairs.{IsRepair}
+use Rattle.std.proofs.Common.{◌-◌, length}
+use Rattle.std.specs.BinaryHeap.{heap_items}
+use Rattle.difference_graph.specs.Queues.{IsOrdered}
+use Rattle.difference_graph.specs.Work.{KeepsRoom}
+use Rattle.difference_graph.proofs.WorkLemmas.{IsState}
 use Rattle.difference_graph.proofs.repair.repair.Given as goal
 
-abbrev pub invariant-steps : goal.invariant-steps
-invariant-steps l = record {
-  repair : IsRepair l.edges l.end l.fn.numbers l.lowered l.order.items;
-  numbers : l.numbers ≡ l.fn.numbers;
-  order_room : vec_capacity l.fn.order ≤ vec_capacity l.order;
-  walk_room : vec_capacity l.fn.walk ≤ vec_capacity l.walk;
+abbrev pub invariant-loop-next : goal.invariant-loop-next
+invariant-loop-next l = record {
+  state : IsState l.held.edges.items l.end l.fn.numbers l.numbers l.work.order.items l.work.former.items (heap_items l.work.waiting);
+  order : IsOrdered (heap_items l.work.waiting);
+  room : KeepsRoom l.fn.work l.work;
 }
 
-abbrev pub decreases-steps : goal.decreases-steps
-decreases-steps l = length l.fn.numbers - length l.order.items
+abbrev pub decreases-loop-next : goal.decreases-loop-next
+decreases-loop-next l = length l.fn.numbers - length l.work.order.items

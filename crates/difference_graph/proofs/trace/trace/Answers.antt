@@ -2,7 +2,7 @@ use Rattle.std.proofs.Common.{◌≡◌, ◌+◌, ◌-◌, inl, inr, arith, get_
 use Rattle.std.proofs.lemmas.Bool.{cases_eq}
 use Rattle.neg_cycle.specs.Systems.{edge_at}
 use Rattle.difference_graph.proofs.TreeLemmas.{tracing_start, tracing_stays, tracing_goes, traced}
-use Rattle.difference_graph.proofs.repair.trace.Goals as goal
+use Rattle.difference_graph.proofs.trace.trace.Goals as goal
 
 pub loop-left-init : goal.loop-left-init
 loop-left-init c =

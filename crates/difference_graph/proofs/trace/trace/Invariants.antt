@@ -1,7 +1,7 @@
 use Rattle.std.proofs.Common.{◌≤◌}
 use Rattle.std.specs.Prelude.{vec_capacity}
 use Rattle.difference_graph.proofs.TreeLemmas.{IsTracing}
-use Rattle.difference_graph.proofs.repair.trace.Given as goal
+use Rattle.difference_graph.proofs.trace.trace.Given as goal
 
 abbrev pub invariant-loop-left : goal.invariant-loop-left
 invariant-loop-left l = record {

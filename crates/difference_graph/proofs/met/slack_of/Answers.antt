@@ -2,7 +2,7 @@ use Rattle.std.proofs.Common.{rules, arith, pos}
 use Rattle.std.proofs.lemmas.Int.{ints}
 use Rattle.neg_cycle.specs.Systems.{number_of}
 use Rattle.difference_graph.specs.Gaps.{IsNumber}
-use Rattle.difference_graph.proofs.repair.slack_of.Goals as goal
+use Rattle.difference_graph.proofs.met.slack_of.Goals as goal
 
 pub overflow_sub-result : goal.overflow_sub-result
 overflow_sub-result c =
