@@ -12,7 +12,7 @@ use Rattle.std.proofs.lemmas.List.Sums.{sum_by-cons}
 use Rattle.neg_cycle.specs.declared.system.Edge.{Edge}
 use Rattle.neg_cycle.specs.declared.system.TheConstants.{MAX_BOUND}
 use Rattle.neg_cycle.specs.Systems.{IsWithin, Meets, number_of}
-use Rattle.difference_graph.specs.Gaps.{IsNumber, IsNearNumber, KeepsMet, count_below, IsNextBelow, IsFound, IsRaisedBelow}
+use Rattle.difference_graph.specs.Gaps.{IsNumber, IsNearNumber, count_below, IsNextBelow, IsFound, IsRaisedBelow}
 
 -- a number below the level is raised, and it is that of a node
 pub record IsMoved (level by : ℤ) (old new : List ℤ) (v : ℕ) : Type 0 where
@@ -98,7 +98,7 @@ module _ (level next lower by : ℤ) (old new : List ℤ) (top : level ≤ℤ po
     | inr t ↦ omega (arith, ints, s.is, t.is, meets)
   ]
 
-  pub keeps_met : KeepsMet old new
+  pub keeps_met : (e : Edge) → IsWithin MAX_BOUND e.bound → Meets old e → Meets new e
   keeps_met e limit meets =
       let to = each_node level by old new top raised e.to in
       elim (each_node level by old new top raised e.from) [

@@ -96,7 +96,7 @@ module _ (held : List Edge) (limit : ℕ) (current : List ℤ) (g : IsGraph held
     still_each = subst (λ (n : ℕ). All (IsEdge n) held) (sym count) g.each
 
     pub still_met : All (Meets near) held
-    still_met k d below = keeps (get_or held k d) (g.each k d below).bound (g.met k d below)
+    still_met k d below = keeps (get_or held k d) (g.each k d below) (g.met k d below)
 
     pub still : All IsNumber near → IsGraph held limit near
     still numbers = record {

@@ -5,3 +5,4 @@ pub mod GraphLemmas
 pub mod IncomingLemmas
 pub mod QueueLemmas
 pub mod WorkLemmas
+pub mod LiftLemmas

@@ -193,9 +193,15 @@ module _ (edges : List Edge) (end : ℕ) (old : List ℤ) (others : MeetsOthers 
     pub refutes : IsNegativeCycle edges walk
     refutes = rw trace.is (record { closed = (below, refl, trace.leads); negative = sum_negative })
 
+-- near numbers are in range
+pub near_numbers : (numbers : List ℤ) → All IsNearNumber numbers → All IsNumber numbers
+near_numbers numbers near v d below =
+    let number : IsNearNumber (get_or numbers v d) = near v d below in
+    record { low = omega (arith, ints, number.low); high = number.high }
+
 -- nothing is lowered yet
 module _ (edges : List Edge) (end : ℕ) (numbers : List ℤ) (system : IsSystem (length numbers) edges) (near : All IsNearNumber numbers) where
-  slack_near : (q : ℕ) → q < length edges → pos 0 ≤ℤ (slack numbers (edge_at edges q) +ℤ pos (2 ^ 111))
+  slack_near : (q : ℕ) → q < length edges → pos 0 ≤ℤ (slack numbers (edge_at edges q) +ℤ pos (2 ^ 114))
   slack_near q below =
       let e = system.each q (record { from = 0; to = 0; bound = pos 0 }) below in
       let bound = e.bound in

@@ -189,7 +189,7 @@ all_back edges places left old new none d = ext_get_or (pos 0) new old d.count (
 -- numbers that are lowered for some edges, and the edges that wait for more of that
 pub record IsState (edges : List Edge) (end : ℕ) (old new : List ℤ) (places : List ℕ) (former : List ℤ) (ws : List Missed) : Type 0 where
   pub repair : IsRepair edges end old new places
-  pub former : AreFormer edges places old former
+  pub noted : AreFormer edges places old former
   pub queue : IsQueue edges new 0 0 ws
   pub asked : All (IsAsked edges end places) ws
 
@@ -212,6 +212,9 @@ module _ (edges : List Edge) (end : ℕ) (old : List ℤ) (system : IsSystem (le
     pub lowered_numbers : All IsNumber lowered
     lowered_numbers = repair_numbers edges end old others lowered more lowered_repair near
 
+    pub lowered_noted : (before : List ℤ) → before ≡ former ++ number_of new (edge_at edges p).from ∷ [] → AreFormer edges more old before
+    lowered_noted before is_before = rw (is_more, is_before) (former_more edges places p old former (number_of new (edge_at edges p).from) s.noted (missed_from edges end old others new places s.repair p n.tightest.within n.missed))
+
     module _ (rest : List Missed) (q : IsRest edges new p rest) (fewer : All (Contains ws) rest) where
       still_asked : All (IsAsked edges end places) rest
       still_asked = asked_fewer edges end places ws rest s.asked fewer
@@ -222,7 +225,7 @@ module _ (edges : List Edge) (end : ℕ) (old : List ℤ) (system : IsSystem (le
       pub state_more : (after : List Missed) (before : List ℤ) → before ≡ former ++ number_of new (edge_at edges p).from ∷ [] → IsQueue edges lowered (edge_at edges p).from 0 after → All (IsAdded edges (edge_at edges p).from end rest) after → IsState edges end old lowered more before after
       state_more after before is_before queue added = record {
         repair = lowered_repair;
-        former = rw (is_more, is_before) (former_more edges places p old former (number_of new (edge_at edges p).from) s.former (missed_from edges end old others new places s.repair p n.tightest.within n.missed));
+        noted = lowered_noted before is_before;
         queue = queue_all edges lowered (edge_at edges p).from after queue;
         asked = rw is_more (asked_more edges end places p rest after still_asked added);
       }
@@ -231,7 +234,7 @@ module _ (edges : List Edge) (end : ℕ) (old : List ℤ) (system : IsSystem (le
 pub state_first : (edges : List Edge) (place end : ℕ) (numbers : List ℤ) (places : List ℕ) (former : List ℤ) (none ws : List Missed) → end ≡ (edge_at edges place).to → IsSystem (length numbers) edges → All IsNearNumber numbers → place + 1 ≡ length edges → MeetsFirst edges place numbers → places ≡ [] → former ≡ [] → none ≡ [] → IsTakenUp edges numbers end place none ws → IsState edges end numbers numbers places former ws
 state_first edges place end numbers places former none ws is_end system near last first no_places no_former no_waiting taken = record {
   repair = rw no_places (repair_start edges end numbers system near);
-  former = rw (no_places, no_former) (record { count = refl; is = λ j within. absurd (omega (arith, within)) });
+  noted = rw (no_places, no_former) (record { count = refl; is = λ j within. absurd (omega (arith, within)) });
   queue = queue_first edges place numbers last first none ws no_waiting (subst (λ (v : ℕ). IsTakenUp edges numbers v place none ws) is_end taken);
   asked = rw (no_places, is_end) (asked_first edges place numbers last first none ws no_waiting (subst (λ (v : ℕ). IsTakenUp edges numbers v place none ws) is_end taken));
 }

@@ -57,8 +57,8 @@ pub record IsRepair (edges : List Edge) (end : ℕ) (old new : List ℤ) (places
   pub tight : All (λ p. slack new (edge_at edges p) ≤ℤ pos 0) places
   pub met : (q : ℕ) → q < length edges → number_of new (edge_at edges q).from <ℤ number_of old (edge_at edges q).from → pos 0 ≤ℤ slack new (edge_at edges q)
   pub each : (v : ℕ) → (number_of new v ≡ number_of old v) ⊎ IsLowered edges old new places v
-  pub near : (q : ℕ) → q < length edges → pos 0 ≤ℤ (slack new (edge_at edges q) +ℤ pos (2 ^ 111))
-  pub floor : (v : ℕ) → number_of old v ≤ℤ (number_of new v +ℤ pos (2 ^ 111))
+  pub near : (q : ℕ) → q < length edges → pos 0 ≤ℤ (slack new (edge_at edges q) +ℤ pos (2 ^ 114))
+  pub floor : (v : ℕ) → number_of old v ≤ℤ (number_of new v +ℤ pos (2 ^ 114))
 
 -- the numbers meet each edge that does not lead to the end
 abbrev pub MeetsOthers : List Edge → ℕ → List ℤ → Type 0

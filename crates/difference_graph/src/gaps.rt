@@ -2,26 +2,53 @@
 
 ghost use Rattle.std.specs.Prelude.{◌≡◌, ◌↔◌, ◌^◌, ◌<◌, ◌≤◌, length, All, IfSome, IsTrue, pos, ◌+ℤ◌, ◌≤ℤ◌, ◌<ℤ◌};
 ghost use Rattle.neg_cycle.specs.declared.system.TheConstants.{MAX_NODES, MAX_BOUND};
-ghost use Rattle.difference_graph.specs.Gaps.{IsNumber, IsNearNumber, KeepsMet, IsFound, IsRaisedBelow};
+ghost use Rattle.difference_graph.specs.Gaps.{IsNumber, IsNearNumber, IsNarrow, HasSameDifferences, IsLifted, KeepsMet, IsFound, IsRaisedBelow};
 
 use crate::numbers::difference;
 use neg_cycle::{MAX_BOUND, MAX_NODES};
 
-// How far from 0 a path over all nodes can make a number.
-const NEAR: i128 = MAX_NODES as i128 * MAX_BOUND;
+// How far below 0 a number may be where an edge is to be met.
+const NEAR: i128 = 1 << 113;
 
-// Brings all numbers near to 0: where one is not, a gap between two of them that is greater than any
+// Brings all numbers near to 0, and keeps the differences between them where all are small.
+pub fn bring_near(numbers: &mut [i128])
+    requires some { 0 < length numbers.old }
+    requires few { length numbers.old ≤ MAX_NODES }
+    requires numbers { All IsNumber numbers.old }
+    ensures count { length numbers.new ≡ length numbers.old }
+    ensures near { All IsNearNumber numbers.new }
+    ensures met { KeepsMet numbers.old numbers.new }
+    ensures same { IsNarrow numbers.old → HasSameDifferences numbers.old numbers.new }
+{
+    if are_near(numbers) {
+        return;
+    }
+    lift(numbers);
+    if !are_near(numbers) {
+        close_gaps(numbers);
+    }
+}
+
+// Raises all numbers by as much, so that the greatest becomes 0.
+fn lift(numbers: &mut [i128])
+    requires some { 0 < length numbers.old }
+    requires numbers { All IsNumber numbers.old }
+    ensures lifted { IsLifted numbers.old numbers.new }
+{
+    if let Some(greatest) = next_below(numbers, 1) {
+        raise_below(numbers, 1, -greatest);
+    }
+}
+
+// Brings all numbers near to 0: a gap between two of them that is greater than any
 // bound becomes as great as the greatest, which still meets each edge across it.
-pub fn close_gaps(numbers: &mut [i128])
+fn close_gaps(numbers: &mut [i128])
     requires few { length numbers.old ≤ MAX_NODES }
     requires numbers { All IsNumber numbers.old }
     ensures count { length numbers.new ≡ length numbers.old }
     ensures near { All IsNearNumber numbers.new }
     ensures met { KeepsMet numbers.old numbers.new }
 {
-    if are_near(numbers) {
-        return;
-    }
     let mut level: i128 = 0;
     'gaps: loop {
         match next_below(numbers, level) {
@@ -35,7 +62,7 @@ pub fn close_gaps(numbers: &mut [i128])
     }
 }
 
-// Whether no number is further from 0 than a path over all nodes can make it.
+// Whether no number is far from 0.
 fn are_near(numbers: &[i128]) -> bool
     ensures near { IsTrue result ↔ All IsNearNumber numbers.now }
 {
@@ -93,7 +120,7 @@ fn level_below(level: i128, next: i128) -> i128
 fn raise_below(numbers: &mut [i128], level: i128, by: i128)
     requires numbers { All IsNumber numbers.old }
     requires low { pos 0 ≤ℤ by }
-    requires high { by ≤ℤ pos (2 ^ 112) }
+    requires high { by ≤ℤ pos (2 ^ 115) }
     ensures raised { IsRaisedBelow level by numbers.old numbers.new }
 {
     for i in 0..numbers.len() {
@@ -105,7 +132,7 @@ fn raise_below(numbers: &mut [i128], level: i128, by: i128)
 fn raised(number: i128, level: i128, by: i128) -> i128
     requires number { IsNumber number }
     requires low { pos 0 ≤ℤ by }
-    requires high { by ≤ℤ pos (2 ^ 112) }
+    requires high { by ≤ℤ pos (2 ^ 115) }
     ensures low { number <ℤ level → result ≡ number +ℤ by }
     ensures high { level ≤ℤ number → result ≡ number }
 {
