@@ -1,20 +1,20 @@
 -- What a graph keeps, with one edge more or fewer edges, and what its numbers show.
-use Rattle.std.proofs.Common.{◌≡◌, ◌∙◌, ap, sym, subst, refl, ℕ, ◌<◌, ◌≤◌, ◌↔◌, inl, inr, List, [], ◌∷◌, ◌++◌, length, take, drop, replicate, arith, ℤ, pos, ◌-ℤ◌, get_or}
+use Rattle.std.proofs.Common.{◌≡◌, ◌∙◌, ap, sym, subst, refl, ℕ, ◌-◌, ◌^◌, ◌<◌, ◌≤◌, ◌↔◌, inl, inr, List, [], ◌∷◌, ◌++◌, length, take, drop, replicate, arith, ℤ, pos, ◌-ℤ◌, get_or}
 use Rattle.std.specs.Prelude.{All}
 use Rattle.std.proofs.lemmas.Int.{ints}
 use Rattle.std.proofs.lemmas.Bool.{cases_eq}
 use Rattle.std.proofs.Math.Seq.{get_or-append_seam}
-use Rattle.std.proofs.lemmas.List.{get_or_append_left, length_push, length-map, length-take, length-replicate, get_or-map, take_all, take-append-le}
+use Rattle.std.proofs.lemmas.List.{ext_get_or, get_or_append_left, length_push, length-map, length-take, length-replicate, get_or-map, take_all, take-append-le}
 use Rattle.std.proofs.lemmas.List.Elements.{All-push, All-take, All-replicate}
 use Rattle.neg_cycle.specs.declared.system.Edge.{Edge}
 use Rattle.neg_cycle.specs.declared.system.TheConstants.{MAX_NODES, MAX_EDGES}
-use Rattle.neg_cycle.specs.Systems.{IsEdge, IsSystem, Meets, IsNegativeCycle, edge_at, number_of}
+use Rattle.neg_cycle.specs.Systems.{IsEdge, IsWithin, IsSystem, Meets, IsNegativeCycle, edge_at, number_of}
 use Rattle.neg_cycle.proofs.LawLemmas.{excludes_cycles}
 use Rattle.difference_graph.specs.declared.push.Push.{Push}
 use Rattle.difference_graph.specs.declared.push.Push.TheVariants.{Kept, Cycle}
-use Rattle.difference_graph.specs.Gaps.{IsNumber, KeepsMet}
-use Rattle.difference_graph.specs.Repairs.{MeetsOthers}
-use Rattle.difference_graph.specs.Graphs.{HasSolution, IsSolved, IsGraph, less_the_first}
+use Rattle.difference_graph.specs.Gaps.{IsNumber, IsNarrow, HasSameDifferences, KeepsMet}
+use Rattle.difference_graph.specs.Work.{MeetsFirst}
+use Rattle.difference_graph.specs.Graphs.{HasSolution, IsSolved, IsGraph, AreSmall, less_the_first}
 
 -- a push is kept where there is a solution, and refused where there is none
 pub record IsDecided (push : Push) (S : Type 0) : Type 0 where
@@ -123,16 +123,11 @@ module _ (held : List Edge) (limit : ℕ) (current : List ℤ) (g : IsGraph held
         each = each_more;
       }
 
-      pub others_met : MeetsOthers (held ++ edge ∷ []) edge.to near
-      others_met q below apart = elim (cases_eq q (length held)) [
-        | inl e ↦
-            let last : edge_at (held ++ edge ∷ []) q ≡ edge = subst (λ (k : ℕ). edge_at (held ++ edge ∷ []) k ≡ edge) (sym e) (get_or-append_seam held edge [] (record { from = 0; to = 0; bound = pos 0 })) in
-            absurd (apart (ap (λ (x : Edge). x.to) last))
-        | inr other ↦
-            let before : q < length held = omega (arith, length_push held edge, below, other) in
-            let at = get_or_append_left held (edge ∷ []) (record { from = 0; to = 0; bound = pos 0 }) q before in
-            rw at (still_met q (record { from = 0; to = 0; bound = pos 0 }) before)
-      ]
+      pub first_met : (place : ℕ) → place ≡ length held → MeetsFirst (held ++ edge ∷ []) place near
+      first_met place is_place q below =
+          let before : q < length held = omega (arith, below, is_place) in
+          let at = get_or_append_left held (edge ∷ []) (record { from = 0; to = 0; bound = pos 0 }) q before in
+          rw at (still_met q (record { from = 0; to = 0; bound = pos 0 }) before)
 
       -- with numbers that meet the new edge too
       pub kept_more : (new : List ℤ) → length new ≡ length near → All IsNumber new → All (Meets new) (held ++ edge ∷ []) → IsGraph (held ++ edge ∷ []) limit new
@@ -145,6 +140,33 @@ module _ (held : List Edge) (limit : ℕ) (current : List ℤ) (g : IsGraph held
         met = meets;
         numbers = numbers;
       }
+
+-- an edge that the numbers less that of node 0 meet is met by the numbers
+pub meets_back : (current : List ℤ) (edge : Edge) → IsEdge (length current) edge → Meets (less_the_first current) edge → Meets current edge
+meets_back current edge is meets =
+    let from = get_or-map (λ x. x -ℤ number_of current 0) current edge.from (pos 0) (pos 0) is.from in
+    let to = get_or-map (λ x. x -ℤ number_of current 0) current edge.to (pos 0) (pos 0) is.to in
+    omega (arith, ints, from, to, meets)
+
+-- where the numbers less that of node 0 are small, none is far above another
+pub narrow : (current : List ℤ) → AreSmall (less_the_first current) → IsNarrow current
+narrow current small v w v_within w_within =
+    let high : IsWithin (pos (2 ^ 112)) (number_of (less_the_first current) v) = small v (pos 0) (omega (arith, v_within, count)) in
+    let low : IsWithin (pos (2 ^ 112)) (number_of (less_the_first current) w) = small w (pos 0) (omega (arith, w_within, count)) in
+    let first = get_or-map (λ x. x -ℤ number_of current 0) current v (pos 0) (pos 0) v_within in
+    let second = get_or-map (λ x. x -ℤ number_of current 0) current w (pos 0) (pos 0) w_within in
+    omega (arith, ints, high.high, low.low, first, second) where
+  count : length (less_the_first current) ≡ length current
+  count = length-map current (λ x. x -ℤ number_of current 0)
+
+-- numbers with the same differences are the same, less that of node 0
+pub same_view : (current near : List ℤ) → length near ≡ length current → HasSameDifferences current near → less_the_first near ≡ less_the_first current
+same_view current near count same = ext_get_or (pos 0) (less_the_first near) (less_the_first current) (length-map near (λ x. x -ℤ number_of near 0) ∙ count ∙ sym (length-map current (λ x. x -ℤ number_of current 0))) (λ v within.
+  let inside : v < length near = omega (arith, within, length-map near (λ x. x -ℤ number_of near 0)) in
+  let below : v < length current = omega (arith, inside, count) in
+  let new = get_or-map (λ x. x -ℤ number_of near 0) near v (pos 0) (pos 0) inside in
+  let old = get_or-map (λ x. x -ℤ number_of current 0) current v (pos 0) (pos 0) below in
+  new ∙ same v below ∙ sym old)
 
 -- a graph that holds no edge
 pub empty : (nodes limit : ℕ) → 0 < nodes → nodes ≤ MAX_NODES → limit ≤ MAX_EDGES → IsGraph [] limit (replicate nodes (pos 0))
@@ -161,8 +183,12 @@ empty nodes limit some few_nodes few_edges = record {
   count = length-replicate nodes (pos 0)
 
 -- cutting off what was pushed leaves the list before it
-pub take_pushed : (held : List Edge) (edge : Edge) (n : ℕ) → n ≡ length held → take n (held ++ edge ∷ []) ≡ held
+take_pushed : (held : List Edge) (edge : Edge) (n : ℕ) → n ≡ length held → take n (held ++ edge ∷ []) ≡ held
 take_pushed held edge n is = rw is (take-append-le (length held) held (edge ∷ []) (omega arith) ∙ take_all (length held) held (omega arith))
+
+-- so does taking the last one back
+pub take_last : (held : List Edge) (edge : Edge) → take (length (held ++ edge ∷ []) - 1) (held ++ edge ∷ []) ≡ held
+take_last held edge = take_pushed held edge (length (held ++ edge ∷ []) - 1) (omega (arith, length_push held edge))
 
 -- a list that is written back over one of its length
 pub written_back : (n : ℕ) (new old : List ℤ) → length new ≡ n → take n (new ++ drop (length new) old) ≡ new

@@ -14,7 +14,8 @@ use Rattle.difference_graph.specs.Gaps.{IsNumber, IsNearNumber}
 use Rattle.difference_graph.specs.declared.waiting.Missed.{Missed}
 use Rattle.difference_graph.specs.Repairs.{slack, IsTightest, Begins, LeadsOn, IsTree, IsTrace, IsRepair, MeetsOthers}
 use Rattle.difference_graph.specs.Queues.{entry_of, IsClosing, IsTakenUp, IsWaiting, IsQueue, IsRest, IsNext, IsAdded}
-use Rattle.difference_graph.specs.Work.{MeetsFirst, IsAsked, AreFormer, DiffersAt}
+use Rattle.difference_graph.specs.Work.{HasWorkRoom, KeepsRoom, MeetsFirst, IsAsked, AreFormer, DiffersAt}
+use Rattle.difference_graph.specs.declared.work.Work.{Work}
 use Rattle.difference_graph.proofs.TreeLemmas.{begins_last, begins_still, any_last}
 use Rattle.difference_graph.proofs.RepairLemmas.{missed_from, missed_leads, at_other, begins_here, begins_new, repair_numbers, repair_room, repair_start, repair_step, refutes}
 use Rattle.difference_graph.proofs.QueueLemmas.{queue_start, queue_all}
@@ -249,3 +250,12 @@ module _ (edges : List Edge) (end : ℕ) (old : List ℤ) (others : MeetsOthers 
 
   pub closing_cycle : (walk : List ℕ) → IsTrace edges places q walk → IsNegativeCycle edges walk
   closing_cycle walk trace = refutes edges end old others new places r q k.within k.missed walk trace
+
+-- there is room still
+pub keeps_room : (nodes count edges : ℕ) (old new : Work) → count ≡ nodes → HasWorkRoom nodes edges old → KeepsRoom old new → HasWorkRoom count edges new
+keeps_room nodes count edges old new same had keeps = record {
+  waiting = omega (arith, had.waiting, keeps.waiting);
+  order = omega (arith, same, had.order, keeps.order);
+  former = omega (arith, same, had.former, keeps.former);
+  walk = omega (arith, same, had.walk, keeps.walk);
+}

@@ -1,8 +1,8 @@
 -- Difference constraints that are held one after another, with numbers that meet them all.
-use Rattle.std.specs.Prelude.{◌≡◌, ℕ, ◌<◌, ◌≤◌, List, length, map, All, vec_capacity, ℤ, pos, ◌-ℤ◌}
+use Rattle.std.specs.Prelude.{◌≡◌, ℕ, ◌^◌, ◌<◌, ◌≤◌, List, length, map, All, vec_capacity, ℤ, pos, ◌-ℤ◌}
 use Rattle.neg_cycle.specs.declared.system.Edge.{Edge}
 use Rattle.neg_cycle.specs.declared.system.TheConstants.{MAX_NODES, MAX_EDGES}
-use Rattle.neg_cycle.specs.Systems.{IsEdge, IsSystem, IsPotential, Meets, number_of}
+use Rattle.neg_cycle.specs.Systems.{IsEdge, IsWithin, IsSystem, IsPotential, Meets, number_of}
 use Rattle.difference_graph.specs.Gaps.{IsNumber}
 use Rattle.difference_graph.specs.Incoming.{AreIncoming}
 use Rattle.difference_graph.specs.Work.{HasWorkRoom}
@@ -37,6 +37,10 @@ pub record IsSolved (g : Constraints) : Type 0 where
   pub room : length g.edges ≤ g.capacity
   pub potential : IsPotential g.nodes g.edges g.numbers
   pub first : number_of g.numbers 0 ≡ pos 0
+
+-- no number's magnitude is above 2^112
+abbrev pub AreSmall : List ℤ → Type 0
+AreSmall numbers = All (IsWithin (pos (2 ^ 112))) numbers
 
 -- the fact holds, if the edge is kept
 abbrev pub IfKept : Push → Type 0 → Type 0

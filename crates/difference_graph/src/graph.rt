@@ -2,12 +2,12 @@
 
 ghost use Rattle.std.specs.Prelude.{◌≡◌, ◌↔◌, ◌<◌, ◌≤◌, [], ◌∷◌, ◌++◌, length, take, replicate, pos, IfOk};
 ghost use Rattle.neg_cycle.specs.declared.system.TheConstants.{MAX_NODES, MAX_EDGES};
-ghost use Rattle.neg_cycle.specs.Systems.{IsEdge, IsNegativeCycle, VisitsOnce, edge_at, number_of};
+ghost use Rattle.neg_cycle.specs.Systems.{IsEdge, Meets, IsNegativeCycle, VisitsOnce, edge_at, number_of};
 ghost use Rattle.difference_graph.specs.declared.push.Push.TheVariants.{Kept, Cycle};
-ghost use Rattle.difference_graph.specs.Graphs.{HasSameLimits, HasSolution, IsSolved, IfKept, IfRefused};
+ghost use Rattle.difference_graph.specs.Graphs.{HasSameLimits, HasSolution, IsSolved, AreSmall, IfKept, IfRefused};
 
 use crate::Push;
-use crate::gaps::close_gaps;
+use crate::gaps::bring_near;
 use crate::held::{Held, hold, no_edges, take_back, take_back_to};
 use crate::met::is_met;
 use crate::repair::repair;
@@ -73,13 +73,19 @@ impl Graph {
         ensures same { IfRefused result (self.new.edges ≡ self.old.edges) }
         ensures cycle { IfRefused result (IsNegativeCycle (self.old.edges ++ edge ∷ []) self.new.cycle) }
         ensures once { IfRefused result (VisitsOnce (self.old.edges ++ edge ∷ []) self.new.cycle) }
+
+        // An edge that the numbers meet leaves them as they are, and so does a refused one, unless
+        // they are far from that of node 0.
+        ensures met { Meets self.old.numbers edge → result ≡ Kept }
+        ensures still { Meets self.old.numbers edge → self.new.numbers ≡ self.old.numbers }
+        ensures restored { IfRefused result (AreSmall self.old.numbers → self.new.numbers ≡ self.old.numbers) }
     {
         if is_met(&self.current, edge) {
             hold(&mut self.held, edge);
             return Push::Kept;
         }
         let place = self.held.edges.len() as u32;
-        close_gaps(&mut self.current);
+        bring_near(&mut self.current);
         hold(&mut self.held, edge);
         match repair(&self.held, place, &mut self.current, &mut self.work) {
             Push::Kept => Push::Kept,
@@ -118,6 +124,7 @@ impl Graph {
         requires within { mark ≤ length self.old.edges }
         ensures limits { HasSameLimits self.old self.new }
         ensures edges { self.new.edges ≡ take mark self.old.edges }
+        ensures numbers { self.new.numbers ≡ self.old.numbers }
     {
         take_back_to(&mut self.held, mark as usize);
     }
