@@ -1,14 +1,12 @@
 -- What a graph keeps, with one edge more or fewer edges, and what its numbers show.
-use Rattle.std.proofs.Common.{◌≡◌, ◌∙◌, ap, sym, subst, refl, ℕ, ◌-◌, ◌^◌, ◌<◌, ◌≤◌, ◌↔◌, inl, inr, List, [], ◌∷◌, ◌++◌, length, take, drop, replicate, arith, ℤ, pos, ◌-ℤ◌, get_or}
+use Rattle.std.proofs.Common.{◌≡◌, ◌∙◌, sym, subst, refl, ℕ, ◌-◌, ◌^◌, ◌<◌, ◌≤◌, ◌↔◌, List, [], ◌∷◌, ◌++◌, length, take, drop, replicate, arith, ℤ, pos, ◌-ℤ◌, get_or}
 use Rattle.std.specs.Prelude.{All}
 use Rattle.std.proofs.lemmas.Int.{ints}
-use Rattle.std.proofs.lemmas.Bool.{cases_eq}
-use Rattle.std.proofs.Math.Seq.{get_or-append_seam}
 use Rattle.std.proofs.lemmas.List.{ext_get_or, get_or_append_left, length_push, length-map, length-take, length-replicate, get_or-map, take_all, take-append-le}
 use Rattle.std.proofs.lemmas.List.Elements.{All-push, All-take, All-replicate}
 use Rattle.neg_cycle.specs.declared.system.Edge.{Edge}
 use Rattle.neg_cycle.specs.declared.system.TheConstants.{MAX_NODES, MAX_EDGES}
-use Rattle.neg_cycle.specs.Systems.{IsEdge, IsWithin, IsSystem, Meets, IsNegativeCycle, edge_at, number_of}
+use Rattle.neg_cycle.specs.Systems.{IsEdge, IsWithin, IsSystem, Meets, IsNegativeCycle, number_of}
 use Rattle.neg_cycle.proofs.LawLemmas.{excludes_cycles}
 use Rattle.difference_graph.specs.declared.push.Push.{Push}
 use Rattle.difference_graph.specs.declared.push.Push.TheVariants.{Kept, Cycle}
@@ -156,17 +154,17 @@ narrow current small v w v_within w_within =
     let first = get_or-map (λ x. x -ℤ number_of current 0) current v (pos 0) (pos 0) v_within in
     let second = get_or-map (λ x. x -ℤ number_of current 0) current w (pos 0) (pos 0) w_within in
     omega (arith, ints, high.high, low.low, first, second) where
-  count : length (less_the_first current) ≡ length current
-  count = length-map current (λ x. x -ℤ number_of current 0)
+      count : length (less_the_first current) ≡ length current
+      count = length-map current (λ x. x -ℤ number_of current 0)
 
 -- numbers with the same differences are the same, less that of node 0
 pub same_view : (current near : List ℤ) → length near ≡ length current → HasSameDifferences current near → less_the_first near ≡ less_the_first current
 same_view current near count same = ext_get_or (pos 0) (less_the_first near) (less_the_first current) (length-map near (λ x. x -ℤ number_of near 0) ∙ count ∙ sym (length-map current (λ x. x -ℤ number_of current 0))) (λ v within.
-  let inside : v < length near = omega (arith, within, length-map near (λ x. x -ℤ number_of near 0)) in
-  let below : v < length current = omega (arith, inside, count) in
-  let new = get_or-map (λ x. x -ℤ number_of near 0) near v (pos 0) (pos 0) inside in
-  let old = get_or-map (λ x. x -ℤ number_of current 0) current v (pos 0) (pos 0) below in
-  new ∙ same v below ∙ sym old)
+    let inside : v < length near = omega (arith, within, length-map near (λ x. x -ℤ number_of near 0)) in
+    let below : v < length current = omega (arith, inside, count) in
+    let new = get_or-map (λ x. x -ℤ number_of near 0) near v (pos 0) (pos 0) inside in
+    let old = get_or-map (λ x. x -ℤ number_of current 0) current v (pos 0) (pos 0) below in
+    new ∙ same v below ∙ sym old)
 
 -- a graph that holds no edge
 pub empty : (nodes limit : ℕ) → 0 < nodes → nodes ≤ MAX_NODES → limit ≤ MAX_EDGES → IsGraph [] limit (replicate nodes (pos 0))

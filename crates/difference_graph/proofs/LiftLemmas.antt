@@ -1,10 +1,9 @@
 -- Numbers that are all raised by as much: what they still meet, and when they are near to 0.
-use Rattle.std.proofs.Common.{◌≡◌, ◌∙◌, sym, subst, refl, ℕ, ◌^◌, ◌<◌, List, length, arith, ℤ, pos, ◌+ℤ◌, ◌-ℤ◌, ◌≤ℤ◌, ◌<ℤ◌}
+use Rattle.std.proofs.Common.{◌≡◌, sym, subst, ℕ, ◌<◌, List, length, arith, ℤ, pos, ◌+ℤ◌, ◌-ℤ◌, ◌≤ℤ◌, ◌<ℤ◌}
 use Rattle.std.specs.Prelude.{All}
 use Rattle.std.proofs.lemmas.Int.{ints}
 use Rattle.std.proofs.lemmas.List.{get_or_default}
-use Rattle.neg_cycle.specs.declared.system.Edge.{Edge}
-use Rattle.neg_cycle.specs.Systems.{IsEdge, Meets, number_of}
+use Rattle.neg_cycle.specs.Systems.{IsEdge, number_of}
 use Rattle.difference_graph.specs.Gaps.{IsNumber, IsNearNumber, IsNarrow, HasSameDifferences, IsLifted, KeepsMet, IsNextBelow, IsRaisedBelow}
 
 -- the greatest number is raised to 0, and the others by as much
@@ -15,8 +14,8 @@ lifted old new greatest by numbers n is_by raised = record {
   rises = omega (arith, ints, n.below, is_by);
   each = raised_each;
   high = λ v within.
-    let most : number_of old v ≤ℤ greatest = n.greatest v (pos 0) within (low v within) in
-    omega (arith, ints, most, is_by, raised_each v within);
+      let most : number_of old v ≤ℤ greatest = n.greatest v (pos 0) within (low v within) in
+      omega (arith, ints, most, is_by, raised_each v within);
   place = n.place;
   within = n.within;
   top = omega (arith, ints, n.held, is_by, raised_each n.place n.within);

@@ -1,14 +1,14 @@
 -- Edges that wait: how many there are, and what is left when one is taken out.
-use Rattle.std.proofs.Common.{◌≡◌, ◌≢◌, ◌∙◌, ap, sym, subst, refl, ℕ, ◌+◌, ◌-◌, ◌<◌, ◌≤◌, ◌⊎◌, inl, inr, List, [], ◌∷◌, ◌++◌, length, map, arith, true, false, Bool, ℤ, pos, ◌+ℤ◌, ◌-ℤ◌, ◌≤ℤ◌, ◌<ℤ◌, eqb, get_or}
+use Rattle.std.proofs.Common.{◌≡◌, ◌≢◌, ◌∙◌, ap, sym, subst, refl, ℕ, ◌-◌, ◌<◌, ◌≤◌, inl, inr, List, [], ◌∷◌, length, map, arith, true, false, ℤ, pos, ◌+ℤ◌, ◌≤ℤ◌, ◌<ℤ◌, eqb, get_or}
 use Rattle.std.specs.Prelude.{All, Any, Contains, IsPermutation}
 use Rattle.std.specs.List.{IsDistinct, list_any}
 use Rattle.std.proofs.lemmas.Int.{ints, by_lt_z}
 use Rattle.std.proofs.lemmas.Bool.{cases_eq, cases_lt}
-use Rattle.std.proofs.lemmas.Bool.Decides.{nat_tests, Decides-eqb}
+use Rattle.std.proofs.lemmas.Bool.Decides.{nat_tests}
 use Rattle.std.proofs.lemmas.List.{length-map, get_or-map}
 use Rattle.std.proofs.lemmas.List.Folds.{Any-from_list_any}
 use Rattle.std.proofs.lemmas.List.Elements.{All-cons, All-contains, All-map, All-nil, All-tail, All-weaker, Contains-append_right, Contains-get_or, recursion_from_All, All-from_recursion}
-use Rattle.std.proofs.lemmas.List.Sorted.{All-permutation, Contains-permutation, length_permutation}
+use Rattle.std.proofs.lemmas.List.Sorted.{All-permutation, Contains-permutation}
 use Rattle.std.proofs.lemmas.Map.Keys.{IsDistinct-IsPermutation, IsDistinct-tail}
 use Rattle.std.proofs.lemmas.Map.Made.{Contains-tail}
 use Rattle.std.proofs.lemmas.Map.Steps.{length-le_from_distinct_below}
@@ -17,8 +17,8 @@ use Rattle.neg_cycle.specs.Systems.{Meets, edge_at}
 use Rattle.neg_cycle.proofs.LabelLemmas.{all_met}
 use Rattle.difference_graph.specs.declared.waiting.Missed.{Missed}
 use Rattle.difference_graph.specs.Incoming.{IsLastMark}
-use Rattle.difference_graph.specs.Repairs.{slack, IsTightest}
-use Rattle.difference_graph.specs.Queues.{entry_of, IsClosing, IsTakenUp, IsWaiting, WaitsOnce, IsQueue, IsRest, IsNext, IsAdded}
+use Rattle.difference_graph.specs.Repairs.{slack}
+use Rattle.difference_graph.specs.Queues.{entry_of, IsTakenUp, IsWaiting, WaitsOnce, IsQueue, IsRest, IsNext, IsAdded}
 
 -- no place waits twice among these
 module _ where
@@ -160,8 +160,8 @@ module _ (edges : List Edge) (numbers : List ℤ) where
         | inr held ↦ absurd (nothing (subst (λ (l : List Missed). Contains l (entry_of edges numbers r)) none held))
       ])
       (λ met. omega (arith, ints, met))) where
-    nothing : {x : Missed} → Contains [] x → ⊥
-    nothing (k, within, is) = absurd (omega (arith, within))
+        nothing : {x : Missed} → Contains [] x → ⊥
+        nothing (k, within, is) = absurd (omega (arith, within))
 
   -- the one is taken out that is missed by most
   module _ (ws : List Missed) (q : IsQueue edges numbers 0 0 ws) (w : Missed) (rest : List Missed) (p : IsPermutation ws (w ∷ rest)) where
@@ -197,8 +197,8 @@ module _ (edges : List Edge) (numbers : List ℤ) where
       least : (r : ℕ) → r < length edges → slack numbers (edge_at edges w.place) ≤ℤ slack numbers (edge_at edges r)
       least r below = by_lt_z (slack numbers (edge_at edges r)) (pos 0)
           (λ low.
-            let most_r = All-contains (λ x. x.by ≤ℤ w.by) ws (entry_of edges numbers r) most (in_all r below low) in
-            omega (arith, ints, most_r, by_is))
+          let most_r = All-contains (λ x. x.by ≤ℤ w.by) ws (entry_of edges numbers r) most (in_all r below low) in
+          omega (arith, ints, most_r, by_is))
           (λ met. omega (arith, ints, met, missed))
 
       pub next_found : IsNext edges numbers w.place

@@ -1,10 +1,10 @@
 -- What waits before and after a number is lowered, and the numbers that are put back.
-use Rattle.std.proofs.Common.{◌≡◌, ◌≢◌, ◌∙◌, ap, sym, subst, refl, ℕ, ◌+◌, ◌-◌, ◌<◌, ◌≤◌, ◌⊎◌, inl, inr, List, [], ◌∷◌, ◌++◌, length, set, take, arith, ℤ, pos, ◌+ℤ◌, ◌≤ℤ◌, ◌<ℤ◌, get_or, length-set, get_or-set_other}
+use Rattle.std.proofs.Common.{◌≡◌, ◌≢◌, ◌∙◌, ap, sym, subst, refl, ℕ, ◌+◌, ◌-◌, ◌<◌, ◌≤◌, inl, inr, List, [], ◌∷◌, ◌++◌, length, set, take, arith, ℤ, pos, ◌+ℤ◌, ◌≤ℤ◌, ◌<ℤ◌, get_or, length-set, get_or-set_other}
 use Rattle.std.specs.Prelude.{All, Any, Contains}
 use Rattle.std.proofs.lemmas.Int.{ints}
 use Rattle.std.proofs.lemmas.Bool.{cases_eq}
 use Rattle.std.proofs.lemmas.Grind.{get_or-set_at}
-use Rattle.std.proofs.lemmas.List.{ext_get_or, get_or_append_left, length_push, take_more, take_all}
+use Rattle.std.proofs.lemmas.List.{ext_get_or, get_or_append_left, length_push, take_more}
 use Rattle.std.proofs.lemmas.List.Elements.{All-cons, All-contains, All-nil}
 use Rattle.std.proofs.lemmas.List.Sorted.{All-permutation}
 use Rattle.std.proofs.Math.Seq.{get_or-append_seam}

@@ -1,7 +1,6 @@
 -- Numbers of nodes, all at most 0, and the gaps between them.
 use Rattle.std.specs.Prelude.{◌≡◌, ℕ, ◌^◌, ◌<◌, List, length, All, count_by, ℤ, pos, ◌+ℤ◌, ◌-ℤ◌, ◌≤ℤ◌, ◌<ℤ◌, int_lt, Option, None, Some}
 use Rattle.neg_cycle.specs.declared.system.Edge.{Edge}
-use Rattle.neg_cycle.specs.declared.system.TheConstants.{MAX_BOUND}
 use Rattle.neg_cycle.specs.Systems.{IsEdge, Meets, number_of}
 
 -- from -n to 0

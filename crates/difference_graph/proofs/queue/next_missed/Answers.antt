@@ -1,10 +1,8 @@
-use Rattle.std.proofs.Common.{◌≡◌, rules, arith, true, false, length, pos, ◌≤ℤ◌, ◌<ℤ◌}
+use Rattle.std.proofs.Common.{◌≡◌, rules, arith, true, false, pos}
 use Rattle.std.specs.BinaryHeap.{heap_items}
-use Rattle.std.proofs.lemmas.Int.{ints}
-use Rattle.std.proofs.lemmas.List.Elements.{All-contains_itself, All-contains}
+use Rattle.std.proofs.lemmas.List.Elements.{All-contains_itself}
 use Rattle.std.proofs.lemmas.List.Sorted.{length_permutation}
 use Rattle.neg_cycle.specs.Systems.{edge_at}
-use Rattle.difference_graph.specs.Repairs.{slack}
 use Rattle.difference_graph.proofs.RepairLemmas.{meets, misses}
 use Rattle.difference_graph.proofs.QueueLemmas.{none_missed, first_waits, held_first, queue_stale, next_found, rest_found, still_fewer}
 use Rattle.difference_graph.proofs.queue.next_missed.Goals as goal

@@ -2,7 +2,6 @@ use Rattle.std.proofs.Common.{◌≡◌, ◌∙◌, arith, get_or, ◌-◌}
 use Rattle.std.specs.BinaryHeap.{heap_items}
 use Rattle.std.proofs.lemmas.Grind.{get_or_default_zero}
 use Rattle.neg_cycle.specs.Systems.{edge_at}
-use Rattle.difference_graph.specs.Incoming.{IsLastMark}
 use Rattle.difference_graph.proofs.QueueLemmas.{queue_room, queue_step, added_step}
 use Rattle.difference_graph.proofs.IncomingLemmas.{next_mark}
 use Rattle.difference_graph.proofs.queue.take_up_all.Goals as goal

@@ -1,4 +1,4 @@
-use Rattle.std.proofs.Common.{◌≡◌, ◌∙◌, ◌-◌, rules, arith, pos, get_or, length, length-set}
+use Rattle.std.proofs.Common.{◌∙◌, ◌-◌, rules, arith, pos, get_or, length-set}
 use Rattle.std.specs.Int.{w128}
 use Rattle.std.proofs.lemmas.Int.{to_z-of_z}
 use mir.Val.{SFits}

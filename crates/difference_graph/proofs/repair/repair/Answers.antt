@@ -1,10 +1,7 @@
-use Rattle.std.proofs.Common.{◌≡◌, ◌∙◌, ap, sym, subst, refl, rules, arith, get_or, length, List, ℤ, pos}
-use Rattle.std.specs.Prelude.{All}
+use Rattle.std.proofs.Common.{◌∙◌, ap, arith, length}
 use Rattle.std.specs.BinaryHeap.{heap_items}
 use Rattle.std.proofs.lemmas.List.{get_or_default, length_push}
 use Rattle.neg_cycle.specs.declared.system.Edge.{Edge}
-use Rattle.neg_cycle.specs.Systems.{edge_at}
-use Rattle.difference_graph.specs.Gaps.{IsNumber}
 use Rattle.difference_graph.specs.Repairs.{MeetsOthers}
 use Rattle.difference_graph.proofs.TreeLemmas.{tree_short}
 use Rattle.difference_graph.proofs.RepairLemmas.{near_numbers, repair_numbers, repair_start, fewer_left}
