@@ -1,13 +1,17 @@
 -- How a descent keeps a run.
-use Rattle.std.proofs.Common.{◌≡◌, ◌∙◌, ℕ, ◌+◌, ◌<◌, ◌≤◌, List, length, Option, arith}
+use Rattle.std.proofs.Common.{◌≡◌, ◌∙◌, ap, refl, ℕ, ◌+◌, ◌<◌, ◌≤◌, List, length, Option, None, arith}
+use Rattle.std.proofs.lemmas.List.{get_or_push, length_push}
 use Rattle.neg_cycle.specs.declared.system.Edge.{Edge}
 use Rattle.difference_graph.specs.Graphs.{Constraints, HasSameLimits}
 use Rattle.clause_db.specs.declared.lit.Lit.{Lit}
-use Rattle.propagate.specs.Trails.{Assigned, IsTrail, IsUnassigned}
+use Rattle.propagate.specs.declared.entry.Entry.{Entry}
+use Rattle.propagate.specs.Trails.{Assigned, IsTrail, IsUnassigned, decided, no_entry}
+use Rattle.propagate.specs.Reach.{IsLast}
 use Rattle.propagate.specs.Clauses.{HasReasons}
 use Rattle.propagate.specs.Closed.{Closed, ClosedAt}
 use Rattle.propagate.specs.Steps.{HasRoomFor, InStep, IsLinked}
 use Rattle.propagate.proofs.LawLemmas.{room_for_all}
+use Rattle.propagate.proofs.TrailLemmas.{few_literals, trail_decided}
 use Rattle.cdcl_core.specs.Running.{IsRun, IsRunning}
 
 module _ (many : ℕ) (db : List (List Lit)) (links : List (Option (Edge × Edge))) (t : Assigned) (g : Constraints) (running : IsRunning many db links t g) where
@@ -48,3 +52,22 @@ pub run_decided : (db : List (List Lit)) (links : List (Option (Edge × Edge))) 
     → ((d : List (List Lit)) → Closed t d → ClosedAt t d (length t.levels) → Closed u d) → ClosedAt t db (length t.levels)
     → ((d : List (List Lit)) (b : List Edge) → InStep t d links b g → InStep u d links b h) → IsRun db links base t g → IsRun db links base u h
 run_decided db links base t u g h trail closed here step run = record { trail = trail; step = step db base run.step; closed = closed db run.closed here }
+
+-- so what propagation asks for stays
+pub running_grown : (many : ℕ) (db : List (List Lit)) (links : List (Option (Edge × Edge))) (t u : Assigned) (g h : Constraints) → IsRunning many db links t g → IsTrail u → (Closed t db → Closed u db)
+    → ((b : List Edge) → InStep t db links b g → InStep u db links b h) → u.vars ≡ t.vars → HasSameLimits g h → IsRunning many db links u h
+running_grown many db links t u g h running trail closed step vars limits =
+    running_same many db links t g running u h vars limits (λ base run. run_grown db links base t u g h trail closed step run)
+
+-- what is decided is the last literal of its trail
+pub last_decided : (t : Assigned) (lit : Lit) (mark : ℕ) → IsLast (decided t lit mark) lit
+last_decided t lit mark =
+    let e : Entry = record { lit = lit; level = length t.levels + 1; reason = None } in
+    record { place = length t.entries; is_last = length_push t.entries e; is = ap (λ (x : Entry). x.lit) (get_or_push t.entries e no_entry (length t.entries) refl) }
+
+-- a decision leaves fewer variables unassigned
+pub decided_fewer : (t : Assigned) (lit : Lit) (mark : ℕ) → IsTrail t → lit.var < t.vars → IsUnassigned t.entries lit.var → (length (decided t lit mark).entries ≡ length t.entries + 1) × (length t.entries < t.vars)
+decided_fewer t lit mark trail low free =
+    let few = few_literals (decided t lit mark) (trail_decided t lit mark trail low free) in
+    let longer = length_push t.entries (record { lit = lit; level = length t.levels + 1; reason = None }) in
+    (longer, omega (arith, few, longer))

@@ -1,5 +1,5 @@
 -- What a learned clause leaves of a run.
-use Rattle.std.proofs.Common.{inl, inr, ℕ, ◌<◌, List, [], ◌∷◌, ◌++◌, length, Option, arith}
+use Rattle.std.proofs.Common.{inl, inr, ℕ, ◌<◌, ◌≤◌, List, [], ◌∷◌, ◌++◌, length, Option, arith}
 use Rattle.std.specs.Prelude.{All}
 use Rattle.neg_cycle.specs.declared.system.Edge.{Edge}
 use Rattle.difference_graph.specs.Graphs.{Constraints}
@@ -27,20 +27,20 @@ module _ (db : List (List Lit)) (t : Assigned) (g : Constraints) (c : ℕ) where
   asserting_some [] asserting = absurd asserting
   asserting_some (l ∷ ls) asserting = omega arith
 
-  -- with the learned clause the trail that went back is a run
-  pub back_run : (lits : List Lit) (jump : ℕ) (u : Assigned) (h : Constraints) → 0 < length t.levels → IsAsserting t lits → IsJump t.entries lits jump → All (λ l. l.var < t.vars) lits
+  -- with the learned clause the trail that went back, to the jump or further, is a run
+  pub back_run : (lits : List Lit) (jump level : ℕ) (u : Assigned) (h : Constraints) → 0 < length t.levels → level ≤ jump → IsAsserting t lits → IsJump t.entries lits jump → All (λ l. l.var < t.vars) lits
       → ((m : ℕ) → m < jump → HasTwoAbove t.entries m (clause_at db c)) → IsTrail u
       → ((d : List (List Lit)) (links : List (Option (Edge × Edge))) (base : List Edge) → InStep t d links base g → InStep u d links base h)
-      → (jump < length t.levels → (d : List (List Lit)) (links : List (Option (Edge × Edge))) (base : List Edge) → LacksLast t d links base g → InStep u d links base h)
-      → ((d : List (List Lit)) → ((m : ℕ) → m < jump → ClosedAt t d m) → Closed u d)
+      → (level < length t.levels → (d : List (List Lit)) (links : List (Option (Edge × Edge))) (base : List Edge) → LacksLast t d links base g → InStep u d links base h)
+      → ((d : List (List Lit)) → ((m : ℕ) → m < level → ClosedAt t d m) → Closed u d)
       → (links : List (Option (Edge × Edge))) (base : List Edge) → IsConflicted db links base t g c → IsRun (db ++ lits ∷ []) links base u h
-  back_run lits jump u h some asserting is vars two trail keeps mends closed links base conflicted =
+  back_run lits jump level u h some least asserting is vars two trail keeps mends closed links base conflicted =
       let low = jump_below t lits jump some asserting is conflicted.trail in
       record {
         trail = trail;
         step = elim conflicted.step [
           | inl step ↦ keeps (db ++ lits ∷ []) links base (added_clause_keeps.in_step t db lits links base g vars step)
-          | inr lacks ↦ mends low (db ++ lits ∷ []) links base (added_clause_keeps.lacks_last t db lits links base g vars lacks)
+          | inr lacks ↦ mends (omega (arith, low, least)) (db ++ lits ∷ []) links base (added_clause_keeps.lacks_last t db lits links base g vars lacks)
         ];
-        closed = closed (db ++ lits ∷ []) (closed_with db links base t g c jump lits conflicted asserting is low two);
+        closed = closed (db ++ lits ∷ []) (λ m less. closed_with db links base t g c jump lits conflicted asserting is low two m (omega (arith, less, least)));
       }

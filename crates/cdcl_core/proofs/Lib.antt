@@ -22,6 +22,7 @@ pub mod Spending
 pub mod FreshLearned
 pub mod CycleLines
 pub mod Models
+pub mod Decisions
 pub mod Starts
 pub mod Learned
 pub mod Progress

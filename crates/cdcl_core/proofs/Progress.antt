@@ -1,5 +1,5 @@
 -- How a search goes on from one conflict to the next.
-use Rattle.std.proofs.Common.{◌≡◌, ◌∙◌, sym, ap, subst, inl, inr, ℕ, ◌+◌, ◌^◌, ◌-◌, ◌<◌, ◌≤◌, Bool, List, [], ◌++◌, length, Option, Some, arith, append_assoc, append-nil}
+use Rattle.std.proofs.Common.{◌≡◌, ◌∙◌, sym, ap, subst, inl, inr, ℕ, ◌+◌, ◌^◌, ◌-◌, ◌<◌, ◌≤◌, Bool, List, [], ◌++◌, length, Option, arith, append_assoc, append-nil}
 use Rattle.mt_model.specs.Form.{Form}
 use Rattle.mt_model.specs.Log.{Logged}
 use Rattle.neg_cycle.specs.declared.system.Edge.{Edge}
@@ -13,14 +13,14 @@ use Rattle.axiom_rules.specs.declared.rule.Rule.{Rule}
 use Rattle.mtl_encode.specs.declared.problem.Problem.{Problem}
 use Rattle.cdcl_core.specs.declared.conflict.Theory.{Theory}
 use Rattle.cdcl_core.specs.declared.derived.Derived.{Derived}
-use Rattle.cdcl_core.specs.declared.descent.Descent.{Descent}
-use Rattle.cdcl_core.specs.declared.descent.Descent.TheVariants as descent
+use Rattle.cdcl_core.specs.declared.descent.Conflict.{Conflict}
+use Rattle.cdcl_core.specs.declared.descent.Conflict.TheVariants as conflict
 use Rattle.cdcl_core.specs.Founds.{lessons}
 use Rattle.cdcl_core.specs.Orders.{AreLinks}
 use Rattle.cdcl_core.specs.Recording.{IsRecord}
-use Rattle.cdcl_core.specs.Running.{IsConflicted, IsDescended, IsRun, IsRunning}
+use Rattle.cdcl_core.specs.Running.{HasStopped, HasStoppedOver, IsConflicted, IsRun, IsRunning}
 use Rattle.cdcl_core.specs.Extending.{Extends}
-use Rattle.cdcl_core.specs.Searching.{HasEnded, IsDecided, IsSearch, IsWiderBy}
+use Rattle.cdcl_core.specs.Searching.{IsSearch, IsWiderBy}
 use Rattle.cdcl_core.specs.Spending.{IsQuietBelow, IsSpending}
 use Rattle.cdcl_core.specs.Turns.{IsMidway, IsTheoryOf}
 use Rattle.cdcl_core.proofs.ProblemAtoms.{edge-count}
@@ -35,11 +35,10 @@ extends_more old mid new first second = (first.0 ++ second.0, second.1 ∙ ap (�
 pub conflict_reasons : (db : List (List Lit)) (links : List (Option (Edge × Edge))) (base : List Edge) (t : Assigned) (g : Constraints) (c : ℕ) → IsConflicted db links base t g c → HasReasons t db
 conflict_reasons db links base t g c conflicted = elim conflicted.step [ inl step ↦ step.reasons | inr lacks ↦ lacks.step.reasons ]
 
--- nothing is left to propagate below the present level where a descent has ended
-pub descended_closed : (db : List (List Lit)) (links : List (Option (Edge × Edge))) (base : List Edge) (t : Assigned) (g : Constraints) (e : Descent) → IsDescended db links base t g e → Closed t db
-descended_closed db links base t g descent.Whole ended = ended.0.closed
-descended_closed db links base t g (descent.False c) ended = ended.0.closed
-descended_closed db links base t g (descent.Refused l) ended = ended.closed
+-- nothing is left to propagate below the present level where a descent stopped
+pub stopped_closed : (db : List (List Lit)) (links : List (Option (Edge × Edge))) (base : List Edge) (t : Assigned) (g : Constraints) (x : Conflict) → HasStopped db links base t g x → Closed t db
+stopped_closed db links base t g (conflict.False c) stopped = stopped.0.closed
+stopped_closed db links base t g (conflict.Refused l) stopped = stopped.closed
 
 -- at most no conflicts are none
 pub begun_search : (p : Problem) (vars : ℕ) (links : List (Option (Edge × Edge))) (t : Assigned) (g : Constraints) (d : Derived) (n : ℕ) → n ≤ 0 → IsSearch p vars links t g d n → IsSearch p vars links t g d 0
@@ -69,38 +68,55 @@ module _ (p : Problem) (theory : Theory) (theory_of : IsTheoryOf p theory) (vars
         let few = search.few_clauses in let lines = search.few_lines in let own = theory_of.posed.fits.few_clauses in
         (omega (arith, few, own, least), omega (arith, lines, least))
 
-    module _ (u : Assigned) (h : Constraints) (e : Descent) (same : u.vars ≡ vars) (limits : HasSameLimits g h)
-        (descended : (base : List Edge) → IsRun d.db theory.links base t g → IsDescended d.db theory.links base u h e) where
-      -- what it has come to
-      pub search_ended : HasEnded (length theory.bounds) d.db theory.links u h e
-      search_ended = record { base = p.edges; count = edges_count; descended = descended p.edges search.run }
+    -- where the trail and the graph went on and nothing was derived, the search goes on
+    pub search_on : (u : Assigned) (h : Constraints) → u.vars ≡ vars → HasSameLimits g h → ((base : List Edge) → IsRun d.db theory.links base t g → IsRun d.db theory.links base u h) → IsSearch p vars theory.links u h d n
+    search_on u h same limits keeps = record {
+      count = search.count;
+      assigned = same;
+      nodes = limits.nodes ∙ search.nodes;
+      room = let old = search.room in let kept = limits.capacity in omega (arith, old, kept);
+      links_are = search.links_are;
+      run = keeps p.edges search.run;
+      clauses = search.clauses;
+      few_clauses = search.few_clauses;
+      few_lines = search.few_lines;
+      lesson_count = search.lesson_count;
+      derives = search.derives;
+      spending = search.spending;
+    }
 
-      pub midway : (o decided : Option ℕ) (k : Derived) → decided ≡ o → ((base : List Edge) → length base ≡ length theory.bounds → IsDescended d.db theory.links base u h e → IsDecided k.db theory.links base u h decided) → IsWiderBy d k
-          → ((log : Logged) (f : Form) (v : Bool) (base : List Edge) → AreEdges log theory.bounds base → IsDescended d.db theory.links base u h e → IsRecord log f v theory.atoms d.db d.cites.items d.lines → IsRecord log f v theory.atoms k.db k.cites.items k.lines)
-          → IsMidway p vars theory.links u h k n o
-      midway o decided k is decides wider derives = record {
+    module _ (u : Assigned) (h : Constraints) (x : Conflict) (same : u.vars ≡ vars) (limits : HasSameLimits g h)
+        (stopped : (base : List Edge) → IsRun d.db theory.links base t g → HasStopped d.db theory.links base u h x) where
+      -- where it stopped
+      pub search_stopped : HasStoppedOver (length theory.bounds) d.db theory.links u h x
+      search_stopped = record { base = p.edges; count = edges_count; stopped = stopped p.edges search.run }
+
+      pub midway : (c : ℕ) (k : Derived) → ((base : List Edge) → length base ≡ length theory.bounds → HasStopped d.db theory.links base u h x → IsConflicted k.db theory.links base u h c) → IsWiderBy d k
+          → ((log : Logged) (f : Form) (v : Bool) (base : List Edge) → AreEdges log theory.bounds base → HasStopped d.db theory.links base u h x → IsRecord log f v theory.atoms d.db d.cites.items d.lines → IsRecord log f v theory.atoms k.db k.cites.items k.lines)
+          → IsMidway p vars theory.links u h k n c
+      midway c k conflicted wider derives = record {
         count = search.count;
         assigned = same;
         nodes = limits.nodes ∙ search.nodes;
         room = let old = search.room in let kept = limits.capacity in omega (arith, old, kept);
         links_are = search.links_are;
-        decided = subst (λ (x : Option ℕ). IsDecided k.db theory.links p.edges u h x) is (decides p.edges edges_count (descended p.edges search.run));
+        conflicted = conflicted p.edges edges_count (stopped p.edges search.run);
         clauses = extends_more p.db d.db k.db search.clauses wider.clauses;
         few_clauses = let old = search.few_clauses in let more = wider.few_clauses in omega (arith, old, more);
         few_lines = let old = search.few_lines in let more = wider.few_lines in omega (arith, old, more);
         lesson_count = wider.lesson_count ∙ search.lesson_count;
         derives = λ log f v valid fits.
-            let record_ = derives log f v p.edges (rw theory_of.bounds fits.edges) (descended p.edges search.run) (rw theory_of.atoms (search.derives log f v valid fits)) in
+            let record_ = derives log f v p.edges (rw theory_of.bounds fits.edges) (stopped p.edges search.run) (rw theory_of.atoms (search.derives log f v valid fits)) in
             rw theory_of.atoms at record_;
         known = d.db;
         quiet = record {
           clauses = wider.clauses;
-          closed = λ some. descended_closed d.db theory.links p.edges u h e (descended p.edges search.run) (length u.levels - 1) (omega (arith, some));
+          closed = λ some. stopped_closed d.db theory.links p.edges u h x (stopped p.edges search.run) (length u.levels - 1) (omega (arith, some));
         };
         spending = λ log f v valid fits. wider.spending log f v p.rules p.atoms d.db (search.spending log f v valid fits);
       }
 
-  module _ (t : Assigned) (g : Constraints) (d : Derived) (n : ℕ) (o : Option ℕ) (mid : IsMidway p vars theory.links t g d n o) where
+  module _ (t : Assigned) (g : Constraints) (d : Derived) (n c : ℕ) (mid : IsMidway p vars theory.links t g d n c) where
     pub mid_vars : t.vars ≡ length theory.atoms
     mid_vars = mid.assigned ∙ mid.count ∙ ap length (sym theory_of.atoms)
 
@@ -108,7 +124,7 @@ module _ (p : Problem) (theory : Theory) (theory_of : IsTheoryOf p theory) (vars
     cites_count = (mid.derives theory_of.posed.log theory_of.posed.form theory_of.posed.value theory_of.posed.valid theory_of.posed.fits).cited.count
 
   -- after a learned clause the search has one conflict more
-  pub learned : (t : Assigned) (g : Constraints) (d : Derived) (n c : ℕ) (u : Assigned) (h : Constraints) (k : Derived) → IsMidway p vars theory.links t g d n (Some c) → u.vars ≡ t.vars → HasSameLimits g h
+  pub learned : (t : Assigned) (g : Constraints) (d : Derived) (n c : ℕ) (u : Assigned) (h : Constraints) (k : Derived) → IsMidway p vars theory.links t g d n c → u.vars ≡ t.vars → HasSameLimits g h
       → ((ls : List (Option (Edge × Edge))) (base : List Edge) → IsConflicted d.db ls base t g c → IsRun k.db ls base u h) → Extends d.db k.db → length k.db ≡ length d.db + 1 → length k.lines ≡ length d.lines + 1
       → lessons k.lines ≡ lessons d.lines + 1
       → ((log : Logged) (f : Form) (v : Bool) → IsRecord log f v theory.atoms d.db d.cites.items d.lines → IsRecord log f v theory.atoms k.db k.cites.items k.lines)
@@ -120,7 +136,7 @@ module _ (p : Problem) (theory : Theory) (theory_of : IsTheoryOf p theory) (vars
     nodes = limits.nodes ∙ mid.nodes;
     room = let old = mid.room in let equal = limits.capacity in omega (arith, old, equal);
     links_are = mid.links_are;
-    run = run theory.links p.edges mid.decided;
+    run = run theory.links p.edges mid.conflicted;
     clauses = extends_more p.db d.db k.db mid.clauses kept;
     few_clauses = let old = mid.few_clauses in omega (arith, old, clauses);
     few_lines = let old = mid.few_lines in omega (arith, old, lines);

@@ -3,6 +3,7 @@ pub mod Walking
 pub mod Assignments
 pub mod Recording
 pub mod Founds
+pub mod Deciding
 pub mod Running
 pub mod Extending
 pub mod Spending

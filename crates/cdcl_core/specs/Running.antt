@@ -4,14 +4,13 @@ use Rattle.neg_cycle.specs.declared.system.Edge.{Edge}
 use Rattle.difference_graph.specs.Graphs.{Constraints}
 use Rattle.clause_db.specs.declared.lit.Lit.{Lit}
 use Rattle.clause_db.specs.Clauses.{clause_at}
-use Rattle.propagate.specs.Trails.{Assigned, IsTrail, IsUnassigned}
-use Rattle.propagate.specs.Clauses.{AreSettled}
+use Rattle.propagate.specs.Trails.{Assigned, IsTrail}
 use Rattle.propagate.specs.Steps.{InStep, IsRefused, LacksLast}
 use Rattle.propagate.specs.Reach.{IsConflict, IsLast}
 use Rattle.propagate.specs.Closed.{Closed, ClosedAt}
 use Rattle.analyze.specs.Asserting.{HasHere, HasTwoAbove}
-use Rattle.cdcl_core.specs.declared.descent.Descent.{Descent}
-use Rattle.cdcl_core.specs.declared.descent.Descent.TheVariants as descent
+use Rattle.cdcl_core.specs.declared.descent.Conflict.{Conflict}
+use Rattle.cdcl_core.specs.declared.descent.Conflict.TheVariants as conflict
 
 -- trail, clauses, links and graph are in step, and nothing is left to propagate below the present level
 pub record IsRun (db : List (List Lit)) (links : List (Option (Edge × Edge))) (base : List Edge) (t : Assigned) (g : Constraints) : Type 0 where
@@ -42,11 +41,16 @@ pub record IsStuckOver (edges : ℕ) (db : List (List Lit)) (links : List (Optio
   pub count : length base ≡ edges
   pub stuck : IsStuck db links base t g literal
 
--- where a descent ended
-abbrev pub IsDescended : List (List Lit) → List (Option (Edge × Edge)) → List Edge → Assigned → Constraints → Descent → Type 0
-IsDescended db links base t g descent.Whole = IsRun db links base t g × AreSettled t.entries db × ((v : ℕ) → v < t.vars → IsUnassigned t.entries v → ⊥)
-IsDescended db links base t g (descent.False c) = IsRun db links base t g × IsConflict t db c
-IsDescended db links base t g (descent.Refused l) = IsStuck db links base t g l
+-- where a descent stopped
+abbrev pub HasStopped : List (List Lit) → List (Option (Edge × Edge)) → List Edge → Assigned → Constraints → Conflict → Type 0
+HasStopped db links base t g (conflict.False c) = IsRun db links base t g × IsConflict t db c
+HasStopped db links base t g (conflict.Refused l) = IsStuck db links base t g l
+
+-- it stopped over a base of so many edges
+pub record HasStoppedOver (edges : ℕ) (db : List (List Lit)) (links : List (Option (Edge × Edge))) (t : Assigned) (g : Constraints) (x : Conflict) : Type 0 where
+  pub base : List Edge
+  pub count : length base ≡ edges
+  pub stopped : HasStopped db links base t g x
 
 -- a clause is false, as `learn` and `refute` ask; a level below that leaves two of its literals open is closed
 pub record IsConflicted (db : List (List Lit)) (links : List (Option (Edge × Edge))) (base : List Edge) (t : Assigned) (g : Constraints) (c : ℕ) : Type 0 where

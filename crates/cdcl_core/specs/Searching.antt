@@ -1,42 +1,23 @@
 -- What a search has after so many conflicts.
-use Rattle.std.specs.Prelude.{◌≡◌, ℕ, ◌+◌, ◌*◌, ◌<◌, ◌≤◌, List, length, Bool, Option, Some, None}
+use Rattle.std.specs.Prelude.{◌≡◌, ℕ, ◌+◌, ◌*◌, ◌<◌, ◌≤◌, List, length, Bool, Option}
 use Rattle.mt_model.specs.Form.{Form}
 use Rattle.mt_model.specs.Log.{Logged, IsLog}
 use Rattle.neg_cycle.specs.declared.system.Edge.{Edge}
 use Rattle.difference_graph.specs.Graphs.{Constraints}
 use Rattle.clause_db.specs.declared.lit.Lit.{Lit}
-use Rattle.propagate.specs.Trails.{Assigned, IsUnassigned}
-use Rattle.propagate.specs.Clauses.{AreSettled}
+use Rattle.propagate.specs.Trails.{Assigned}
 use Rattle.axiom_rules.specs.declared.literal.Atom.{Atom}
 use Rattle.axiom_rules.specs.declared.rule.Rule.{Rule}
 use Rattle.axiom_rules.specs.Sought.{sought_of}
 use Rattle.mtl_encode.specs.declared.problem.Problem.{Problem}
 use Rattle.mtl_encode.specs.Problems.{Fits}
 use Rattle.cdcl_core.specs.declared.derived.Derived.{Derived}
-use Rattle.cdcl_core.specs.declared.descent.Descent.{Descent}
 use Rattle.cdcl_core.specs.Extending.{Extends}
 use Rattle.cdcl_core.specs.Founds.{lessons}
 use Rattle.cdcl_core.specs.Orders.{AreLinks}
 use Rattle.cdcl_core.specs.Recording.{IsRecord}
-use Rattle.cdcl_core.specs.Running.{IsConflicted, IsDescended, IsRun}
+use Rattle.cdcl_core.specs.Running.{IsConflicted, IsRun}
 use Rattle.cdcl_core.specs.Spending.{IsSpending}
-
--- a descent over a base of so many edges has ended
-pub record HasEnded (edges : ℕ) (db : List (List Lit)) (links : List (Option (Edge × Edge))) (t : Assigned) (g : Constraints) (d : Descent) : Type 0 where
-  pub base : List Edge
-  pub count : length base ≡ edges
-  pub descended : IsDescended db links base t g d
-
--- nothing is left: each variable is assigned, and no clause is false or unit
-pub record IsDone (db : List (List Lit)) (links : List (Option (Edge × Edge))) (base : List Edge) (t : Assigned) (g : Constraints) : Type 0 where
-  pub run : IsRun db links base t g
-  pub settled : AreSettled t.entries db
-  pub whole : (v : ℕ) → v < t.vars → IsUnassigned t.entries v → ⊥
-
--- nothing is left, or the clause is in conflict
-abbrev pub IsDecided : List (List Lit) → List (Option (Edge × Edge)) → List Edge → Assigned → Constraints → Option ℕ → Type 0
-IsDecided db links base t g None = IsDone db links base t g
-IsDecided db links base t g (Some c) = IsConflicted db links base t g c
 
 -- a clause is in conflict, over some links and some base
 pub record IsInConflict (db : List (List Lit)) (t : Assigned) (g : Constraints) (c : ℕ) : Type 0 where

@@ -1,5 +1,5 @@
 -- What a search has from turn to turn, and what it answers.
-use Rattle.std.specs.Prelude.{◌≡◌, ℕ, ◌+◌, ◌*◌, ◌^◌, ◌<◌, ◌≤◌, List, [], length, map, All, Bool, Option, Some, None}
+use Rattle.std.specs.Prelude.{◌≡◌, ℕ, ◌+◌, ◌*◌, ◌^◌, ◌<◌, ◌≤◌, List, [], length, map, All, Bool, Option}
 use Rattle.mt_model.specs.Form.{Form}
 use Rattle.mt_model.specs.Log.{Logged, IsLog}
 use Rattle.neg_cycle.specs.declared.system.Edge.{Edge}
@@ -17,11 +17,13 @@ use Rattle.cdcl_core.specs.declared.derived.Derived.{Derived}
 use Rattle.cdcl_core.specs.declared.found.Found.{Found}
 use Rattle.cdcl_core.specs.declared.turn.Turn.{Turn}
 use Rattle.cdcl_core.specs.declared.turn.Turn.TheVariants as turn
+use Rattle.cdcl_core.specs.Assignments.{IsSatisfying}
 use Rattle.cdcl_core.specs.Extending.{Extends}
 use Rattle.cdcl_core.specs.Founds.{IfSpent, IsFound, IsPosed, lessons}
 use Rattle.cdcl_core.specs.Orders.{AreLinks, IsOrderAmong}
 use Rattle.cdcl_core.specs.Recording.{IsRecord, IsRuleInRange}
-use Rattle.cdcl_core.specs.Searching.{IsDecided, IsSearch}
+use Rattle.cdcl_core.specs.Running.{IsConflicted}
+use Rattle.cdcl_core.specs.Searching.{IsSearch}
 use Rattle.cdcl_core.specs.Spending.{IsQuietBelow, IsSpending}
 
 -- the theory has the bounds, the atoms and the nodes of a problem that is posed, and its order atoms are differences of nodes
@@ -50,15 +52,15 @@ pub record IsUnderWay (theory : Theory) (vars : ℕ) (t : Assigned) (g : Constra
   pub theory_of : IsTheoryOf problem theory
   pub search : IsSearch problem vars theory.links t g d conflicts
 
--- a search after so many conflicts whose descent has ended, with at most one clause and one line more than what the levels below
+-- a search after so many conflicts with a clause that is false, and with at most one clause and one line more than what the levels below
 -- the present one leave closed
-pub record IsMidway (p : Problem) (vars : ℕ) (links : List (Option (Edge × Edge))) (t : Assigned) (g : Constraints) (d : Derived) (conflicts : ℕ) (o : Option ℕ) : Type 0 where
+pub record IsMidway (p : Problem) (vars : ℕ) (links : List (Option (Edge × Edge))) (t : Assigned) (g : Constraints) (d : Derived) (conflicts c : ℕ) : Type 0 where
   pub count : vars ≡ length p.atoms
   pub assigned : t.vars ≡ vars
   pub nodes : g.nodes ≡ p.nodes
   pub room : length p.edges + vars ≤ g.capacity
   pub links_are : AreLinks p.atoms links
-  pub decided : IsDecided d.db links p.edges t g o
+  pub conflicted : IsConflicted d.db links p.edges t g c
   pub clauses : Extends p.db d.db
   pub few_clauses : length d.db ≤ length p.db + 2 * conflicts + 1
   pub few_lines : length d.lines ≤ 2 * conflicts + 1
@@ -68,10 +70,10 @@ pub record IsMidway (p : Problem) (vars : ℕ) (links : List (Option (Edge × Ed
   pub quiet : IsQuietBelow known d.db t
   pub spending : (log : Logged) (f : Form) (v : Bool) → IsLog log → Fits (sought_of log f v) p → IsSpending log f v p.rules p.atoms known d.cites.items d.lines
 
--- nothing is left, or a clause is false at level 0, or a clause was learnt
+-- some values satisfy the problem and all that was derived, or a clause is false at level 0, or a clause was learnt
 abbrev pub HasTurned : Problem → ℕ → List (Option (Edge × Edge)) → Assigned → Constraints → Derived → ℕ → Turn → Type 0
-HasTurned p vars links t g d n turn.Whole = IsMidway p vars links t g d n None
-HasTurned p vars links t g d n (turn.Refuted c) = IsMidway p vars links t g d n (Some c) × (t.levels ≡ [])
+HasTurned p vars links t g d n (turn.Met values) = IsSearch p vars links t g d n × IsSatisfying p.atoms d.db g.numbers values
+HasTurned p vars links t g d n (turn.Refuted c) = IsMidway p vars links t g d n c × (t.levels ≡ [])
 HasTurned p vars links t g d n turn.Learnt = IsSearch p vars links t g d (n + 1)
 
 -- what was found answers whatever the problem fits; and where the budget was spent, it is below three to the number of atoms, and

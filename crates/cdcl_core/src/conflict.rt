@@ -1,6 +1,6 @@
 //! What a search does where a descent has ended.
 
-ghost use Rattle.std.specs.Prelude.{◌≡◌, ◌+◌, ◌-◌, ◌^◌, ◌<◌, Bool, List, [], length, All, IfOk, OnOk, Option};
+ghost use Rattle.std.specs.Prelude.{◌≡◌, ◌+◌, ◌-◌, ◌^◌, ◌<◌, ◌≤◌, Bool, List, [], length, All, IfOk, OnOk, Option};
 ghost use Rattle.mt_model.specs.Form.{Form};
 ghost use Rattle.mt_model.specs.Log.{Logged};
 ghost use Rattle.neg_cycle.specs.declared.system.Edge.{Edge};
@@ -15,14 +15,15 @@ ghost use Rattle.proof_log.specs.Derivations.{Refutes};
 ghost use Rattle.cdcl_core.specs.Founds.{lessons};
 ghost use Rattle.cdcl_core.specs.Orders.{AreLinks, IsOrderAmong};
 ghost use Rattle.cdcl_core.specs.Recording.{IsRecord};
-ghost use Rattle.cdcl_core.specs.Running.{IsConflicted, IsDescended, IsRun};
+ghost use Rattle.cdcl_core.specs.Running.{HasStopped, HasStoppedOver, IsConflicted, IsRun};
 ghost use Rattle.cdcl_core.specs.Extending.{Extends};
-ghost use Rattle.cdcl_core.specs.Searching.{HasEnded, IsDecided, IsInConflict, IsWiderBy};
+ghost use Rattle.cdcl_core.specs.Searching.{IsInConflict, IsWiderBy};
 ghost use Rattle.cdcl_core.specs.Spending.{IsQuietBelow, IsSpending};
 
 use crate::derived::Derived;
-use crate::descent::Descent;
+use crate::descent::Conflict;
 use crate::lines::{add_cycle, learnt};
+use crate::strategy::Strategy;
 use analyze::{learn, refute};
 use axiom_rules::AtomTable;
 use clause_db::ClauseRef;
@@ -42,53 +43,57 @@ pub struct Theory {
     pub nodes: u32,
 }
 
-/// The clause that is false where a descent ended, and None where nothing is left. The clause of a refused
-/// edge is added first, with its line.
-pub fn conflict(
+/// The clause that is false where a descent stopped. That of a refused edge is added first, with its line.
+pub fn conflict_clause(
     alloc: Global,
     theory: &Theory,
     trail: &Trail,
     graph: &Graph,
     derived: &mut Derived,
-    descent: Descent,
-) -> Result<Option<ClauseRef>, AllocError>
+    conflict: Conflict,
+) -> Result<ClauseRef, AllocError>
     requires orders { All (IsOrderAmong MAX_NODES) theory.now.atoms }
     requires links { AreLinks theory.now.atoms theory.now.links }
     requires vars { trail.now.vars ≡ length theory.now.atoms }
-    requires ended { HasEnded (length theory.now.bounds) derived.old.db theory.now.links trail.now graph.now descent }
+    requires stopped { HasStoppedOver (length theory.now.bounds) derived.old.db theory.now.links trail.now graph.now conflict }
     requires clause_room { length derived.old.db < 2 ^ 32 - 1 }
     requires line_room { length derived.old.lines < 2 ^ 32 - 1 }
-    ensures decided { IfOk result (λ o. (base : List Edge) → length base ≡ length theory.now.bounds → IsDescended derived.old.db theory.now.links base trail.now graph.now descent
-        → IsDecided derived.new.db theory.now.links base trail.now graph.now o) }
+    ensures conflicted { IfOk result (λ c. (base : List Edge) → length base ≡ length theory.now.bounds → HasStopped derived.old.db theory.now.links base trail.now graph.now conflict
+        → IsConflicted derived.new.db theory.now.links base trail.now graph.now c) }
     ensures wider { OnOk result (IsWiderBy derived.old derived.new) }
-    ensures derives { OnOk result ((log : Logged) (f : Form) (v : Bool) (base : List Edge) → AreEdges log theory.now.bounds base → IsDescended derived.old.db theory.now.links base trail.now graph.now descent
+    ensures derives { OnOk result ((log : Logged) (f : Form) (v : Bool) (base : List Edge) → AreEdges log theory.now.bounds base → HasStopped derived.old.db theory.now.links base trail.now graph.now conflict
         → IsRecord log f v theory.now.atoms derived.old.db derived.old.cites.items derived.old.lines → IsRecord log f v theory.now.atoms derived.new.db derived.new.cites.items derived.new.lines) }
 {
-    match descent {
-        Descent::Whole => Ok(None),
-        Descent::False(clause) => Ok(Some(clause)),
-        Descent::Refused(_) => {
-            let clause = add_cycle(
-                alloc,
-                trail,
-                &theory.links,
-                graph,
-                theory.bounds.as_slice(),
-                &theory.atoms,
-                derived,
-            )?;
-            Ok(Some(clause))
-        }
+    match conflict {
+        Conflict::False(clause) => Ok(clause),
+        Conflict::Refused(_) => add_cycle(
+            alloc,
+            trail,
+            &theory.links,
+            graph,
+            theory.bounds.as_slice(),
+            &theory.atoms,
+            derived,
+        ),
     }
 }
 
-/// Learns a clause from a conflict, adds it with its line, and goes back to the level where it is unit.
+// The level to go back to: that of the jump, or 0 where the search begins anew.
+fn level_after(anew: bool, jump: u32) -> u32
+    ensures { result ≤ jump }
+{
+    if anew { 0 } else { jump }
+}
+
+/// Learns a clause from a conflict, adds it with its line, and goes back to the level where it is unit, or to level 0
+/// where the search begins anew.
 pub fn learn_clause(
     alloc: Global,
     atoms: &AtomTable,
     trail: &mut Trail,
     graph: &mut Graph,
     derived: &mut Derived,
+    strategy: &mut Strategy,
     conflict: ClauseRef,
 ) -> Result<(), AllocError>
     requires level { 0 < length trail.old.levels }
@@ -118,8 +123,10 @@ pub fn learn_clause(
     let learned = learn(alloc, trail, &derived.db, conflict)?;
     let lits = learned.lits.as_slice();
     let line = learnt(alloc, atoms, derived, lits, learned.hints.as_slice())?;
+    let anew = strategy.conflict(&derived.db, learned.hints.as_slice())?;
     derived.add(lits, line)?;
-    trail.back_to(learned.jump, graph);
+    trail.back_to(level_after(anew, learned.jump), graph);
+    strategy.cut(trail.len());
     // With the level it is known that no variable is assigned twice.
     let _ = trail.level();
     Ok(())

@@ -1,78 +1,90 @@
 //! Deciding and propagating until nothing is left or something is in conflict.
 
-ghost use Rattle.std.specs.Prelude.{◌≡◌, ◌<◌, length, IfOk, IfSome, OnOk, List};
+ghost use Rattle.std.specs.Prelude.{◌≡◌, IfOk, OnOk, List};
 ghost use Rattle.neg_cycle.specs.declared.system.Edge.{Edge};
-ghost use Rattle.neg_cycle.specs.Systems.{IsEdge};
-ghost use Rattle.clause_db.specs.declared.lit.Lit.{Lit};
 ghost use Rattle.difference_graph.specs.Graphs.{HasSameLimits};
-ghost use Rattle.propagate.specs.Links.{edge_of};
-ghost use Rattle.cdcl_core.specs.Running.{IsDescended, IsRun, IsRunning};
+ghost use Rattle.cdcl_core.specs.Assignments.{IsSatisfying};
+ghost use Rattle.cdcl_core.specs.Deciding.{IfConflict, IfMet};
+ghost use Rattle.cdcl_core.specs.Orders.{AreLinks};
+ghost use Rattle.cdcl_core.specs.Running.{HasStopped, IsRun, IsRunning};
 
-use crate::assignment::unassigned;
-use clause_db::{ClauseRef, Db, Lit, Var};
+use crate::conflict::Theory;
+use crate::decision::{Decision, next};
+use crate::sight::Sight;
+use crate::strategy::Strategy;
+use clause_db::{ClauseRef, Db, Lit};
 use difference_graph::{Graph, Push};
-use propagate::{Links, Reached, Trail};
-use std::alloc::AllocError;
+use mt_model::Bits;
+use propagate::{Reached, Trail};
+use std::alloc::{AllocError, Global};
 
-/// Where a descent ended.
+/// What keeps a descent from going on.
 #[derive(Clone, Copy, Debug, PartialEq, Eq)]
-pub enum Descent {
-    /// Each variable is assigned, no clause is false, and the edge of each literal is held.
-    Whole,
+pub enum Conflict {
     /// This clause is false.
     False(ClauseRef),
     /// The edge of this literal, the last assigned one, closes a walk of negative sum.
     Refused(Lit),
 }
 
-// The sense in which the graph's numbers meet the edge of a variable, and false where it has none.
-fn sense_of(links: &Links, graph: &Graph, var: Var) -> bool
-    requires var { var < length links.now }
-    requires edges { (l : Lit) → IfSome (edge_of links.now l) (IsEdge graph.now.nodes) }
-{
-    match links.get(var) {
-        Some((yes, _)) => {
-            let difference = graph
-                .potential(yes.from)
-                .saturating_sub(graph.potential(yes.to));
-            difference <= yes.bound
-        }
-        None => false,
-    }
+/// Where a descent ended.
+#[derive(Drop)]
+pub enum Descent {
+    /// These values of the variables satisfy the problem with the graph's numbers.
+    Met(Bits),
+    /// In conflict.
+    Stopped(Conflict),
 }
 
-/// Propagates, and decides the unassigned variable with the least number, an order in the sense that the
-/// graph's numbers meet, until each variable is assigned, a clause is false, or an edge is refused.
+/// Propagates, and decides what the strategy says, until the problem is satisfied, a clause is false, or an edge is
+/// refused.
 pub fn descend(
+    alloc: Global,
+    theory: &Theory,
     trail: &mut Trail,
     db: &Db,
-    links: &Links,
     graph: &mut Graph,
+    strategy: &mut Strategy,
     vars: u32,
 ) -> Result<Descent, AllocError>
-    requires running { IsRunning vars db.now links.now trail.old graph.old }
+    requires running { IsRunning vars db.now theory.now.links trail.old graph.old }
+    requires links { AreLinks theory.now.atoms theory.now.links }
+    requires nodes { graph.old.nodes ≡ theory.now.nodes }
     ensures vars { OnOk result (trail.new.vars ≡ vars) }
     ensures limits { OnOk result (HasSameLimits graph.old graph.new) }
-    ensures descended { IfOk result (λ d. (base : List Edge) → IsRun db.now links.now base trail.old graph.old → IsDescended db.now links.now base trail.new graph.new d) }
+    ensures stopped { IfOk result (IfConflict (λ x. (base : List Edge) → IsRun db.now theory.now.links base trail.old graph.old → HasStopped db.now theory.now.links base trail.new graph.new x)) }
+    ensures run { IfOk result (IfMet (λ values. (base : List Edge) → IsRun db.now theory.now.links base trail.old graph.old → IsRun db.now theory.now.links base trail.new graph.new)) }
+    ensures met { IfOk result (IfMet (IsSatisfying theory.now.atoms db.now graph.new.numbers)) }
 {
     let mut start = 0;
     'decisions: loop {
-        let reached = trail.propagate(db, links, graph)?;
+        let reached = trail.propagate(db, &theory.links, graph)?;
         // With the level it is known that no variable is assigned twice.
         let _ = trail.level();
         match reached {
             Reached::Quiet => {}
-            Reached::ClauseConflict(clause) => return Ok(Descent::False(clause)),
-            Reached::TheoryConflict(lit) => return Ok(Descent::Refused(lit)),
+            Reached::ClauseConflict(clause) => {
+                return Ok(Descent::Stopped(Conflict::False(clause)));
+            }
+            Reached::TheoryConflict(lit) => {
+                return Ok(Descent::Stopped(Conflict::Refused(lit)));
+            }
         }
-        match unassigned(trail, start, vars) {
-            None => return Ok(Descent::Whole),
-            Some(var) => {
-                start = var.get() + 1;
-                let lit = Lit::new(var, sense_of(links, graph, var));
-                match trail.decide(lit, links, graph) {
+        let sight = Sight {
+            trail,
+            db,
+            links: &theory.links,
+            graph,
+            vars,
+            nodes: theory.nodes,
+        };
+        match next(alloc, theory, &sight, strategy, start)? {
+            Decision::Done(values) => return Ok(Descent::Met(values)),
+            Decision::Decide { lit, start: begin } => {
+                start = begin;
+                match trail.decide(lit, &theory.links, graph) {
                     Push::Kept => {}
-                    Push::Cycle => return Ok(Descent::Refused(lit)),
+                    Push::Cycle => return Ok(Descent::Stopped(Conflict::Refused(lit))),
                 }
             }
         }

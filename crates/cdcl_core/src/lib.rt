@@ -4,13 +4,22 @@
 
 mod assignment;
 mod conflict;
+mod decision;
 mod derived;
 mod descent;
 mod difference;
 mod found;
+mod heads;
 mod lines;
 mod linked;
 mod main_loop;
+mod needs;
+mod ratings;
+mod read_off;
+mod restarts;
+mod scores;
+mod sight;
+mod strategy;
 mod turn;
 mod walk;
 

@@ -12,11 +12,13 @@ ghost use Rattle.cdcl_core.specs.Searching.{IsSearch};
 ghost use Rattle.cdcl_core.specs.Turns.{IsAnswer, IsReady, IsTheoryOf, IsUnderWay};
 
 use crate::Found;
-use crate::assignment::{potentials_of, values_of};
+use crate::assignment::potentials_of;
 use crate::conflict::{Theory, refuted};
 use crate::derived::Derived;
 use crate::difference::{graph_of, links_of};
+use crate::strategy::Strategy;
 use crate::turn::{Turn, take_turn};
+use axiom_rules::Rule;
 use difference_graph::{Graph, graphs_are_solved};
 use formula_arena::{cores_are_cores, nodes_are_subtrees};
 use mtl_encode::Problem;
@@ -58,7 +60,14 @@ pub fn search(alloc: Global, problem: Problem, budget: u32) -> Result<Found, All
         links,
         nodes,
     };
-    start(alloc, &theory, edges.as_slice(), derived, budget)
+    start(
+        alloc,
+        &theory,
+        edges.as_slice(),
+        derived,
+        rules.as_slice(),
+        budget,
+    )
 }
 
 // Searches with an empty trail and the edges of the bounds.
@@ -67,6 +76,7 @@ fn start(
     theory: &Theory,
     edges: &[Edge],
     derived: Derived,
+    rules: &[Rule],
     budget: u32,
 ) -> Result<Found, AllocError>
     requires some { 1 ≤ budget }
@@ -83,7 +93,17 @@ fn start(
     let mut trail = Trail::new(alloc, vars)?;
     // With the level it is known that no variable is assigned twice.
     let _ = trail.level();
-    run(alloc, theory, &mut trail, &mut graph, derived, vars, budget)
+    let mut strategy = Strategy::new(alloc, &derived.db, rules, &theory.links, vars, theory.nodes)?;
+    run(
+        alloc,
+        theory,
+        &mut trail,
+        &mut graph,
+        derived,
+        &mut strategy,
+        vars,
+        budget,
+    )
 }
 
 // Goes on from conflict to conflict until there is an answer or the budget is spent.
@@ -93,6 +113,7 @@ fn run(
     trail: &mut Trail,
     graph: &mut Graph,
     derived: Derived,
+    strategy: &mut Strategy,
     vars: u32,
     budget: u32,
 ) -> Result<Found, AllocError>
@@ -103,10 +124,9 @@ fn run(
 {
     let mut derived = derived;
     'conflicts: for _conflict in 0..budget {
-        match take_turn(alloc, theory, trail, graph, &mut derived, vars)? {
-            Turn::Whole => {
+        match take_turn(alloc, theory, trail, graph, &mut derived, strategy, vars)? {
+            Turn::Met(values) => {
                 graphs_are_solved(graph);
-                let values = values_of(alloc, trail, vars)?;
                 let potentials = potentials_of(alloc, graph, theory.nodes)?;
                 return Ok(Found::Model { values, potentials });
             }

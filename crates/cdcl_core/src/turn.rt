@@ -5,19 +5,21 @@ ghost use Rattle.mtl_encode.specs.declared.problem.Problem.{Problem};
 ghost use Rattle.cdcl_core.specs.Searching.{IsSearch};
 ghost use Rattle.cdcl_core.specs.Turns.{HasTurned, IsTheoryOf, IsUnderWay};
 
-use crate::conflict::{Theory, conflict, learn_clause};
+use crate::conflict::{Theory, conflict_clause, learn_clause};
 use crate::derived::Derived;
-use crate::descent::descend;
+use crate::descent::{Descent, descend};
+use crate::strategy::Strategy;
 use clause_db::ClauseRef;
 use difference_graph::Graph;
+use mt_model::Bits;
 use propagate::Trail;
 use std::alloc::{AllocError, Global};
 
 /// What a turn came to.
-#[derive(Clone, Copy)]
+#[derive(Drop)]
 pub enum Turn {
-    /// Nothing is left.
-    Whole,
+    /// These values of the variables satisfy the problem with the graph's numbers.
+    Met(Bits),
     /// This clause is false at level 0.
     Refuted(ClauseRef),
     /// A clause was learnt.
@@ -31,20 +33,28 @@ pub fn take_turn(
     trail: &mut Trail,
     graph: &mut Graph,
     derived: &mut Derived,
+    strategy: &mut Strategy,
     vars: u32,
 ) -> Result<Turn, AllocError>
     requires under_way { IsUnderWay theory.now vars trail.old graph.old derived.old 999999 }
     ensures turned { IfOk result (λ turn. (problem : Problem) (n : ℕ) → IsTheoryOf problem theory.now → IsSearch problem vars theory.now.links trail.old graph.old derived.old n → HasTurned problem vars theory.now.links trail.new graph.new derived.new n turn) }
 {
-    let descent = descend(trail, &derived.db, &theory.links, graph, vars)?;
-    let decided = conflict(alloc, theory, trail, graph, derived, descent)?;
-    match decided {
-        None => Ok(Turn::Whole),
-        Some(clause) => {
+    match descend(alloc, theory, trail, &derived.db, graph, strategy, vars)? {
+        Descent::Met(values) => Ok(Turn::Met(values)),
+        Descent::Stopped(conflict) => {
+            let clause = conflict_clause(alloc, theory, trail, graph, derived, conflict)?;
             if trail.level() == 0 {
                 return Ok(Turn::Refuted(clause));
             }
-            learn_clause(alloc, &theory.atoms, trail, graph, derived, clause)?;
+            learn_clause(
+                alloc,
+                &theory.atoms,
+                trail,
+                graph,
+                derived,
+                strategy,
+                clause,
+            )?;
             Ok(Turn::Learnt)
         }
     }

@@ -44,6 +44,13 @@ module _ (held : List Edge) (limit : ℕ) (current : List ℤ) (g : IsGraph held
   number_less : (v : ℕ) → v < length current → number_of (less_the_first current) v ≡ number_of current v -ℤ number_of current 0
   number_less v below = get_or-map (λ x. x -ℤ number_of current 0) current v (pos 0) (pos 0) below
 
+  -- they meet the same edges
+  pub met_less : (e : Edge) → IsEdge (length current) e → Meets current e ↔ Meets (less_the_first current) e
+  met_less e fits =
+      let from = number_less e.from fits.from in
+      let to = number_less e.to fits.to in
+      (λ meets. omega (arith, ints, from, to, meets), λ meets. omega (arith, ints, from, to, meets))
+
   meets_less : All (Meets (less_the_first current)) held
   meets_less k d below =
       let e = g.each k d below in

@@ -31,7 +31,7 @@ add-requires-clause-once c = rw c.as_slice-lits.ensures.items c.in_ok-learned.en
 pub back_to-requires-clause-level : goal.back_to-requires-clause-level
 back_to-requires-clause-level c =
     let less = jump_below c.args.trail.now c.in_ok-learned.learned.lits c.in_ok-learned.learned.jump c.requires.level c.in_ok-learned.ensures.asserting c.in_ok-learned.ensures.jump c.requires.conflicted.conflicted.trail in
-    omega (arith, less)
+    omega (arith, less, c.level_after.ensures)
 
 pub back_to-requires-clause-marks : goal.back_to-requires-clause-marks
 back_to-requires-clause-marks c = marks_held c.args.derived.now.db c.args.trail.now c.args.graph.now c.args.conflict c.requires.conflicted
@@ -39,7 +39,7 @@ back_to-requires-clause-marks c = marks_held c.args.derived.now.db c.args.trail.
 pub returns-clause-run : goal.returns-clause-run
 returns-clause-run c = λ links base conflicted.
     rw (c.in_ok-add.ensures.clause, c.as_slice-lits.ensures.items)
-    (back_run c.args.derived.now.db c.args.trail.now c.args.graph.now c.args.conflict c.in_ok-learned.learned.lits c.in_ok-learned.learned.jump c.back_to.new.self c.back_to.new.graph c.requires.level
+    (back_run c.args.derived.now.db c.args.trail.now c.args.graph.now c.args.conflict c.in_ok-learned.learned.lits c.in_ok-learned.learned.jump c.level_after.result c.back_to.new.self c.back_to.new.graph c.requires.level c.level_after.ensures
     c.in_ok-learned.ensures.asserting c.in_ok-learned.ensures.jump c.in_ok-learned.ensures.variables c.in_ok-learned.ensures.two_above c.level.ensures.trail
     c.back_to.ensures.in_step c.back_to.ensures.after_refusal c.back_to.ensures.closed links base conflicted)
 

@@ -7,10 +7,10 @@ use Rattle.cdcl_core.proofs.descent.descend.Given as goal
 
 abbrev pub invariant-decisions : goal.invariant-decisions
 invariant-decisions l = record {
-  running : IsRunning l.vars l.db l.links l.trail l.graph;
+  running : IsRunning l.vars l.db l.theory.links l.trail l.graph;
   limits : HasSameLimits l.fn.graph l.graph;
   before : (w : ℕ) → w < l.start → IsUnassigned l.trail.entries w → ⊥;
-  run : (base : List Edge) → IsRun l.db l.links base l.fn.trail l.fn.graph → IsRun l.db l.links base l.trail l.graph;
+  run : (base : List Edge) → IsRun l.db l.theory.links base l.fn.trail l.fn.graph → IsRun l.db l.theory.links base l.trail l.graph;
 }
 
 abbrev pub decreases-decisions : goal.decreases-decisions

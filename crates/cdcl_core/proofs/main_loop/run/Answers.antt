@@ -1,5 +1,5 @@
 -- What the calls of a run ask for, and what its three answers say.
-use Rattle.std.proofs.Common.{◌≡◌, Some, arith}
+use Rattle.std.proofs.Common.{◌≡◌, arith}
 use Rattle.cdcl_core.proofs.Endings.{model_found, refuted_found, spent_bounded, spent_found, spent_unrefuted}
 use Rattle.cdcl_core.proofs.Progress.{begun_search, cites_count, conflict_reasons, few_atoms, mid_vars}
 use Rattle.cdcl_core.proofs.main_loop.run.Goals as goal
@@ -20,34 +20,20 @@ take_turn-requires c =
       };
     }
 
-pub values_of-requires-clause-vars : goal.values_of-requires-clause-vars
-values_of-requires-clause-vars c =
-    let b = c.requires.begun in
-    let start = begun_search b.problem c.args.vars c.args.theory.now.links c.args.trail.now c.args.graph.now c.args.derived b.conflicts b.few b.search in
-    let mid = (rw c.in-Whole.is at c.in_ok-take_turn.ensures.turned) b.problem c.conflicts._conflict b.theory_of (c.conflicts.invariant.search b.problem b.theory_of start) in
-    mid.assigned
-
-pub values_of-requires-clause-trail : goal.values_of-requires-clause-trail
-values_of-requires-clause-trail c =
-    let b = c.requires.begun in
-    let start = begun_search b.problem c.args.vars c.args.theory.now.links c.args.trail.now c.args.graph.now c.args.derived b.conflicts b.few b.search in
-    let mid = (rw c.in-Whole.is at c.in_ok-take_turn.ensures.turned) b.problem c.conflicts._conflict b.theory_of (c.conflicts.invariant.search b.problem b.theory_of start) in
-    mid.decided.run.trail
-
 pub potentials_of-requires : goal.potentials_of-requires
 potentials_of-requires c =
     let b = c.requires.begun in
     let start = begun_search b.problem c.args.vars c.args.theory.now.links c.args.trail.now c.args.graph.now c.args.derived b.conflicts b.few b.search in
-    let mid = (rw c.in-Whole.is at c.in_ok-take_turn.ensures.turned) b.problem c.conflicts._conflict b.theory_of (c.conflicts.invariant.search b.problem b.theory_of start) in
-    record { nodes = rw b.theory_of.nodes mid.nodes }
+    let met = (rw c.in-Met.is at c.in_ok-values.ensures.turned) b.problem c.conflicts._conflict b.theory_of (c.conflicts.invariant.search b.problem b.theory_of start) in
+    record { nodes = rw b.theory_of.nodes met.0.nodes }
 
-pub returns-in-Whole : goal.returns-in-Whole
-returns-in-Whole c = record {
+pub returns-in-Met : goal.returns-in-Met
+returns-in-Met c = record {
   answer = λ p theory_of start.
-      let mid = (rw c.in-Whole.is at c.in_ok-take_turn.ensures.turned) p c.conflicts._conflict theory_of (c.conflicts.invariant.search p theory_of start) in
+      let met = (rw c.in-Met.is at c.in_ok-values.ensures.turned) p c.conflicts._conflict theory_of (c.conflicts.invariant.search p theory_of start) in
       record {
-        found_is = λ log f v valid fits. model_found p c.args.vars c.args.theory.now.links c.take_turn.new.trail c.take_turn.new.graph c.take_turn.new.derived c.conflicts._conflict c.in_ok-values-in-Whole.values c.in_ok-potentials-in-Whole.potentials mid
-            c.graphs_are_solved.ensures.solution c.in_ok-values-in-Whole.ensures.values c.in_ok-potentials-in-Whole.ensures.potentials;
+        found_is = λ log f v valid fits. model_found p c.args.vars c.args.theory.now.links c.take_turn.new.trail c.take_turn.new.graph c.take_turn.new.derived c.conflicts._conflict c.in-Met.values c.in_ok-potentials-in-Met.potentials met.0 met.1
+            c.graphs_are_solved.ensures.solution c.in_ok-potentials-in-Met.ensures.potentials;
         bounded = tt;
         refuted_by_rules = tt;
       };
@@ -57,36 +43,36 @@ pub refuted-requires-clause-level : goal.refuted-requires-clause-level
 refuted-requires-clause-level c =
     let b = c.requires.begun in
     let start = begun_search b.problem c.args.vars c.args.theory.now.links c.args.trail.now c.args.graph.now c.args.derived b.conflicts b.few b.search in
-    let both = (rw c.in-Refuted.is at c.in_ok-take_turn.ensures.turned) b.problem c.conflicts._conflict b.theory_of (c.conflicts.invariant.search b.problem b.theory_of start) in
+    let both = (rw c.in-Refuted.is at c.in_ok-values.ensures.turned) b.problem c.conflicts._conflict b.theory_of (c.conflicts.invariant.search b.problem b.theory_of start) in
     both.1
 
 pub refuted-requires-clause-reasons : goal.refuted-requires-clause-reasons
 refuted-requires-clause-reasons c =
     let b = c.requires.begun in
     let start = begun_search b.problem c.args.vars c.args.theory.now.links c.args.trail.now c.args.graph.now c.args.derived b.conflicts b.few b.search in
-    let both = (rw c.in-Refuted.is at c.in_ok-take_turn.ensures.turned) b.problem c.conflicts._conflict b.theory_of (c.conflicts.invariant.search b.problem b.theory_of start) in
-    conflict_reasons c.take_turn.new.derived.db c.args.theory.now.links b.problem.edges c.take_turn.new.trail c.take_turn.new.graph c.in-Refuted.clause both.0.decided
+    let both = (rw c.in-Refuted.is at c.in_ok-values.ensures.turned) b.problem c.conflicts._conflict b.theory_of (c.conflicts.invariant.search b.problem b.theory_of start) in
+    conflict_reasons c.take_turn.new.derived.db c.args.theory.now.links b.problem.edges c.take_turn.new.trail c.take_turn.new.graph c.in-Refuted.clause both.0.conflicted
 
 pub refuted-requires-clause-held : goal.refuted-requires-clause-held
 refuted-requires-clause-held c =
     let b = c.requires.begun in
     let start = begun_search b.problem c.args.vars c.args.theory.now.links c.args.trail.now c.args.graph.now c.args.derived b.conflicts b.few b.search in
-    let both = (rw c.in-Refuted.is at c.in_ok-take_turn.ensures.turned) b.problem c.conflicts._conflict b.theory_of (c.conflicts.invariant.search b.problem b.theory_of start) in
-    both.0.decided.conflict.held
+    let both = (rw c.in-Refuted.is at c.in_ok-values.ensures.turned) b.problem c.conflicts._conflict b.theory_of (c.conflicts.invariant.search b.problem b.theory_of start) in
+    both.0.conflicted.conflict.held
 
 pub refuted-requires-clause-falsified : goal.refuted-requires-clause-falsified
 refuted-requires-clause-falsified c =
     let b = c.requires.begun in
     let start = begun_search b.problem c.args.vars c.args.theory.now.links c.args.trail.now c.args.graph.now c.args.derived b.conflicts b.few b.search in
-    let both = (rw c.in-Refuted.is at c.in_ok-take_turn.ensures.turned) b.problem c.conflicts._conflict b.theory_of (c.conflicts.invariant.search b.problem b.theory_of start) in
-    both.0.decided.conflict.falsified
+    let both = (rw c.in-Refuted.is at c.in_ok-values.ensures.turned) b.problem c.conflicts._conflict b.theory_of (c.conflicts.invariant.search b.problem b.theory_of start) in
+    both.0.conflicted.conflict.falsified
 
 pub refuted-requires-clause-vars : goal.refuted-requires-clause-vars
 refuted-requires-clause-vars c =
     let b = c.requires.begun in
     let start = begun_search b.problem c.args.vars c.args.theory.now.links c.args.trail.now c.args.graph.now c.args.derived b.conflicts b.few b.search in
-    let both = (rw c.in-Refuted.is at c.in_ok-take_turn.ensures.turned) b.problem c.conflicts._conflict b.theory_of (c.conflicts.invariant.search b.problem b.theory_of start) in
-    mid_vars b.problem c.args.theory.now b.theory_of c.args.vars c.take_turn.new.trail c.take_turn.new.graph c.take_turn.new.derived c.conflicts._conflict (Some c.in-Refuted.clause) both.0
+    let both = (rw c.in-Refuted.is at c.in_ok-values.ensures.turned) b.problem c.conflicts._conflict b.theory_of (c.conflicts.invariant.search b.problem b.theory_of start) in
+    mid_vars b.problem c.args.theory.now b.theory_of c.args.vars c.take_turn.new.trail c.take_turn.new.graph c.take_turn.new.derived c.conflicts._conflict c.in-Refuted.clause both.0
 
 pub refuted-requires-clause-few_atoms : goal.refuted-requires-clause-few_atoms
 refuted-requires-clause-few_atoms c = few_atoms c.requires.begun.problem c.args.theory.now c.requires.begun.theory_of c.args.vars
@@ -95,13 +81,13 @@ pub refuted-requires-clause-cites : goal.refuted-requires-clause-cites
 refuted-requires-clause-cites c =
     let b = c.requires.begun in
     let start = begun_search b.problem c.args.vars c.args.theory.now.links c.args.trail.now c.args.graph.now c.args.derived b.conflicts b.few b.search in
-    let both = (rw c.in-Refuted.is at c.in_ok-take_turn.ensures.turned) b.problem c.conflicts._conflict b.theory_of (c.conflicts.invariant.search b.problem b.theory_of start) in
-    cites_count b.problem c.args.theory.now b.theory_of c.args.vars c.take_turn.new.trail c.take_turn.new.graph c.take_turn.new.derived c.conflicts._conflict (Some c.in-Refuted.clause) both.0
+    let both = (rw c.in-Refuted.is at c.in_ok-values.ensures.turned) b.problem c.conflicts._conflict b.theory_of (c.conflicts.invariant.search b.problem b.theory_of start) in
+    cites_count b.problem c.args.theory.now b.theory_of c.args.vars c.take_turn.new.trail c.take_turn.new.graph c.take_turn.new.derived c.conflicts._conflict c.in-Refuted.clause both.0
 
 pub returns-in-Refuted : goal.returns-in-Refuted
 returns-in-Refuted c = record {
   answer = λ p theory_of start.
-      let both = (rw c.in-Refuted.is at c.in_ok-take_turn.ensures.turned) p c.conflicts._conflict theory_of (c.conflicts.invariant.search p theory_of start) in
+      let both = (rw c.in-Refuted.is at c.in_ok-values.ensures.turned) p c.conflicts._conflict theory_of (c.conflicts.invariant.search p theory_of start) in
       record {
         found_is = refuted_found p c.args.vars c.args.theory.now.links c.take_turn.new.trail c.take_turn.new.graph c.take_turn.new.derived c.conflicts._conflict c.args.budget c.in-Refuted.clause c.in_ok-lines-in-Refuted.lines c.conflicts-test.true both.0
             c.in_ok-lines-in-Refuted.ensures.lines c.in_ok-lines-in-Refuted.ensures.lessons (rw theory_of.atoms at c.in_ok-lines-in-Refuted.ensures.refutes);
@@ -112,7 +98,7 @@ returns-in-Refuted c = record {
 
 pub conflicts-preserved : goal.conflicts-preserved
 conflicts-preserved c = record {
-  search = λ p theory_of start. (rw c.in-Learnt.is at c.in_ok-take_turn.ensures.turned) p c.conflicts._conflict theory_of (c.conflicts.invariant.search p theory_of start);
+  search = λ p theory_of start. (rw c.in-Learnt.is at c.in_ok-values.ensures.turned) p c.conflicts._conflict theory_of (c.conflicts.invariant.search p theory_of start);
 }
 
 pub returns : goal.returns

@@ -1,0 +1,130 @@
+//! What is decided where nothing is left to propagate.
+
+ghost use Rattle.std.specs.Prelude.{◌≡◌, ℕ, ◌<◌, length, IfOk, IfSome};
+ghost use Rattle.propagate.specs.Clauses.{AreSettled};
+ghost use Rattle.propagate.specs.Trails.{IsUnassigned};
+ghost use Rattle.cdcl_core.specs.Assignments.{IsSatisfying};
+ghost use Rattle.cdcl_core.specs.Deciding.{IfDecides, IfDone, IsNext};
+ghost use Rattle.cdcl_core.specs.Orders.{AreLinks};
+ghost use Rattle.cdcl_core.specs.Running.{IsRunning};
+
+use crate::assignment::{unassigned, values_of};
+use crate::conflict::Theory;
+use crate::read_off::{meet_all, value_in, values_in};
+use crate::sight::Sight;
+use crate::strategy::Strategy;
+use clause_db::Lit;
+use difference_graph::graphs_are_solved;
+use mt_model::Bits;
+use propagate::Trail;
+use std::alloc::{AllocError, Global};
+
+/// What is done next.
+#[derive(Drop)]
+pub enum Decision {
+    /// Nothing: these values of the variables satisfy the problem with the graph's numbers.
+    Done(Bits),
+    /// This literal is decided. Then no variable below the start is unassigned.
+    Decide { lit: Lit, start: u32 },
+}
+
+// The literal, if its variable is unassigned.
+fn open(trail: &Trail, vars: u32, lit: Lit) -> Option<Lit>
+    requires vars { trail.now.vars ≡ vars }
+    ensures open { IfSome result (λ l. (l.var < vars) × IsUnassigned trail.now.entries l.var) }
+{
+    if lit.var().get() < vars && trail.value(lit.var()).is_none() {
+        Some(lit)
+    } else {
+        None
+    }
+}
+
+/// What is done next, where no variable below the start is unassigned. An error is want of memory.
+pub fn next(
+    alloc: Global,
+    theory: &Theory,
+    sight: &Sight<'_>,
+    strategy: &mut Strategy,
+    start: u32,
+) -> Result<Decision, AllocError>
+    requires running { IsRunning sight.now.vars sight.now.db.now sight.now.links.now sight.now.trail.now sight.now.graph.now }
+    requires links { AreLinks theory.now.atoms sight.now.links.now }
+    requires settled { AreSettled sight.now.trail.now.entries sight.now.db.now }
+    requires before { (w : ℕ) → w < start → IsUnassigned sight.now.trail.now.entries w → ⊥ }
+    ensures done { IfOk result (IfDone (IsSatisfying theory.now.atoms sight.now.db.now sight.now.graph.now.numbers)) }
+    ensures decides { IfOk result (IfDecides (IsNext sight.now.vars sight.now.trail.now.entries)) }
+{
+    if !strategy.fills() {
+        if let Some(decision) = repair(alloc, theory, sight, strategy, start)? {
+            return Ok(decision);
+        }
+        strategy.fill();
+    }
+    fill(alloc, theory, sight, strategy, start)
+}
+
+// Decides what repairs the present timing, or reads all values off it; None where these don't meet all clauses.
+fn repair(
+    alloc: Global,
+    theory: &Theory,
+    sight: &Sight<'_>,
+    strategy: &mut Strategy,
+    start: u32,
+) -> Result<Option<Decision>, AllocError>
+    requires links { AreLinks theory.now.atoms sight.now.links.now }
+    requires before { (w : ℕ) → w < start → IsUnassigned sight.now.trail.now.entries w → ⊥ }
+    ensures done { IfOk result (λ o. IfSome o (IfDone (IsSatisfying theory.now.atoms sight.now.db.now sight.now.graph.now.numbers))) }
+    ensures decides { IfOk result (λ o. IfSome o (IfDecides (IsNext sight.now.vars sight.now.trail.now.entries))) }
+{
+    if let Some(choice) = strategy.decision(*sight)? {
+        if let Some(lit) = open(sight.trail, sight.vars, choice) {
+            return Ok(Some(Decision::Decide { lit, start }));
+        }
+    }
+    read(alloc, theory, sight, strategy)
+}
+
+// Reads all values off the present timing, where these meet all clauses.
+fn read(
+    alloc: Global,
+    theory: &Theory,
+    sight: &Sight<'_>,
+    strategy: &Strategy,
+) -> Result<Option<Decision>, AllocError>
+    requires links { AreLinks theory.now.atoms sight.now.links.now }
+    ensures done { IfOk result (λ o. IfSome o (IfDone (IsSatisfying theory.now.atoms sight.now.db.now sight.now.graph.now.numbers))) }
+    ensures decides { IfOk result (λ o. IfSome o (IfDecides (λ lit start. ⊥))) }
+{
+    let values = values_in(alloc, sight, strategy)?;
+    if meet_all(values.as_slice(), sight.db) {
+        Ok(Some(Decision::Done(values)))
+    } else {
+        Ok(None)
+    }
+}
+
+// Decides the unassigned variable with the least number, as the present timing has it.
+fn fill(
+    alloc: Global,
+    theory: &Theory,
+    sight: &Sight<'_>,
+    strategy: &Strategy,
+    start: u32,
+) -> Result<Decision, AllocError>
+    requires running { IsRunning sight.now.vars sight.now.db.now sight.now.links.now sight.now.trail.now sight.now.graph.now }
+    requires links { AreLinks theory.now.atoms sight.now.links.now }
+    requires settled { AreSettled sight.now.trail.now.entries sight.now.db.now }
+    requires before { (w : ℕ) → w < start → IsUnassigned sight.now.trail.now.entries w → ⊥ }
+    ensures done { IfOk result (IfDone (IsSatisfying theory.now.atoms sight.now.db.now sight.now.graph.now.numbers)) }
+    ensures decides { IfOk result (IfDecides (IsNext sight.now.vars sight.now.trail.now.entries)) }
+{
+    graphs_are_solved(sight.graph);
+    match unassigned(sight.trail, start, sight.vars) {
+        None => Ok(Decision::Done(values_of(alloc, sight.trail, sight.vars)?)),
+        Some(var) => Ok(Decision::Decide {
+            lit: Lit::new(var, value_in(sight, strategy, var)),
+            start: var.get() + 1,
+        }),
+    }
+}
