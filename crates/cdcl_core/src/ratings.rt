@@ -87,10 +87,11 @@ impl Ratings {
     // An order is as the present timing has it. Another atom is true where each clause has another true literal
     // whose head is its negation.
     fn rating(&mut self, sight: Sight<'_>, heads: &Heads, var: Var) -> bool {
-        if let Some(met) = sight.order(Lit::new(var, true)) {
-            return met;
+        let yes = Lit::new(var, true);
+        if !heads.is_free(yes) {
+            return sight.meets(yes);
         }
-        let (start, end) = heads.range(Lit::new(var, false));
+        let (start, end) = heads.range(yes.negated());
         for place in start..end {
             if let Some(clause) = heads.at(place)
                 && !self.is_supported(sight, clause, var)

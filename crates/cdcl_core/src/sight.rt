@@ -74,10 +74,12 @@ impl<'a> Sight<'a> {
         Some(if lit.positive() { yes } else { no })
     }
 
-    /// Whether the present timing meets an order literal, and None for another literal.
-    pub fn order(&self, lit: Lit) -> Option<bool> {
-        let edge = self.edge(lit)?;
-        Some(self.graph.meets(edge))
+    /// Whether the present timing meets an order literal.
+    pub fn meets(&self, lit: Lit) -> bool {
+        match self.edge(lit) {
+            None => false,
+            Some(edge) => self.graph.meets(edge),
+        }
     }
 
     /// By how much the present timing misses an order literal, and 0 for another literal.

@@ -179,12 +179,10 @@ impl Strategy {
 
     // Whether a literal is true, or is open and true in the present timing.
     fn holds(&self, sight: Sight<'_>, lit: Lit) -> bool {
-        if let Some(truth) = sight.truth(lit) {
-            return truth;
-        }
-        match sight.order(lit) {
-            Some(met) => met,
-            None => self.ratings.rates(lit),
+        match sight.truth(lit) {
+            Some(truth) => truth,
+            None if self.heads.is_free(lit) => self.ratings.rates(lit),
+            None => sight.meets(lit),
         }
     }
 
