@@ -1,6 +1,6 @@
 //! Which instances of rules are needless, by the least and the greatest differences of events.
 
-ghost use Rattle.std.specs.Prelude.{◌≡◌, false, pos, length};
+ghost use Rattle.std.specs.Prelude.{◌≡◌, ◌||◌, true, false, int_le, int_lt, pos, length};
 ghost use Rattle.std.specs.Option.{option_map_or};
 ghost use Rattle.mtl_encode.specs.Needless as needless;
 
@@ -138,47 +138,60 @@ fn is_never_first(tight: &Tight, events: u32, e: u32) -> bool
     (0..events).any(|f| greatest(tight, e, f) < 0)
 }
 
-fn is_always_from(tight: &Tight, u: &Reach, i: u32, j: u32) -> bool
-    ensures { result ≡ needless.is_always_from (needless.extremes_of tight.now) u.now i j }
+// What the least and the greatest distance of two events say of an interval.
+
+fn is_always_from(u: &Reach, nearest: i128) -> bool
+    ensures { result ≡ int_le (pos u.now.interval.low) nearest }
 {
-    u.interval.low as i128 <= nearest(tight, u.direction, i, j)
+    u.interval.low as i128 <= nearest
 }
 
-fn is_never_from(tight: &Tight, u: &Reach, i: u32, j: u32) -> bool
-    ensures { result ≡ needless.is_never_from (needless.extremes_of tight.now) u.now i j }
+fn is_never_from(u: &Reach, farthest: i128) -> bool
+    ensures { result ≡ int_lt farthest (pos u.now.interval.low) }
 {
-    farthest(tight, u.direction, i, j) < u.interval.low as i128
+    farthest < u.interval.low as i128
 }
 
-fn may_be_from(tight: &Tight, u: &Reach, i: u32, j: u32) -> bool
-    ensures { result ≡ needless.may_be_from (needless.extremes_of tight.now) u.now i j }
+fn may_be_from(u: &Reach, farthest: i128) -> bool
+    ensures { result ≡ int_le (pos u.now.interval.low) farthest }
 {
-    u.interval.low as i128 <= farthest(tight, u.direction, i, j)
+    u.interval.low as i128 <= farthest
 }
 
-fn is_always_up_to(tight: &Tight, u: &Reach, i: u32, j: u32) -> bool
-    ensures { result ≡ needless.is_always_up_to (needless.extremes_of tight.now) u.now i j }
+fn is_always_up_to(u: &Reach, farthest: i128) -> bool
+    ensures { result ≡ option_map_or (λ b. int_le farthest (pos b)) u.now.interval.high true }
 {
     match u.interval.high {
-        Some(high) => farthest(tight, u.direction, i, j) <= high as i128,
+        Some(high) => farthest <= high as i128,
         None => true,
     }
 }
 
-fn is_never_up_to(tight: &Tight, u: &Reach, i: u32, j: u32) -> bool
-    ensures { result ≡ needless.is_never_up_to (needless.extremes_of tight.now) u.now i j }
+fn is_never_up_to(u: &Reach, nearest: i128) -> bool
+    ensures { result ≡ option_map_or (λ b. int_lt (pos b) nearest) u.now.interval.high false }
 {
     match u.interval.high {
-        Some(high) => (high as i128) < nearest(tight, u.direction, i, j),
+        Some(high) => (high as i128) < nearest,
         None => false,
     }
+}
+
+// Whether no distance from the least to the greatest one is in the interval.
+fn is_out(u: &Reach, nearest: i128, farthest: i128) -> bool
+    ensures { result ≡ (int_lt farthest (pos u.now.interval.low) || option_map_or (λ b. int_lt (pos b) nearest) u.now.interval.high false) }
+{
+    is_never_from(u, farthest) || is_never_up_to(u, nearest)
 }
 
 // Whether the distance of two events is never in the interval.
 fn is_dead(tight: &Tight, u: &Reach, i: u32, j: u32) -> bool
     ensures { result ≡ needless.is_dead (needless.extremes_of tight.now) u.now i j }
 {
-    is_never_from(tight, u, i, j) || is_never_up_to(tight, u, i, j)
+    is_out(
+        u,
+        nearest(tight, u.direction, i, j),
+        farthest(tight, u.direction, i, j),
+    )
 }
 
 // Whether event m is always before event i, as the node looks.
@@ -203,10 +216,14 @@ fn leaves_out_reach(rules: &Rules, tight: &Tight, test: OfReach, u: &Reach, args
     let is_free = rules.is_constant(u.left);
     match test {
         OfReach::AlwaysFrom => {
-            is_always_from(tight, u, i, j)
-                || (is_dead(tight, u, i, j) && may_be_from(tight, u, i, j))
+            let nearest = nearest(tight, u.direction, i, j);
+            let farthest = farthest(tight, u.direction, i, j);
+            is_always_from(u, nearest) || (is_out(u, nearest, farthest) && may_be_from(u, farthest))
         }
-        OfReach::AlwaysUpTo => is_always_up_to(tight, u, i, j) || is_never_from(tight, u, i, j),
+        OfReach::AlwaysUpTo => {
+            let farthest = farthest(tight, u.direction, i, j);
+            is_always_up_to(u, farthest) || is_never_from(u, farthest)
+        }
         OfReach::Dead => is_dead(tight, u, i, j),
         OfReach::DeadOrFree => is_dead(tight, u, i, j) || is_free,
         OfReach::NotWithin => {
