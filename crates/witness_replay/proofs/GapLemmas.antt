@@ -10,14 +10,10 @@ use Rattle.mt_model.proofs.Members.{Among, any_same, same_bool, all_each, each_a
 use Rattle.mt_model.proofs.PositionLemmas.{below, within_has}
 use Rattle.formula_arena.specs.declared.direction.Direction.{Direction}
 use Rattle.formula_arena.specs.declared.direction.Direction.TheVariants.{Ahead, Behind}
-use Rattle.witness_replay.specs.Columns.{IsFirstGap}
 use Rattle.witness_replay.specs.Directions.{rows_from}
+use Rattle.witness_replay.proofs.FirstRows.{IsFirstGap}
 
--- the order of the rows, either way: of two one is not after the other, and it goes along
-either : (d : Direction) (t : List ℤ) (x y : ℕ) → (rows_from d t).not_after x y ≡ false → (rows_from d t).not_after y x ≡ true
-either Ahead t x y h = grind (arith, ints)
-either Behind t x y h = grind (arith, ints)
-
+-- the order of the rows goes along
 pub along : (d : Direction) (t : List ℤ) (x y z : ℕ) → (rows_from d t).not_after x y ≡ true → (rows_from d t).not_after y z ≡ true → (rows_from d t).not_after x z ≡ true
 along Ahead t x y z h k = grind (arith, ints)
 along Behind t x y z h k = grind (arith, ints)

@@ -1,3 +1,4 @@
+mod FirstRows
 mod StateLemmas
 mod GapLemmas
 mod TableLemmas

@@ -11,10 +11,11 @@ use Rattle.mt_model.proofs.Members.{any_some, same_bool, some_any}
 use Rattle.mt_model.proofs.PositionLemmas.{below, within_has}
 use Rattle.formula_arena.specs.declared.direction.Direction.{Direction}
 use Rattle.formula_arena.specs.declared.direction.Direction.TheVariants.{Ahead, Behind}
-use Rattle.witness_replay.specs.Columns.{IsFirstGap, IsFirstOf, is_candidate, is_reached, reaches_from, value_at}
+use Rattle.witness_replay.specs.Columns.{is_reached, reaches_from, value_at}
 use Rattle.witness_replay.specs.Directions.{distance_from, is_far, is_near, rows_from}
 use Rattle.witness_replay.proofs.GapLemmas.{along, reaches-gap}
 use Rattle.witness_replay.proofs.TimelineLemmas.{far-on}
+use Rattle.witness_replay.proofs.FirstRows.{IsFirstGap, IsFirstOf, is_candidate}
 
 -- a distance between two that are in an interval, or far enough for it, is in it
 in-between : (I : Interval) (x y : ℤ) → int_le (pos I.low) x ≡ true → int_le x y ≡ true → is_in I y ≡ true → is_in I x ≡ true

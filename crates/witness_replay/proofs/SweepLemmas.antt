@@ -1,23 +1,17 @@
 -- What a sweep knows, and the nearest row of what it searches for.
-use Rattle.std.proofs.Common.{◌≡◌, ◌∙◌, sym, refl, ℕ, ◌+◌, ◌-◌, ◌<◌, ◌≤◌, Bool, true, false, ◌&&◌, List, length, Option, Some, None, arith, ℤ, ◌⊎◌, inl, inr}
+use Rattle.std.proofs.Common.{◌≡◌, ◌∙◌, sym, refl, ℕ, ◌-◌, ◌<◌, ◌≤◌, Bool, true, false, ◌&&◌, List, length, Option, Some, None, arith, ℤ, inl, inr}
 use Rattle.std.specs.Prelude.{nat_lt, option_map, MatchOption}
 use Rattle.std.proofs.lemmas.Bool.{and_from, and_parts, cases_Bool, cases_lt, lt-ltb}
 use Rattle.mt_model.specs.Frame.{Frame}
 use Rattle.formula_arena.specs.declared.direction.Direction.{Direction}
-use Rattle.witness_replay.specs.Columns.{IsFirstGap, IsFirstOf, is_candidate, is_gap, value_at}
+use Rattle.witness_replay.specs.Columns.{value_at}
 use Rattle.witness_replay.specs.Directions.{is_far, rows_from}
 use Rattle.witness_replay.specs.Sweeps.{AreFar, AreNear, IsFirstHit, IsSwept, has_value, is_hit}
 use Rattle.witness_replay.specs.Timelines.{IsTimeline, row_met}
 use Rattle.witness_replay.specs.declared.sweep.Sweep.{Sweep}
 use Rattle.witness_replay.specs.declared.timeline.Moment.{Moment}
 use Rattle.witness_replay.proofs.TimelineLemmas.{far-none, far-to_later, far-from_earlier, met-each, met-in, met-ordered}
-
--- from p on are p and those from p + 1 on
-pub split : (p k : ℕ) → p ≤ k → (p + 1 ≤ k) ⊎ (k ≡ p)
-split p k low = elim (cases_lt p k) [
-  | inl less ↦ inl (omega (arith, less))
-  | inr least ↦ inr (omega (arith, least, low))
-]
+use Rattle.witness_replay.proofs.FirstRows.{IsFirstGap, IsFirstOf, is_candidate, is_gap}
 
 module _ (d : Direction) (t : List ℤ) (moments : List Moment) (timeline : IsTimeline t moments) where
   abbrev F : Frame ℕ
@@ -25,15 +19,6 @@ module _ (d : Direction) (t : List ℤ) (moments : List Moment) (timeline : IsTi
 
   abbrev row : ℕ → ℕ
   row = row_met d moments
-
-  -- the place before is taken in too
-  pub far-more : (low e p q : ℕ) → q + 1 ≡ p → AreFar d t moments low e p → is_far d t low e (row (p - 1)) ≡ true → AreFar d t moments low e q
-  far-more low e p q next far here = λ k at_or_after within. elim (split q k at_or_after) [
-    | inl later ↦ far k (omega (arith, next)) within
-    | inr same ↦
-        let before : p - 1 ≡ k = omega (arith, next, same) in
-        rw before at here
-  ]
 
   -- the places before the one at which a sweep ends are too near
   pub near-rest : (low e p : ℕ) → p ≤ length t → (nat_lt 0 p && is_far d t low e (row (p - 1))) ≡ false → AreNear d t moments low e p
