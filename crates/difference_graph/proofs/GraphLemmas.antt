@@ -44,13 +44,6 @@ module _ (held : List Edge) (limit : ℕ) (current : List ℤ) (g : IsGraph held
   number_less : (v : ℕ) → v < length current → number_of (less_the_first current) v ≡ number_of current v -ℤ number_of current 0
   number_less v below = get_or-map (λ x. x -ℤ number_of current 0) current v (pos 0) (pos 0) below
 
-  -- they meet the same edges
-  pub met_less : (e : Edge) → IsEdge (length current) e → Meets current e ↔ Meets (less_the_first current) e
-  met_less e fits =
-      let from = number_less e.from fits.from in
-      let to = number_less e.to fits.to in
-      (λ meets. omega (arith, ints, from, to, meets), λ meets. omega (arith, ints, from, to, meets))
-
   meets_less : All (Meets (less_the_first current)) held
   meets_less k d below =
       let e = g.each k d below in
@@ -146,12 +139,12 @@ module _ (held : List Edge) (limit : ℕ) (current : List ℤ) (g : IsGraph held
         numbers = numbers;
       }
 
--- an edge that the numbers less that of node 0 meet is met by the numbers
-pub meets_back : (current : List ℤ) (edge : Edge) → IsEdge (length current) edge → Meets (less_the_first current) edge → Meets current edge
-meets_back current edge is meets =
+-- the numbers, and the numbers less that of node 0, meet the same edges
+pub met_less : (current : List ℤ) (edge : Edge) → IsEdge (length current) edge → Meets current edge ↔ Meets (less_the_first current) edge
+met_less current edge is =
     let from = get_or-map (λ x. x -ℤ number_of current 0) current edge.from (pos 0) (pos 0) is.from in
     let to = get_or-map (λ x. x -ℤ number_of current 0) current edge.to (pos 0) (pos 0) is.to in
-    omega (arith, ints, from, to, meets)
+    (λ meets. omega (arith, ints, from, to, meets), λ meets. omega (arith, ints, from, to, meets))
 
 -- where the numbers less that of node 0 are small, none is far above another
 pub narrow : (current : List ℤ) → AreSmall (less_the_first current) → IsNarrow current

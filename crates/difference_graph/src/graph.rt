@@ -2,14 +2,16 @@
 
 ghost use Rattle.std.specs.Prelude.{◌≡◌, ◌↔◌, ◌<◌, ◌≤◌, [], ◌∷◌, ◌++◌, length, take, replicate, pos, IfOk, IsTrue};
 ghost use Rattle.neg_cycle.specs.declared.system.TheConstants.{MAX_NODES, MAX_EDGES};
-ghost use Rattle.neg_cycle.specs.Systems.{IsEdge, IsNegativeCycle, Meets, VisitsOnce, edge_at, number_of};
+ghost use Rattle.neg_cycle.specs.Systems.{IsEdge, Meets, IsNegativeCycle, VisitsOnce, edge_at, number_of};
 ghost use Rattle.difference_graph.specs.declared.push.Push.TheVariants.{Kept, Cycle};
-ghost use Rattle.difference_graph.specs.Graphs.{HasSameLimits, HasSolution, IsSolved, IfKept, IfRefused};
+ghost use Rattle.difference_graph.specs.Graphs.{HasSameLimits, HasSolution, IsSolved, AreSmall, IfKept, IfRefused};
 
 use crate::Push;
-use crate::gaps::close_gaps;
-use crate::repair::{is_met, repair};
-use crate::room::push_within;
+use crate::gaps::bring_near;
+use crate::held::{Held, hold, no_edges, take_back, take_back_to};
+use crate::met::is_met;
+use crate::repair::repair;
+use crate::work::{Work, no_work};
 use neg_cycle::Edge;
 use std::alloc::{AllocError, Global};
 use std::marker::Model;
@@ -21,25 +23,21 @@ use std::marker::Model;
 /// numbers, and the walk of the last refused edge.
 #[derive(Debug, Drop)]
 pub struct Graph {
-    held: Vec<Edge>,
+    held: Held,
     limit: u32,
     current: Vec<i128>,
-    // What a push works on: its numbers, the edges for which it lowered one, and the walk that it
-    // found.
-    lowered: Vec<i128>,
-    order: Vec<u32>,
-    walk: Vec<u32>,
+    work: Work,
 }
 
 impl Model for Graph {
-    ghost use Rattle.std.specs.Prelude.{length, vec_capacity};
+    ghost use Rattle.std.specs.Prelude.{length};
     ghost use Rattle.difference_graph.specs.Graphs.{Constraints, IsGraph, HasRoom, less_the_first};
 
     ghost Value = { Constraints };
 
-    ghost view = { λ g. record { nodes = length g.current.items; capacity = g.limit; edges = g.held.items; numbers = less_the_first g.current.items; cycle = g.walk.items } };
+    ghost view = { λ g. record { nodes = length g.current.items; capacity = g.limit; edges = g.held.edges.items; numbers = less_the_first g.current.items; cycle = g.work.walk.items } };
 
-    ghost invariant = { λ g. IsGraph g.held.items g.limit g.current.items × HasRoom (length g.current.items) g.limit (vec_capacity g.held) (length g.lowered.items) (vec_capacity g.order) (vec_capacity g.walk) };
+    ghost invariant = { λ g. IsGraph g.held.edges.items g.limit g.current.items × HasRoom (length g.current.items) g.limit g.held g.work };
 }
 
 impl Graph {
@@ -54,12 +52,10 @@ impl Graph {
     {
         let count = nodes as usize;
         Ok(Graph {
-            held: Vec::with_capacity(alloc, capacity as usize)?,
+            held: no_edges(alloc, count, capacity as usize)?,
             limit: capacity,
             current: zeros(alloc, count)?,
-            lowered: zeros(alloc, count)?,
-            order: Vec::with_capacity(alloc, count)?,
-            walk: Vec::with_capacity(alloc, count + 1)?,
+            work: no_work(alloc, count, capacity as usize)?,
         })
     }
 
@@ -77,25 +73,24 @@ impl Graph {
         ensures same { IfRefused result (self.new.edges ≡ self.old.edges) }
         ensures cycle { IfRefused result (IsNegativeCycle (self.old.edges ++ edge ∷ []) self.new.cycle) }
         ensures once { IfRefused result (VisitsOnce (self.old.edges ++ edge ∷ []) self.new.cycle) }
+
+        // An edge that the numbers meet leaves them as they are, and so does a refused one, unless
+        // they are far from that of node 0.
+        ensures met { Meets self.old.numbers edge → result ≡ Kept }
+        ensures still { Meets self.old.numbers edge → self.new.numbers ≡ self.old.numbers }
+        ensures restored { IfRefused result (AreSmall self.old.numbers → self.new.numbers ≡ self.old.numbers) }
     {
         if is_met(&self.current, edge) {
-            push_within(&mut self.held, edge);
+            hold(&mut self.held, edge);
             return Push::Kept;
         }
-        let place = self.held.len();
-        close_gaps(&mut self.current);
-        push_within(&mut self.held, edge);
-        match repair(
-            &self.held,
-            edge.to,
-            &mut self.current,
-            &mut self.lowered,
-            &mut self.order,
-            &mut self.walk,
-        ) {
+        let place = self.held.edges.len() as u32;
+        bring_near(&mut self.current);
+        hold(&mut self.held, edge);
+        match repair(&self.held, place, &mut self.current, &mut self.work) {
             Push::Kept => Push::Kept,
             Push::Cycle => {
-                self.held.truncate(place);
+                take_back(&mut self.held);
                 Push::Cycle
             }
         }
@@ -106,7 +101,7 @@ impl Graph {
     pub fn cycle(&self) -> &[u32]
         ensures cycle { result.now ≡ self.now.cycle }
     {
-        &self.walk
+        &self.work.walk
     }
 
     /// The held edge at a place, from 0.
@@ -114,14 +109,14 @@ impl Graph {
         requires within { place < length self.now.edges }
         ensures edge { result ≡ edge_at self.now.edges place }
     {
-        self.held[place as usize]
+        self.held.edges[place as usize]
     }
 
     /// How many edges are held.
     pub fn mark(&self) -> u32
         ensures count { result ≡ length self.now.edges }
     {
-        self.held.len() as u32
+        self.held.edges.len() as u32
     }
 
     /// Takes back the last edges, so that as many are left as at the mark.
@@ -129,8 +124,9 @@ impl Graph {
         requires within { mark ≤ length self.old.edges }
         ensures limits { HasSameLimits self.old self.new }
         ensures edges { self.new.edges ≡ take mark self.old.edges }
+        ensures numbers { self.new.numbers ≡ self.old.numbers }
     {
-        self.held.truncate(mark as usize);
+        take_back_to(&mut self.held, mark as usize);
     }
 
     /// Whether the nodes' numbers meet an edge, held or not.

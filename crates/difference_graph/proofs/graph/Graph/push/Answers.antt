@@ -5,7 +5,7 @@ use Rattle.neg_cycle.specs.declared.system.Edge.{Edge}
 use Rattle.neg_cycle.specs.Systems.{IsEdge, Meets, IsNegativeCycle}
 use Rattle.difference_graph.specs.Gaps.{IsNumber}
 use Rattle.difference_graph.specs.Graphs.{Constraints, HasSolution, AreSmall}
-use Rattle.difference_graph.proofs.GraphLemmas.{decided_kept, decided_cycle, has_solution, no_solution, still, system_more, first_met, kept_more, met_with, graph_with, take_last, written_back, meets_back, narrow, same_view}
+use Rattle.difference_graph.proofs.GraphLemmas.{decided_kept, decided_cycle, has_solution, no_solution, still, system_more, first_met, kept_more, met_with, graph_with, take_last, written_back, met_less, narrow, same_view}
 use Rattle.difference_graph.proofs.WorkLemmas.{keeps_room}
 use Rattle.difference_graph.proofs.graph.Graph.push.Goals as goal
 
@@ -168,21 +168,21 @@ returns-in-Kept-clause-still c meets =
     let i = c.self.inside in
     let edge = subst (λ (g : Constraints). IsEdge g.nodes c.args.edge) (sym c.self.view_is) c.requires.edge in
     let here = subst (λ (g : Constraints). Meets g.numbers c.args.edge) (sym c.self.view_is) meets in
-    absurd (false≢true (sym c.if-is_met.false ∙ c.is_met.ensures.met.1 (rw c.deref.ensures.value (meets_back i.current.items c.args.edge edge here))))
+    absurd (false≢true (sym c.if-is_met.false ∙ c.is_met.ensures.met.1 (rw c.deref.ensures.value ((met_less i.current.items c.args.edge edge).1 here))))
 
 pub returns-in-Cycle-clause-met : goal.returns-in-Cycle-clause-met
 returns-in-Cycle-clause-met c meets =
     let i = c.self.inside in
     let edge = subst (λ (g : Constraints). IsEdge g.nodes c.args.edge) (sym c.self.view_is) c.requires.edge in
     let here = subst (λ (g : Constraints). Meets g.numbers c.args.edge) (sym c.self.view_is) meets in
-    absurd (false≢true (sym c.if-is_met.false ∙ c.is_met.ensures.met.1 (rw c.deref.ensures.value (meets_back i.current.items c.args.edge edge here))))
+    absurd (false≢true (sym c.if-is_met.false ∙ c.is_met.ensures.met.1 (rw c.deref.ensures.value ((met_less i.current.items c.args.edge edge).1 here))))
 
 pub returns-in-Cycle-clause-still : goal.returns-in-Cycle-clause-still
 returns-in-Cycle-clause-still c meets =
     let i = c.self.inside in
     let edge = subst (λ (g : Constraints). IsEdge g.nodes c.args.edge) (sym c.self.view_is) c.requires.edge in
     let here = subst (λ (g : Constraints). Meets g.numbers c.args.edge) (sym c.self.view_is) meets in
-    absurd (false≢true (sym c.if-is_met.false ∙ c.is_met.ensures.met.1 (rw c.deref.ensures.value (meets_back i.current.items c.args.edge edge here))))
+    absurd (false≢true (sym c.if-is_met.false ∙ c.is_met.ensures.met.1 (rw c.deref.ensures.value ((met_less i.current.items c.args.edge edge).1 here))))
 
 pub returns-in-Cycle-clause-restored : goal.returns-in-Cycle-clause-restored
 returns-in-Cycle-clause-restored c small =
