@@ -6,7 +6,7 @@ use crate::case::LogicCase;
 use crate::writing::{push_atom, push_items, push_sign};
 use axiom_rules::{AtomTable, Rule};
 use clause_db::{ClauseRef, Db, Lit, Var};
-use mtl_encode::{MAX_SIZE, Problem, encode, size_of, sizes_are_unique};
+use mtl_encode::{MAX_SIZE, Problem, encode_by, size_of, sizes_are_unique};
 use neg_cycle::Edge;
 use skew_bounds::{Consistency, Tight, TightFault, settle, tight};
 use std::alloc::Global;
@@ -58,7 +58,7 @@ fn encoded_by(alloc: Global, parsed: &Parsed, value: bool, tight: &Tight) -> Opt
     sizes_are_unique();
     let Parsed { log, arena, root } = parsed;
     if size_of(log, arena, Some(tight)) <= MAX_SIZE {
-        encode(alloc, log, arena, *root, value).ok()
+        encode_by(alloc, log, arena, *root, value, tight).ok()
     } else {
         None
     }
