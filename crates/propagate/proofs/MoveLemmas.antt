@@ -104,7 +104,7 @@ module _ (t : Assigned) (f o best : Lit) (c place : ℕ) (trail : IsTrail t) (in
       lists_less = ap (λ (y : Assigned). y.watching) less
 
       pub step_anew : IsRewatched t.watching x.watching c p
-      step_anew = moved_anew t.watching s.watching u.watching x.watching f p c place within first known apart here lists_added lists_anew lists_less
+      step_anew = moved_anew t.watching s.watching u.watching x.watching f p c place within first known apart here lists_added lists_anew lists_less (rw both.1 refl)
 
       pub step_moved : IsMoved t.watching x.watching f p c place
       step_moved = moved_off t.watching s.watching u.watching x.watching f p c place within first known apart here lists_added lists_anew lists_less
@@ -183,4 +183,5 @@ progress_next db links a t s g h f place old left end is trail =
           | inl kept ↦ kept
           | inr among ↦ let le = among.1 in let within = among.2 in absurd (omega (arith, le, within, end))
         ];
+        met = old.work.watched.met;
       }

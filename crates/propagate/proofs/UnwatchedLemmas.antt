@@ -1,6 +1,7 @@
 -- The clauses of which no two literals are watched, as clauses are added and watched anew.
-use Rattle.std.proofs.Common.{◌≡◌, ap, refl, ℕ, zero, suc, ◌+◌, ◌<◌, List, [], ◌∷◌, ◌++◌, length, set, get_or, arith, Option, Some, None}
+use Rattle.std.proofs.Common.{◌≡◌, ◌∙◌, ap, refl, ℕ, zero, suc, ◌+◌, ◌<◌, ◌≤◌, List, [], ◌∷◌, ◌++◌, length, set, get_or, arith, Option, Some, None}
 use Rattle.std.specs.Prelude.{IsSome}
+use Rattle.std.proofs.lemmas.List.{get_or_append_left, length_push}
 use Rattle.propagate.specs.declared.watch.Watch.{Watch}
 use Rattle.propagate.specs.Watching.{unwatched, unwatched_from}
 
@@ -27,6 +28,15 @@ unwatched_more xs c is = more_none 0 xs c (omega (arith, is))
 pub unwatched_same : (xs : List (Option Watch)) (r : Option Watch) → (r ≡ None → ⊥) → unwatched (xs ++ r ∷ []) ≡ unwatched xs
 unwatched_same xs None watched = absurd (watched refl)
 unwatched_same xs (Some p) watched = more_some 0 xs p
+
+-- those there were keep their places
+pub unwatched_longer : (xs : List (Option Watch)) (r : Option Watch) → length (unwatched xs) ≤ length (unwatched (xs ++ r ∷ []))
+unwatched_longer xs None = omega (arith, ap length (unwatched_more xs (length xs) refl), length_push (unwatched xs) (length xs))
+unwatched_longer xs (Some p) = omega (arith, ap length (more_some 0 xs p))
+
+pub unwatched_stays : (xs : List (Option Watch)) (r : Option Watch) (k : ℕ) → k < length (unwatched xs) → get_or (unwatched (xs ++ r ∷ [])) k 0 ≡ get_or (unwatched xs) k 0
+unwatched_stays xs None k within = ap (λ (cs : List ℕ). get_or cs k 0) (unwatched_more xs (length xs) refl) ∙ get_or_append_left (unwatched xs) (length xs ∷ []) 0 k within
+unwatched_stays xs (Some p) k within = ap (λ (cs : List ℕ). get_or cs k 0) (more_some 0 xs p)
 
 -- a clause that is watched anew
 unwatched_set_from : (n : ℕ) (xs : List (Option Watch)) (c : ℕ) (q : Watch) → (get_or xs c None ≡ None → ⊥) → unwatched_from n (set xs c (Some q)) ≡ unwatched_from n xs
@@ -65,3 +75,16 @@ below_from n (Some p ∷ xs) k within = let below = below_from (n + 1) xs k with
 
 pub unwatched_below : (xs : List (Option Watch)) (k : ℕ) → k < length (unwatched xs) → get_or (unwatched xs) k 0 < length xs
 unwatched_below xs k within = let below = below_from 0 xs k within in omega (arith, below)
+
+-- no two literals of them are watched
+none_from : (n : ℕ) (xs : List (Option Watch)) (k : ℕ) → k < length (unwatched_from n xs) → (c : ℕ) × (get_or (unwatched_from n xs) k 0 ≡ n + c) × (get_or xs c None ≡ None)
+none_from n [] k within = absurd (omega (arith, within))
+none_from n (None ∷ xs) zero within = (0, omega arith, refl)
+none_from n (None ∷ xs) (suc k) within = let at = none_from (n + 1) xs k (omega (arith, within)) in (suc at.0, omega (arith, at.1), at.2)
+none_from n (Some p ∷ xs) k within = let at = none_from (n + 1) xs k within in (suc at.0, omega (arith, at.1), at.2)
+
+pub unwatched_none : (xs : List (Option Watch)) (k : ℕ) → k < length (unwatched xs) → get_or xs (get_or (unwatched xs) k 0) None ≡ None
+unwatched_none xs k within =
+    let at = none_from 0 xs k within in
+    let is : get_or (unwatched xs) k 0 ≡ at.0 = omega (arith, at.1) in
+    ap (λ c. get_or xs c None) is ∙ at.2

@@ -15,7 +15,7 @@ use Rattle.clause_db.specs.Clauses.{clause_at}
 use Rattle.propagate.specs.declared.watch.Watch.{Watch}
 use Rattle.propagate.specs.declared.moves.Reached.{Reached}
 use Rattle.propagate.specs.declared.moves.Reached.TheVariants as reached
-use Rattle.propagate.specs.Watching.{Watching, unwatched, AreWatchedOf, IsListed, IsUnwatched, IsWatcherAt, listing, lists_at, watch_at, with_list, watchers_of, watching}
+use Rattle.propagate.specs.Watching.{Watching, unwatched, AreWatchedOf, IsListed, IsUnwatched, IsWatcherAt, listing, lists_at, meeting, watch_at, with_list, watchers_of, watching}
 use Rattle.propagate.specs.Trails.{Assigned, entry_at, literals, up_to, IsTrail, rewatched}
 use Rattle.propagate.specs.Watched.{AreAllWatched, AreGuarded, AreTwoOf, AreWatched, IsTrueAt, IsTrueUpTo}
 use Rattle.propagate.specs.Clauses.{AreSettled}
@@ -24,10 +24,10 @@ use Rattle.propagate.specs.Reach.{IfQuiet, IsGrown, IsProgress, IsReached}
 use Rattle.propagate.specs.Best.{AreBest, AreFalseUpTo, IsBest}
 use Rattle.propagate.specs.Visits.{AreShortMet, IsAmong, IsMet, IsMetIfShort, IsMoved, IsNextFalse, IsRewatched, IsUnmoved, IsVisited}
 use Rattle.propagate.proofs.ClauseLemmas.{literal_at, literal_held}
-use Rattle.propagate.proofs.PlaceLemmas.{cases_contains, same_literal, up_to_held, up_to_here}
-use Rattle.propagate.proofs.UnwatchedLemmas.{unwatched_has}
+use Rattle.propagate.proofs.PlaceLemmas.{cases_contains, same_literal, up_to_held, up_to_here, up_to_top}
+use Rattle.propagate.proofs.UnwatchedLemmas.{unwatched_has, unwatched_none, unwatched_below, unwatched_set}
 use Rattle.propagate.proofs.WatchingLemmas.{listed_elsewhere, listed_here, listed_more, listed_new, removed_left, removed_length}
-use Rattle.propagate.proofs.WatchedLemmas.{guard_fewer, some_is, watched_again, watched_lists, watched_up}
+use Rattle.propagate.proofs.WatchedLemmas.{guard_fewer, some_is, watched_again, watched_lists, watched_met, watched_up}
 use Rattle.propagate.proofs.GuardLemmas.{guard_beside, guard_next, guard_open, guard_true, guards_best, other_apart, rule_of_other, two_best}
 use Rattle.propagate.proofs.ReachLemmas.{grown_entry, progress_rewatched}
 
@@ -79,20 +79,28 @@ short_met t db trail closed op c held short = met_so (closed 0 op c [] held) whe
   met_so (inl (k, x, within, is, here)) = (k, x, within, is, up_to_held t.entries 0 x (up_to_here t.entries t.levels 0 op trail.levels x here))
   met_so (inr two) = absurd (two.differ (two_apart (clause_at db c) two.one two.other two.has_one two.has_other short))
 
--- where those of which no two literals are watched are met, all short ones are
-pub all_short_met : (t s : Assigned) (db : List (List Lit)) (place : ℕ) → AreWatched s db → length db ≤ length t.watching.watches → s.watching ≡ t.watching → length (unwatched s.watching.watches) ≤ place
-    → ((k : ℕ) → k < place → IsMetIfShort s (clause_at db (get_or (unwatched t.watching.watches) k 0))) → AreShortMet s db
-all_short_met t s db place watched known same all met c held short = by_watch (watch_at s.watching c) refl where
-  watches : s.watching.watches ≡ t.watching.watches
-  watches = ap (λ (w : Watching). w.watches) same
-
-  by_watch : (r : Option Watch) → watch_at s.watching c ≡ r → Any (Contains (literals s.entries)) (clause_at db c)
+-- where those of which no two literals are watched count as met, all short ones are
+pub all_short_met : (t : Assigned) (db : List (List Lit)) → AreWatched t db → length db ≤ length t.watching.watches → length (unwatched t.watching.watches) ≤ t.watching.met → AreShortMet t db
+all_short_met t db watched known all c held short = by_watch (watch_at t.watching c) refl where
+  by_watch : (r : Option Watch) → watch_at t.watching c ≡ r → Any (Contains (literals t.entries)) (clause_at db c)
   by_watch None none =
-      let at = unwatched_has s.watching.watches c (omega (arith, held, known, ap length watches)) none in
-      let here = ap (λ xs. get_or (unwatched xs) at.0 0) (sym watches) ∙ at.2 in
+      let at = unwatched_has t.watching.watches c (omega (arith, held, known)) none in
       let within = at.1 in
-      rw here at (met at.0 (omega (arith, within, all))) short
+      let since = watched.met at.0 (omega (arith, within, all)) within in
+      let any = rw at.2 at since in
+      (any.0, any.1, any.2, any.3, up_to_held t.entries 0 any.1 any.4)
   by_watch (Some p) is = let two = watched.two c p is in absurd (two.differ (two_apart (clause_at db c) p.first p.second two.has_first two.has_second short))
+
+-- at level 0 a short clause that was met counts as such
+pub progress_met : (db : List (List Lit)) (links : List (Option (Edge × Edge))) (a t s : Assigned) (g h : Constraints) (c : ℕ) → IsProgress db links a g t h → length t.levels ≡ 0 → t.watching.met < length (unwatched t.watching.watches)
+    → get_or (unwatched t.watching.watches) t.watching.met 0 ≡ c → IsMetIfShort t (clause_at db c) → s ≡ rewatched t (meeting t.watching (t.watching.met + 1)) t.taken → IsTrail s → IsProgress db links a g s h
+progress_met db links a t s g h c old lowest more here met is trail =
+    let w = meeting t.watching (t.watching.met + 1) in
+    let below = unwatched_below t.watching.watches t.watching.met more in
+    let short = old.work.watched.short (get_or (unwatched t.watching.watches) t.watching.met 0) below (unwatched_none t.watching.watches t.watching.met more) in
+    let any = met (rw here at short) in
+    let since : Any (IsTrueUpTo t.entries 0) (clause_at db c) = (any.0, any.1, any.2, any.3, up_to_top t any.1 0 old.work.trail (omega (arith, lowest)) any.4) in
+    subst (λ (x : Assigned). IsProgress db links a g x h) (sym is) (progress_rewatched t db w t.taken links a g h (subst IsTrail is trail) (watched_met t db (rw here since) old.work.watched) (omega arith) old)
 
 pub met_grown : (t s : Assigned) (clause : List Lit) → IsGrown t s → IsMetIfShort t clause → IsMetIfShort s clause
 met_grown t s clause grown was short = let any = was short in (any.0, any.1, any.2, any.3, held_grown t s any.1 grown any.4)
@@ -132,28 +140,28 @@ all_settled t db watched taken known short = All-from_get_or (IsSettled negation
       ]
 
 -- the lists of watchers change
-pub progress_lists : (db : List (List Lit)) (links : List (Option (Edge × Edge))) (a t s : Assigned) (g h : Constraints) → s ≡ rewatched t s.watching t.taken → s.watching.watches ≡ t.watching.watches → IsTrail s → IsProgress db links a g t h
+pub progress_lists : (db : List (List Lit)) (links : List (Option (Edge × Edge))) (a t s : Assigned) (g h : Constraints) → s ≡ rewatched t s.watching t.taken → s.watching.watches ≡ t.watching.watches → s.watching.met ≡ t.watching.met → IsTrail s → IsProgress db links a g t h
     → IsProgress db links a g s h
-progress_lists db links a t s g h is same trail old =
+progress_lists db links a t s g h is same met trail old =
     let v = s.watching in
-    subst (λ (x : Assigned). IsProgress db links a g x h) (sym is) (progress_rewatched t db v t.taken links a g h (subst IsTrail is trail) (watched_lists t db v same old.work.watched) (omega (arith, ap length same)) old)
+    subst (λ (x : Assigned). IsProgress db links a g x h) (sym is) (progress_rewatched t db v t.taken links a g h (subst IsTrail is trail) (watched_lists t db v same met old.work.watched) (omega (arith, ap length same)) old)
 
 -- one more clause is taken up
-pub progress_up : (db : List (List Lit)) (links : List (Option (Edge × Edge))) (a t s : Assigned) (g h : Constraints) (r : Option Watch) → s ≡ rewatched t s.watching t.taken → s.watching.watches ≡ t.watching.watches ++ r ∷ [] → IsTrail s
+pub progress_up : (db : List (List Lit)) (links : List (Option (Edge × Edge))) (a t s : Assigned) (g h : Constraints) (r : Option Watch) → s ≡ rewatched t s.watching t.taken → s.watching.watches ≡ t.watching.watches ++ r ∷ [] → s.watching.met ≡ t.watching.met → IsTrail s
     → length t.watching.watches < length db → (r ≡ None → length (clause_at db (length t.watching.watches)) < 2)
     → ((p : Watch) → r ≡ Some p → AreTwoOf (clause_at db (length t.watching.watches)) p × AreGuarded t.entries t.taken p) → IsProgress db links a g t h → IsProgress db links a g s h
-progress_up db links a t s g h r is added trail more none some old =
+progress_up db links a t s g h r is added met trail more none some old =
     let v = s.watching in
     subst (λ (x : Assigned). IsProgress db links a g x h) (sym is)
-    (progress_rewatched t db v t.taken links a g h (subst IsTrail is trail) (watched_up t db v r added more none some old.work.watched) (omega (arith, ap length added, length_push t.watching.watches r)) old)
+    (progress_rewatched t db v t.taken links a g h (subst IsTrail is trail) (watched_up t db v r added met old.work.trail.met more none some old.work.watched) (omega (arith, ap length added, length_push t.watching.watches r)) old)
 
 -- one more clause whose best two literals are watched
 pub progress_two : (db : List (List Lit)) (links : List (Option (Edge × Edge))) (a t s : Assigned) (g h : Constraints) (c : ℕ) (p : Watch) → IsProgress db links a g t h → IsUnmoved a t → IsMet a t p.first p.second → AreBest a.entries (clause_at db c) p
-    → s ≡ rewatched t s.watching t.taken → s.watching.watches ≡ t.watching.watches ++ Some p ∷ [] → IsTrail s → c ≡ length a.watching.watches → c < length db → IsProgress db links a g s h
-progress_two db links a t s g h c p old unmoved met_here best is added trail at held =
+    → s ≡ rewatched t s.watching t.taken → s.watching.watches ≡ t.watching.watches ++ Some p ∷ [] → s.watching.met ≡ t.watching.met → IsTrail s → c ≡ length a.watching.watches → c < length db → IsProgress db links a g s h
+progress_two db links a t s g h c p old unmoved met_here best is added met trail at held =
     let here : c ≡ length t.watching.watches = at ∙ ap (λ (w : Watching). length w.watches) (sym unmoved.watching) in
     let guards = guards_best a t (clause_at db c) p t.taken old.work.trail old.work.trail.taken met_here best in
-    progress_up db links a t s g h (Some p) is added trail (omega (arith, held, here)) (λ none. absurd (some_none none)) (λ q same. let this : p ≡ q = some_is same in rw (← this, ← here) (two_best a.entries (clause_at db c) p best, guards)) old where
+    progress_up db links a t s g h (Some p) is added met trail (omega (arith, held, here)) (λ none. absurd (some_none none)) (λ q same. let this : p ≡ q = some_is same in rw (← this, ← here) (two_best a.entries (clause_at db c) p best, guards)) old where
       some_none : {x : Watch} → Some x ≡ None → ⊥
       some_none e = cc
 
@@ -281,11 +289,13 @@ module _ (w v u x : Watching) (l : Lit) (p : Watch) (c place : ℕ) (within : l.
     end_watches : x.watches ≡ set w.watches c (Some p)
     end_watches = ap (λ (y : Watching). y.watches) less ∙ watches_now
 
-    pub moved_anew : IsRewatched w x c p
-    moved_anew = record {
+    pub moved_anew : IsSome (watch_at w c) → IsRewatched w x c p
+    moved_anew some = record {
       count = ap length end_watches ∙ length-set w.watches c (Some p);
       others = λ d other. ap (λ xs. get_or xs d None) end_watches ∙ get_or-set_other w.watches c d (Some p) None other;
       here = inr (ap (λ xs. get_or xs c None) end_watches ∙ get_or-set_same w.watches c (Some p) None known);
+      short = ap unwatched end_watches ∙ unwatched_set w.watches c c p refl some;
+      met = ap (λ (y : Watching). y.met) less ∙ ap (λ (y : Watching). y.met) anew ∙ ap (λ (y : Watching). y.met) added;
     }
 
     list_now : watchers_of x l ≡ swap_remove (watchers_of w l) place 0
@@ -306,5 +316,11 @@ module _ (w v u x : Watching) (l : Lit) (p : Watch) (c place : ℕ) (within : l.
           (to.0, to.2 le, to.1, to.3 ∙ at)
 
 -- where nothing but perhaps the lists changed
-pub lists_anew : (w v : Watching) (c : ℕ) (p : Watch) → v.watches ≡ w.watches → IsRewatched w v c p
-lists_anew w v c p same = record { count = ap length same; others = λ d other. ap (λ xs. get_or xs d None) same; here = inl (ap (λ xs. get_or xs c None) same) }
+pub lists_anew : (w v : Watching) (c : ℕ) (p : Watch) → v.watches ≡ w.watches → v.met ≡ w.met → IsRewatched w v c p
+lists_anew w v c p same met = record {
+  count = ap length same;
+  others = λ d other. ap (λ xs. get_or xs d None) same;
+  here = inl (ap (λ xs. get_or xs c None) same);
+  short = ap unwatched same;
+  met = met;
+}

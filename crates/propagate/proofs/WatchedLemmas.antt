@@ -1,5 +1,6 @@
 -- The watch rule, as trails grow, are cut, and watch other literals.
-use Rattle.std.proofs.Common.{◌≡◌, ◌∙◌, ap, sym, ℕ, zero, suc, ◌<◌, ◌≤◌, ◌⊎◌, inl, inr, List, [], ◌∷◌, ◌++◌, length, take, min, get_or, arith, Option, Some, None}
+use Rattle.std.proofs.Common.{◌≡◌, ◌∙◌, ap, sym, ℕ, zero, suc, ◌+◌, ◌<◌, ◌≤◌, ◌⊎◌, inl, inr, List, [], ◌∷◌, ◌++◌, length, take, min, get_or, arith, Option, Some, None}
+use Rattle.std.specs.List.{Any}
 use Rattle.std.proofs.lemmas.Bool.{cases_eq, cases_lt}
 use Rattle.std.proofs.lemmas.List.{get_or_append_left, get_or_push, length_push, get_or-take, length-take-le}
 use Rattle.clause_db.specs.declared.lit.Lit.{Lit}
@@ -7,11 +8,12 @@ use Rattle.clause_db.specs.Clauses.{clause_at}
 use Rattle.propagate.specs.declared.entry.Entry.{Entry}
 use Rattle.propagate.specs.declared.entry.Level.{Level}
 use Rattle.propagate.specs.declared.watch.Watch.{Watch}
-use Rattle.propagate.specs.Watching.{Watching, watch_at}
+use Rattle.propagate.specs.Watching.{Watching, meeting, unwatched, watch_at}
 use Rattle.propagate.specs.Trails.{Assigned, no_entry, entry_at, start_of, IsTrail, rewatched}
 use Rattle.propagate.specs.Watched.{AreTwoOf, AreGuarded, AreWatched, IsGuarded, IsTrueUpTo}
 use Rattle.propagate.specs.Visits.{IsRewatched}
 use Rattle.propagate.proofs.TrailLemmas.{cases_push, cut_at, shallow}
+use Rattle.propagate.proofs.UnwatchedLemmas.{unwatched_below, unwatched_stays}
 use Rattle.propagate.proofs.WatchingLemmas.{cases_taken_up}
 
 pub some_is : {X : Type 0} {x y : X} → Some x ≡ Some y → x ≡ y
@@ -30,6 +32,10 @@ guard_fewer es m n l o le guard k less is = guard k (omega (arith, less, le)) is
 
 pub guards_fewer : (es : List Entry) (m n : ℕ) (p : Watch) → n ≤ m → AreGuarded es m p → AreGuarded es n p
 guards_fewer es m n p le old = record { first = guard_fewer es m n p.first p.second le old.first; second = guard_fewer es m n p.second p.first le old.second }
+
+-- a literal that is true since level 0, among other entries
+met_more : (xs ys : List Entry) (clause : List Lit) → ((l : Lit) → IsTrueUpTo xs 0 l → IsTrueUpTo ys 0 l) → Any (IsTrueUpTo xs 0) clause → Any (IsTrueUpTo ys 0) clause
+met_more xs ys clause more any = (any.0, any.1, any.2, any.3, more any.1 any.4)
 
 -- trails that grow
 module _ (xs ys : List Entry) (longer : length xs ≤ length ys) (same : (k : ℕ) → k < length xs → entry_at ys k ≡ entry_at xs k) where
@@ -51,6 +57,7 @@ watched_longer t db ys ls le longer same old = record {
   two = old.two;
   short = old.short;
   rule = λ c p is. guards_longer t.entries ys longer same t.taken p le (old.rule c p is);
+  met = λ k less within. met_more t.entries ys _ (up_to_longer t.entries ys longer same 0) (old.met k less within);
 }
 
 pub watched_push : (t : Assigned) (db : List (List Lit)) (e : Entry) (ls : List Level) → IsTrail t → AreWatched t db
@@ -60,7 +67,23 @@ watched_push t db e ls trail old =
 
 -- levels that are undone: the true companion of a literal that stays false stays true
 pub watched_cut : (t : Assigned) (db : List (List Lit)) (m : ℕ) → m < length t.levels → IsTrail t → AreWatched t db → AreWatched (cut_at m t) db
-watched_cut t db m op trail old = record { known = old.known; two = old.two; short = old.short; rule = λ c p is. let was = old.rule c p is in record { first = guard p.first p.second was.first; second = guard p.second p.first was.second } } where
+watched_cut t db m op trail old = record {
+  known = old.known;
+  two = old.two;
+  short = old.short;
+  rule = λ c p is. let was = old.rule c p is in record { first = guard p.first p.second was.first; second = guard p.second p.first was.second };
+  met = λ k less within. met_more t.entries (take (start_of t.levels m) t.entries) _ lowest (old.met k less within);
+} where
+  lowest : (l : Lit) → IsTrueUpTo t.entries 0 l → IsTrueUpTo (take (start_of t.levels m) t.entries) 0 l
+  lowest l (j, within, is, level) =
+      let most = trail.levels.within m op in
+      let stays : j < start_of t.levels m = elim (cases_lt j (start_of t.levels m)) [
+        | inl before ↦ before
+        | inr after ↦ let deep = (trail.levels.reached m j op within).0 after in absurd (omega (arith, deep, level))
+      ] in
+      let here = get_or-take (start_of t.levels m) t.entries j no_entry stays in
+      (j, omega (arith, stays, length-take-le (start_of t.levels m) t.entries (omega (arith, most))), rw here is, rw here level)
+
   guard : (l o : Lit) → IsGuarded t.entries t.taken l o → IsGuarded (take (start_of t.levels m) t.entries) (min t.taken (start_of t.levels m)) l o
   guard l o was k less is =
       let most = trail.levels.within m op in
@@ -85,28 +108,32 @@ watched_added t db clause old = record {
   two = λ c p is. rw (get_or_append_left db (clause ∷ []) [] c (held c (known_at t.watching.watches c p is))) (old.two c p is);
   short = λ c within is. rw (get_or_append_left db (clause ∷ []) [] c (held c within)) (old.short c within is);
   rule = old.rule;
+  met = λ k less within.
+      let c = get_or (unwatched t.watching.watches) k 0 in
+      rw (get_or_append_left db (clause ∷ []) [] c (held c (unwatched_below t.watching.watches k within))) (old.met k less within);
 } where
   held : (c : ℕ) → c < length t.watching.watches → c < length db
   held c within = let known = old.known in omega (arith, within, known)
 
 -- fewer literals that count as taken
 pub watched_taken : (t : Assigned) (db : List (List Lit)) (n : ℕ) → n ≤ t.taken → AreWatched t db → AreWatched (rewatched t t.watching n) db
-watched_taken t db n le old = record { known = old.known; two = old.two; short = old.short; rule = λ c p is. guards_fewer t.entries t.taken n p le (old.rule c p is) }
+watched_taken t db n le old = record { known = old.known; two = old.two; short = old.short; rule = λ c p is. guards_fewer t.entries t.taken n p le (old.rule c p is); met = old.met }
 
 -- other watchers of the same literals
-pub watched_lists : (t : Assigned) (db : List (List Lit)) (v : Watching) → v.watches ≡ t.watching.watches → AreWatched t db → AreWatched (rewatched t v t.taken) db
-watched_lists t db v same old = record {
+pub watched_lists : (t : Assigned) (db : List (List Lit)) (v : Watching) → v.watches ≡ t.watching.watches → v.met ≡ t.watching.met → AreWatched t db → AreWatched (rewatched t v t.taken) db
+watched_lists t db v same count old = record {
   known = rw same old.known;
   two = λ c p is. old.two c p (rw same at is);
   short = λ c within is. old.short c (rw same at within) (rw same at is);
   rule = λ c p is. old.rule c p (rw same at is);
+  met = λ k less within. rw same (old.met k (rw count at less) (rw same at within));
 }
 
 -- one more clause
-pub watched_up : (t : Assigned) (db : List (List Lit)) (v : Watching) (r : Option Watch) → v.watches ≡ t.watching.watches ++ r ∷ [] → length t.watching.watches < length db
+pub watched_up : (t : Assigned) (db : List (List Lit)) (v : Watching) (r : Option Watch) → v.watches ≡ t.watching.watches ++ r ∷ [] → v.met ≡ t.watching.met → t.watching.met ≤ length (unwatched t.watching.watches) → length t.watching.watches < length db
     → (r ≡ None → length (clause_at db (length t.watching.watches)) < 2) → ((p : Watch) → r ≡ Some p → AreTwoOf (clause_at db (length t.watching.watches)) p × AreGuarded t.entries t.taken p)
     → AreWatched t db → AreWatched (rewatched t v t.taken) db
-watched_up t db v r added more none some old = record {
+watched_up t db v r added count few more none some old = record {
   known = rw added (omega (arith, more, length_push t.watching.watches r));
   two = λ c p is. elim (cases_taken_up t.watching.watches r c p (rw added at is)) [
     | inl was ↦ old.two c p was
@@ -120,6 +147,10 @@ watched_up t db v r added more none some old = record {
     | inl was ↦ old.rule c p was
     | inr new ↦ (some p new.1).1
   ];
+  met = λ k less within.
+      let before : k < t.watching.met = rw count at less in
+      let stays : k < length (unwatched t.watching.watches) = omega (arith, before, few) in
+      rw (added, unwatched_stays t.watching.watches r k stays) (old.met k before stays);
 }
 
 -- a clause that is watched anew
@@ -136,6 +167,7 @@ watched_again t db v c q anew both guards old = record {
     | inr other ↦ old.short d (rw anew.count at within) (sym (anew.others d other) ∙ is)
   ];
   rule = λ d p is. elim (cases d p is) [ inl was ↦ old.rule d p was | inr new ↦ rw (← new.1) guards ];
+  met = λ k less within. rw anew.short (old.met k (rw anew.met at less) (rw anew.short at within));
 } where
   cases : (d : ℕ) (p : Watch) → watch_at v d ≡ Some p → (watch_at t.watching d ≡ Some p) ⊎ ((d ≡ c) × (q ≡ p))
   cases d p is = elim (cases_eq d c) [
@@ -145,3 +177,17 @@ watched_again t db v c q anew both guards old = record {
     ]
     | inr other ↦ inl (sym (anew.others d other) ∙ is)
   ]
+
+-- one clause more that counts as met
+pub watched_met : (t : Assigned) (db : List (List Lit)) → Any (IsTrueUpTo t.entries 0) (clause_at db (get_or (unwatched t.watching.watches) t.watching.met 0)) → AreWatched t db
+    → AreWatched (rewatched t (meeting t.watching (t.watching.met + 1)) t.taken) db
+watched_met t db next old = record {
+  known = old.known;
+  two = old.two;
+  short = old.short;
+  rule = old.rule;
+  met = λ k less within. elim (cases_lt k t.watching.met) [
+    | inl before ↦ old.met k before within
+    | inr le ↦ let here : k ≡ t.watching.met = omega (arith, less, le) in rw here next
+  ];
+}

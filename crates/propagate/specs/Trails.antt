@@ -3,7 +3,7 @@ use Rattle.std.specs.Prelude.{◌≡◌, ◌≢◌, ◌↔◌, ℕ, ◌+◌, ◌
 use Rattle.clause_db.specs.declared.lit.Lit.{Lit}
 use Rattle.propagate.specs.declared.entry.Entry.{Entry}
 use Rattle.propagate.specs.declared.entry.Level.{Level}
-use Rattle.propagate.specs.Watching.{Watching, AreListed}
+use Rattle.propagate.specs.Watching.{Watching, AreListed, unwatched}
 
 -- a trail over variables below a number: its literals with what is kept for each, its levels above 0, the lowest first, what
 -- is watched, and how many of the literals, from the first on, propagation has taken
@@ -63,7 +63,8 @@ pub record AreLevels (entries : List Entry) (levels : List Level) : Type 0 where
   pub only : (k : ℕ) → k < length entries → IsNone (entry_at entries k).reason → (j : ℕ) × (j < length levels) × (start_of levels j ≡ k)
 
 -- variables are in range, none is assigned twice, the levels lie as they should, no more literals are taken than there are,
--- each variable has its watchers, and each clause stands among those of its watched literals
+-- each variable has its watchers, each clause stands among those of its watched literals, and of the clauses without these no
+-- more count as met than there are
 pub record IsTrail (t : Assigned) : Type 0 where
   pub below : All (λ e. e.lit.var < t.vars) t.entries
   pub once : AllPairs (λ d e. d.lit.var ≢ e.lit.var) t.entries
@@ -71,6 +72,7 @@ pub record IsTrail (t : Assigned) : Type 0 where
   pub taken : t.taken ≤ length t.entries
   pub lists : length t.watching.watchers ≡ t.vars
   pub listed : AreListed t.watching
+  pub met : t.watching.met ≤ length (unwatched t.watching.watches)
 
 -- the trail with one more literal of the present level, which follows from a clause
 abbrev pub followed : Assigned → Lit → ℕ → Assigned

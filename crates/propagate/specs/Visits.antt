@@ -9,7 +9,7 @@ use Rattle.propagate.specs.declared.watch.Watch.{Watch}
 use Rattle.propagate.specs.declared.visit.Visit.{Visit}
 use Rattle.propagate.specs.declared.visit.Visit.TheVariants as visit
 use Rattle.propagate.specs.declared.moves.Reached.TheVariants as reached
-use Rattle.propagate.specs.Watching.{Watching, watch_at, watchers_of}
+use Rattle.propagate.specs.Watching.{Watching, unwatched, watch_at, watchers_of}
 use Rattle.propagate.specs.Trails.{Assigned, entry_at, literals}
 use Rattle.propagate.specs.Watched.{AreGuarded, IsGuarded, IsTrueUpTo}
 use Rattle.propagate.specs.Reach.{IsProgress, IsReached}
@@ -41,11 +41,13 @@ pub record IsNextFalse (t : Assigned) (l : Lit) : Type 0 where
 abbrev pub IsAmong : List ℕ → ℕ → ℕ → Type 0
 IsAmong xs place c = (j : ℕ) × (place ≤ j) × (j < length xs) × (slice_index_or xs j 0 ≡ c)
 
--- at most the clause is watched anew, at these two literals
+-- at most the clause is watched anew, at these two literals, and those without watched literals are the same
 pub record IsRewatched (old new : Watching) (c : ℕ) (p : Watch) : Type 0 where
   pub count : length new.watches ≡ length old.watches
   pub others : (d : ℕ) → d ≢ c → watch_at new d ≡ watch_at old d
   pub here : (watch_at new c ≡ watch_at old c) ⊎ (watch_at new c ≡ Some p)
+  pub short : unwatched new.watches ≡ unwatched old.watches
+  pub met : new.met ≡ old.met
 
 -- the clause is watched at these two literals, and left the watchers of the literal, whose others remain from its place on
 pub record IsMoved (old new : Watching) (l : Lit) (p : Watch) (c place : ℕ) : Type 0 where

@@ -1,11 +1,11 @@
 -- The watch rule: no watched literal is false, but where the other one is true since a level not above.
-use Rattle.std.specs.Prelude.{◌≡◌, ◌≢◌, ℕ, ◌<◌, ◌≤◌, List, length, Some, None, IsSome, Contains}
+use Rattle.std.specs.Prelude.{◌≡◌, ◌≢◌, ℕ, ◌<◌, ◌≤◌, List, length, Some, None, IsSome, Any, Contains, slice_index_or}
 use Rattle.clause_db.specs.declared.lit.Lit.{Lit}
 use Rattle.clause_db.specs.Literals.{negation}
 use Rattle.clause_db.specs.Clauses.{clause_at}
 use Rattle.propagate.specs.declared.entry.Entry.{Entry}
 use Rattle.propagate.specs.declared.watch.Watch.{Watch}
-use Rattle.propagate.specs.Watching.{watch_at}
+use Rattle.propagate.specs.Watching.{unwatched, watch_at}
 use Rattle.propagate.specs.Trails.{Assigned, entry_at}
 
 -- two different literals of the clause
@@ -36,9 +36,10 @@ abbrev pub AreAllWatched : Assigned → List (List Lit) → Type 0
 AreAllWatched t db = (c : ℕ) → c < length db → 2 ≤ length (clause_at db c) → IsSome (watch_at t.watching c)
 
 -- of the first so many clauses, those with two literals have two that are watched, and keep the watch rule but where the
--- negation of a watched literal isn't yet taken
+-- negation of a watched literal isn't yet taken; of the others, those that count as met have a literal that is true since level 0
 pub record AreWatched (t : Assigned) (db : List (List Lit)) : Type 0 where
   pub known : length t.watching.watches ≤ length db
   pub two : (c : ℕ) (p : Watch) → watch_at t.watching c ≡ Some p → AreTwoOf (clause_at db c) p
   pub short : (c : ℕ) → c < length t.watching.watches → watch_at t.watching c ≡ None → length (clause_at db c) < 2
   pub rule : (c : ℕ) (p : Watch) → watch_at t.watching c ≡ Some p → AreGuarded t.entries t.taken p
+  pub met : (k : ℕ) → k < t.watching.met → k < length (unwatched t.watching.watches) → Any (IsTrueUpTo t.entries 0) (clause_at db (slice_index_or (unwatched t.watching.watches) k 0))

@@ -80,17 +80,17 @@ impl Trail {
         }
     }
 
-    // Meets the clauses of fewer than two literals.
+    // Meets the clauses of fewer than two literals at level 0, but for those that count as met.
     fn meet_all_short(&mut self, db: &Db, links: &Links, graph: &mut Graph) -> Reached
         requires work { IsAtWork db.now links.now self.old graph.old }
         requires known { length db.now ≤ length self.old.watching.watches }
+        requires lowest { length self.old.levels ≡ 0 }
         ensures reached { IsReached db.now links.now self.old graph.old result self.new graph.new }
         ensures short { IfQuiet result (AreShortMet self.new db.now) }
     {
-        let mut place = 0;
-        'short: while let Some(clause) = self.unwatched(place) {
+        'short: while let Some(clause) = self.unmet() {
             match self.meet_one(clause, db, links, graph) {
-                Reached::Quiet => place += 1,
+                Reached::Quiet => self.count_met(),
                 stopped => return stopped,
             }
         }

@@ -73,6 +73,7 @@ impl Trail {
         ensures same { self.new ≡ rewatched self.old self.new.watching self.old.taken }
         ensures after { IsTrail self.new }
         ensures ok { OnOk result (self.new.watching.watches ≡ self.old.watching.watches ++ Some watch ∷ []) }
+        ensures met { self.new.watching.met ≡ self.old.watching.met }
         ensures err { OnErr result (self.new.watching.watches ≡ self.old.watching.watches) }
     {
         self.add_watcher(watch.first, clause)?;

@@ -3,7 +3,7 @@
 ghost use Rattle.std.specs.Prelude.{◌≡◌, ◌↔◌, ℕ, ◌+◌, ◌^◌, ◌<◌, ◌≤◌, [], ◌∷◌, ◌++◌, length, min, take, set, Some, IfOk, OnOk, OnErr, IfSome, IsNone, IsSome, IsTrue, Contains, slice_index_or, vec_capacity};
 ghost use Rattle.std.specs.List.{swap_remove};
 ghost use Rattle.clause_db.specs.Literals.{negation};
-ghost use Rattle.propagate.specs.Watching.{IsListed, IsUnwatched, IsWatcherAt, listing, unwatched, watch_at, watchers_of, watching};
+ghost use Rattle.propagate.specs.Watching.{IsListed, IsUnwatched, IsWatcherAt, listing, meeting, unwatched, watch_at, watchers_of, watching};
 ghost use Rattle.propagate.specs.Trails.{HasEntry, IsAssigned, IsTrail, IsUnassigned, IsUntaken, cut_to, decided, entry_at, followed, literals, mark_of, rewatched, start_of};
 ghost use Rattle.propagate.specs.Watched.{IsTrueAt, IsTrueUpTo};
 ghost use Rattle.propagate.specs.Clauses.{IsTruth};
@@ -28,6 +28,9 @@ pub struct Trail {
     levels: Vec<Level>,
     watches: Watches,
     watchers: Vec<Watchers>,
+    // How many of the clauses of which no two literals are watched, from the first on, count as met: these have a literal that is
+    // true since level 0, and needn't be looked at again.
+    met: usize,
     taken: u32,
 }
 
@@ -39,9 +42,9 @@ impl Model for Trail {
 
     ghost Value = { Assigned };
 
-    ghost view = { λ t. record { vars = length t.places.items; entries = t.entries.items; levels = t.levels.items; watching = record { watches = t.watches; watchers = t.watchers.items }; taken = t.taken } };
+    ghost view = { λ t. record { vars = length t.places.items; entries = t.entries.items; levels = t.levels.items; watching = record { watches = t.watches; watchers = t.watchers.items; met = t.met }; taken = t.taken } };
 
-    ghost invariant = { λ t. IsKept t.entries.items t.places.items t.values.items t.levels.items (record { watches = t.watches; watchers = t.watchers.items }) t.taken (vec_capacity t.entries) (vec_capacity t.levels) };
+    ghost invariant = { λ t. IsKept t.entries.items t.places.items t.values.items t.levels.items (record { watches = t.watches; watchers = t.watchers.items; met = t.met }) t.taken (vec_capacity t.entries) (vec_capacity t.levels) };
 }
 
 impl Trail {
@@ -61,6 +64,7 @@ impl Trail {
             levels: Vec::with_capacity(alloc, vars as usize)?,
             watches: Watches::new(alloc),
             watchers: no_watchers(alloc, vars)?,
+            met: 0,
             taken: 0,
         })
     }
@@ -266,13 +270,23 @@ impl Trail {
         self.watches.cursor(clause)
     }
 
-    // The clause at a place among those that were taken up and of which no two literals are watched, and None behind the last.
-    pub(crate) fn unwatched(&self, place: usize) -> Option<ClauseRef>
-        ensures some { IfSome result (λ c. (place < length (unwatched self.now.watching.watches)) × (slice_index_or (unwatched self.now.watching.watches) place 0 ≡ c)) }
-        ensures none { IsNone result → length (unwatched self.now.watching.watches) ≤ place }
-        ensures few { IfSome result (λ _. place + 1 < 2 ^ 64) }
+    // The first clause of which no two literals are watched and that doesn't count as met, and None behind the last.
+    pub(crate) fn unmet(&self) -> Option<ClauseRef>
+        ensures some { IfSome result (λ c. (self.now.watching.met < length (unwatched self.now.watching.watches)) × (slice_index_or (unwatched self.now.watching.watches) self.now.watching.met 0 ≡ c)) }
+        ensures none { IsNone result → length (unwatched self.now.watching.watches) ≤ self.now.watching.met }
+        ensures few { IfSome result (λ _. self.now.watching.met + 1 < 2 ^ 64) }
     {
-        self.watches.unwatched(place)
+        self.watches.unwatched(self.met)
+    }
+
+    // Counts that clause as met too.
+    pub(crate) fn count_met(&mut self)
+        requires more { self.old.watching.met < length (unwatched self.old.watching.watches) }
+        requires few { self.old.watching.met + 1 < 2 ^ 64 }
+        ensures trail { self.new ≡ rewatched self.old (meeting self.old.watching (self.old.watching.met + 1)) self.old.taken }
+        ensures after { IsTrail self.new }
+    {
+        self.met += 1;
     }
 
     // The clause at a place among the watchers of a literal, and None behind the last.

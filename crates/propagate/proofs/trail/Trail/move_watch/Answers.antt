@@ -1,7 +1,7 @@
 use Rattle.std.proofs.Common.{◌≢◌, ◌∙◌, sym, refl, arith}
 use Rattle.std.proofs.lemmas.Bool.{false≢true}
 use Rattle.propagate.specs.Watched.{IsTrueUpTo}
-use Rattle.propagate.proofs.MoveLemmas.{next_level, step_listed, step_moved, step_watched, step_unwatched, step_within}
+use Rattle.propagate.proofs.MoveLemmas.{next_level, step_anew, step_listed, step_moved, step_watched, step_unwatched, step_within}
 use Rattle.propagate.proofs.trail.Trail.move_watch.Goals as goal
 
 pub returns-then-true_up_to-clause-moved : goal.returns-then-true_up_to-clause-moved
@@ -51,4 +51,14 @@ returns-clause-moved c =
     let since : IsTrueUpTo t.entries c.level_of.result c.negated.result = rw (c.negated.ensures.other, same) (t.taken, c.requires.next.more, c.requires.next.is, omega (arith, level)) in
     false≢true (sym c.if-true_up_to.false ∙ c.true_up_to.ensures.since.1 since) in
     step_moved t c.args.lit c.args.other c.args.best.lit c.args.clause c.args.place c.requires.trail c.requires.in_range c.requires.next c.requires.here c.requires.both c.requires.apart apart c.add_watcher.new.self c.in_ok-add_watcher.ensures.ok
+    c.set_watch.new.self c.set_watch.ensures.trail c.drop_watcher.new.self c.drop_watcher.ensures.trail
+
+pub returns-clause-rewatched : goal.returns-clause-rewatched
+returns-clause-rewatched c =
+    let t = c.args.self.now in
+    let level = next_level t c.args.lit c.var.result c.level_of.result c.requires.trail c.requires.next c.var.ensures.variable c.level_of.ensures.level in
+    let apart : c.args.best.lit ≢ c.args.lit = λ same.
+    let since : IsTrueUpTo t.entries c.level_of.result c.negated.result = rw (c.negated.ensures.other, same) (t.taken, c.requires.next.more, c.requires.next.is, omega (arith, level)) in
+    false≢true (sym c.if-true_up_to.false ∙ c.true_up_to.ensures.since.1 since) in
+    step_anew t c.args.lit c.args.other c.args.best.lit c.args.clause c.args.place c.requires.trail c.requires.in_range c.requires.next c.requires.here c.requires.both c.requires.apart apart c.add_watcher.new.self c.in_ok-add_watcher.ensures.ok
     c.set_watch.new.self c.set_watch.ensures.trail c.drop_watcher.new.self c.drop_watcher.ensures.trail

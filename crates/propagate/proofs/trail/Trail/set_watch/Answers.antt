@@ -7,7 +7,8 @@ invariant_of-self c = record {
       let inside = c.self.inside in
       let known = rw (← c.self.view_is) at c.requires.known in
       let listed = rw (← c.self.view_is) at c.requires.listed in
-      stored_set inside.entries.items inside.places.items inside.levels.items _ _ _ _ c.self.invariant.stored c.args.clause c.args.watch c.set.new.self c.set.ensures.watch known listed;
+      let watched = rw (← c.self.view_is) at c.requires.watched in
+      stored_set inside.entries.items inside.places.items inside.levels.items _ _ _ _ c.self.invariant.stored c.args.clause c.args.watch c.set.new.self c.set.ensures.watch known watched listed;
   valued = c.self.invariant.valued;
 }
 

@@ -17,7 +17,7 @@ pub returns-in_err-take_up_two-in-Some-clause-memory : goal.returns-in_err-take_
 returns-in_err-take_up_two-in-Some-clause-memory c =
     on_err c.from_residual-in_err-take_up_two-in-Some.result _
     (progress_lists c.args.db.now c.args.links.now c.args.self.now c.meet_beside.new.self c.take_up_two.new.self c.args.graph.now c.meet_beside.new.graph c.take_up_two.ensures.same c.in_err-take_up_two-in-Some.ensures.err
-    c.take_up_two.ensures.after c.in-Quiet.ensures.reached)
+    c.take_up_two.ensures.met c.take_up_two.ensures.after c.in-Quiet.ensures.reached)
 
 pub returns-in_ok-take_up-in-None-clause-reached : goal.returns-in_ok-take_up-in-None-clause-reached
 returns-in_ok-take_up-in-None-clause-reached c =
@@ -25,11 +25,11 @@ returns-in_ok-take_up-in-None-clause-reached c =
     let db = c.args.db.now in
     let made = c.in_ok-take_up-in-None.ensures.ok in
     let short = rw (c.lits.ensures.clause, c.requires.next) at (c.in-None.ensures.short refl) in
-    progress_up db c.args.links.now t t c.take_up.new.self c.args.graph.now c.args.graph.now None (rewatched_is c.take_up.new.self t _ t.taken made) (ap (λ (x : Assigned). x.watching.watches) made) c.take_up.ensures.after
+    progress_up db c.args.links.now t t c.take_up.new.self c.args.graph.now c.args.graph.now None (rewatched_is c.take_up.new.self t _ t.taken made) (ap (λ (x : Assigned). x.watching.watches) made) (ap (λ (x : Assigned). x.watching.met) made) c.take_up.ensures.after
     (omega (arith, c.requires.next, c.requires.held)) (λ none. short) (λ p is. absurd (none_some is)) (progress_none t db c.args.links.now c.args.graph.now c.requires.work)
 
 pub returns-in_ok-take_up_two-in-Some-clause-reached : goal.returns-in_ok-take_up_two-in-Some-clause-reached
 returns-in_ok-take_up_two-in-Some-clause-reached c =
     let best = rw c.lits.ensures.clause at c.in-Some.ensures.two in
     progress_two c.args.db.now c.args.links.now c.args.self.now c.meet_beside.new.self c.take_up_two.new.self c.args.graph.now c.meet_beside.new.graph c.args.clause c.in-Some.watch c.in-Quiet.ensures.reached c.meet_beside.ensures.unmoved
-    c.in-Quiet.ensures.met best c.take_up_two.ensures.same c.in_ok-take_up_two-in-Some.ensures.ok c.take_up_two.ensures.after c.requires.next c.requires.held
+    c.in-Quiet.ensures.met best c.take_up_two.ensures.same c.in_ok-take_up_two-in-Some.ensures.ok c.take_up_two.ensures.met c.take_up_two.ensures.after c.requires.next c.requires.held
