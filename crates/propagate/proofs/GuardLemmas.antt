@@ -45,7 +45,7 @@ module _ (t : Assigned) (f : Lit) (trail : IsTrail t) (next : IsNextFalse t f) w
       let same = same_literal t k t.taken (negation f) trail (omega (arith, less, more)) more is next.is in
       rw same since
 
-  next_false : Contains (literals t.entries) (negation f)
+  pub next_false : Contains (literals t.entries) (negation f)
   next_false = literal_held t.entries t.taken (negation f) next.more next.is
 
   -- where a literal is guarded by f, which is false, it isn't false itself

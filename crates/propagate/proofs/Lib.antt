@@ -10,6 +10,7 @@ pub mod PlaceLemmas
 pub mod WatchedLemmas
 pub mod BestLemmas
 pub mod GuardLemmas
+pub mod FallLemmas
 pub mod ClosedLemmas
 pub mod StepLemmas
 pub mod ReachLemmas

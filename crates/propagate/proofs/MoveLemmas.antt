@@ -17,14 +17,15 @@ use Rattle.propagate.specs.Watching.{Watching, AreWatchedOf, IsListed, IsUnwatch
 use Rattle.propagate.specs.Trails.{Assigned, no_entry, entry_at, IsTrail, HasEntry, rewatched}
 use Rattle.propagate.specs.Watched.{AreGuarded, AreTwoOf, AreWatched}
 use Rattle.propagate.specs.Reach.{IsAtWork, IsGrown, IsProgress}
-use Rattle.propagate.specs.Best.{IsBest}
+use Rattle.propagate.specs.Best.{AreLastToFall, AreLastToFallFrom, IsBest}
 use Rattle.propagate.specs.Visits.{HasMoved, HasVisited, IsAmong, IsMet, IsMoved, IsNextFalse, IsRewatched, IsUnmoved, IsVisited}
 use Rattle.propagate.proofs.ClauseLemmas.{literal_held}
 use Rattle.propagate.proofs.PlaceLemmas.{held_at, same_literal}
 use Rattle.propagate.proofs.WatchingLemmas.{cases_lit}
 use Rattle.propagate.proofs.WatchedLemmas.{guards_fewer, guards_longer, known_at}
 use Rattle.propagate.proofs.GuardLemmas.{guard_next, guards_stay, other_in}
-use Rattle.propagate.proofs.ReachLemmas.{grown_entry, progress_rewatched}
+use Rattle.propagate.proofs.FallLemmas.{last_best, last_moved}
+use Rattle.propagate.proofs.ReachLemmas.{grown_entry, last_grown, progress_rewatched}
 use Rattle.propagate.proofs.VisitLemmas.{guards_moved, moved_anew, moved_known, moved_listed, moved_off, moved_unwatched, moved_within, next_grown, progress_again, since_before, visited_moved, visited_stay}
 
 pub on_err : {T E : Type 0} (r : Result T E) (P : Type 0) → P → OnErr r P
@@ -122,8 +123,13 @@ module _ (db : List (List Lit)) (links : List (Option (Edge × Edge))) (t : Assi
   guards : AreGuarded s.entries (t.taken + 1) q
   guards = guards_moved t s db c f o best work.trail progress.work.trail work.watched next both progress.grown unmoved met_here
 
+  last : (k : ℕ) → k ≤ c → AreLastToFallFrom k s db → AreLastToFall s.entries (length s.levels) (clause_at db c) q
+  last k from was =
+      let is_last = last_grown t s progress.grown (clause_at db c) best o (last_best t.entries (length t.levels) (clause_at db c) best o is_best) in
+      last_moved t s db k c f o best work.trail progress.work.trail next met_here (subst (λ (w : Watching). AreWatchedOf w c f o) (sym unmoved.watching) both) from is_last is_best.has was
+
   pub best_progress : IsProgress db links t g u h
-  best_progress = progress_again db links t s u g h c q is trail anew two (guards_fewer s.entries (t.taken + 1) s.taken q (let same = unmoved.taken in omega (arith, same)) guards) progress
+  best_progress = progress_again db links t s u g h c q is trail anew two (guards_fewer s.entries (t.taken + 1) s.taken q (let same = unmoved.taken in omega (arith, same)) guards) last progress
 
   next_s : IsNextFalse s f
   next_s = next_grown t s f progress.grown unmoved.taken next
@@ -173,7 +179,7 @@ left_visited t s f c place after next grown visited left d p is = elim (cases_eq
 pub progress_next : (db : List (List Lit)) (links : List (Option (Edge × Edge))) (a t s : Assigned) (g h : Constraints) (f : Lit) (place : ℕ) → IsProgress db links a g t h → AreLeft t f place → length (watchers_of t.watching f) ≤ place
     → s ≡ rewatched t t.watching (t.taken + 1) → IsTrail s → IsProgress db links a g s h
 progress_next db links a t s g h f place old left end is trail =
-    subst (λ (x : Assigned). IsProgress db links a g x h) (sym is) (progress_rewatched t db t.watching (t.taken + 1) links a g h (subst IsTrail is trail) watched (omega arith) old) where
+    subst (λ (x : Assigned). IsProgress db links a g x h) (sym is) (progress_rewatched t db t.watching (t.taken + 1) links a g h (subst IsTrail is trail) watched (omega arith) (λ k was. was) old) where
       watched : AreWatched (rewatched t t.watching (t.taken + 1)) db
       watched = record {
         known = old.work.watched.known;

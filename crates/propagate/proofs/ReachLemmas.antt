@@ -14,17 +14,20 @@ use Rattle.hint_refutation.specs.Hints.{LeavesOnly}
 use Rattle.clause_db.specs.Literals.{negation}
 use Rattle.clause_db.specs.Clauses.{clause_at}
 use Rattle.propagate.specs.declared.entry.Entry.{Entry}
+use Rattle.propagate.specs.declared.watch.Watch.{Watch}
 use Rattle.propagate.specs.Links.{edge_in, edge_of, edges_at}
 use Rattle.propagate.specs.Trails.{Assigned, no_entry, entry_at, literals, IsUnassigned, IsTrail, followed, rewatched}
 use Rattle.propagate.specs.Watching.{Watching}
 use Rattle.propagate.specs.Clauses.{HasReasons, IsReason}
 use Rattle.propagate.specs.Watched.{AreWatched}
+use Rattle.propagate.specs.Best.{AreLastToFall, AreLastToFallFrom, IsLastToFall}
 use Rattle.propagate.specs.Steps.{InStep, IsInStep, IsRefused, HasRoomFor, LacksLast}
 use Rattle.propagate.specs.Reach.{IfClause, IfQuiet, IfTheory, IsAtWork, IsConflict, IsGrown, IsExtended, IsLast, IsProgress, IsReached, IsStopped, UnlessTheory}
 use Rattle.propagate.specs.declared.moves.Reached.{Reached}
 use Rattle.propagate.specs.declared.moves.Reached.TheVariants as reached
 use Rattle.propagate.proofs.TrailLemmas.{cases_push, new_entry, trail_followed}
 use Rattle.propagate.proofs.WatchedLemmas.{watched_push, watched_taken}
+use Rattle.propagate.proofs.FallLemmas.{last_longer}
 use Rattle.propagate.proofs.ClosedLemmas.{closed_grown}
 use Rattle.propagate.proofs.StepLemmas.{linked_same, reasons_followed, step_followed, lacks_followed}
 
@@ -70,6 +73,15 @@ grown_followed t u c =
         | inr is ↦ rw (new_entry t.entries e k is) (refl, refl)
       ];
     }
+
+-- the last literals to fall stay so
+module _ (t s : Assigned) (grown : IsGrown t s) (clause : List Lit) where
+  pub last_grown : (l other : Lit) → IsLastToFall t.entries (length t.levels) clause l other → IsLastToFall s.entries (length s.levels) clause l other
+  last_grown l other was =
+      rw grown.levels (last_longer t.entries s.entries (length t.levels) grown.longer (λ k within. grown_entry t s k grown within) (λ k after within. (grown.added k after within).0) clause l other was)
+
+  pub both_last_grown : (p : Watch) → AreLastToFall t.entries (length t.levels) clause p → AreLastToFall s.entries (length s.levels) clause p
+  both_last_grown p was = record { first = last_grown p.first p.second was.first; second = last_grown p.second p.first was.second }
 
 extended_none : (g : Constraints) → IsExtended g g
 extended_none g = record { limits = record { nodes = refl; capacity = refl }; longer = omega arith; kept = take_all (length g.edges) g.edges (omega arith) }
@@ -145,6 +157,7 @@ progress_none t db links g work = record {
   work = work;
   grown = grown_none t;
   known = omega arith;
+  last = λ n was. was;
   extended = extended_none g;
   in_step = λ base step. step;
 }
@@ -155,6 +168,7 @@ module _ (db : List (List Lit)) (links : List (Option (Edge × Edge))) (a b c : 
     work = second.work;
     grown = grown_more a b c first.grown second.grown;
     known = let before = first.known in let after = second.known in omega (arith, before, after);
+    last = λ n was. second.last n (first.last n was);
     extended = extended_more g h i first.extended second.extended;
     in_step = λ base step. second.in_step base (first.in_step base step);
   }
@@ -197,6 +211,7 @@ module _ (t : Assigned) (db : List (List Lit)) (links : List (Option (Edge × Ed
     };
     grown = grown_followed t u c;
     known = omega arith;
+    last = λ n was d p from is. both_last_grown t (followed t u c) (grown_followed t u c) (clause_at db d) p (was d p from is);
     extended = extended_by g h (option_to_list (edge_of links u)) limits kept;
     in_step = λ base step. step_followed t db links base g h work.trail limits step u c why kept;
   }
@@ -236,8 +251,8 @@ module _ (t : Assigned) (db : List (List Lit)) (w : Watching) (n : ℕ) where
   }
 
   pub progress_rewatched : (links : List (Option (Edge × Edge))) (a : Assigned) (g h : Constraints) → IsTrail (rewatched t w n) → AreWatched (rewatched t w n) db → length t.watching.watches ≤ length w.watches
-      → IsProgress db links a g t h → IsProgress db links a g (rewatched t w n) h
-  progress_rewatched links a g h trail watched more old = record {
+      → ((k : ℕ) → AreLastToFallFrom k t db → AreLastToFallFrom k (rewatched t w n) db) → IsProgress db links a g t h → IsProgress db links a g (rewatched t w n) h
+  progress_rewatched links a g h trail watched more kept old = record {
     work = record {
       trail = trail;
       reasons = reasons_rewatched old.work.reasons;
@@ -248,6 +263,7 @@ module _ (t : Assigned) (db : List (List Lit)) (w : Watching) (n : ℕ) where
     };
     grown = record { vars = old.grown.vars; levels = old.grown.levels; longer = old.grown.longer; kept = old.grown.kept; added = old.grown.added };
     known = let known = old.known in omega (arith, known, more);
+    last = λ k was. kept k (old.last k was);
     extended = old.extended;
     in_step = λ base step. step_rewatched (literals t.entries) links base h watched (old.in_step base step);
   }
@@ -268,7 +284,7 @@ module _ (t s : Assigned) (db : List (List Lit)) (links : List (Option (Edge × 
   pub progress_untaken : IsProgress db links a g t h → IsProgress db links a g s h
   progress_untaken old =
       let n = s.taken in
-      subst (λ (x : Assigned). IsProgress db links a g x h) (sym is) (progress_rewatched t db t.watching n links a g h (subst IsTrail is trail) (watched_taken t db n le old.work.watched) (omega arith) old)
+      subst (λ (x : Assigned). IsProgress db links a g x h) (sym is) (progress_rewatched t db t.watching n links a g h (subst IsTrail is trail) (watched_taken t db n le old.work.watched) (omega arith) (λ k was. was) old)
 
   pub reached_untaken : (r : Reached) → IsReached db links a g r t h → IsReached db links a g r s h
   reached_untaken reached.Quiet old = progress_untaken old

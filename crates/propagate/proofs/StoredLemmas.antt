@@ -1,5 +1,5 @@
 -- What is stored, where what is watched changes.
-use Rattle.std.proofs.Common.{◌≡◌, ◌∙◌, ap, refl, ℕ, ◌<◌, ◌≤◌, ◌⊎◌, inl, inr, List, [], ◌∷◌, ◌++◌, length, set, get_or, arith, length-set, Option, Some, None, Bool, Result, Ok, Err}
+use Rattle.std.proofs.Common.{◌≡◌, ◌∙◌, ap, refl, ℕ, ◌<◌, ◌≤◌, ◌⊎◌, inl, inr, List, [], ◌∷◌, ◌++◌, length, set, get_or, arith, length-set, Option, Some, Bool, Result, Ok, Err}
 use Rattle.std.specs.Prelude.{OnOk, OnErr, IsSome}
 use Rattle.std.specs.List.{swap_remove}
 use Rattle.std.proofs.lemmas.List.{get_or_read, set-get_or}
@@ -15,12 +15,6 @@ use Rattle.propagate.proofs.WatchingLemmas.{all_listed_more, all_listed_less, al
 pub either : {T E P Q : Type 0} (r : Result T E) → OnOk r P → OnErr r Q → P ⊎ Q
 either (Ok x) p q = inl p
 either (Err y) p q = inr q
-
--- no clause is watched at first
-pub none_listed : (watchers : List (List ℕ × List ℕ)) (met : ℕ) → AreListed (record { watches = []; watchers = watchers; met = met })
-none_listed watchers met c p is = absurd (none_some is) where
-  none_some : {X : Type 0} {x : X} → None ≡ Some x → ⊥
-  none_some e = cc
 
 module _ (xs : List Entry) (places : List (Option ℕ)) (ls : List Level) (w : Watching) (n ec lc : ℕ) (stored : IsStored xs places ls w n ec lc) where
   pub stored_watching : (v : Watching) → length v.watchers ≡ length w.watchers → v.met ≤ length (unwatched v.watches) → AreListed v → IsStored xs places ls v n ec lc

@@ -21,15 +21,16 @@ use Rattle.propagate.specs.Watched.{AreAllWatched, AreGuarded, AreTwoOf, AreWatc
 use Rattle.propagate.specs.Clauses.{AreSettled}
 use Rattle.propagate.specs.Closed.{Closed}
 use Rattle.propagate.specs.Reach.{IfQuiet, IsGrown, IsProgress, IsReached}
-use Rattle.propagate.specs.Best.{AreBest, AreFalseUpTo, IsBest}
+use Rattle.propagate.specs.Best.{AreBest, AreFalseUpTo, AreLastToFall, AreLastToFallFrom, IsBest}
 use Rattle.propagate.specs.Visits.{AreShortMet, IsAmong, IsMet, IsMetIfShort, IsMoved, IsNextFalse, IsRewatched, IsUnmoved, IsVisited}
 use Rattle.propagate.proofs.ClauseLemmas.{literal_at, literal_held}
 use Rattle.propagate.proofs.PlaceLemmas.{cases_contains, same_literal, up_to_held, up_to_here, up_to_top}
 use Rattle.propagate.proofs.UnwatchedLemmas.{unwatched_has, unwatched_none, unwatched_below, unwatched_set}
-use Rattle.propagate.proofs.WatchingLemmas.{listed_elsewhere, listed_here, listed_more, listed_new, removed_left, removed_length}
+use Rattle.propagate.proofs.WatchingLemmas.{cases_taken_up, listed_elsewhere, listed_here, listed_more, listed_new, removed_left, removed_length}
 use Rattle.propagate.proofs.WatchedLemmas.{guard_fewer, some_is, watched_again, watched_lists, watched_met, watched_up}
 use Rattle.propagate.proofs.GuardLemmas.{guard_beside, guard_next, guard_open, guard_true, guards_best, other_apart, rule_of_other, two_best}
-use Rattle.propagate.proofs.ReachLemmas.{grown_entry, progress_rewatched}
+use Rattle.propagate.proofs.FallLemmas.{both_last_best}
+use Rattle.propagate.proofs.ReachLemmas.{both_last_grown, grown_entry, progress_rewatched}
 
 -- the literals stay
 pub held_grown : (t s : Assigned) (l : Lit) → IsGrown t s → Contains (literals t.entries) l → Contains (literals s.entries) l
@@ -100,7 +101,7 @@ progress_met db links a t s g h c old lowest more here met is trail =
     let short = old.work.watched.short (get_or (unwatched t.watching.watches) t.watching.met 0) below (unwatched_none t.watching.watches t.watching.met more) in
     let any = met (rw here at short) in
     let since : Any (IsTrueUpTo t.entries 0) (clause_at db c) = (any.0, any.1, any.2, any.3, up_to_top t any.1 0 old.work.trail (omega (arith, lowest)) any.4) in
-    subst (λ (x : Assigned). IsProgress db links a g x h) (sym is) (progress_rewatched t db w t.taken links a g h (subst IsTrail is trail) (watched_met t db (rw here since) old.work.watched) (omega arith) old)
+    subst (λ (x : Assigned). IsProgress db links a g x h) (sym is) (progress_rewatched t db w t.taken links a g h (subst IsTrail is trail) (watched_met t db (rw here since) old.work.watched) (omega arith) (λ k was. was) old)
 
 pub met_grown : (t s : Assigned) (clause : List Lit) → IsGrown t s → IsMetIfShort t clause → IsMetIfShort s clause
 met_grown t s clause grown was short = let any = was short in (any.0, any.1, any.2, any.3, held_grown t s any.1 grown any.4)
@@ -144,16 +145,19 @@ pub progress_lists : (db : List (List Lit)) (links : List (Option (Edge × Edge)
     → IsProgress db links a g s h
 progress_lists db links a t s g h is same met trail old =
     let v = s.watching in
-    subst (λ (x : Assigned). IsProgress db links a g x h) (sym is) (progress_rewatched t db v t.taken links a g h (subst IsTrail is trail) (watched_lists t db v same met old.work.watched) (omega (arith, ap length same)) old)
+    subst (λ (x : Assigned). IsProgress db links a g x h) (sym is) (progress_rewatched t db v t.taken links a g h (subst IsTrail is trail) (watched_lists t db v same met old.work.watched) (omega (arith, ap length same)) (λ k was c p from here. was c p from (rw same at here)) old)
 
 -- one more clause is taken up
 pub progress_up : (db : List (List Lit)) (links : List (Option (Edge × Edge))) (a t s : Assigned) (g h : Constraints) (r : Option Watch) → s ≡ rewatched t s.watching t.taken → s.watching.watches ≡ t.watching.watches ++ r ∷ [] → s.watching.met ≡ t.watching.met → IsTrail s
     → length t.watching.watches < length db → (r ≡ None → length (clause_at db (length t.watching.watches)) < 2)
-    → ((p : Watch) → r ≡ Some p → AreTwoOf (clause_at db (length t.watching.watches)) p × AreGuarded t.entries t.taken p) → IsProgress db links a g t h → IsProgress db links a g s h
-progress_up db links a t s g h r is added met trail more none some old =
+    → ((p : Watch) → r ≡ Some p → AreTwoOf (clause_at db (length t.watching.watches)) p × AreGuarded t.entries t.taken p)
+    → ((p : Watch) → r ≡ Some p → AreLastToFall t.entries (length t.levels) (clause_at db (length t.watching.watches)) p) → IsProgress db links a g t h → IsProgress db links a g s h
+progress_up db links a t s g h r is added met trail more none some last old =
     let v = s.watching in
     subst (λ (x : Assigned). IsProgress db links a g x h) (sym is)
-    (progress_rewatched t db v t.taken links a g h (subst IsTrail is trail) (watched_up t db v r added met old.work.trail.met more none some old.work.watched) (omega (arith, ap length added, length_push t.watching.watches r)) old)
+    (progress_rewatched t db v t.taken links a g h (subst IsTrail is trail) (watched_up t db v r added met old.work.trail.met more none some old.work.watched) (omega (arith, ap length added, length_push t.watching.watches r)) kept old) where
+      kept : (k : ℕ) → AreLastToFallFrom k t db → AreLastToFallFrom k (rewatched t s.watching t.taken) db
+      kept k was c p from here = elim (cases_taken_up t.watching.watches r c p (rw added at here)) [ inl before ↦ was c p from before | inr new ↦ rw new.0 (last p new.1) ]
 
 -- one more clause whose best two literals are watched
 pub progress_two : (db : List (List Lit)) (links : List (Option (Edge × Edge))) (a t s : Assigned) (g h : Constraints) (c : ℕ) (p : Watch) → IsProgress db links a g t h → IsUnmoved a t → IsMet a t p.first p.second → AreBest a.entries (clause_at db c) p
@@ -161,7 +165,8 @@ pub progress_two : (db : List (List Lit)) (links : List (Option (Edge × Edge)))
 progress_two db links a t s g h c p old unmoved met_here best is added met trail at held =
     let here : c ≡ length t.watching.watches = at ∙ ap (λ (w : Watching). length w.watches) (sym unmoved.watching) in
     let guards = guards_best a t (clause_at db c) p t.taken old.work.trail old.work.trail.taken met_here best in
-    progress_up db links a t s g h (Some p) is added met trail (omega (arith, held, here)) (λ none. absurd (some_none none)) (λ q same. let this : p ≡ q = some_is same in rw (← this, ← here) (two_best a.entries (clause_at db c) p best, guards)) old where
+    let last = both_last_grown a t old.grown (clause_at db c) p (both_last_best a.entries (length a.levels) (clause_at db c) p best) in
+    progress_up db links a t s g h (Some p) is added met trail (omega (arith, held, here)) (λ none. absurd (some_none none)) (λ q same. let this : p ≡ q = some_is same in rw (← this, ← here) (two_best a.entries (clause_at db c) p best, guards)) (λ q same. let this : p ≡ q = some_is same in rw (← this, ← here) last) old where
       some_none : {x : Watch} → Some x ≡ None → ⊥
       some_none e = cc
 
@@ -249,11 +254,21 @@ visited_moved t s u f c place p taken same is anew moved guards = record {
 
 -- a clause that was watched anew at two literals that may be watched
 pub progress_again : (db : List (List Lit)) (links : List (Option (Edge × Edge))) (a s u : Assigned) (g h : Constraints) (c : ℕ) (p : Watch) → u ≡ rewatched s u.watching s.taken → IsTrail u → IsRewatched s.watching u.watching c p
-    → AreTwoOf (clause_at db c) p → AreGuarded s.entries s.taken p → IsProgress db links a g s h → IsProgress db links a g u h
-progress_again db links a s u g h c p is trail anew two guards old =
+    → AreTwoOf (clause_at db c) p → AreGuarded s.entries s.taken p → ((k : ℕ) → k ≤ c → AreLastToFallFrom k s db → AreLastToFall s.entries (length s.levels) (clause_at db c) p) → IsProgress db links a g s h → IsProgress db links a g u h
+progress_again db links a s u g h c p is trail anew two guards last old =
     let count = anew.count in
     subst (λ (x : Assigned). IsProgress db links a g x h) (sym is)
-    (progress_rewatched s db u.watching s.taken links a g h (subst IsTrail is trail) (watched_again s db u.watching c p anew two guards old.work.watched) (omega (arith, count)) old)
+    (progress_rewatched s db u.watching s.taken links a g h (subst IsTrail is trail) (watched_again s db u.watching c p anew two guards old.work.watched) (omega (arith, count)) kept old) where
+      kept : (k : ℕ) → AreLastToFallFrom k s db → AreLastToFallFrom k (rewatched s u.watching s.taken) db
+      kept k was d q from at = elim (cases_eq d c) [
+        | inl same ↦ elim anew.here [
+          | inl stays ↦ was d q from (ap (watch_at s.watching) same ∙ sym stays ∙ ap (watch_at u.watching) (sym same) ∙ at)
+          | inr moved ↦
+              let this : p ≡ q = some_is (sym moved ∙ ap (watch_at u.watching) (sym same) ∙ at) in
+              rw (same, ← this) (last k (omega (arith, from, same)) was)
+        ]
+        | inr other ↦ was d q from (sym (anew.others d other) ∙ at)
+      ]
 
 -- a clause that is moved: it is put among the watchers of its new literal, watches that, and leaves the old ones
 module _ (w v u x : Watching) (l : Lit) (p : Watch) (c place : ℕ) (within : l.var < length w.watchers) (first : p.first.var < length w.watchers) (known : c < length w.watches) (apart : p.first ≢ l) (here : IsWatcherAt w l place c)

@@ -9,6 +9,7 @@ use Rattle.propagate.specs.declared.moves.Reached.TheVariants as reached
 use Rattle.propagate.specs.Trails.{Assigned, IsTrail, entry_at}
 use Rattle.propagate.specs.Clauses.{HasReasons, IsFalsified}
 use Rattle.propagate.specs.Watched.{AreWatched}
+use Rattle.propagate.specs.Best.{AreLastToFallFrom}
 use Rattle.propagate.specs.Closed.{Closed}
 use Rattle.propagate.specs.Steps.{InStep, IsLinked, IsRefused, HasRoomFor, LacksLast}
 
@@ -76,6 +77,7 @@ pub record IsProgress (db : List (List Lit)) (links : List (Option (Edge × Edge
   pub work : IsAtWork db links new after
   pub grown : IsGrown old new
   pub known : length old.watching.watches ≤ length new.watching.watches
+  pub last : (n : ℕ) → AreLastToFallFrom n old db → AreLastToFallFrom n new db
   pub extended : IsExtended before after
   pub in_step : (base : List Edge) → InStep old db links base before → InStep new db links base after
 

@@ -10,6 +10,7 @@ ghost use Rattle.propagate.specs.Links.{edge_of};
 ghost use Rattle.propagate.specs.Trails.{IsTrail, IsUnassigned, IsUntaken, cut_to, decided, followed, mark_of};
 ghost use Rattle.propagate.specs.Clauses.{AreSettled, HasReasons};
 ghost use Rattle.propagate.specs.Watched.{AreAllWatched, AreWatched};
+ghost use Rattle.propagate.specs.Best.{AreHighestFrom};
 ghost use Rattle.propagate.specs.Steps.{AreMarksHeld, HasRoomFor, InStep, IsLinked, IsRefused, LacksLast};
 ghost use Rattle.propagate.specs.Closed.{Closed, ClosedAt};
 ghost use Rattle.propagate.specs.Visits.{AreShortMet};
@@ -116,6 +117,10 @@ impl Trail {
 
         // At Quiet each clause of two literals or more is watched.
         ensures every { IfOk result (λ r. IfQuiet r (AreAllWatched self.new db.now)) }
+
+        // At Quiet the clauses that this call took up watch their literals of the highest levels, as Moskewicz et al. (2001) and Eén
+        // and Sörensson (2003) choose them.
+        ensures highest { IfOk result (λ r. IfQuiet r (AreHighestFrom (length self.old.watching.watches) self.new db.now)) }
 
         // At Quiet each literal is taken, and else none of the present level is.
         ensures taken { IfOk result (λ r. IfQuiet r (self.new.taken ≡ length self.new.entries)) }

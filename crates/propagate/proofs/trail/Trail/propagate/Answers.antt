@@ -1,5 +1,6 @@
-use Rattle.std.proofs.Common.{Ok}
+use Rattle.std.proofs.Common.{Ok, length}
 use Rattle.propagate.proofs.ClosedLemmas.{closed_grown, settled_closed}
+use Rattle.propagate.proofs.FallLemmas.{all_highest, none_last}
 use Rattle.propagate.proofs.ReachLemmas.{progress_untaken, reached_untaken, told_clause, told_grown, told_lacks, told_reasons, told_step, told_watched}
 use Rattle.propagate.proofs.trail.Trail.propagate.Goals as goal
 
@@ -8,6 +9,14 @@ returns-in-Ok-Quiet-clause-closed_at c =
     let progress = rw c.in-Ok-Quiet.field-0-is at c.in-Ok-Quiet.ensures.reached in
     let settled = rw c.in-Ok-Quiet.field-0-is at c.in-Ok-Quiet.ensures.settled in
     settled_closed c.settle.new.self c.args.db.now progress.work.trail settled
+
+pub returns-in-Ok-Quiet-clause-highest : goal.returns-in-Ok-Quiet-clause-highest
+returns-in-Ok-Quiet-clause-highest c =
+    let t = c.args.self.now in
+    let db = c.args.db.now in
+    let progress = rw c.in-Ok-Quiet.field-0-is at c.in-Ok-Quiet.ensures.reached in
+    let taken = rw c.in-Ok-Quiet.field-0-is at c.in-Ok-Quiet.ensures.taken in
+    all_highest c.settle.new.self db (length t.watching.watches) progress.work.trail progress.work.watched taken (progress.last (length t.watching.watches) (none_last t db))
 
 pub returns-in-Ok-clause-reasons : goal.returns-in-Ok-clause-reasons
 returns-in-Ok-clause-reasons c =

@@ -26,7 +26,7 @@ returns-in_ok-take_up-in-None-clause-reached c =
     let made = c.in_ok-take_up-in-None.ensures.ok in
     let short = rw (c.lits.ensures.clause, c.requires.next) at (c.in-None.ensures.short refl) in
     progress_up db c.args.links.now t t c.take_up.new.self c.args.graph.now c.args.graph.now None (rewatched_is c.take_up.new.self t _ t.taken made) (ap (λ (x : Assigned). x.watching.watches) made) (ap (λ (x : Assigned). x.watching.met) made) c.take_up.ensures.after
-    (omega (arith, c.requires.next, c.requires.held)) (λ none. short) (λ p is. absurd (none_some is)) (progress_none t db c.args.links.now c.args.graph.now c.requires.work)
+    (omega (arith, c.requires.next, c.requires.held)) (λ none. short) (λ p is. absurd (none_some is)) (λ p is. absurd (none_some is)) (progress_none t db c.args.links.now c.args.graph.now c.requires.work)
 
 pub returns-in_ok-take_up_two-in-Some-clause-reached : goal.returns-in_ok-take_up_two-in-Some-clause-reached
 returns-in_ok-take_up_two-in-Some-clause-reached c =
