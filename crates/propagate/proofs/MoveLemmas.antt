@@ -1,6 +1,6 @@
 -- The visits of the clauses that watch a literal which became false.
-use Rattle.std.proofs.Common.{◌≡◌, ◌≢◌, ◌∙◌, ap, sym, subst, refl, ℕ, ◌+◌, ◌<◌, ◌≤◌, ◌⊎◌, inl, inr, List, [], ◌∷◌, ◌++◌, length, get_or, set, arith, Option, Some, Result, Ok, Err}
-use Rattle.std.specs.Prelude.{IfOk, IsSome, OnErr}
+use Rattle.std.proofs.Common.{◌≡◌, ◌≢◌, ◌∙◌, ap, sym, subst, refl, ℕ, ◌+◌, ◌<◌, ◌≤◌, ◌⊎◌, inl, inr, List, [], ◌∷◌, ◌++◌, length, get_or, set, arith, Option, Some}
+use Rattle.std.specs.Prelude.{IsSome}
 use Rattle.std.specs.List.{Contains, swap_remove}
 use Rattle.std.proofs.lemmas.Bool.{cases_eq}
 use Rattle.std.proofs.lemmas.List.{get_or_default}
@@ -18,7 +18,7 @@ use Rattle.propagate.specs.Trails.{Assigned, no_entry, entry_at, IsTrail, HasEnt
 use Rattle.propagate.specs.Watched.{AreGuarded, AreTwoOf, AreWatched}
 use Rattle.propagate.specs.Reach.{IsAtWork, IsGrown, IsProgress}
 use Rattle.propagate.specs.Best.{AreLastToFall, AreLastToFallFrom, IsBest}
-use Rattle.propagate.specs.Visits.{HasMoved, HasVisited, IsAmong, IsMet, IsMoved, IsNextFalse, IsRewatched, IsUnmoved, IsVisited}
+use Rattle.propagate.specs.Visits.{HasMoved, IsAmong, IsMet, IsMoved, IsNextFalse, IsRewatched, IsUnmoved, IsVisited, place_after}
 use Rattle.propagate.proofs.ClauseLemmas.{literal_held}
 use Rattle.propagate.proofs.PlaceLemmas.{held_at, same_literal}
 use Rattle.propagate.proofs.WatchingLemmas.{cases_lit}
@@ -27,18 +27,6 @@ use Rattle.propagate.proofs.GuardLemmas.{guard_next, guards_stay, other_in}
 use Rattle.propagate.proofs.FallLemmas.{last_best, last_moved}
 use Rattle.propagate.proofs.ReachLemmas.{grown_entry, last_grown, progress_rewatched}
 use Rattle.propagate.proofs.VisitLemmas.{guards_moved, moved_anew, moved_known, moved_listed, moved_off, moved_unwatched, moved_within, next_grown, progress_again, since_before, visited_moved, visited_stay}
-
-pub on_err : {T E : Type 0} (r : Result T E) (P : Type 0) → P → OnErr r P
-on_err (Ok x) P p = tt
-on_err (Err y) P p = p
-
-pub if_ok_more : {T E : Type 0} (r : Result T E) (P Q : T → Type 0) → ((x : T) → P x → Q x) → IfOk r P → IfOk r Q
-if_ok_more (Ok x) P Q more p = more x p
-if_ok_more (Err y) P Q more p = tt
-
-pub on_err_more : {T E : Type 0} (r : Result T E) (P Q : Type 0) → (P → Q) → OnErr r P → OnErr r Q
-on_err_more (Ok x) P Q more p = tt
-on_err_more (Err y) P Q more p = more p
 
 -- the next literal to take is in range, and its level is that of its place
 pub next_below : (t : Assigned) (f : Lit) → IsTrail t → IsNextFalse t f → f.var < t.vars
@@ -137,16 +125,13 @@ module _ (db : List (List Lit)) (links : List (Option (Edge × Edge))) (t : Assi
   both_s : AreWatchedOf s.watching c f o
   both_s = subst (λ (w : Watching). AreWatchedOf w c f o) (sym unmoved.watching) both
 
-  pub best_visited : (v : Visit) → HasMoved s u f q c place v → HasVisited db links f c place t g v u h
+  pub best_visited : (v : Visit) → HasMoved s u f q c place v → IsVisited t u f c place (place_after v place)
   best_visited visit.Stayed (same, sooner) =
       let since = since_before t s db c f o best work.trail progress.work.trail work.watched next both progress.grown unmoved met_here sooner in
-      let stay = guards_stay s db c f o progress.work.trail progress.work.watched next_s both_s since in (
-        best_progress,
-        visited_stay t u f c place (ap (λ (x : Assigned). x.taken) same ∙ unmoved.taken) (ap (λ (x : Assigned). x.watching) same ∙ unmoved.watching) here
-            (subst (λ (x : Assigned). (p : Watch) → watch_at x.watching c ≡ Some p → AreGuarded x.entries (t.taken + 1) p) (sym same) (rw unmoved.taken at stay)),
-      )
-  best_visited visit.Moved moved = (best_progress, visited_moved t s u f c place q unmoved.taken unmoved.watching is anew moved guards)
-  best_visited (visit.Stopped r) moved = absurd moved
+      let stay = guards_stay s db c f o progress.work.trail progress.work.watched next_s both_s since in
+      visited_stay t u f c place (ap (λ (x : Assigned). x.taken) same ∙ unmoved.taken) (ap (λ (x : Assigned). x.watching) same ∙ unmoved.watching) here
+      (subst (λ (x : Assigned). (p : Watch) → watch_at x.watching c ≡ Some p → AreGuarded x.entries (t.taken + 1) p) (sym same) (rw unmoved.taken at stay))
+  best_visited visit.Moved moved = visited_moved t s u f c place q unmoved.taken unmoved.watching is anew moved guards
 
 -- what is left to visit
 abbrev pub AreLeft : Assigned → Lit → ℕ → Type 0

@@ -22,9 +22,11 @@ use Rattle.propagate.specs.Clauses.{HasReasons, IsReason}
 use Rattle.propagate.specs.Watched.{AreWatched}
 use Rattle.propagate.specs.Best.{AreLastToFall, AreLastToFallFrom, IsLastToFall}
 use Rattle.propagate.specs.Steps.{InStep, IsInStep, IsRefused, HasRoomFor, LacksLast}
-use Rattle.propagate.specs.Reach.{IfClause, IfQuiet, IfTheory, IsAtWork, IsConflict, IsGrown, IsExtended, IsLast, IsProgress, IsReached, IsStopped, UnlessTheory}
+use Rattle.propagate.specs.Reach.{HasStopped, IfClause, IfQuiet, IfTheory, IsAtWork, IsConflict, IsGrown, IsExtended, IsLast, IsProgress, IsReached, IsStopped, IsToldAs, UnlessQuiet, UnlessTheory}
 use Rattle.propagate.specs.declared.moves.Reached.{Reached}
 use Rattle.propagate.specs.declared.moves.Reached.TheVariants as reached
+use Rattle.propagate.specs.declared.stop.Stop.{Stop}
+use Rattle.propagate.specs.declared.stop.Stop.TheVariants as stop
 use Rattle.propagate.proofs.TrailLemmas.{cases_push, new_entry, trail_followed}
 use Rattle.propagate.proofs.WatchedLemmas.{watched_push, watched_taken}
 use Rattle.propagate.proofs.FallLemmas.{last_longer}
@@ -185,10 +187,14 @@ module _ (db : List (List Lit)) (links : List (Option (Edge × Edge))) (a b c : 
   }
 
   -- where propagation came to, from further back
-  pub reached_more : (r : Reached) → IsReached db links b h r c i → IsReached db links a g r c i
-  reached_more reached.Quiet second = progress_more second
-  reached_more (reached.ClauseConflict k) second = (progress_more second.0, second.1)
-  reached_more (reached.TheoryConflict u) second = stopped_more u second
+  pub stop_more : (s : Stop) → HasStopped db links b h s c i → HasStopped db links a g s c i
+  stop_more (stop.Clause k) second = (progress_more second.0, second.1)
+  stop_more (stop.Theory u) second = stopped_more u second
+  stop_more stop.Memory second = progress_more second
+
+  pub reached_more : {T : Type 0} (r : Result T Stop) → IsReached db links b h r c i → IsReached db links a g r c i
+  reached_more (Ok x) second = progress_more second
+  reached_more (Err s) second = stop_more s second
 
 -- a literal of a clause whose others are false, and that is assigned now
 module _ (t : Assigned) (db : List (List Lit)) (links : List (Option (Edge × Edge))) (g h : Constraints) (u : Lit) (c : ℕ) (held : c < length db) (leaves : LeavesOnly negation (literals t.entries) (clause_at db c) u)
@@ -286,68 +292,77 @@ module _ (t s : Assigned) (db : List (List Lit)) (links : List (Option (Edge × 
       let n = s.taken in
       subst (λ (x : Assigned). IsProgress db links a g x h) (sym is) (progress_rewatched t db t.watching n links a g h (subst IsTrail is trail) (watched_taken t db n le old.work.watched) (omega arith) (λ k was. was) old)
 
-  pub reached_untaken : (r : Reached) → IsReached db links a g r t h → IsReached db links a g r s h
-  reached_untaken reached.Quiet old = progress_untaken old
-  reached_untaken (reached.ClauseConflict c) old =
-      (progress_untaken old.0, subst (λ (x : Assigned). IsConflict x db c) (sym is) (record { held = old.1.held; falsified = old.1.falsified }))
-  reached_untaken (reached.TheoryConflict u) old =
+  pub stop_untaken : (k : Stop) → HasStopped db links a g k t h → HasStopped db links a g k s h
+  stop_untaken (stop.Clause c) old = (progress_untaken old.0, subst (λ (x : Assigned). IsConflict x db c) (sym is) (record { held = old.1.held; falsified = old.1.falsified }))
+  stop_untaken (stop.Theory u) old =
       let n = s.taken in
       subst (λ (x : Assigned). IsStopped db links a g u x h) (sym is) (stopped_rewatched t db t.watching n links a g h u (watched_taken t db n le old.watched) old)
+  stop_untaken stop.Memory old = progress_untaken old
 
--- what is told of where propagation came to
+-- what is told of a stop
 module _ (db : List (List Lit)) (links : List (Option (Edge × Edge))) (a : Assigned) (g : Constraints) (s : Assigned) (h : Constraints) where
   abbrev IsTold : {E : Type 0} → Result Reached E → Type 0
-  IsTold (Ok x) = IsReached db links a g x s h
+  IsTold (Ok reached.Quiet) = ⊥
+  IsTold (Ok (reached.ClauseConflict c)) = IsProgress db links a g s h × IsConflict s db c
+  IsTold (Ok (reached.TheoryConflict u)) = IsStopped db links a g u s h
   IsTold (Err y) = IsProgress db links a g s h
 
-  pub told : {E : Type 0} (r : Result Reached E) → IfOk r (λ x. IsReached db links a g x s h) → OnErr r (IsProgress db links a g s h) → IsTold r
-  told (Ok x) held memory = held
-  told (Err y) held memory = memory
+  pub told : {E : Type 0} (r : Result Reached E) (k : Stop) → IfOk r (IsToldAs k) → OnErr r (k ≡ stop.Memory) → HasStopped db links a g k s h → IsTold r
+  told (Ok x) (stop.Clause c) is memory stopped = rw is stopped
+  told (Ok x) (stop.Theory u) is memory stopped = rw is stopped
+  told (Ok x) stop.Memory is memory stopped = absurd is
+  told (Err y) k is memory stopped = rw memory at stopped
+
+  pub told_not_quiet : {E : Type 0} (r : Result Reached E) (P : Type 0) → IsTold r → IfOk r (λ x. IfQuiet x P)
+  told_not_quiet (Ok reached.Quiet) P is = absurd is
+  told_not_quiet (Ok (reached.ClauseConflict c)) P is = tt
+  told_not_quiet (Ok (reached.TheoryConflict u)) P is = tt
+  told_not_quiet (Err y) P is = tt
 
   pub told_reasons : {E : Type 0} (r : Result Reached E) → IsTold r → HasReasons s db
-  told_reasons (Ok reached.Quiet) is = is.work.reasons
+  told_reasons (Ok reached.Quiet) is = absurd is
   told_reasons (Ok (reached.ClauseConflict c)) is = is.0.work.reasons
   told_reasons (Ok (reached.TheoryConflict u)) is = is.reasons
   told_reasons (Err y) is = is.work.reasons
 
   pub told_watched : {E : Type 0} (r : Result Reached E) → IsTold r → AreWatched s db
-  told_watched (Ok reached.Quiet) is = is.work.watched
+  told_watched (Ok reached.Quiet) is = absurd is
   told_watched (Ok (reached.ClauseConflict c)) is = is.0.work.watched
   told_watched (Ok (reached.TheoryConflict u)) is = is.watched
   told_watched (Err y) is = is.work.watched
 
   pub told_grown : {E : Type 0} (r : Result Reached E) → IsTold r → IsGrown a s
-  told_grown (Ok reached.Quiet) is = is.grown
+  told_grown (Ok reached.Quiet) is = absurd is
   told_grown (Ok (reached.ClauseConflict c)) is = is.0.grown
   told_grown (Ok (reached.TheoryConflict u)) is = is.grown
   told_grown (Err y) is = is.grown
 
   pub told_edges : {E : Type 0} (r : Result Reached E) → IsTold r → IsExtended g h
-  told_edges (Ok reached.Quiet) is = is.extended
+  told_edges (Ok reached.Quiet) is = absurd is
   told_edges (Ok (reached.ClauseConflict c)) is = is.0.extended
   told_edges (Ok (reached.TheoryConflict u)) is = is.extended
   told_edges (Err y) is = is.extended
 
   pub told_clause : {E : Type 0} (r : Result Reached E) → IsTold r → IfOk r (λ x. IfClause x (IsConflict s db))
-  told_clause (Ok reached.Quiet) is = tt
+  told_clause (Ok reached.Quiet) is = absurd is
   told_clause (Ok (reached.ClauseConflict c)) is = is.1
   told_clause (Ok (reached.TheoryConflict u)) is = tt
   told_clause (Err y) is = tt
 
   pub told_theory : {E : Type 0} (r : Result Reached E) → IsTold r → IfOk r (λ x. IfTheory x (λ l. IsLast s l × IsRefused links l h))
-  told_theory (Ok reached.Quiet) is = tt
+  told_theory (Ok reached.Quiet) is = absurd is
   told_theory (Ok (reached.ClauseConflict c)) is = tt
   told_theory (Ok (reached.TheoryConflict u)) is = (is.last, is.refused)
   told_theory (Err y) is = tt
 
   pub told_step : {E : Type 0} (r : Result Reached E) → IsTold r → IfOk r (λ x. UnlessTheory x ((base : List Edge) → InStep a db links base g → InStep s db links base h))
-  told_step (Ok reached.Quiet) is = is.in_step
+  told_step (Ok reached.Quiet) is = absurd is
   told_step (Ok (reached.ClauseConflict c)) is = is.0.in_step
   told_step (Ok (reached.TheoryConflict u)) is = tt
   told_step (Err y) is = tt
 
   pub told_lacks : {E : Type 0} (r : Result Reached E) → IsTold r → IfOk r (λ x. IfTheory x (λ _. (base : List Edge) → InStep a db links base g → LacksLast s db links base h))
-  told_lacks (Ok reached.Quiet) is = tt
+  told_lacks (Ok reached.Quiet) is = absurd is
   told_lacks (Ok (reached.ClauseConflict c)) is = tt
   told_lacks (Ok (reached.TheoryConflict u)) is = is.lacks_last
   told_lacks (Err y) is = tt
@@ -356,8 +371,13 @@ module _ (db : List (List Lit)) (links : List (Option (Edge × Edge))) (a : Assi
   told_memory (Ok x) is = tt
   told_memory (Err y) is = is.in_step
 
--- a fact of quiet, where propagation didn't end quietly
-pub if_quiet_stopped : (r : Reached) (P : Type 0) → (r ≡ reached.Quiet → ⊥) → IfQuiet r P
-if_quiet_stopped reached.Quiet P other = absurd (other refl)
-if_quiet_stopped (reached.ClauseConflict c) P other = tt
-if_quiet_stopped (reached.TheoryConflict l) P other = tt
+-- a fact that holds wherever propagation ended
+pub unless_quiet : {E : Type 0} (r : Result Reached E) (P : Type 0) → P → IfOk r (λ x. UnlessQuiet x P)
+unless_quiet (Ok reached.Quiet) P holds = tt
+unless_quiet (Ok (reached.ClauseConflict c)) P holds = holds
+unless_quiet (Ok (reached.TheoryConflict l)) P holds = holds
+unless_quiet (Err y) P holds = tt
+
+pub on_err : {T E : Type 0} (r : Result T E) (P : Type 0) → P → OnErr r P
+on_err (Ok x) P holds = tt
+on_err (Err y) P holds = holds

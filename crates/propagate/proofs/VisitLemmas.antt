@@ -1,6 +1,6 @@
 -- What is done with a clause that is taken up or visited.
-use Rattle.std.proofs.Common.{◌≡◌, ◌≢◌, ◌∙◌, ap, sym, subst, refl, ℕ, ◌+◌, ◌<◌, ◌≤◌, ◌⊎◌, inl, inr, List, [], ◌∷◌, ◌++◌, length, get_or, arith, Option, Some, None, get_or-set_same, get_or-set_other, set, length-set}
-use Rattle.std.specs.Prelude.{IsSome}
+use Rattle.std.proofs.Common.{◌≡◌, ◌≢◌, ◌∙◌, ap, sym, subst, refl, ℕ, ◌+◌, ◌<◌, ◌≤◌, ◌⊎◌, inl, inr, List, [], ◌∷◌, ◌++◌, length, get_or, arith, Option, Some, None, Result, Ok, Err, get_or-set_same, get_or-set_other, set, length-set}
+use Rattle.std.specs.Prelude.{IsSome, OnOk}
 use Rattle.std.specs.List.{All, Any, Contains, swap_remove}
 use Rattle.std.proofs.lemmas.Bool.{cases_eq}
 use Rattle.std.proofs.lemmas.List.{get_or_default, length_push}
@@ -13,14 +13,13 @@ use Rattle.clause_db.specs.declared.lit.Lit.{Lit}
 use Rattle.clause_db.specs.Literals.{negation}
 use Rattle.clause_db.specs.Clauses.{clause_at}
 use Rattle.propagate.specs.declared.watch.Watch.{Watch}
-use Rattle.propagate.specs.declared.moves.Reached.{Reached}
-use Rattle.propagate.specs.declared.moves.Reached.TheVariants as reached
+use Rattle.propagate.specs.declared.stop.Stop.{Stop}
 use Rattle.propagate.specs.Watching.{Watching, unwatched, AreWatchedOf, IsListed, IsUnwatched, IsWatcherAt, listing, lists_at, meeting, watch_at, with_list, watchers_of, watching}
 use Rattle.propagate.specs.Trails.{Assigned, entry_at, literals, up_to, IsTrail, rewatched}
 use Rattle.propagate.specs.Watched.{AreAllWatched, AreGuarded, AreTwoOf, AreWatched, IsTrueAt, IsTrueUpTo}
 use Rattle.propagate.specs.Clauses.{AreSettled}
 use Rattle.propagate.specs.Closed.{Closed}
-use Rattle.propagate.specs.Reach.{IfQuiet, IsGrown, IsProgress, IsReached}
+use Rattle.propagate.specs.Reach.{IsGrown, IsProgress, IsReached}
 use Rattle.propagate.specs.Best.{AreBest, AreFalseUpTo, AreLastToFall, AreLastToFallFrom, IsBest}
 use Rattle.propagate.specs.Visits.{AreShortMet, IsAmong, IsMet, IsMetIfShort, IsMoved, IsNextFalse, IsRewatched, IsUnmoved, IsVisited}
 use Rattle.propagate.proofs.ClauseLemmas.{literal_at, literal_held}
@@ -61,10 +60,9 @@ module _ (db : List (List Lit)) (links : List (Option (Edge × Edge))) (t : Assi
         rw (same, kept) (since (entry_at t.entries at.0).level (is_best.last at.0 at.1 at.2)),
   )
 
-  pub met_if_quiet : (r : Reached) → IsReached db links t g r s h → IfQuiet r (Contains (literals s.entries) l) → IfQuiet r ((m : ℕ) → AreFalseUpTo t.entries m clause (Some l) → IsTrueUpTo s.entries m l) → IfQuiet r (IsMet t s l best)
-  met_if_quiet reached.Quiet progress made since = met progress made since
-  met_if_quiet (reached.ClauseConflict c) progress made since = tt
-  met_if_quiet (reached.TheoryConflict u) progress made since = tt
+  pub met_if_ok : {T : Type 0} (r : Result T Stop) → IsReached db links t g r s h → OnOk r (Contains (literals s.entries) l) → OnOk r ((m : ℕ) → AreFalseUpTo t.entries m clause (Some l) → IsTrueUpTo s.entries m l) → OnOk r (IsMet t s l best)
+  met_if_ok (Ok x) progress made since = met progress made since
+  met_if_ok (Err k) stopped made since = tt
 
 -- two different literals make two
 two_apart : (clause : List Lit) (k l : Lit) → Contains clause k → Contains clause l → length clause < 2 → k ≡ l

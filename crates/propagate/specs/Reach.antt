@@ -1,11 +1,15 @@
 -- What propagation does to a trail and a graph.
 use Rattle.std.specs.Prelude.{◌≡◌, ℕ, ◌+◌, ◌<◌, ◌≤◌, List, length, take, Option, IsSome}
+use Rattle.std.specs.declared.result.Result.{Result}
+use Rattle.std.specs.declared.result.Result.TheVariants.{Ok, Err}
 use Rattle.neg_cycle.specs.declared.system.Edge.{Edge}
 use Rattle.difference_graph.specs.Graphs.{Constraints, HasSameLimits}
 use Rattle.clause_db.specs.declared.lit.Lit.{Lit}
 use Rattle.clause_db.specs.Clauses.{clause_at}
 use Rattle.propagate.specs.declared.moves.Reached.{Reached}
 use Rattle.propagate.specs.declared.moves.Reached.TheVariants as reached
+use Rattle.propagate.specs.declared.stop.Stop.{Stop}
+use Rattle.propagate.specs.declared.stop.Stop.TheVariants as stop
 use Rattle.propagate.specs.Trails.{Assigned, IsTrail, entry_at}
 use Rattle.propagate.specs.Clauses.{HasReasons, IsFalsified}
 use Rattle.propagate.specs.Watched.{AreWatched}
@@ -96,8 +100,19 @@ pub record IsConflict (t : Assigned) (db : List (List Lit)) (c : ℕ) : Type 0 w
   pub held : c < length db
   pub falsified : IsFalsified t.entries (clause_at db c)
 
--- where propagation came to
-abbrev pub IsReached : List (List Lit) → List (Option (Edge × Edge)) → Assigned → Constraints → Reached → Assigned → Constraints → Type 0
-IsReached db links old before reached.Quiet new after = IsProgress db links old before new after
-IsReached db links old before (reached.ClauseConflict c) new after = IsProgress db links old before new after × IsConflict new db c
-IsReached db links old before (reached.TheoryConflict l) new after = IsStopped db links old before l new after
+-- what is so where propagation stopped
+abbrev pub HasStopped : List (List Lit) → List (Option (Edge × Edge)) → Assigned → Constraints → Stop → Assigned → Constraints → Type 0
+HasStopped db links old before (stop.Clause c) new after = IsProgress db links old before new after × IsConflict new db c
+HasStopped db links old before (stop.Theory l) new after = IsStopped db links old before l new after
+HasStopped db links old before stop.Memory new after = IsProgress db links old before new after
+
+-- how propagation went on, or where it stopped
+abbrev pub IsReached : {T : Type 0} → List (List Lit) → List (Option (Edge × Edge)) → Assigned → Constraints → Result T Stop → Assigned → Constraints → Type 0
+IsReached db links old before (Ok x) new after = IsProgress db links old before new after
+IsReached db links old before (Err s) new after = HasStopped db links old before s new after
+
+-- this is told of a stop
+abbrev pub IsToldAs : Stop → Reached → Type 0
+IsToldAs (stop.Clause c) r = r ≡ reached.ClauseConflict c
+IsToldAs (stop.Theory l) r = r ≡ reached.TheoryConflict l
+IsToldAs stop.Memory r = ⊥

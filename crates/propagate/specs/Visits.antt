@@ -1,18 +1,14 @@
 -- What is done with a clause that is taken up or visited.
-use Rattle.std.specs.Prelude.{◌≡◌, ◌≢◌, ◌⊎◌, ℕ, ◌+◌, ◌<◌, ◌≤◌, List, length, Option, Some, Any, Contains, slice_index_or}
-use Rattle.neg_cycle.specs.declared.system.Edge.{Edge}
-use Rattle.difference_graph.specs.Graphs.{Constraints}
+use Rattle.std.specs.Prelude.{◌≡◌, ◌≢◌, ◌⊎◌, ℕ, ◌+◌, ◌<◌, ◌≤◌, List, length, Some, Any, Contains, slice_index_or}
 use Rattle.clause_db.specs.declared.lit.Lit.{Lit}
 use Rattle.clause_db.specs.Literals.{negation}
 use Rattle.clause_db.specs.Clauses.{clause_at}
 use Rattle.propagate.specs.declared.watch.Watch.{Watch}
 use Rattle.propagate.specs.declared.visit.Visit.{Visit}
 use Rattle.propagate.specs.declared.visit.Visit.TheVariants as visit
-use Rattle.propagate.specs.declared.moves.Reached.TheVariants as reached
 use Rattle.propagate.specs.Watching.{Watching, unwatched, watch_at, watchers_of}
 use Rattle.propagate.specs.Trails.{Assigned, entry_at, literals}
 use Rattle.propagate.specs.Watched.{AreGuarded, IsGuarded, IsTrueUpTo}
-use Rattle.propagate.specs.Reach.{IsProgress, IsReached}
 
 -- if the clause has fewer than two literals, it has a true one
 abbrev pub IsMetIfShort : Assigned → List Lit → Type 0
@@ -59,7 +55,6 @@ pub record IsMoved (old new : Watching) (l : Lit) (p : Watch) (c place : ℕ) : 
 abbrev pub HasMoved : Assigned → Assigned → Lit → Watch → ℕ → ℕ → Visit → Type 0
 HasMoved old new l p c place visit.Stayed = (new ≡ old) × IsTrueUpTo old.entries (entry_at old.entries old.taken).level (negation p.first)
 HasMoved old new l p c place visit.Moved = IsMoved old.watching new.watching l p c place
-HasMoved old new l p c place (visit.Stopped r) = ⊥
 
 -- the clause keeps the watch rule with the next literal taken too, the others are watched as before, and of the watchers of
 -- the literal those others remain from the next place on that remained from this one on
@@ -70,8 +65,7 @@ pub record IsVisited (old new : Assigned) (l : Lit) (c place next : ℕ) : Type 
   pub count : length (watchers_of new.watching l) + place + 1 ≡ length (watchers_of old.watching l) + next
   pub left : (d : ℕ) → d ≢ c → IsAmong (watchers_of old.watching l) place d → IsAmong (watchers_of new.watching l) next d
 
--- where the visit of a clause ended
-abbrev pub HasVisited : List (List Lit) → List (Option (Edge × Edge)) → Lit → ℕ → ℕ → Assigned → Constraints → Visit → Assigned → Constraints → Type 0
-HasVisited db links l c place old before visit.Stayed new after = IsProgress db links old before new after × IsVisited old new l c place (place + 1)
-HasVisited db links l c place old before visit.Moved new after = IsProgress db links old before new after × IsVisited old new l c place place
-HasVisited db links l c place old before (visit.Stopped r) new after = IsReached db links old before r new after × (r ≢ reached.Quiet)
+-- the place of the next watcher, after the one at a place was visited
+abbrev pub place_after : Visit → ℕ → ℕ
+place_after visit.Stayed place = place + 1
+place_after visit.Moved place = place

@@ -8,6 +8,7 @@ mod links;
 mod meet;
 mod moves;
 mod room;
+mod stop;
 mod take_up;
 mod trail;
 mod visit;

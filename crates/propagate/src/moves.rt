@@ -1,6 +1,6 @@
 //! What a search does to its trail: it decides, propagates, and goes back.
 
-ghost use Rattle.std.specs.Prelude.{◌≡◌, ◌↔◌, ℕ, ◌<◌, ◌≤◌, List, [], ◌∷◌, ◌++◌, length, take, Option, option_to_list, IfOk, OnErr, IfSome, IsNone};
+ghost use Rattle.std.specs.Prelude.{◌≡◌, ◌↔◌, ℕ, ◌<◌, ◌≤◌, List, [], ◌∷◌, ◌++◌, length, take, Option, option_to_list, IfOk, OnOk, OnErr, IfSome, IsNone};
 ghost use Rattle.neg_cycle.specs.declared.system.Edge.{Edge};
 ghost use Rattle.neg_cycle.specs.Systems.{IsEdge};
 ghost use Rattle.difference_graph.specs.declared.push.Push.TheVariants.{Kept, Cycle};
@@ -14,8 +14,9 @@ ghost use Rattle.propagate.specs.Best.{AreHighestFrom};
 ghost use Rattle.propagate.specs.Steps.{AreMarksHeld, HasRoomFor, InStep, IsLinked, IsRefused, LacksLast};
 ghost use Rattle.propagate.specs.Closed.{Closed, ClosedAt};
 ghost use Rattle.propagate.specs.Visits.{AreShortMet};
-ghost use Rattle.propagate.specs.Reach.{IfClause, IfQuiet, IfTheory, IsAtWork, IsConflict, IsExtended, IsGrown, IsLast, IsProgress, IsReached, UnlessQuiet, UnlessTheory};
+ghost use Rattle.propagate.specs.Reach.{IfClause, IfQuiet, IfTheory, IsAtWork, IsConflict, IsExtended, IsGrown, IsLast, IsReached, UnlessQuiet, UnlessTheory};
 
+use crate::stop::Stop;
 use crate::{Links, Trail};
 use clause_db::{ClauseRef, Db, Lit};
 use difference_graph::{Graph, Push};
@@ -130,72 +131,41 @@ impl Trail {
         // With the level it is known that no variable is assigned twice.
         let _ = self.level();
         match self.settle(db, links, graph) {
-            Ok(Reached::Quiet) => Ok(Reached::Quiet),
-            Ok(stopped) => {
+            Ok(()) => Ok(Reached::Quiet),
+            Err(stop) => {
                 self.untake();
-                Ok(stopped)
-            }
-            Err(error) => {
-                self.untake();
-                Err(error)
+                stop.told()
             }
         }
     }
 
     // Takes up new clauses, meets the short ones, and takes each literal.
-    fn settle(&mut self, db: &Db, links: &Links, graph: &mut Graph) -> Result<Reached, AllocError>
+    fn settle(&mut self, db: &Db, links: &Links, graph: &mut Graph) -> Result<(), Stop>
         requires work { IsAtWork db.now links.now self.old graph.old }
-        ensures reached { IfOk result (λ r. IsReached db.now links.now self.old graph.old r self.new graph.new) }
-        ensures settled { IfOk result (λ r. IfQuiet r (AreSettled self.new.entries db.now)) }
-        ensures every { IfOk result (λ r. IfQuiet r (AreAllWatched self.new db.now)) }
-        ensures taken { IfOk result (λ r. IfQuiet r (self.new.taken ≡ length self.new.entries)) }
-        ensures memory { OnErr result (IsProgress db.now links.now self.old graph.old self.new graph.new) }
+        ensures reached { IsReached db.now links.now self.old graph.old result self.new graph.new }
+        ensures settled { OnOk result (AreSettled self.new.entries db.now) }
+        ensures every { OnOk result (AreAllWatched self.new db.now) }
+        ensures taken { OnOk result (self.new.taken ≡ length self.new.entries) }
     {
-        match self.take_up_new(db, links, graph)? {
-            Reached::Quiet => self.take_all(db, links, graph),
-            stopped => Ok(stopped),
-        }
-    }
-
-    // Meets the short clauses and takes each literal, where all clauses are taken up.
-    fn take_all(&mut self, db: &Db, links: &Links, graph: &mut Graph) -> Result<Reached, AllocError>
-        requires work { IsAtWork db.now links.now self.old graph.old }
-        requires known { length db.now ≤ length self.old.watching.watches }
-        ensures reached { IfOk result (λ r. IsReached db.now links.now self.old graph.old r self.new graph.new) }
-        ensures settled { IfOk result (λ r. IfQuiet r (AreSettled self.new.entries db.now)) }
-        ensures every { IfOk result (λ r. IfQuiet r (AreAllWatched self.new db.now)) }
-        ensures taken { IfOk result (λ r. IfQuiet r (self.new.taken ≡ length self.new.entries)) }
-        ensures memory { OnErr result (IsProgress db.now links.now self.old graph.old self.new graph.new) }
-    {
-        match self.meet_short(db, links, graph) {
-            Reached::Quiet => self.take_each(db, links, graph),
-            stopped => Ok(stopped),
-        }
+        self.take_up_new(db, links, graph)?;
+        self.meet_short(db, links, graph)?;
+        self.take_each(db, links, graph)
     }
 
     // Takes each literal, where all clauses are taken up and the short ones are met.
-    fn take_each(
-        &mut self,
-        db: &Db,
-        links: &Links,
-        graph: &mut Graph,
-    ) -> Result<Reached, AllocError>
+    fn take_each(&mut self, db: &Db, links: &Links, graph: &mut Graph) -> Result<(), Stop>
         requires work { IsAtWork db.now links.now self.old graph.old }
         requires known { length db.now ≤ length self.old.watching.watches }
         requires short { AreShortMet self.old db.now }
-        ensures reached { IfOk result (λ r. IsReached db.now links.now self.old graph.old r self.new graph.new) }
-        ensures settled { IfOk result (λ r. IfQuiet r (AreSettled self.new.entries db.now)) }
-        ensures every { IfOk result (λ r. IfQuiet r (AreAllWatched self.new db.now)) }
-        ensures taken { IfOk result (λ r. IfQuiet r (self.new.taken ≡ length self.new.entries)) }
-        ensures memory { OnErr result (IsProgress db.now links.now self.old graph.old self.new graph.new) }
+        ensures reached { IsReached db.now links.now self.old graph.old result self.new graph.new }
+        ensures settled { OnOk result (AreSettled self.new.entries db.now) }
+        ensures every { OnOk result (AreAllWatched self.new db.now) }
+        ensures taken { OnOk result (self.new.taken ≡ length self.new.entries) }
     {
         'literals: while self.taken() < self.len() {
-            match self.visit_watchers(db, links, graph)? {
-                Reached::Quiet => {}
-                stopped => return Ok(stopped),
-            }
+            self.visit_watchers(db, links, graph)?;
         }
-        Ok(Reached::Quiet)
+        Ok(())
     }
 
     // Assigns a literal that follows from a clause, and adds its edge where it has one.

@@ -1,12 +1,13 @@
 //! The clauses that propagation takes up.
 
-ghost use Rattle.std.specs.Prelude.{◌≡◌, ◌+◌, ◌<◌, ◌≤◌, [], ◌∷◌, ◌++◌, length, IfOk, OnOk, OnErr, Some};
+ghost use Rattle.std.specs.Prelude.{◌≡◌, ◌+◌, ◌<◌, ◌≤◌, [], ◌∷◌, ◌++◌, length, OnOk, OnErr, Some};
 ghost use Rattle.propagate.specs.Trails.{IsTrail, rewatched};
-ghost use Rattle.propagate.specs.Reach.{IfQuiet, IsAtWork, IsProgress, IsReached};
+ghost use Rattle.propagate.specs.Reach.{IsAtWork, IsReached};
 
 use crate::best::best_two;
+use crate::stop::Stop;
 use crate::watch::Watch;
-use crate::{Links, Reached, Trail};
+use crate::{Links, Trail};
 use clause_db::{ClauseRef, Db};
 use difference_graph::Graph;
 use std::alloc::AllocError;
@@ -18,20 +19,16 @@ impl Trail {
         db: &Db,
         links: &Links,
         graph: &mut Graph,
-    ) -> Result<Reached, AllocError>
+    ) -> Result<(), Stop>
         requires work { IsAtWork db.now links.now self.old graph.old }
-        ensures reached { IfOk result (λ r. IsReached db.now links.now self.old graph.old r self.new graph.new) }
-        ensures all { IfOk result (λ r. IfQuiet r (length db.now ≤ length self.new.watching.watches)) }
-        ensures memory { OnErr result (IsProgress db.now links.now self.old graph.old self.new graph.new) }
+        ensures reached { IsReached db.now links.now self.old graph.old result self.new graph.new }
+        ensures all { OnOk result (length db.now ≤ length self.new.watching.watches) }
     {
         let clauses = db.len();
         for c in self.known() as u32..clauses {
-            match self.take_up_next(ClauseRef::new(c), db, links, graph)? {
-                Reached::Quiet => {}
-                stopped => return Ok(stopped),
-            }
+            self.take_up_next(ClauseRef::new(c), db, links, graph)?;
         }
-        Ok(Reached::Quiet)
+        Ok(())
     }
 
     // Takes up the next clause, and makes its best literal true, if it leaves only that one.
@@ -41,26 +38,22 @@ impl Trail {
         db: &Db,
         links: &Links,
         graph: &mut Graph,
-    ) -> Result<Reached, AllocError>
+    ) -> Result<(), Stop>
         requires work { IsAtWork db.now links.now self.old graph.old }
         requires next { clause ≡ length self.old.watching.watches }
         requires held { clause < length db.now }
-        ensures reached { IfOk result (λ r. IsReached db.now links.now self.old graph.old r self.new graph.new) }
-        ensures one { IfOk result (λ r. IfQuiet r (length self.new.watching.watches ≡ clause + 1)) }
-        ensures memory { OnErr result (IsProgress db.now links.now self.old graph.old self.new graph.new) }
+        ensures reached { IsReached db.now links.now self.old graph.old result self.new graph.new }
+        ensures one { OnOk result (length self.new.watching.watches ≡ clause + 1) }
     {
         match best_two(self, db.lits(clause)) {
             None => {
                 self.take_up(clause, None)?;
-                Ok(Reached::Quiet)
+                Ok(())
             }
             Some(watch) => {
-                match self.meet_beside(watch.second, watch.first, clause, db, links, graph) {
-                    Reached::Quiet => {}
-                    stopped => return Ok(stopped),
-                }
+                self.meet_beside(watch.second, watch.first, clause, db, links, graph)?;
                 self.take_up_two(clause, watch)?;
-                Ok(Reached::Quiet)
+                Ok(())
             }
         }
     }

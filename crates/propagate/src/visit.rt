@@ -1,24 +1,24 @@
 //! The clauses that watch a literal which became false.
 
-ghost use Rattle.std.specs.Prelude.{◌≡◌, ◌≢◌, ◌+◌, ◌<◌, length, IfOk, OnErr, IfSome, IsNone};
+ghost use Rattle.std.specs.Prelude.{◌≡◌, ◌≢◌, ◌+◌, ◌<◌, length, IfOk, OnOk, IfSome, IsNone};
 ghost use Rattle.propagate.specs.Watching.{AreWatchedOf, IsUnwatched, IsWatcherAt};
 ghost use Rattle.propagate.specs.Trails.{IsTrail, rewatched};
-ghost use Rattle.propagate.specs.Reach.{IfQuiet, IsAtWork, IsProgress, IsReached};
-ghost use Rattle.propagate.specs.Visits.{HasMoved, HasVisited, IsNextFalse, IsRewatched};
+ghost use Rattle.propagate.specs.Reach.{IsAtWork, IsReached};
+ghost use Rattle.propagate.specs.Visits.{HasMoved, IsNextFalse, IsRewatched, IsVisited, place_after};
 
 use crate::best::{Found, best_after};
+use crate::stop::Stop;
 use crate::watch::Watch;
-use crate::{Links, Reached, Trail};
+use crate::{Links, Trail};
 use clause_db::{ClauseRef, Db, Lit};
 use difference_graph::Graph;
 use std::alloc::AllocError;
 
-// Where the visit of a clause ended: it stayed among the watchers or left them, or propagation stopped.
+// Where the visit of a clause ended: it stayed among the watchers or left them.
 #[derive(Clone, Copy, Debug)]
 pub enum Visit {
     Stayed,
     Moved,
-    Stopped(Reached),
 }
 
 impl Trail {
@@ -28,12 +28,11 @@ impl Trail {
         db: &Db,
         links: &Links,
         graph: &mut Graph,
-    ) -> Result<Reached, AllocError>
+    ) -> Result<(), Stop>
         requires work { IsAtWork db.now links.now self.old graph.old }
         requires more { self.old.taken < length self.old.entries }
-        ensures reached { IfOk result (λ r. IsReached db.now links.now self.old graph.old r self.new graph.new) }
-        ensures next { IfOk result (λ r. IfQuiet r (self.new.taken ≡ self.old.taken + 1)) }
-        ensures memory { OnErr result (IsProgress db.now links.now self.old graph.old self.new graph.new) }
+        ensures reached { IsReached db.now links.now self.old graph.old result self.new graph.new }
+        ensures next { OnOk result (self.new.taken ≡ self.old.taken + 1) }
     {
         let lit = self.lit(self.taken()).negated();
         let mut place = 0;
@@ -41,11 +40,10 @@ impl Trail {
             match self.visit(clause, lit, place, db, links, graph)? {
                 Visit::Stayed => place += 1,
                 Visit::Moved => {}
-                Visit::Stopped(reached) => return Ok(reached),
             }
         }
         self.take_next();
-        Ok(Reached::Quiet)
+        Ok(())
     }
 
     // Visits a clause among the watchers of a literal that became false: it stays there where its other
@@ -58,12 +56,12 @@ impl Trail {
         db: &Db,
         links: &Links,
         graph: &mut Graph,
-    ) -> Result<Visit, AllocError>
+    ) -> Result<Visit, Stop>
         requires work { IsAtWork db.now links.now self.old graph.old }
         requires next { IsNextFalse self.old lit }
         requires here { IsWatcherAt self.old.watching lit place clause }
-        ensures visited { IfOk result (λ v. HasVisited db.now links.now lit clause place self.old graph.old v self.new graph.new) }
-        ensures memory { OnErr result (IsProgress db.now links.now self.old graph.old self.new graph.new) }
+        ensures reached { IsReached db.now links.now self.old graph.old result self.new graph.new }
+        ensures visited { IfOk result (λ v. IsVisited self.old self.new lit clause place (place_after v place)) }
     {
         match self.watched_beside(clause, lit) {
             None => Ok(Visit::Stayed),
@@ -106,20 +104,20 @@ impl Trail {
         db: &Db,
         links: &Links,
         graph: &mut Graph,
-    ) -> Result<Visit, AllocError>
+    ) -> Result<Visit, Stop>
         requires work { IsAtWork db.now links.now self.old graph.old }
         requires next { IsNextFalse self.old lit }
         requires here { IsWatcherAt self.old.watching lit place clause }
         requires both { AreWatchedOf self.old.watching clause lit other }
-        ensures visited { IfOk result (λ v. HasVisited db.now links.now lit clause place self.old graph.old v self.new graph.new) }
-        ensures memory { OnErr result (IsProgress db.now links.now self.old graph.old self.new graph.new) }
+        ensures reached { IsReached db.now links.now self.old graph.old result self.new graph.new }
+        ensures visited { IfOk result (λ v. IsVisited self.old self.new lit clause place (place_after v place)) }
     {
         match best_after(self, db.lits(clause), other, lit, self.cursor(clause)) {
             None => unreachable!(),
-            Some(best) => match self.meet_beside(best.lit, other, clause, db, links, graph) {
-                Reached::Quiet => self.move_watch(clause, lit, best, other, place),
-                stopped => Ok(Visit::Stopped(stopped)),
-            },
+            Some(best) => {
+                self.meet_beside(best.lit, other, clause, db, links, graph)?;
+                Ok(self.move_watch(clause, lit, best, other, place)?)
+            }
         }
     }
 

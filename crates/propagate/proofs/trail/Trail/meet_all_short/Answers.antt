@@ -1,6 +1,7 @@
+use Rattle.std.proofs.lemmas.Result.{err_from_is_err_and}
 use Rattle.std.proofs.Common.{◌∙◌, ap, refl, arith, length}
 use Rattle.propagate.proofs.UnwatchedLemmas.{unwatched_below}
-use Rattle.propagate.proofs.ReachLemmas.{if_quiet_stopped, progress_more, reached_more}
+use Rattle.propagate.proofs.ReachLemmas.{progress_more, stop_more}
 use Rattle.propagate.proofs.VisitLemmas.{all_short_met, progress_met}
 use Rattle.propagate.proofs.trail.Trail.meet_all_short.Goals as goal
 
@@ -16,17 +17,16 @@ short-preserved c =
     let t = c.short.self in
     let s = c.meet_one.new.self in
     let unmoved = c.meet_one.ensures.unmoved.watching in
-    let progress = progress_more c.args.db.now c.args.links.now c.args.self.now t s c.args.graph.now c.short.graph c.meet_one.new.graph c.short.invariant c.in-Quiet.ensures.reached in
+    let progress = progress_more c.args.db.now c.args.links.now c.args.self.now t s c.args.graph.now c.short.graph c.meet_one.new.graph c.short.invariant c.in_ok-meet_one.ensures.reached in
     let lowest = ap length progress.grown.levels ∙ c.requires.lowest in
     let found = c.in-Some.ensures.some in
-    progress_met c.args.db.now c.args.links.now c.args.self.now s c.count_met.new.self c.args.graph.now c.meet_one.new.graph c.in-Some.clause progress lowest (rw unmoved found.0) (rw unmoved found.1) c.in-Quiet.ensures.short
+    progress_met c.args.db.now c.args.links.now c.args.self.now s c.count_met.new.self c.args.graph.now c.meet_one.new.graph c.in-Some.clause progress lowest (rw unmoved found.0) (rw unmoved found.1) c.in_ok-meet_one.ensures.short
     c.count_met.ensures.trail c.count_met.ensures.after
 
-pub returns-in_default-meet_one : goal.returns-in_default-meet_one
-returns-in_default-meet_one c = record {
-  reached = reached_more c.args.db.now c.args.links.now c.args.self.now c.short.self c.meet_one.new.self c.args.graph.now c.short.graph c.meet_one.new.graph c.short.invariant c.meet_one.result c.meet_one.ensures.reached;
-  short = if_quiet_stopped c.meet_one.result _ (λ same. c.in_default-meet_one.not-Quiet same);
-}
+pub returns-in_err-meet_one-clause-reached : goal.returns-in_err-meet_one-clause-reached
+returns-in_err-meet_one-clause-reached c =
+    let p = err_from_is_err_and c.from_residual.result c.from_residual.ensures.1 in
+    rw (p.1, p.2) (stop_more c.args.db.now c.args.links.now c.args.self.now c.short.self c.meet_one.new.self c.args.graph.now c.short.graph c.meet_one.new.graph c.short.invariant c.in_err-meet_one.field-0.0 c.in_err-meet_one.ensures.reached)
 
 pub returns-clause-short : goal.returns-clause-short
 returns-clause-short c =

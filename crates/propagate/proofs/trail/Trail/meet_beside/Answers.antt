@@ -1,5 +1,5 @@
 use Rattle.propagate.proofs.GuardLemmas.{best_leaves}
-use Rattle.propagate.proofs.VisitLemmas.{met_if_quiet}
+use Rattle.propagate.proofs.VisitLemmas.{met_if_ok}
 use Rattle.propagate.proofs.trail.Trail.meet_beside.Goals as goal
 
 pub meet-requires-clause-leaves : goal.meet-requires-clause-leaves
@@ -9,5 +9,5 @@ meet-requires-clause-leaves c =
 
 pub returns-in-Some-clause-met : goal.returns-in-Some-clause-met
 returns-in-Some-clause-met c =
-    met_if_quiet c.args.db.now c.args.links.now c.args.self.now c.args.graph.now c.meet.new.self c.meet.new.graph _ c.args.lit c.args.best _ c.requires.best c.in-Some.ensures.level c.meet.result c.meet.ensures.reached c.meet.ensures.made
+    met_if_ok c.args.db.now c.args.links.now c.args.self.now c.args.graph.now c.meet.new.self c.meet.new.graph _ c.args.lit c.args.best _ c.requires.best c.in-Some.ensures.level c.meet.result c.meet.ensures.reached c.meet.ensures.made
     c.meet.ensures.since

@@ -1,28 +1,19 @@
+use Rattle.std.proofs.lemmas.Result.{err_from_is_err_and}
 use Rattle.std.proofs.Common.{arith}
 use Rattle.propagate.proofs.TrailLemmas.{few_literals}
-use Rattle.propagate.proofs.ReachLemmas.{if_quiet_stopped, progress_more, reached_more}
-use Rattle.propagate.proofs.MoveLemmas.{on_err}
+use Rattle.propagate.proofs.ReachLemmas.{progress_more, stop_more}
 use Rattle.propagate.proofs.VisitLemmas.{all_settled, all_watched, short_grown}
 use Rattle.propagate.proofs.trail.Trail.take_each.Goals as goal
 
-pub returns-in_err-stopped-clause-memory : goal.returns-in_err-stopped-clause-memory
-returns-in_err-stopped-clause-memory c =
-    on_err c.from_residual.result _
-    (progress_more c.args.db.now c.args.links.now c.args.self.now c.literals.self c.visit_watchers.new.self c.args.graph.now c.literals.graph c.visit_watchers.new.graph c.literals.invariant.progress c.in_err-stopped.ensures.memory)
-
-pub returns-in_default : goal.returns-in_default
-returns-in_default c = record {
-  reached = reached_more c.args.db.now c.args.links.now c.args.self.now c.literals.self c.visit_watchers.new.self c.args.graph.now c.literals.graph c.visit_watchers.new.graph c.literals.invariant.progress _ c.in_ok-stopped.ensures.reached;
-  settled = if_quiet_stopped _ _ (λ same. c.in_default.not-Quiet same);
-  every = if_quiet_stopped _ _ (λ same. c.in_default.not-Quiet same);
-  taken = if_quiet_stopped _ _ (λ same. c.in_default.not-Quiet same);
-  memory = tt;
-}
+pub returns-in_err-visit_watchers-clause-reached : goal.returns-in_err-visit_watchers-clause-reached
+returns-in_err-visit_watchers-clause-reached c =
+    let p = err_from_is_err_and c.from_residual.result c.from_residual.ensures.1 in
+    rw (p.1, p.2) (stop_more c.args.db.now c.args.links.now c.args.self.now c.literals.self c.visit_watchers.new.self c.args.graph.now c.literals.graph c.visit_watchers.new.graph c.literals.invariant.progress c.in_err-visit_watchers.field-0.0 c.in_err-visit_watchers.ensures.reached)
 
 pub literals-smaller : goal.literals-smaller
 literals-smaller c =
-    let progress = rw c.in-Quiet.is at c.in_ok-stopped.ensures.reached in
-    let next = rw c.in-Quiet.is at c.in_ok-stopped.ensures.next in
+    let progress = c.in_ok-visit_watchers.ensures.reached in
+    let next = c.in_ok-visit_watchers.ensures.next in
     let vars = progress.grown.vars in
     let most = progress.work.trail.taken in
     let few = few_literals c.visit_watchers.new.self progress.work.trail in
@@ -30,7 +21,7 @@ literals-smaller c =
 
 pub literals-preserved : goal.literals-preserved
 literals-preserved c =
-    let progress = rw c.in-Quiet.is at c.in_ok-stopped.ensures.reached in
+    let progress = c.in_ok-visit_watchers.ensures.reached in
     let more = progress.known in
     let known = c.literals.invariant.known in
     record {

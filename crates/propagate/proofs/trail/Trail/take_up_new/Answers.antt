@@ -1,25 +1,17 @@
+use Rattle.std.proofs.lemmas.Result.{err_from_is_err_and}
 use Rattle.std.proofs.Common.{arith}
-use Rattle.propagate.proofs.ReachLemmas.{if_quiet_stopped, progress_more, reached_more}
-use Rattle.propagate.proofs.MoveLemmas.{on_err}
+use Rattle.propagate.proofs.ReachLemmas.{progress_more, stop_more}
 use Rattle.propagate.proofs.trail.Trail.take_up_new.Goals as goal
 
-pub returns-in_err-stopped-clause-memory : goal.returns-in_err-stopped-clause-memory
-returns-in_err-stopped-clause-memory c =
-    on_err c.from_residual.result _
-    (progress_more c.args.db.now c.args.links.now c.args.self.now c.loop-c.self c.take_up_next.new.self c.args.graph.now c.loop-c.graph c.take_up_next.new.graph c.loop-c.invariant.progress c.in_err-stopped.ensures.memory)
+pub returns-in_err-take_up_next-clause-reached : goal.returns-in_err-take_up_next-clause-reached
+returns-in_err-take_up_next-clause-reached c =
+    let p = err_from_is_err_and c.from_residual.result c.from_residual.ensures.1 in
+    rw (p.1, p.2) (stop_more c.args.db.now c.args.links.now c.args.self.now c.loop-c.self c.take_up_next.new.self c.args.graph.now c.loop-c.graph c.take_up_next.new.graph c.loop-c.invariant.progress c.in_err-take_up_next.field-0.0 c.in_err-take_up_next.ensures.reached)
 
 pub loop-c-preserved : goal.loop-c-preserved
 loop-c-preserved c =
-    let progress = rw c.in-Quiet.is at c.in_ok-stopped.ensures.reached in
-    let one = rw c.in-Quiet.is at c.in_ok-stopped.ensures.one in
+    let one = c.in_ok-take_up_next.ensures.one in
     record {
-      progress = progress_more c.args.db.now c.args.links.now c.args.self.now c.loop-c.self c.take_up_next.new.self c.args.graph.now c.loop-c.graph c.take_up_next.new.graph c.loop-c.invariant.progress progress;
+      progress = progress_more c.args.db.now c.args.links.now c.args.self.now c.loop-c.self c.take_up_next.new.self c.args.graph.now c.loop-c.graph c.take_up_next.new.graph c.loop-c.invariant.progress c.in_ok-take_up_next.ensures.reached;
       known = omega (arith, one, c.new.ensures.place);
     }
-
-pub returns-in_default : goal.returns-in_default
-returns-in_default c = record {
-  reached = reached_more c.args.db.now c.args.links.now c.args.self.now c.loop-c.self c.take_up_next.new.self c.args.graph.now c.loop-c.graph c.take_up_next.new.graph c.loop-c.invariant.progress _ c.in_ok-stopped.ensures.reached;
-  all = if_quiet_stopped _ _ (λ same. c.in_default.not-Quiet same);
-  memory = tt;
-}

@@ -1,9 +1,9 @@
+use Rattle.std.proofs.lemmas.Result.{err_from_is_err_and}
 use Rattle.std.proofs.Common.{◌≡◌, ◌∙◌, ap, sym, refl, ℕ, Some, None, arith}
 use Rattle.propagate.specs.Watching.{Watching}
 use Rattle.propagate.specs.Trails.{Assigned, rewatched}
 use Rattle.propagate.specs.declared.watch.Watch.{Watch}
 use Rattle.propagate.proofs.ReachLemmas.{progress_none}
-use Rattle.propagate.proofs.MoveLemmas.{on_err}
 use Rattle.propagate.proofs.VisitLemmas.{progress_lists, progress_two, progress_up}
 use Rattle.propagate.proofs.trail.Trail.take_up_next.Goals as goal
 
@@ -13,11 +13,12 @@ rewatched_is s t v n is = is ∙ ap (λ (w : Watching). rewatched t w n) (sym (a
 none_some : {p : Watch} → None ≡ Some p → ⊥
 none_some e = cc
 
-pub returns-in_err-take_up_two-in-Some-clause-memory : goal.returns-in_err-take_up_two-in-Some-clause-memory
-returns-in_err-take_up_two-in-Some-clause-memory c =
-    on_err c.from_residual-in_err-take_up_two-in-Some.result _
+pub returns-in_err-take_up_two-in-Some-clause-reached : goal.returns-in_err-take_up_two-in-Some-clause-reached
+returns-in_err-take_up_two-in-Some-clause-reached c =
+    let p = err_from_is_err_and c.from_residual-in_err-take_up_two-in-Some.result c.from_residual-in_err-take_up_two-in-Some.ensures.1 in
+    rw (p.1, p.2)
     (progress_lists c.args.db.now c.args.links.now c.args.self.now c.meet_beside.new.self c.take_up_two.new.self c.args.graph.now c.meet_beside.new.graph c.take_up_two.ensures.same c.in_err-take_up_two-in-Some.ensures.err
-    c.take_up_two.ensures.met c.take_up_two.ensures.after c.in-Quiet.ensures.reached)
+    c.take_up_two.ensures.met c.take_up_two.ensures.after c.in_ok-meet_beside-in-Some.ensures.reached)
 
 pub returns-in_ok-take_up-in-None-clause-reached : goal.returns-in_ok-take_up-in-None-clause-reached
 returns-in_ok-take_up-in-None-clause-reached c =
@@ -31,5 +32,5 @@ returns-in_ok-take_up-in-None-clause-reached c =
 pub returns-in_ok-take_up_two-in-Some-clause-reached : goal.returns-in_ok-take_up_two-in-Some-clause-reached
 returns-in_ok-take_up_two-in-Some-clause-reached c =
     let best = rw c.lits.ensures.clause at c.in-Some.ensures.two in
-    progress_two c.args.db.now c.args.links.now c.args.self.now c.meet_beside.new.self c.take_up_two.new.self c.args.graph.now c.meet_beside.new.graph c.args.clause c.in-Some.watch c.in-Quiet.ensures.reached c.meet_beside.ensures.unmoved
-    c.in-Quiet.ensures.met best c.take_up_two.ensures.same c.in_ok-take_up_two-in-Some.ensures.ok c.take_up_two.ensures.met c.take_up_two.ensures.after c.requires.next c.requires.held
+    progress_two c.args.db.now c.args.links.now c.args.self.now c.meet_beside.new.self c.take_up_two.new.self c.args.graph.now c.meet_beside.new.graph c.args.clause c.in-Some.watch c.in_ok-meet_beside-in-Some.ensures.reached c.meet_beside.ensures.unmoved
+    c.in_ok-meet_beside-in-Some.ensures.met best c.take_up_two.ensures.same c.in_ok-take_up_two-in-Some.ensures.ok c.take_up_two.ensures.met c.take_up_two.ensures.after c.requires.next c.requires.held

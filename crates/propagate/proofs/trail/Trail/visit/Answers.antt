@@ -1,6 +1,5 @@
 use Rattle.std.proofs.Common.{refl}
 use Rattle.propagate.proofs.GuardLemmas.{guards_stay}
-use Rattle.propagate.proofs.ReachLemmas.{progress_none}
 use Rattle.propagate.proofs.MoveLemmas.{next_level, other_below}
 use Rattle.propagate.proofs.VisitLemmas.{guards_elsewhere, visited_stay}
 use Rattle.propagate.proofs.trail.Trail.visit.Goals as goal
@@ -11,19 +10,14 @@ true_up_to-requires c = record { in_range = other_below c.args.db.now c.args.lin
 pub returns-in-None-clause-visited : goal.returns-in-None-clause-visited
 returns-in-None-clause-visited c =
     let t = c.args.self.now in
-    let work = c.requires.work in (
-      progress_none t c.args.db.now c.args.links.now c.args.graph.now work,
-      visited_stay t t c.args.lit c.args.clause c.args.place refl refl c.requires.here
-          (guards_elsewhere t c.args.db.now c.args.lit c.args.clause work.trail work.watched c.requires.next (c.in-None.ensures.none refl)),
-    )
+    let work = c.requires.work in
+    visited_stay t t c.args.lit c.args.clause c.args.place refl refl c.requires.here (guards_elsewhere t c.args.db.now c.args.lit c.args.clause work.trail work.watched c.requires.next (c.in-None.ensures.none refl))
 
 pub returns-then-true_up_to-clause-visited : goal.returns-then-true_up_to-clause-visited
 returns-then-true_up_to-clause-visited c =
     let t = c.args.self.now in
     let work = c.requires.work in
     let level = next_level t c.args.lit c.var.result c.level_of.result work.trail c.requires.next c.var.ensures.variable c.level_of.ensures.level in
-    let since = rw level at (c.true_up_to.ensures.since.0 c.if-true_up_to.true) in (
-      progress_none t c.args.db.now c.args.links.now c.args.graph.now work,
-      visited_stay t t c.args.lit c.args.clause c.args.place refl refl c.requires.here
-          (guards_stay t c.args.db.now c.args.clause c.args.lit c.in-Some.other work.trail work.watched c.requires.next c.in-Some.ensures.beside since),
-    )
+    let since = rw level at (c.true_up_to.ensures.since.0 c.if-true_up_to.true) in
+    visited_stay t t c.args.lit c.args.clause c.args.place refl refl c.requires.here
+    (guards_stay t c.args.db.now c.args.clause c.args.lit c.in-Some.other work.trail work.watched c.requires.next c.in-Some.ensures.beside since)

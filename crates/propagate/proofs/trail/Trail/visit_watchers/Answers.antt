@@ -1,11 +1,12 @@
+use Rattle.std.proofs.lemmas.Result.{err_from_is_err_and}
 use Rattle.std.proofs.Common.{◌∙◌, ap, sym, refl, rules, ◌+◌}
 use Rattle.clause_db.specs.Literals.{negation}
 use Rattle.propagate.specs.Trails.{entry_at}
 use Rattle.propagate.specs.Visits.{IsNextFalse}
 use Rattle.propagate.proofs.PlaceLemmas.{undone}
-use Rattle.propagate.proofs.ReachLemmas.{progress_more, progress_none, reached_more}
+use Rattle.propagate.proofs.ReachLemmas.{progress_more, progress_none, stop_more}
 use Rattle.propagate.proofs.VisitLemmas.{next_grown}
-use Rattle.propagate.proofs.MoveLemmas.{left_first, left_visited, on_err, progress_next}
+use Rattle.propagate.proofs.MoveLemmas.{left_first, left_visited, progress_next}
 use Rattle.propagate.proofs.trail.Trail.visit_watchers.Goals as goal
 
 pub watchers-init : goal.watchers-init
@@ -21,10 +22,10 @@ watchers-init c =
       left = left_first t c.args.db.now c.negated-lit.result work.trail work.watched next;
     }
 
-pub returns-in_err-visit-clause-memory : goal.returns-in_err-visit-clause-memory
-returns-in_err-visit-clause-memory c =
-    on_err c.from_residual.result _
-    (progress_more c.args.db.now c.args.links.now c.args.self.now c.watchers.self c.visit.new.self c.args.graph.now c.watchers.graph c.visit.new.graph c.watchers.invariant.progress c.in_err-visit.ensures.memory)
+pub returns-in_err-visit-clause-reached : goal.returns-in_err-visit-clause-reached
+returns-in_err-visit-clause-reached c =
+    let p = err_from_is_err_and c.from_residual.result c.from_residual.ensures.1 in
+    rw (p.1, p.2) (stop_more c.args.db.now c.args.links.now c.args.self.now c.watchers.self c.visit.new.self c.args.graph.now c.watchers.graph c.visit.new.graph c.watchers.invariant.progress c.in_err-visit.field-0.0 c.in_err-visit.ensures.reached)
 
 pub watchers-preserved-in-Stayed : goal.watchers-preserved-in-Stayed
 watchers-preserved-in-Stayed c =
@@ -33,11 +34,12 @@ watchers-preserved-in-Stayed c =
     let f = c.negated-lit.result in
     let inv = c.watchers.invariant in
     let visited = rw c.in-Stayed.is at c.in_ok-visit.ensures.visited in
+    let progress = c.in_ok-visit.ensures.reached in
     record {
-      progress = progress_more c.args.db.now c.args.links.now c.args.self.now t s c.args.graph.now c.watchers.graph c.visit.new.graph inv.progress visited.0;
-      taken = visited.1.taken ∙ inv.taken;
-      next = next_grown t s f visited.0.grown visited.1.taken inv.next;
-      left = left_visited t s f c.in-Some.clause c.watchers.place (c.watchers.place + 1) inv.next visited.0.grown visited.1 inv.left;
+      progress = progress_more c.args.db.now c.args.links.now c.args.self.now t s c.args.graph.now c.watchers.graph c.visit.new.graph inv.progress progress;
+      taken = visited.taken ∙ inv.taken;
+      next = next_grown t s f progress.grown visited.taken inv.next;
+      left = left_visited t s f c.in-Some.clause c.watchers.place (c.watchers.place + 1) inv.next progress.grown visited inv.left;
     }
 
 pub watchers-preserved : goal.watchers-preserved
@@ -47,17 +49,13 @@ watchers-preserved c =
     let f = c.negated-lit.result in
     let inv = c.watchers.invariant in
     let visited = rw c.in-Moved.is at c.in_ok-visit.ensures.visited in
+    let progress = c.in_ok-visit.ensures.reached in
     record {
-      progress = progress_more c.args.db.now c.args.links.now c.args.self.now t s c.args.graph.now c.watchers.graph c.visit.new.graph inv.progress visited.0;
-      taken = visited.1.taken ∙ inv.taken;
-      next = next_grown t s f visited.0.grown visited.1.taken inv.next;
-      left = left_visited t s f c.in-Some.clause c.watchers.place c.watchers.place inv.next visited.0.grown visited.1 inv.left;
+      progress = progress_more c.args.db.now c.args.links.now c.args.self.now t s c.args.graph.now c.watchers.graph c.visit.new.graph inv.progress progress;
+      taken = visited.taken ∙ inv.taken;
+      next = next_grown t s f progress.grown visited.taken inv.next;
+      left = left_visited t s f c.in-Some.clause c.watchers.place c.watchers.place inv.next progress.grown visited inv.left;
     }
-
-pub returns-in-Stopped-clause-reached : goal.returns-in-Stopped-clause-reached
-returns-in-Stopped-clause-reached c =
-    let visited = rw c.in-Stopped.is at c.in_ok-visit.ensures.visited in
-    reached_more c.args.db.now c.args.links.now c.args.self.now c.watchers.self c.visit.new.self c.args.graph.now c.watchers.graph c.visit.new.graph c.watchers.invariant.progress c.in-Stopped.reached visited.0
 
 pub returns-clause-reached : goal.returns-clause-reached
 returns-clause-reached c =
