@@ -1,6 +1,6 @@
 use Rattle.std.proofs.Common.{◌∙◌, ap, sym, length, Result, Ok, Err}
 use Rattle.std.specs.Prelude.{OnOk}
-use Rattle.propagate.proofs.MoveLemmas.{if_ok_more}
+use Rattle.std.proofs.lemmas.Result.{IfOk-weaker as if_ok_more}
 use Rattle.cdcl_core.proofs.Conflicts.{false_conflicted}
 use Rattle.cdcl_core.proofs.conflict.conflict_clause.Goals as goal
 

@@ -1,7 +1,7 @@
 -- What the calls at the start of a search ask for, and what it finds.
 use Rattle.std.proofs.Common.{refl}
 use Rattle.neg_cycle.specs.declared.system.TheConstants.{MAX_NODES}
-use Rattle.propagate.proofs.MoveLemmas.{if_ok_more}
+use Rattle.std.proofs.lemmas.Result.{IfOk-weaker as if_ok_more}
 use Rattle.cdcl_core.specs.Turns.{IsReady}
 use Rattle.cdcl_core.proofs.ProblemAtoms.{orders-more}
 use Rattle.cdcl_core.proofs.Starts.{posed_orders}

@@ -1,6 +1,6 @@
 -- What the graph asks for, and where the search is before the first conflict.
 use Rattle.std.proofs.Common.{arith}
-use Rattle.propagate.proofs.MoveLemmas.{if_ok_more}
+use Rattle.std.proofs.lemmas.Result.{IfOk-weaker as if_ok_more}
 use Rattle.cdcl_core.proofs.ProblemAtoms.{edges-room}
 use Rattle.cdcl_core.proofs.Starts.{started_ready}
 use Rattle.axiom_rules.specs.Sought.{sought_of}
