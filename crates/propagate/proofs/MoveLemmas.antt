@@ -15,7 +15,7 @@ use Rattle.propagate.specs.declared.visit.Visit.{Visit}
 use Rattle.propagate.specs.declared.visit.Visit.TheVariants as visit
 use Rattle.propagate.specs.Watching.{Watching, AreWatchedOf, IsListed, IsUnwatched, IsWatcherAt, listing, watch_at, watchers_of, watching}
 use Rattle.propagate.specs.Trails.{Assigned, no_entry, entry_at, IsTrail, HasEntry, rewatched}
-use Rattle.propagate.specs.Watched.{AreGuarded, AreTwoOf, AreWatched}
+use Rattle.propagate.specs.Watched.{AreGuarded, AreTwoOf, AreWatched, IsTrueUpTo}
 use Rattle.propagate.specs.Reach.{IsAtWork, IsGrown, IsProgress}
 use Rattle.propagate.specs.Best.{AreLastToFall, AreLastToFallFrom, IsBest}
 use Rattle.propagate.specs.Visits.{HasMoved, IsAmong, IsMet, IsMoved, IsNextFalse, IsRewatched, IsUnmoved, IsVisited, place_after}
@@ -37,6 +37,10 @@ next_level t f v n trail next var found =
     let at = held_at t (negation f) v n trail var (literal_held t.entries t.taken (negation f) next.more next.is) found in
     let same = same_literal t at.0 t.taken (negation f) trail at.1 next.more at.2 next.is in
     sym at.3 ∙ ap (λ k. (entry_at t.entries k).level) same
+
+-- a literal that isn't false since that level differs from the one that fell at it
+pub best_apart : (t : Assigned) (f best denied : Lit) (n : ℕ) → IsNextFalse t f → n ≡ (entry_at t.entries t.taken).level → denied ≡ negation best → (IsTrueUpTo t.entries n denied → ⊥) → best ≢ f
+best_apart t f best denied n next level is later same = later (t.taken, next.more, next.is ∙ ap negation (sym same) ∙ sym is, omega (arith, level))
 
 -- the other watched literal of a clause is in range
 pub other_below : (db : List (List Lit)) (links : List (Option (Edge × Edge))) (t : Assigned) (g : Constraints) (c : ℕ) (f o : Lit) → IsAtWork db links t g → IsNextFalse t f → AreWatchedOf t.watching c f o → o.var < t.vars
