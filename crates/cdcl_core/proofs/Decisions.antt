@@ -1,6 +1,6 @@
 -- What is decided, and what values satisfy.
-use Rattle.std.proofs.Common.{◌≡◌, ◌↔◌, ◌∙◌, sym, ap, subst, ℕ, ◌+◌, ◌<◌, inl, inr, List, [], ◌∷◌, ◌++◌, length, Bool, true, false, Option, Some, None, arith, ℤ, pos, ◌-ℤ◌, ◌≤ℤ◌, neg_ℤ}
-use Rattle.std.specs.Prelude.{IfSome, IsTrue, All, int_le}
+use Rattle.std.proofs.Common.{◌≡◌, ◌↔◌, ◌∙◌, subst, ℕ, ◌+◌, ◌<◌, inl, inr, List, [], ◌∷◌, ◌++◌, length, Bool, true, false, Option, Some, None, arith, ℤ, ◌-ℤ◌, ◌≤ℤ◌}
+use Rattle.std.specs.Prelude.{IfSome, IsTrue, int_le}
 use Rattle.std.proofs.lemmas.Bool.{cases_lt}
 use Rattle.std.proofs.lemmas.Int.{ints}
 use Rattle.std.proofs.lemmas.List.{get_or_append_left, get_or_past, get_or_push}
@@ -17,7 +17,7 @@ use Rattle.axiom_rules.specs.Atoms.{IsVar}
 use Rattle.mtl_encode.specs.Models.{value_at}
 use Rattle.cdcl_core.specs.Assignments.{AreOrderValues, AreValues, IsSatisfying}
 use Rattle.cdcl_core.specs.Orders.{AreLinks, order_edges}
-use Rattle.cdcl_core.specs.Running.{IsRun, IsRunning}
+use Rattle.cdcl_core.specs.Running.{IsRunning}
 use Rattle.cdcl_core.proofs.Models.{model_clauses, model_orders}
 use Rattle.cdcl_core.proofs.Scanned.{below_or_last}
 

@@ -48,7 +48,7 @@ module _ (p : Problem) (vars : ℕ) (links : List (Option (Edge × Edge))) (t : 
 
   -- where a clause is false at level 0 the lines refute
   pub refuted_found : (budget c : ℕ) (lines : List Line) → n < budget → IsMidway p vars links t g d n c → length lines ≡ length d.lines + 1 → lessons lines ≡ lessons d.lines
-      → ((log : Logged) (f : Form) (v : Bool) → IsRecord log f v p.atoms d.db d.cites.items d.lines → Refutes log f v lines)
+      → ((log : Logged) (f : Form) (v : Bool) → IsRecord log f v p.atoms d.db d.cites d.lines → Refutes log f v lines)
       → (log : Logged) (f : Form) (v : Bool) → IsLog log → Fits (sought_of log f v) p → Refutes log f v lines × (lessons lines < budget) × (length lines ≤ 2 * budget)
   refuted_found budget c lines less mid count same refutes log f v valid fits = (
     refutes log f v (mid.derives log f v valid fits),

@@ -92,7 +92,7 @@ module _ (p : Problem) (theory : Theory) (theory_of : IsTheoryOf p theory) (vars
       search_stopped = record { base = p.edges; count = edges_count; stopped = stopped p.edges search.run }
 
       pub midway : (c : ℕ) (k : Derived) → ((base : List Edge) → length base ≡ length theory.bounds → HasStopped d.db theory.links base u h x → IsConflicted k.db theory.links base u h c) → IsWiderBy d k
-          → ((log : Logged) (f : Form) (v : Bool) (base : List Edge) → AreEdges log theory.bounds base → HasStopped d.db theory.links base u h x → IsRecord log f v theory.atoms d.db d.cites.items d.lines → IsRecord log f v theory.atoms k.db k.cites.items k.lines)
+          → ((log : Logged) (f : Form) (v : Bool) (base : List Edge) → AreEdges log theory.bounds base → HasStopped d.db theory.links base u h x → IsRecord log f v theory.atoms d.db d.cites d.lines → IsRecord log f v theory.atoms k.db k.cites k.lines)
           → IsMidway p vars theory.links u h k n c
       midway c k conflicted wider derives = record {
         count = search.count;
@@ -120,16 +120,16 @@ module _ (p : Problem) (theory : Theory) (theory_of : IsTheoryOf p theory) (vars
     pub mid_vars : t.vars ≡ length theory.atoms
     mid_vars = mid.assigned ∙ mid.count ∙ ap length (sym theory_of.atoms)
 
-    pub cites_count : length d.cites.items ≡ length d.db
+    pub cites_count : length d.cites ≡ length d.db
     cites_count = (mid.derives theory_of.posed.log theory_of.posed.form theory_of.posed.value theory_of.posed.valid theory_of.posed.fits).cited.count
 
   -- after a learned clause the search has one conflict more
   pub learned : (t : Assigned) (g : Constraints) (d : Derived) (n c : ℕ) (u : Assigned) (h : Constraints) (k : Derived) → IsMidway p vars theory.links t g d n c → u.vars ≡ t.vars → HasSameLimits g h
       → ((ls : List (Option (Edge × Edge))) (base : List Edge) → IsConflicted d.db ls base t g c → IsRun k.db ls base u h) → Extends d.db k.db → length k.db ≡ length d.db + 1 → length k.lines ≡ length d.lines + 1
       → lessons k.lines ≡ lessons d.lines + 1
-      → ((log : Logged) (f : Form) (v : Bool) → IsRecord log f v theory.atoms d.db d.cites.items d.lines → IsRecord log f v theory.atoms k.db k.cites.items k.lines)
-      → ((log : Logged) (f : Form) (v : Bool) (rules : List Rule) (known : List (List Lit)) → IsQuietBelow known d.db t → IsRecord log f v theory.atoms d.db d.cites.items d.lines
-      → IsSpending log f v rules theory.atoms known d.cites.items d.lines → IsSpending log f v rules theory.atoms k.db k.cites.items k.lines) → IsSearch p vars theory.links u h k (n + 1)
+      → ((log : Logged) (f : Form) (v : Bool) → IsRecord log f v theory.atoms d.db d.cites d.lines → IsRecord log f v theory.atoms k.db k.cites k.lines)
+      → ((log : Logged) (f : Form) (v : Bool) (rules : List Rule) (known : List (List Lit)) → IsQuietBelow known d.db t → IsRecord log f v theory.atoms d.db d.cites d.lines
+      → IsSpending log f v rules theory.atoms known d.cites d.lines → IsSpending log f v rules theory.atoms k.db k.cites k.lines) → IsSearch p vars theory.links u h k (n + 1)
   learned t g d n c u h k mid same limits run kept clauses lines count derives spending = record {
     count = mid.count;
     assigned = same ∙ mid.assigned;

@@ -1,5 +1,5 @@
 -- What the nodes of a formula are: they name each other, and their intervals are the formula's.
-use Rattle.std.proofs.Common.{◌≡◌, ◌∙◌, sym, ap, refl, subst, ℕ, ◌<◌, Bool, true, false, List, length, Option, Some, None, arith}
+use Rattle.std.proofs.Common.{◌≡◌, ◌∙◌, sym, ap, refl, subst, ℕ, ◌<◌, Bool, true, List, length, Option, Some, None, arith}
 use Rattle.std.specs.Prelude.{Contains, option_and_then, slice_get, slice_index_or}
 use Rattle.std.proofs.lemmas.Option.{get_or_from_slice_get, slice_get_within}
 use Rattle.mt_model.specs.declared.tree.Interval.{Interval}

@@ -107,7 +107,7 @@ module _ (cores : CoresAreCores) (nodes_law : NodesAreSubtrees) (p : Problem) (p
 
   -- the search before the first conflict
   pub started : NewTrailIsInStep → (vars : ℕ) (links : List (Option (Edge × Edge))) (t : Assigned) (g : Constraints) (d : Derived) → vars ≡ length p.atoms → t.vars ≡ vars → t.entries ≡ [] → t.levels ≡ [] → t.watching.watches ≡ [] → IsTrail t
-      → g.nodes ≡ p.nodes → g.capacity ≡ length p.edges + vars → g.edges ≡ p.edges → AreLinks p.atoms links → d.db ≡ p.db → d.cites.items ≡ map hint.Rule p.rules → d.lines ≡ [] → All IsRuleInRange p.rules
+      → g.nodes ≡ p.nodes → g.capacity ≡ length p.edges + vars → g.edges ≡ p.edges → AreLinks p.atoms links → d.db ≡ p.db → d.cites ≡ map hint.Rule p.rules → d.lines ≡ [] → All IsRuleInRange p.rules
       → IsSearch p vars links t g d 0
   started law vars links t g d count assigned none flat unwatched trail same room held linked own cites lines ranges = record {
     count = count;

@@ -1,5 +1,5 @@
 -- What a search has after so many conflicts.
-use Rattle.std.specs.Prelude.{◌≡◌, ℕ, ◌+◌, ◌*◌, ◌<◌, ◌≤◌, List, length, Bool, Option}
+use Rattle.std.specs.Prelude.{◌≡◌, ℕ, ◌+◌, ◌*◌, ◌≤◌, List, length, Bool, Option}
 use Rattle.mt_model.specs.Form.{Form}
 use Rattle.mt_model.specs.Log.{Logged, IsLog}
 use Rattle.neg_cycle.specs.declared.system.Edge.{Edge}
@@ -31,8 +31,8 @@ pub record IsWiderBy (old new : Derived) : Type 0 where
   pub few_clauses : length new.db ≤ length old.db + 1
   pub few_lines : length new.lines ≤ length old.lines + 1
   pub lesson_count : lessons new.lines ≡ lessons old.lines
-  pub spending : (log : Logged) (f : Form) (v : Bool) (rules : List Rule) (atoms : List Atom) (known : List (List Lit)) → IsSpending log f v rules atoms known old.cites.items old.lines
-      → IsSpending log f v rules atoms known new.cites.items new.lines
+  pub spending : (log : Logged) (f : Form) (v : Bool) (rules : List Rule) (atoms : List Atom) (known : List (List Lit)) → IsSpending log f v rules atoms known old.cites old.lines
+      → IsSpending log f v rules atoms known new.cites new.lines
 
 -- the run over the edges of the problem's bounds, and the lines, one lesson a conflict and at most two lines, spent on what was new
 pub record IsSearch (p : Problem) (vars : ℕ) (links : List (Option (Edge × Edge))) (t : Assigned) (g : Constraints) (d : Derived) (conflicts : ℕ) : Type 0 where
@@ -46,5 +46,5 @@ pub record IsSearch (p : Problem) (vars : ℕ) (links : List (Option (Edge × Ed
   pub few_clauses : length d.db ≤ length p.db + 2 * conflicts
   pub few_lines : length d.lines ≤ 2 * conflicts
   pub lesson_count : lessons d.lines ≡ conflicts
-  pub derives : (log : Logged) (f : Form) (v : Bool) → IsLog log → Fits (sought_of log f v) p → IsRecord log f v p.atoms d.db d.cites.items d.lines
-  pub spending : (log : Logged) (f : Form) (v : Bool) → IsLog log → Fits (sought_of log f v) p → IsSpending log f v p.rules p.atoms d.db d.cites.items d.lines
+  pub derives : (log : Logged) (f : Form) (v : Bool) → IsLog log → Fits (sought_of log f v) p → IsRecord log f v p.atoms d.db d.cites d.lines
+  pub spending : (log : Logged) (f : Form) (v : Bool) → IsLog log → Fits (sought_of log f v) p → IsSpending log f v p.rules p.atoms d.db d.cites d.lines

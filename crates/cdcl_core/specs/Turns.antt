@@ -40,7 +40,7 @@ pub record IsReady (p : Problem) (theory : Theory) (edges : List Edge) (d : Deri
   pub edges_are : edges ≡ p.edges
   pub links_are : AreLinks theory.atoms theory.links
   pub clauses : d.db ≡ p.db
-  pub cites : d.cites.items ≡ map hint.Rule p.rules
+  pub cites : d.cites ≡ map hint.Rule p.rules
   pub none : d.lines ≡ []
   pub in_range : All IsRuleInRange p.rules
 
@@ -65,10 +65,10 @@ pub record IsMidway (p : Problem) (vars : ℕ) (links : List (Option (Edge × Ed
   pub few_clauses : length d.db ≤ length p.db + 2 * conflicts + 1
   pub few_lines : length d.lines ≤ 2 * conflicts + 1
   pub lesson_count : lessons d.lines ≡ conflicts
-  pub derives : (log : Logged) (f : Form) (v : Bool) → IsLog log → Fits (sought_of log f v) p → IsRecord log f v p.atoms d.db d.cites.items d.lines
+  pub derives : (log : Logged) (f : Form) (v : Bool) → IsLog log → Fits (sought_of log f v) p → IsRecord log f v p.atoms d.db d.cites d.lines
   pub known : List (List Lit)
   pub quiet : IsQuietBelow known d.db t
-  pub spending : (log : Logged) (f : Form) (v : Bool) → IsLog log → Fits (sought_of log f v) p → IsSpending log f v p.rules p.atoms known d.cites.items d.lines
+  pub spending : (log : Logged) (f : Form) (v : Bool) → IsLog log → Fits (sought_of log f v) p → IsSpending log f v p.rules p.atoms known d.cites d.lines
 
 -- some values satisfy the problem and all that was derived, or a clause is false at level 0, or a clause was learnt
 abbrev pub HasTurned : Problem → ℕ → List (Option (Edge × Edge)) → Assigned → Constraints → Derived → ℕ → Turn → Type 0

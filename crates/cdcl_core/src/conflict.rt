@@ -62,7 +62,7 @@ pub fn conflict_clause(
         → IsConflicted derived.new.db theory.now.links base trail.now graph.now c) }
     ensures wider { OnOk result (IsWiderBy derived.old derived.new) }
     ensures derives { OnOk result ((log : Logged) (f : Form) (v : Bool) (base : List Edge) → AreEdges log theory.now.bounds base → HasStopped derived.old.db theory.now.links base trail.now graph.now conflict
-        → IsRecord log f v theory.now.atoms derived.old.db derived.old.cites.items derived.old.lines → IsRecord log f v theory.now.atoms derived.new.db derived.new.cites.items derived.new.lines) }
+        → IsRecord log f v theory.now.atoms derived.old.db derived.old.cites derived.old.lines → IsRecord log f v theory.now.atoms derived.new.db derived.new.cites derived.new.lines) }
 {
     match conflict {
         Conflict::False(clause) => Ok(clause),
@@ -100,7 +100,7 @@ pub fn learn_clause(
     requires conflicted { IsInConflict derived.old.db trail.old graph.old conflict }
     requires vars { trail.old.vars ≡ length atoms.now }
     requires few_atoms { length atoms.now + 1 < 2 ^ 32 }
-    requires cites { length derived.old.cites.items ≡ length derived.old.db }
+    requires cites { length derived.old.cites ≡ length derived.old.db }
     requires clause_room { length derived.old.db < 2 ^ 32 - 1 }
     requires line_room { length derived.old.lines < 2 ^ 32 - 1 }
     ensures vars { OnOk result (trail.new.vars ≡ trail.old.vars) }
@@ -110,13 +110,13 @@ pub fn learn_clause(
     ensures clauses { OnOk result (length derived.new.db ≡ length derived.old.db + 1) }
     ensures lines { OnOk result (length derived.new.lines ≡ length derived.old.lines + 1) }
     ensures lessons { OnOk result (lessons derived.new.lines ≡ lessons derived.old.lines + 1) }
-    ensures derives { OnOk result ((log : Logged) (f : Form) (v : Bool) → IsRecord log f v atoms.now derived.old.db derived.old.cites.items derived.old.lines
-        → IsRecord log f v atoms.now derived.new.db derived.new.cites.items derived.new.lines) }
+    ensures derives { OnOk result ((log : Logged) (f : Form) (v : Bool) → IsRecord log f v atoms.now derived.old.db derived.old.cites derived.old.lines
+        → IsRecord log f v atoms.now derived.new.db derived.new.cites derived.new.lines) }
 
     // The line is new to clauses of which the lower levels leave nothing to propagate.
     ensures spending { OnOk result ((log : Logged) (f : Form) (v : Bool) (rules : List Rule) (known : List (List Lit)) → IsQuietBelow known derived.old.db trail.old
-        → IsRecord log f v atoms.now derived.old.db derived.old.cites.items derived.old.lines → IsSpending log f v rules atoms.now known derived.old.cites.items derived.old.lines
-        → IsSpending log f v rules atoms.now derived.new.db derived.new.cites.items derived.new.lines) }
+        → IsRecord log f v atoms.now derived.old.db derived.old.cites derived.old.lines → IsSpending log f v rules atoms.now known derived.old.cites derived.old.lines
+        → IsSpending log f v rules atoms.now derived.new.db derived.new.cites derived.new.lines) }
 {
     // Each atom has one variable.
     let _ = atoms.len();
@@ -146,10 +146,10 @@ pub fn refuted(
     requires falsified { IsFalsified trail.now.entries (clause_at derived.db conflict) }
     requires vars { trail.now.vars ≡ length atoms.now }
     requires few_atoms { length atoms.now + 1 < 2 ^ 32 }
-    requires cites { length derived.cites.items ≡ length derived.db }
+    requires cites { length derived.cites ≡ length derived.db }
     ensures lines { IfOk result (λ lines. length lines ≡ length derived.lines + 1) }
     ensures lessons { IfOk result (λ lines. lessons lines ≡ lessons derived.lines) }
-    ensures refutes { IfOk result (λ lines. (log : Logged) (f : Form) (v : Bool) → IsRecord log f v atoms.now derived.db derived.cites.items derived.lines → Refutes log f v lines) }
+    ensures refutes { IfOk result (λ lines. (log : Logged) (f : Form) (v : Bool) → IsRecord log f v atoms.now derived.db derived.cites derived.lines → Refutes log f v lines) }
 {
     // Each atom has one variable.
     let _ = atoms.len();

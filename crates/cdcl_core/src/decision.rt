@@ -10,7 +10,7 @@ ghost use Rattle.cdcl_core.specs.Running.{IsRunning};
 
 use crate::assignment::{unassigned, values_of};
 use crate::conflict::Theory;
-use crate::read_off::{meet_all, value_in, values_in};
+use crate::read_off::{meet_all, values_in};
 use crate::sight::Sight;
 use crate::strategy::Strategy;
 use clause_db::Lit;
@@ -90,7 +90,7 @@ fn read(
     alloc: Global,
     theory: &Theory,
     sight: &Sight<'_>,
-    strategy: &Strategy,
+    strategy: &mut Strategy,
 ) -> Result<Option<Decision>, AllocError>
     requires links { AreLinks theory.now.atoms sight.now.links.now }
     ensures done { IfOk result (λ o. IfSome o (IfDone (IsSatisfying theory.now.atoms sight.now.db.now sight.now.graph.now.numbers))) }
@@ -109,7 +109,7 @@ fn fill(
     alloc: Global,
     theory: &Theory,
     sight: &Sight<'_>,
-    strategy: &Strategy,
+    strategy: &mut Strategy,
     start: u32,
 ) -> Result<Decision, AllocError>
     requires running { IsRunning sight.now.vars sight.now.db.now sight.now.links.now sight.now.trail.now sight.now.graph.now }
@@ -122,9 +122,12 @@ fn fill(
     graphs_are_solved(sight.graph);
     match unassigned(sight.trail, start, sight.vars) {
         None => Ok(Decision::Done(values_of(alloc, sight.trail, sight.vars)?)),
-        Some(var) => Ok(Decision::Decide {
-            lit: Lit::new(var, value_in(sight, strategy, var)),
-            start: var.get() + 1,
-        }),
+        Some(var) => {
+            let value = strategy.holds(*sight, Lit::new(var, true))?;
+            Ok(Decision::Decide {
+                lit: Lit::new(var, value),
+                start: var.get() + 1,
+            })
+        }
     }
 }

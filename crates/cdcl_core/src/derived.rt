@@ -2,50 +2,23 @@
 
 ghost use Rattle.std.specs.Prelude.{◌≡◌, ◌+◌, ◌-◌, ◌^◌, ◌<◌, [], ◌∷◌, ◌++◌, length, map, All, IfOk, OnOk};
 ghost use Rattle.proof_log.specs.declared.line.Hint.TheVariants as hint;
-ghost use Rattle.proof_log.specs.Spelled.{IsNumber};
 ghost use Rattle.clause_db.specs.Literals.{HasVarsOnce};
 ghost use Rattle.cdcl_core.specs.Orders.{read_lit};
 ghost use Rattle.cdcl_core.specs.Recording.{HasNumbers, IsRuleInRange, cite_at};
 
+use crate::cites::Cites;
 use crate::walk::literal_of;
-use axiom_rules::{Atom, AtomTable, Rule};
+use axiom_rules::{Atom, AtomTable, RuleList};
 use clause_db::{ClauseRef, Db, Lit};
-use proof_log::{Hint, Hints, Line, Lines, Lits};
+use proof_log::{Hints, Line, Lines, Lits};
 use std::alloc::{AllocError, Global};
 
 /// The clauses, the hint by which a line cites each of them, and the lines that were derived.
 #[derive(Drop)]
 pub struct Derived {
     pub db: Db,
-    pub cites: Vec<Hint>,
+    pub cites: Cites,
     pub lines: Lines,
-}
-
-// The number and the arguments of a rule are in range by their types.
-fn rule_fits(number: u8, args: &[u32])
-    ensures number { number < 2 ^ 8 }
-    ensures arguments { All IsNumber args.now }
-{}
-
-// The hint that cites the clause of a rule.
-fn rule_hint(rule: &Rule) -> Hint
-    ensures hint { result ≡ hint.Rule rule.now }
-    ensures in_range { IsRuleInRange rule.now }
-{
-    rule_fits(rule.number, &rule.args);
-    Hint::Rule(*rule)
-}
-
-// Hints that cite the clauses of rules.
-fn cites_of(alloc: Global, rules: &[Rule]) -> Result<Vec<Hint>, AllocError>
-    ensures cites { IfOk result (λ v. v.items ≡ map hint.Rule rules.now) }
-    ensures in_range { OnOk result (All IsRuleInRange rules.now) }
-{
-    let mut cites = Vec::new(alloc);
-    for rule in rules {
-        cites.push(rule_hint(rule))?;
-    }
-    Ok(cites)
 }
 
 // The numbers in an atom are in range by their types.
@@ -74,30 +47,30 @@ pub fn read_lits(alloc: Global, atoms: &AtomTable, lits: &[Lit]) -> Result<Lits,
 }
 
 /// The hints that cite these clauses.
-pub fn read_hints(alloc: Global, cites: &[Hint], refs: &[ClauseRef]) -> Result<Hints, AllocError>
+pub fn read_hints(alloc: Global, cites: &Cites, refs: &[ClauseRef]) -> Result<Hints, AllocError>
     requires within { All (λ c. c < length cites.now) refs.now }
     ensures hints { IfOk result (λ hints. hints ≡ map (cite_at cites.now) refs.now) }
 {
     let mut hints = Hints::new(alloc);
     for clause in refs {
-        hints.push(cites[clause.get() as usize])?;
+        hints.push(cites.hint(*clause))?;
     }
     Ok(hints)
 }
 
 impl Derived {
     /// These clauses, each of which is cited by its rule, and no lines.
-    pub fn begin(alloc: Global, db: Db, rules: &[Rule]) -> Result<Derived, AllocError>
-        ensures clauses { IfOk result (λ derived. derived.db ≡ db) }
-        ensures cites { IfOk result (λ derived. derived.cites.items ≡ map hint.Rule rules.now) }
-        ensures none { IfOk result (λ derived. derived.lines ≡ []) }
-        ensures in_range { OnOk result (All IsRuleInRange rules.now) }
+    pub fn begin(alloc: Global, db: Db, rules: RuleList) -> Derived
+        ensures clauses { result.db ≡ db }
+        ensures cites { result.cites ≡ map hint.Rule rules }
+        ensures none { result.lines ≡ [] }
+        ensures in_range { All IsRuleInRange rules }
     {
-        Ok(Derived {
+        Derived {
             db,
-            cites: cites_of(alloc, rules)?,
+            cites: Cites::new(alloc, rules),
             lines: Lines::new(alloc),
-        })
+        }
     }
 
     /// Adds a line and its clause, which later lines cite by the line's number.
@@ -107,11 +80,11 @@ impl Derived {
         requires line_room { length self.old.lines < 2 ^ 32 - 1 }
         ensures place { IfOk result (λ c. c ≡ length self.old.db) }
         ensures clause { OnOk result (self.new.db ≡ self.old.db ++ lits.now ∷ []) }
-        ensures cite { OnOk result (self.new.cites.items ≡ self.old.cites.items ++ hint.Line (length self.old.lines + 1) ∷ []) }
+        ensures cite { OnOk result (self.new.cites ≡ self.old.cites ++ hint.Line (length self.old.lines + 1) ∷ []) }
         ensures line { OnOk result (self.new.lines ≡ self.old.lines ++ line ∷ []) }
     {
         self.lines.push(line)?;
-        self.cites.push(Hint::Line(self.lines.len() as u32))?;
+        self.cites.push(self.lines.len() as u32)?;
         self.db.add(lits)
     }
 }

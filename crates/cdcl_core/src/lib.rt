@@ -3,6 +3,7 @@
 #![tactic(auto)]
 
 mod assignment;
+mod cites;
 mod conflict;
 mod decision;
 mod derived;

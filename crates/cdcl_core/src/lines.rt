@@ -50,9 +50,9 @@ pub fn add_cycle(
     ensures conflicted { IfOk result (λ c. (base : List Edge) (l : Lit) → length base ≡ length bounds.now → IsStuck derived.old.db links.now base trail.now graph.now l
         → IsConflicted derived.new.db links.now base trail.now graph.now c) }
     ensures derives { OnOk result ((log : Logged) (f : Form) (v : Bool) (base : List Edge) (l : Lit) → AreEdges log bounds.now base → IsStuck derived.old.db links.now base trail.now graph.now l
-        → IsRecord log f v atoms.now derived.old.db derived.old.cites.items derived.old.lines → IsRecord log f v atoms.now derived.new.db derived.new.cites.items derived.new.lines) }
-    ensures spending { OnOk result ((log : Logged) (f : Form) (v : Bool) (rules : List Rule) (table : List Atom) (known : List (List Lit)) → IsSpending log f v rules table known derived.old.cites.items derived.old.lines
-        → IsSpending log f v rules table known derived.new.cites.items derived.new.lines) }
+        → IsRecord log f v atoms.now derived.old.db derived.old.cites derived.old.lines → IsRecord log f v atoms.now derived.new.db derived.new.cites derived.new.lines) }
+    ensures spending { OnOk result ((log : Logged) (f : Form) (v : Bool) (rules : List Rule) (table : List Atom) (known : List (List Lit)) → IsSpending log f v rules table known derived.old.cites derived.old.lines
+        → IsSpending log f v rules table known derived.new.cites derived.new.lines) }
 {
     // The held edges have a solution, and each atom has one variable.
     graphs_are_solved(graph);
@@ -72,8 +72,8 @@ pub fn learnt(
     refs: &[ClauseRef],
 ) -> Result<Line, AllocError>
     requires lits { All (λ l. l.var < length atoms.now) lits.now }
-    requires refs { All (λ c. c < length derived.now.cites.items) refs.now }
-    ensures line { IfOk result (IsLearnLine (read_clause atoms.now lits.now) (map (cite_at derived.now.cites.items) refs.now)) }
+    requires refs { All (λ c. c < length derived.now.cites) refs.now }
+    ensures line { IfOk result (IsLearnLine (read_clause atoms.now lits.now) (map (cite_at derived.now.cites) refs.now)) }
 {
     Ok(Line::Learn {
         lits: read_lits(alloc, atoms, lits)?,

@@ -18,7 +18,6 @@ use crate::derived::Derived;
 use crate::difference::{graph_of, links_of};
 use crate::strategy::Strategy;
 use crate::turn::{Turn, take_turn};
-use axiom_rules::Rule;
 use difference_graph::{Graph, graphs_are_solved};
 use formula_arena::{cores_are_cores, nodes_are_subtrees};
 use mtl_encode::Problem;
@@ -53,21 +52,14 @@ pub fn search(alloc: Global, problem: Problem, budget: u32) -> Result<Found, All
         nodes,
     } = problem;
     let links = links_of(alloc, &atoms)?;
-    let derived = Derived::begin(alloc, db, rules.as_slice())?;
+    let derived = Derived::begin(alloc, db, rules);
     let theory = Theory {
         bounds,
         atoms,
         links,
         nodes,
     };
-    start(
-        alloc,
-        &theory,
-        edges.as_slice(),
-        derived,
-        rules.as_slice(),
-        budget,
-    )
+    start(alloc, &theory, edges.as_slice(), derived, budget)
 }
 
 // Searches with an empty trail and the edges of the bounds.
@@ -76,7 +68,6 @@ fn start(
     theory: &Theory,
     edges: &[Edge],
     derived: Derived,
-    rules: &[Rule],
     budget: u32,
 ) -> Result<Found, AllocError>
     requires some { 1 ≤ budget }
@@ -93,7 +84,7 @@ fn start(
     let mut trail = Trail::new(alloc, vars)?;
     // With the level it is known that no variable is assigned twice.
     let _ = trail.level();
-    let mut strategy = Strategy::new(alloc, &derived.db, rules, &theory.links, vars, theory.nodes)?;
+    let mut strategy = Strategy::new(alloc, &derived, &theory.links, vars, theory.nodes)?;
     run(
         alloc,
         theory,

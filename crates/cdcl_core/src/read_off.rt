@@ -14,25 +14,31 @@ use clause_db::{ClauseRef, Db, Lit, Var};
 use mt_model::Bits;
 use std::alloc::{AllocError, Global};
 
-/// The value of a variable in the present timing: of an order what the numbers say, of another what it is rated.
-pub fn value_in(sight: &Sight<'_>, strategy: &Strategy, var: Var) -> bool
+// The value of a variable in the present timing, where these are the values of the smaller ones: of an order what the
+// numbers say, of another what its clauses make of it.
+fn value_in(sight: &Sight<'_>, strategy: &mut Strategy, values: &[bool], var: Var) -> bool
     requires within { var < sight.now.vars }
     ensures order { IfSome (edges_at sight.now.links.now var) (λ both. IsTrue result ↔ Meets sight.now.graph.now.numbers both.0) }
 {
     match sight.links.get(var) {
         Some((yes, _)) => sight.graph.meets(yes),
-        None => strategy.value(var),
+        None => strategy.value(*sight, values, var),
     }
 }
 
 /// The value of each variable in the present timing.
-pub fn values_in(alloc: Global, sight: &Sight<'_>, strategy: &Strategy) -> Result<Bits, AllocError>
+pub fn values_in(
+    alloc: Global,
+    sight: &Sight<'_>,
+    strategy: &mut Strategy,
+) -> Result<Bits, AllocError>
     ensures count { IfOk result (λ values. length values ≡ sight.now.vars) }
     ensures orders { IfOk result (AreOrderValues sight.now.links.now sight.now.graph.now.numbers) }
 {
     let mut values = Bits::new(alloc);
     for v in 0..sight.vars {
-        values.push(value_in(sight, strategy, Var::new(v)))?;
+        let value = value_in(sight, strategy, values.as_slice(), Var::new(v));
+        values.push(value)?;
     }
     Ok(values)
 }

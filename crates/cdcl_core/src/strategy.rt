@@ -6,6 +6,7 @@
 
 ghost use Rattle.std.specs.Prelude.{◌≡◌, length};
 
+use crate::derived::Derived;
 use crate::heads::Heads;
 use crate::needs::Needs;
 use crate::ratings::Ratings;
@@ -56,21 +57,21 @@ impl Strategy {
     /// Before the first decision on a problem.
     pub fn new(
         alloc: Global,
-        db: &Db,
-        rules: &[Rule],
+        derived: &Derived,
         links: &Links,
         vars: u32,
         nodes: u32,
     ) -> Result<Strategy, AllocError>
         requires linked { length links.now ≡ vars }
     {
+        let db = &derived.db;
         Ok(Strategy {
             heads: Heads::new(alloc, db, vars, orders_in(links, vars))?,
             needs: Needs::new(alloc),
             ratings: Ratings::new(alloc, vars, nodes, db.len())?,
             scores: Scores::new(alloc, vars)?,
             restarts: Restarts::new(),
-            root: root_of(rules),
+            root: root_of(derived.cites.rules()),
             fills: false,
         })
     }
@@ -85,21 +86,26 @@ impl Strategy {
         self.fills = true;
     }
 
-    /// The value of a variable that is no order in the present timing.
-    pub fn value(&self, var: Var) -> bool {
-        self.ratings.value(var)
-    }
-
     /// Takes in the clauses that led to a conflict: whether the search begins anew at level 0.
     pub fn conflict(&mut self, db: &Db, hints: &[ClauseRef]) -> Result<bool, AllocError> {
         for hint in hints {
             if hint.get() < db.len() {
-                self.scores.raise(db.lits(*hint))?;
+                self.raise(db.lits(*hint))?;
             }
         }
         self.scores.grow();
         self.fills = false;
         Ok(self.restarts.count())
+    }
+
+    // Raises the scores of the variables of a clause. That of an order is never asked for.
+    fn raise(&mut self, clause: &[Lit]) -> Result<(), AllocError> {
+        for lit in clause {
+            if self.heads.is_free(*lit) {
+                self.scores.raise(lit.var())?;
+            }
+        }
+        Ok(())
     }
 
     /// Takes in that the trail went back to so many literals.
@@ -110,107 +116,120 @@ impl Strategy {
     /// A literal of a clause that has to hold and that the present timing doesn't meet, and None where all are met.
     pub fn decision(&mut self, sight: Sight<'_>) -> Result<Option<Lit>, AllocError> {
         self.needs.take_in(sight, &self.heads)?;
-        match self.open_clause(sight) {
+        match self.open_clause(sight)? {
             None => Ok(None),
             Some(clause) => Ok(self.choose(sight, clause)),
         }
     }
 
-    // A clause that has to hold and that the present timing doesn't meet. The ratings may be of an earlier timing
+    /// The value of a variable that is no order, where the smaller ones have these values.
+    pub fn value(&mut self, sight: Sight<'_>, values: &[bool], var: Var) -> bool {
+        self.ratings.value(sight, &self.heads, values, var)
+    }
+
+    // A clause that has to hold and that the present timing doesn't meet. The ratings may be of earlier timings
     // until nothing is open by them.
-    fn open_clause(&mut self, sight: Sight<'_>) -> Option<ClauseRef> {
-        let mut open = self.unmet(sight);
-        if open.is_none() && self.ratings.renew(sight, &self.heads) {
-            open = self.unmet(sight);
+    fn open_clause(&mut self, sight: Sight<'_>) -> Result<Option<ClauseRef>, AllocError> {
+        let mut open = self.unmet(sight)?;
+        if open.is_none() && self.ratings.forget(sight) {
+            open = self.unmet(sight)?;
         }
         if open.is_none() {
-            open = self.unborne(sight);
+            open = self.unborne(sight)?;
         }
-        open
+        Ok(open)
     }
 
     // The next clause on the round over the needed literals whose head is such a literal's negation, and that is
     // unmet.
-    fn unmet(&mut self, sight: Sight<'_>) -> Option<ClauseRef> {
+    fn unmet(&mut self, sight: Sight<'_>) -> Result<Option<ClauseRef>, AllocError> {
         if let Some(root) = self.root
-            && !self.is_met(sight, root)
+            && !self.is_met(sight, root)?
         {
-            return Some(root);
+            return Ok(Some(root));
         }
         for _round in 0..self.needs.len() {
-            if let Some(clause) = self.unmet_here(sight) {
-                return Some(clause);
+            if let Some(clause) = self.unmet_here(sight)? {
+                return Ok(Some(clause));
             }
             self.needs.advance();
         }
-        None
+        Ok(None)
     }
 
     // An unmet clause whose head is the negation of the needed literal where the round is.
-    fn unmet_here(&mut self, sight: Sight<'_>) -> Option<ClauseRef> {
-        let lit = sight.assigned(self.needs.current()?)?;
+    fn unmet_here(&mut self, sight: Sight<'_>) -> Result<Option<ClauseRef>, AllocError> {
+        let Some(lit) = literal_at(sight, self.needs.current()) else {
+            return Ok(None);
+        };
         let (start, end) = self.heads.range(lit.negated());
         for place in start..end {
             if let Some(clause) = self.heads.at(place)
-                && !self.is_met(sight, clause)
+                && !self.is_met(sight, clause)?
             {
-                return Some(clause);
+                return Ok(Some(clause));
             }
         }
-        None
+        Ok(None)
     }
 
     // Whether the present timing meets a clause.
-    fn is_met(&mut self, sight: Sight<'_>, clause: ClauseRef) -> bool {
+    fn is_met(&mut self, sight: Sight<'_>, clause: ClauseRef) -> Result<bool, AllocError> {
         let lits = sight.lits(clause);
         if let Some(lit) = lits.get(self.ratings.support(clause))
-            && self.holds(sight, *lit)
+            && self.holds(sight, *lit)?
         {
-            return true;
+            return Ok(true);
         }
         for place in 0..lits.len() {
-            if self.holds(sight, lits[place]) {
+            if self.holds(sight, lits[place])? {
                 self.ratings.note_support(clause, place);
-                return true;
+                return Ok(true);
             }
         }
-        false
+        Ok(false)
     }
 
-    // Whether a literal is true, or is open and true in the present timing.
-    fn holds(&self, sight: Sight<'_>, lit: Lit) -> bool {
+    /// Whether a literal is true, or is open and true in the present timing.
+    pub fn holds(&mut self, sight: Sight<'_>, lit: Lit) -> Result<bool, AllocError> {
         match sight.truth(lit) {
-            Some(truth) => truth,
-            None if self.heads.is_free(lit) => self.ratings.rates(lit),
-            None => sight.meets(lit),
+            Some(truth) => Ok(truth),
+            None if self.heads.is_free(lit) => self.ratings.rates(sight, &self.heads, lit),
+            None => Ok(sight.meets(lit)),
         }
     }
 
     // A clause without a true literal whose head is the negation of a needed literal that is rated false.
-    fn unborne(&mut self, sight: Sight<'_>) -> Option<ClauseRef> {
+    fn unborne(&mut self, sight: Sight<'_>) -> Result<Option<ClauseRef>, AllocError> {
         for index in 0..self.needs.len() {
-            if let Some(clause) = self.unborne_at(sight, index) {
-                return Some(clause);
+            if let Some(clause) = self.unborne_at(sight, index)? {
+                return Ok(Some(clause));
             }
         }
-        None
+        Ok(None)
     }
 
     // The same of the needed literal at a place of the list.
-    fn unborne_at(&self, sight: Sight<'_>, index: usize) -> Option<ClauseRef> {
-        let lit = sight.assigned(self.needs.get(index)?)?;
-        if self.ratings.rates(lit) {
-            return None;
+    fn unborne_at(
+        &mut self,
+        sight: Sight<'_>,
+        index: usize,
+    ) -> Result<Option<ClauseRef>, AllocError> {
+        let Some(lit) = literal_at(sight, self.needs.get(index)) else {
+            return Ok(None);
+        };
+        if self.ratings.rates(sight, &self.heads, lit)? {
+            return Ok(None);
         }
         let (start, end) = self.heads.range(lit.negated());
         for place in start..end {
             if let Some(clause) = self.heads.at(place)
                 && !has_true(sight, clause)
             {
-                return Some(clause);
+                return Ok(Some(clause));
             }
         }
-        None
+        Ok(None)
     }
 
     // The open literal of a clause that is to be decided: one that is no order, of the greatest score, and else the
@@ -242,6 +261,11 @@ impl Strategy {
             lit
         }
     }
+}
+
+// The literal at a place of the trail, if there is one.
+fn literal_at(sight: Sight<'_>, place: Option<u32>) -> Option<Lit> {
+    sight.assigned(place?)
 }
 
 // Of two orders the one that the present timing misses by less, or of the lesser variable.

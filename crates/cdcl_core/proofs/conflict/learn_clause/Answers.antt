@@ -49,7 +49,7 @@ returns-clause-kept c = (c.as_slice-lits.result.now ∷ [], c.in_ok-add.ensures.
 pub returns-clause-lessons : goal.returns-clause-lessons
 returns-clause-lessons c =
     let some : 0 < length c.as_slice-lits.result.now = rw c.as_slice-lits.ensures.items (asserting_some c.args.derived.now.db c.args.trail.now c.args.graph.now c.args.conflict c.in_ok-learned.learned.lits c.in_ok-learned.ensures.asserting) in
-    rw c.in_ok-add.ensures.line (one_lesson c.args.derived.now.lines (read_clause c.args.atoms.now c.as_slice-lits.result.now) (map (cite_at c.args.derived.now.cites.items) c.as_slice.result.now) c.in_ok-line.line c.in_ok-line.ensures.line
+    rw c.in_ok-add.ensures.line (one_lesson c.args.derived.now.lines (read_clause c.args.atoms.now c.as_slice-lits.result.now) (map (cite_at c.args.derived.now.cites) c.as_slice.result.now) c.in_ok-line.line c.in_ok-line.ensures.line
     (omega (arith, some, length-map c.as_slice-lits.result.now (read_lit c.args.atoms.now))))
 
 pub returns-clause-derives : goal.returns-clause-derives
@@ -58,7 +58,7 @@ returns-clause-derives c = λ log f v old.
     let reasons = conflict_reasons c.args.derived.now.db over.links over.base c.args.trail.now c.args.graph.now c.args.conflict over.conflicted in
     let some : 0 < length c.as_slice-lits.result.now = rw c.as_slice-lits.ensures.items (asserting_some c.args.derived.now.db c.args.trail.now c.args.graph.now c.args.conflict c.in_ok-learned.learned.lits c.in_ok-learned.ensures.asserting) in
     rw (c.in_ok-add.ensures.clause, c.in_ok-add.ensures.cite, c.in_ok-add.ensures.line)
-    (record_learned log f v c.args.atoms.now c.args.derived.now.db c.args.derived.now.cites.items c.args.derived.now.lines old c.len.ensures.once c.requires.few_atoms
+    (record_learned log f v c.args.atoms.now c.args.derived.now.db c.args.derived.now.cites c.args.derived.now.lines old c.len.ensures.once c.requires.few_atoms
     (subst (λ n. All (All (λ (l : Lit). l.var < n)) c.args.derived.now.db) c.requires.vars reasons.variables)
     c.as_slice-lits.result.now c.as_slice.result.now c.in_ok-line.line (rw (c.as_slice-lits.ensures.items, ← c.requires.vars) c.in_ok-learned.ensures.variables) (rw c.as_slice-lits.ensures.items c.in_ok-learned.ensures.once) some
     (rw (c.as_slice-lits.ensures.items, c.as_slice.ensures.items) c.in_ok-learned.ensures.refute) c.in_ok-line.ensures.line (omega (arith, c.requires.line_room)))
@@ -68,7 +68,7 @@ returns-clause-spending c = λ log f v rules known quiet record_ old.
     let over = c.requires.conflicted in
     let reasons = conflict_reasons c.args.derived.now.db over.links over.base c.args.trail.now c.args.graph.now c.args.conflict over.conflicted in
     rw (c.in_ok-add.ensures.clause, c.in_ok-add.ensures.cite, c.in_ok-add.ensures.line)
-    (spending_learned log f v rules c.args.atoms.now known c.args.derived.now.db c.args.derived.now.cites.items c.args.derived.now.lines c.args.trail.now old record_ quiet over.conflicted.trail c.requires.level c.len.ensures.once
+    (spending_learned log f v rules c.args.atoms.now known c.args.derived.now.db c.args.derived.now.cites c.args.derived.now.lines c.args.trail.now old record_ quiet over.conflicted.trail c.requires.level c.len.ensures.once
     (subst (λ n. All (All (λ (l : Lit). l.var < n)) c.args.derived.now.db) c.requires.vars reasons.variables)
     c.as_slice-lits.result.now c.as_slice.result.now c.in_ok-line.line (rw (c.as_slice-lits.ensures.items, ← c.requires.vars) c.in_ok-learned.ensures.variables) (rw c.as_slice-lits.ensures.items c.in_ok-learned.ensures.below)
     (rw (c.as_slice-lits.ensures.items, c.as_slice.ensures.items) c.in_ok-learned.ensures.used) c.in_ok-line.ensures.line)

@@ -1,4 +1,4 @@
-use Rattle.std.proofs.Common.{◌∙◌, ap, sym, subst, ℕ, ◌<◌, List, length, arith}
+use Rattle.std.proofs.Common.{◌∙◌, ap, subst, ℕ, ◌<◌, List, length, arith}
 use Rattle.neg_cycle.specs.declared.system.Edge.{Edge}
 use Rattle.propagate.specs.Trails.{Assigned, IsTrail, IsUnassigned, decided}
 use Rattle.propagate.specs.Reach.{IsLast}

@@ -21,18 +21,18 @@ start-requires-clause-ready c = (
       nodes = refl;
       orders = orders-more c.args.problem.nodes MAX_NODES c.args.problem.atoms c.requires.posed.fits.system.few_nodes (posed_orders c.cores_are_cores.ensures c.nodes_are_subtrees.ensures c.args.problem c.requires.posed);
     };
-    edges_are = c.as_slice-2.ensures.items;
+    edges_are = c.as_slice.ensures.items;
     links_are = c.in_ok-links.ensures.links;
-    clauses = c.in_ok-derived.ensures.clauses;
-    cites = rw c.as_slice.ensures.items at c.in_ok-derived.ensures.cites;
-    none = c.in_ok-derived.ensures.none;
-    in_range = rw c.as_slice.ensures.items at c.in_ok-derived.ensures.in_range;
+    clauses = c.begin-derived.ensures.clauses;
+    cites = c.begin-derived.ensures.cites;
+    none = c.begin-derived.ensures.none;
+    in_range = c.begin-derived.ensures.in_range;
   },
 )
 
 pub returns : goal.returns
 returns c =
-    let ready : IsReady c.args.problem (record { bounds = c.args.problem.bounds; atoms = c.args.problem.atoms; links = c.in_ok-links.links; nodes = c.args.problem.nodes }) c.as_slice-2.result.now c.in_ok-derived.derived = record {
+    let ready : IsReady c.args.problem (record { bounds = c.args.problem.bounds; atoms = c.args.problem.atoms; links = c.in_ok-links.links; nodes = c.args.problem.nodes }) c.as_slice.result.now c.begin-derived.result = record {
       theory_of = record {
         posed = c.requires.posed;
         bounds = refl;
@@ -40,12 +40,12 @@ returns c =
         nodes = refl;
         orders = orders-more c.args.problem.nodes MAX_NODES c.args.problem.atoms c.requires.posed.fits.system.few_nodes (posed_orders c.cores_are_cores.ensures c.nodes_are_subtrees.ensures c.args.problem c.requires.posed);
       };
-      edges_are = c.as_slice-2.ensures.items;
+      edges_are = c.as_slice.ensures.items;
       links_are = c.in_ok-links.ensures.links;
-      clauses = c.in_ok-derived.ensures.clauses;
-      cites = rw c.as_slice.ensures.items at c.in_ok-derived.ensures.cites;
-      none = c.in_ok-derived.ensures.none;
-      in_range = rw c.as_slice.ensures.items at c.in_ok-derived.ensures.in_range;
+      clauses = c.begin-derived.ensures.clauses;
+      cites = c.begin-derived.ensures.cites;
+      none = c.begin-derived.ensures.none;
+      in_range = c.begin-derived.ensures.in_range;
     } in
     record {
       found = if_ok_more c.start.result _ _ (λ found answer. (answer c.args.problem ready).found_is) c.start.ensures.answer;

@@ -1,8 +1,7 @@
-use Rattle.std.proofs.Common.{◌≡◌, ◌∙◌, sym, subst, ℕ, ◌+◌, ◌<◌, inl, inr, [], length, true, false, arith}
+use Rattle.std.proofs.Common.{◌≡◌, inl, inr, [], true, arith}
 use Rattle.std.specs.List.{list_any}
 use Rattle.std.proofs.lemmas.List.Elements.{All-from_get_or}
 use Rattle.clause_db.specs.Literals.{value_of}
-use Rattle.clause_db.specs.Clauses.{clause_at}
 use Rattle.mtl_encode.specs.Models.{value_at}
 use Rattle.cdcl_core.proofs.Scanned.{below_or_last}
 use Rattle.cdcl_core.proofs.read_off.meet_all.Goals as goal

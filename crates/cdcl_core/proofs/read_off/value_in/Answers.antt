@@ -1,4 +1,3 @@
-use Rattle.std.proofs.Common.{sym}
 use Rattle.cdcl_core.proofs.Decisions.{first_edge}
 use Rattle.cdcl_core.proofs.read_off.value_in.Goals as goal
 

@@ -1,5 +1,5 @@
 -- What the calls of a turn ask for, and what it came to.
-use Rattle.std.proofs.Common.{◌≡◌, ◌∙◌, ap, refl, sym, List, [], ◌∷◌, length, arith}
+use Rattle.std.proofs.Common.{◌≡◌, ◌∙◌, refl, sym, List, [], ◌∷◌, length, arith}
 use Rattle.propagate.specs.declared.entry.Level.{Level}
 use Rattle.cdcl_core.proofs.Progress.{cites_count, few_atoms, learned, midway, room_first, search_links, search_on, search_running, search_stopped, search_vars}
 use Rattle.cdcl_core.proofs.turn.take_turn.Goals as goal
