@@ -1,46 +1,29 @@
 -- How a descent keeps a run.
-use Rattle.std.proofs.Common.{◌≡◌, ◌∙◌, ap, refl, ℕ, ◌+◌, ◌<◌, ◌≤◌, List, length, Option, None, arith}
+use Rattle.std.proofs.Common.{◌≡◌, ap, refl, ℕ, ◌+◌, ◌<◌, ◌≤◌, List, length, Option, None, arith}
 use Rattle.std.proofs.lemmas.List.{get_or_push, length_push}
 use Rattle.neg_cycle.specs.declared.system.Edge.{Edge}
-use Rattle.difference_graph.specs.Graphs.{Constraints, HasSameLimits}
+use Rattle.difference_graph.specs.Graphs.{Constraints}
 use Rattle.clause_db.specs.declared.lit.Lit.{Lit}
 use Rattle.propagate.specs.declared.entry.Entry.{Entry}
 use Rattle.propagate.specs.Trails.{Assigned, IsTrail, IsUnassigned, decided, no_entry}
 use Rattle.propagate.specs.Reach.{IsLast}
-use Rattle.propagate.specs.Clauses.{HasReasons}
 use Rattle.propagate.specs.Closed.{Closed, ClosedAt}
-use Rattle.propagate.specs.Steps.{HasRoomFor, InStep, IsLinked}
+use Rattle.propagate.specs.Steps.{HasRoomFor, InStep}
 use Rattle.propagate.proofs.LawLemmas.{room_for_all}
 use Rattle.propagate.proofs.TrailLemmas.{few_literals, trail_decided}
 use Rattle.cdcl_core.specs.Running.{IsRun, IsRunning}
 
 module _ (many : ℕ) (db : List (List Lit)) (links : List (Option (Edge × Edge))) (t : Assigned) (g : Constraints) (running : IsRunning many db links t g) where
-  -- what propagation asks for
-  pub running_reasons : HasReasons t db
-  running_reasons = running.run.step.reasons
-
-  pub running_linked : IsLinked t links g
-  running_linked = running.run.step.linked
-
   fits : length running.base + t.vars ≤ g.capacity
   fits = let vars = running.vars in let room = running.room in omega (arith, vars, room)
 
+  -- what propagation asks for
   pub running_room : HasRoomFor t links g
   running_room = room_for_all.each t db links running.base g running.run.trail running.run.step fits
 
   -- and a decision
   pub running_next : (v : ℕ) → v < many → IsUnassigned t.entries v → length g.edges < g.capacity
   running_next v low free = room_for_all.next t db links running.base g v running.run.trail running.run.step fits (let vars = running.vars in omega (arith, low, vars)) free
-
-  -- a run of another trail and graph over the same base
-  pub running_same : (u : Assigned) (h : Constraints) → u.vars ≡ t.vars → HasSameLimits g h → ((base : List Edge) → IsRun db links base t g → IsRun db links base u h) → IsRunning many db links u h
-  running_same u h vars limits keeps = record {
-    base = running.base;
-    vars = vars ∙ running.vars;
-    linked = running.linked;
-    room = let room = running.room in let same = limits.capacity in omega (arith, room, same);
-    run = keeps running.base running.run;
-  }
 
 -- propagation keeps a run
 pub run_grown : (db : List (List Lit)) (links : List (Option (Edge × Edge))) (base : List Edge) (t u : Assigned) (g h : Constraints) → IsTrail u → (Closed t db → Closed u db)
@@ -52,12 +35,6 @@ pub run_decided : (db : List (List Lit)) (links : List (Option (Edge × Edge))) 
     → ((d : List (List Lit)) → Closed t d → ClosedAt t d (length t.levels) → Closed u d) → ClosedAt t db (length t.levels)
     → ((d : List (List Lit)) (b : List Edge) → InStep t d links b g → InStep u d links b h) → IsRun db links base t g → IsRun db links base u h
 run_decided db links base t u g h trail closed here step run = record { trail = trail; step = step db base run.step; closed = closed db run.closed here }
-
--- so what propagation asks for stays
-pub running_grown : (many : ℕ) (db : List (List Lit)) (links : List (Option (Edge × Edge))) (t u : Assigned) (g h : Constraints) → IsRunning many db links t g → IsTrail u → (Closed t db → Closed u db)
-    → ((b : List Edge) → InStep t db links b g → InStep u db links b h) → u.vars ≡ t.vars → HasSameLimits g h → IsRunning many db links u h
-running_grown many db links t u g h running trail closed step vars limits =
-    running_same many db links t g running u h vars limits (λ base run. run_grown db links base t u g h trail closed step run)
 
 -- what is decided is the last literal of its trail
 pub last_decided : (t : Assigned) (lit : Lit) (mark : ℕ) → IsLast (decided t lit mark) lit

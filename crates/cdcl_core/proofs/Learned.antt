@@ -11,15 +11,14 @@ use Rattle.propagate.specs.Closed.{Closed, ClosedAt}
 use Rattle.propagate.proofs.LawLemmas.{added_clause_keeps, step_holds}
 use Rattle.analyze.specs.Asserting.{HasTwoAbove, IsAsserting, IsJump}
 use Rattle.cdcl_core.specs.Running.{IsConflicted, IsRun}
-use Rattle.cdcl_core.specs.Searching.{IsInConflict}
 use Rattle.cdcl_core.proofs.Conflicts.{closed_with, jump_below}
 
 module _ (db : List (List Lit)) (t : Assigned) (g : Constraints) (c : ℕ) where
   -- the marks of a trail with a conflict are held
-  pub marks_held : IsInConflict db t g c → AreMarksHeld t g
-  marks_held in_ = elim in_.conflicted.step [
-    | inl step ↦ step_holds.in_step t db in_.links in_.base g in_.conflicted.trail step
-    | inr lacks ↦ step_holds.lacks_last t db in_.links in_.base g in_.conflicted.trail lacks
+  pub marks_held : (links : List (Option (Edge × Edge))) (base : List Edge) → IsConflicted db links base t g c → AreMarksHeld t g
+  marks_held links base conflicted = elim conflicted.step [
+    | inl step ↦ step_holds.in_step t db links base g conflicted.trail step
+    | inr lacks ↦ step_holds.lacks_last t db links base g conflicted.trail lacks
   ]
 
   -- a learned clause is not empty

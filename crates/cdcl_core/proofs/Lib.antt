@@ -25,6 +25,7 @@ pub mod Models
 pub mod Decisions
 pub mod Starts
 pub mod Learned
+pub mod LinkedUpTo
 pub mod Progress
 pub mod Endings
 pub mod Posing

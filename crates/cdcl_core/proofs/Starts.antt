@@ -9,6 +9,7 @@ use Rattle.std.proofs.lemmas.Option.{slice_get-get_or, slice_get_within}
 use Rattle.mt_model.specs.Form.{Form}
 use Rattle.mt_model.specs.Log.{IsLog, Logged}
 use Rattle.neg_cycle.specs.declared.system.Edge.{Edge}
+use Rattle.neg_cycle.specs.declared.system.TheConstants.{MAX_NODES}
 use Rattle.neg_cycle.specs.Systems as system
 use Rattle.difference_graph.specs.Graphs.{Constraints}
 use Rattle.formula_arena.specs.Laws.{CoresAreCores, NodesAreSubtrees}
@@ -28,15 +29,15 @@ use Rattle.proof_log.specs.declared.line.Hint.TheVariants as hint
 use Rattle.mtl_encode.specs.declared.problem.Problem.{Problem}
 use Rattle.mtl_encode.specs.Problems.{Fits, ReadsAs}
 use Rattle.mtl_encode.proofs.AtomGrowth.{read-at, read-atom}
-use Rattle.cdcl_core.specs.declared.conflict.Theory.{Theory}
 use Rattle.cdcl_core.specs.declared.derived.Derived.{Derived}
+use Rattle.cdcl_core.specs.declared.state.SearchState.{SearchState}
 use Rattle.cdcl_core.specs.Founds.{IsPosed}
 use Rattle.cdcl_core.specs.Orders.{AreLinks, IsOrderAmong, atom_at, order_edges}
 use Rattle.cdcl_core.specs.Recording.{AreOfLog, IsRecord, IsRuleInRange}
-use Rattle.cdcl_core.specs.Searching.{IsSearch}
+use Rattle.cdcl_core.specs.Searching.{IsSearch, IsTheoryOf}
 use Rattle.cdcl_core.specs.Turns.{IsReady}
 use Rattle.cdcl_core.proofs.Pairs.{atom_there}
-use Rattle.cdcl_core.proofs.ProblemAtoms.{atoms-in-range, orders-among}
+use Rattle.cdcl_core.proofs.ProblemAtoms.{atoms-in-range, orders-among, orders-more}
 use Rattle.cdcl_core.proofs.Records.{begun, rules_spelled}
 use Rattle.cdcl_core.proofs.Spending.{spending_begun}
 
@@ -106,32 +107,59 @@ module _ (cores : CoresAreCores) (nodes_law : NodesAreSubtrees) (p : Problem) (p
   recorded ranges log f v valid fits = begun log f v p (of_log log f v valid fits) fits (rules_spelled (sought_of log f v) p fits ranges)
 
   -- the search before the first conflict
-  pub started : NewTrailIsInStep → (vars : ℕ) (links : List (Option (Edge × Edge))) (t : Assigned) (g : Constraints) (d : Derived) → vars ≡ length p.atoms → t.vars ≡ vars → t.entries ≡ [] → t.levels ≡ [] → t.watching.watches ≡ [] → IsTrail t
-      → g.nodes ≡ p.nodes → g.capacity ≡ length p.edges + vars → g.edges ≡ p.edges → AreLinks p.atoms links → d.db ≡ p.db → d.cites ≡ map hint.Rule p.rules → d.lines ≡ [] → All IsRuleInRange p.rules
-      → IsSearch p vars links t g d 0
-  started law vars links t g d count assigned none flat unwatched trail same room held linked own cites lines ranges = record {
-    count = count;
-    assigned = assigned;
-    nodes = same;
-    room = omega (arith, room);
-    links_are = linked;
-    run = record {
-      trail = trail;
-      step = law t d.db links p.edges g none flat unwatched (subst (λ (n : ℕ). All (All (λ (l : Lit). l.var < n)) d.db) (sym (assigned ∙ count)) (rw own (fits_within (sought_of posed.log posed.form posed.value) p posed.fits)))
-          (links_fit t g p.atoms links (assigned ∙ count) (rw same posed_orders) linked) held;
-      closed = λ m deep. absurd (let levels : length t.levels ≡ 0 = ap length flat in omega (arith, deep, levels));
-    };
-    clauses = ([], own ∙ sym (append-nil p.db));
-    few_clauses = let size : length d.db ≡ length p.db = ap length own in omega (arith, size);
-    few_lines = let size : length d.lines ≡ 0 = ap length lines in omega (arith, size);
-    lesson_count = rw lines refl;
-    derives = λ log f v valid fits. rw (own, cites, lines) (recorded ranges log f v valid fits);
-    spending = λ log f v valid fits. rw (own, cites, lines) (spending_begun log f v p fits);
-  }
+  pub started : NewTrailIsInStep → (s : SearchState) → IsTheoryOf p s.theory → s.linked.lits.items ≡ [] → s.linked.seen ≡ 0 → s.trail.vars ≡ length p.atoms → s.trail.entries ≡ [] → s.trail.levels ≡ [] → s.trail.watching.watches ≡ [] → IsTrail s.trail
+      → s.graph.nodes ≡ p.nodes → s.graph.capacity ≡ length p.edges + length p.atoms → s.graph.edges ≡ p.edges → s.derived.db ≡ p.db → s.derived.cites ≡ map hint.Rule p.rules → s.derived.lines ≡ [] → All IsRuleInRange p.rules
+      → IsSearch p s 0
+  started law s theory_of unlinked unseen assigned none flat unwatched trail same room held own cites lines ranges =
+      let linked : AreLinks p.atoms s.theory.links = rw theory_of.atoms at theory_of.links_are in
+      record {
+        search_for = record {
+          theory_of = theory_of;
+          assigned = assigned;
+          nodes = same;
+          room = omega (arith, room);
+          linked = record { within = omega (arith, unseen); lits = unlinked ∙ rw unseen refl };
+          clauses = ([], own ∙ sym (append-nil p.db));
+          derives = λ log f v valid fits. rw (own, cites, lines) (recorded ranges log f v valid fits);
+        };
+        spent = record {
+          few_clauses = let size : length s.derived.db ≡ length p.db = ap length own in omega (arith, size);
+          few_lines = let size : length s.derived.lines ≡ 0 = ap length lines in omega (arith, size);
+          lesson_count = rw lines refl;
+          spending = λ log f v valid fits. rw (own, cites, lines) (spending_begun log f v p fits);
+        };
+        run = record {
+          trail = trail;
+          step = law s.trail s.derived.db s.theory.links p.edges s.graph none flat unwatched
+              (subst (λ (n : ℕ). All (All (λ (l : Lit). l.var < n)) s.derived.db) (sym assigned) (rw own (fits_within (sought_of posed.log posed.form posed.value) p posed.fits)))
+              (links_fit s.trail s.graph p.atoms s.theory.links assigned (rw same posed_orders) linked) held;
+          closed = λ m deep. absurd (let levels : length s.trail.levels ≡ 0 = ap length flat in omega (arith, deep, levels));
+        };
+      }
 
--- the search before the first conflict, for a theory that is ready
-pub started_ready : (cores : CoresAreCores) (nodes_law : NodesAreSubtrees) (p : Problem) (theory : Theory) (edges : List Edge) (d : Derived) → IsReady p theory edges d → NewTrailIsInStep → (vars : ℕ) (t : Assigned) (g : Constraints) → vars ≡ length theory.atoms
-    → t.vars ≡ vars → t.entries ≡ [] → t.levels ≡ [] → t.watching.watches ≡ [] → IsTrail t → g.nodes ≡ theory.nodes → g.capacity ≡ length edges + vars → g.edges ≡ edges → IsSearch p vars theory.links t g d 0
-started_ready cores nodes_law p theory edges d ready law vars t g count assigned none flat unwatched trail same room held =
-    started cores nodes_law p ready.theory_of.posed law vars theory.links t g d (count ∙ ap length ready.theory_of.atoms) assigned none flat unwatched trail (same ∙ ready.theory_of.nodes) (rw ready.edges_are at room) (held ∙ ready.edges_are)
-    (rw ready.theory_of.atoms at ready.links_are) ready.clauses ready.cites ready.none ready.in_range
+-- a posed problem is ready
+pub problem_ready : CoresAreCores → NodesAreSubtrees → (p : Problem) → IsPosed p → (links : List (Option (Edge × Edge))) (edges : List Edge) (d : Derived) → AreLinks p.atoms links → edges ≡ p.edges → d.db ≡ p.db → d.cites ≡ map hint.Rule p.rules
+    → d.lines ≡ [] → All IsRuleInRange p.rules → IsReady p (record { bounds = p.bounds; atoms = p.atoms; links = links; nodes = p.nodes }) edges d
+problem_ready cores nodes_law p posed links edges d linked same own cites lines ranges = record {
+  theory_of = record {
+    posed = posed;
+    bounds = refl;
+    atoms = refl;
+    nodes = refl;
+    orders = orders-more p.nodes MAX_NODES p.atoms posed.fits.system.few_nodes (posed_orders cores nodes_law p posed);
+    links_are = linked;
+  };
+  edges_are = same;
+  clauses = own;
+  cites = cites;
+  none = lines;
+  in_range = ranges;
+}
+
+-- the search before the first conflict, for what is ready
+pub started_ready : (cores : CoresAreCores) (nodes_law : NodesAreSubtrees) (p : Problem) (edges : List Edge) (s : SearchState) → IsReady p s.theory edges s.derived → NewTrailIsInStep → s.linked.lits.items ≡ [] → s.linked.seen ≡ 0 → (vars : ℕ) → vars ≡ length s.theory.atoms
+    → s.trail.vars ≡ vars → s.trail.entries ≡ [] → s.trail.levels ≡ [] → s.trail.watching.watches ≡ [] → IsTrail s.trail → s.graph.nodes ≡ s.theory.nodes → s.graph.capacity ≡ length edges + vars → s.graph.edges ≡ edges → IsSearch p s 0
+started_ready cores nodes_law p edges s ready law unlinked unseen vars count assigned none flat unwatched trail same room held =
+    let atoms = count ∙ ap length ready.theory_of.atoms in
+    started cores nodes_law p ready.theory_of.posed law s ready.theory_of unlinked unseen (assigned ∙ atoms) none flat unwatched trail (same ∙ ready.theory_of.nodes) (rw (ready.edges_are, atoms) at room) (held ∙ ready.edges_are)
+    ready.clauses ready.cites ready.none ready.in_range

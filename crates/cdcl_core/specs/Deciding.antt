@@ -1,13 +1,10 @@
--- What is decided, and where a descent ends.
+-- What is decided.
 use Rattle.std.specs.Prelude.{◌≡◌, ℕ, ◌<◌, List, Bool}
 use Rattle.clause_db.specs.declared.lit.Lit.{Lit}
 use Rattle.propagate.specs.declared.entry.Entry.{Entry}
 use Rattle.propagate.specs.Trails.{IsUnassigned}
 use Rattle.cdcl_core.specs.declared.decision.Decision.{Decision}
 use Rattle.cdcl_core.specs.declared.decision.Decision.TheVariants as decision
-use Rattle.cdcl_core.specs.declared.descent.Conflict.{Conflict}
-use Rattle.cdcl_core.specs.declared.descent.Descent.{Descent}
-use Rattle.cdcl_core.specs.declared.descent.Descent.TheVariants as descent
 
 -- the fact holds of the values, where nothing is to be decided
 abbrev pub IfDone : (List Bool → Type 0) → Decision → Type 0
@@ -24,13 +21,3 @@ pub record IsNext (vars : ℕ) (entries : List Entry) (lit : Lit) (start : ℕ) 
   pub within : lit.var < vars
   pub unassigned : IsUnassigned entries lit.var
   pub before : (w : ℕ) → w < start → IsUnassigned entries w → w ≡ lit.var
-
--- the fact holds of the values, where a descent ends with some
-abbrev pub IfMet : (List Bool → Type 0) → Descent → Type 0
-IfMet P (descent.Met values) = P values
-IfMet P (descent.Stopped x) = Unit {0}
-
--- the fact holds of the conflict, where it ends in one
-abbrev pub IfConflict : (Conflict → Type 0) → Descent → Type 0
-IfConflict P (descent.Met values) = Unit {0}
-IfConflict P (descent.Stopped x) = P x

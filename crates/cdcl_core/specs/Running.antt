@@ -46,12 +46,6 @@ abbrev pub HasStopped : List (List Lit) → List (Option (Edge × Edge)) → Lis
 HasStopped db links base t g (conflict.False c) = IsRun db links base t g × IsConflict t db c
 HasStopped db links base t g (conflict.Refused l) = IsStuck db links base t g l
 
--- it stopped over a base of so many edges
-pub record HasStoppedOver (edges : ℕ) (db : List (List Lit)) (links : List (Option (Edge × Edge))) (t : Assigned) (g : Constraints) (x : Conflict) : Type 0 where
-  pub base : List Edge
-  pub count : length base ≡ edges
-  pub stopped : HasStopped db links base t g x
-
 -- a clause is false, as `learn` and `refute` ask; a level below that leaves two of its literals open is closed
 pub record IsConflicted (db : List (List Lit)) (links : List (Option (Edge × Edge))) (base : List Edge) (t : Assigned) (g : Constraints) (c : ℕ) : Type 0 where
   pub trail : IsTrail t

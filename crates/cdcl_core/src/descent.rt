@@ -1,21 +1,17 @@
 //! Deciding and propagating until nothing is left or something is in conflict.
 
-ghost use Rattle.std.specs.Prelude.{◌≡◌, IfOk, OnOk, List};
-ghost use Rattle.neg_cycle.specs.declared.system.Edge.{Edge};
-ghost use Rattle.difference_graph.specs.Graphs.{HasSameLimits};
-ghost use Rattle.cdcl_core.specs.Assignments.{IsSatisfying};
-ghost use Rattle.cdcl_core.specs.Deciding.{IfConflict, IfMet};
-ghost use Rattle.cdcl_core.specs.Orders.{AreLinks};
-ghost use Rattle.cdcl_core.specs.Running.{HasStopped, IsRun, IsRunning};
+ghost use Rattle.std.specs.Prelude.{ℕ, IfOk};
+ghost use Rattle.mtl_encode.specs.declared.problem.Problem.{Problem};
+ghost use Rattle.cdcl_core.specs.Searching.{IsSearch};
+ghost use Rattle.cdcl_core.specs.Turns.{HasDescended, IsUnderWay};
 
-use crate::conflict::Theory;
 use crate::decision::{Decision, next};
 use crate::sight::Sight;
-use crate::strategy::Strategy;
-use clause_db::{ClauseRef, Db, Lit};
-use difference_graph::{Graph, Push};
+use crate::state::SearchState;
+use clause_db::{ClauseRef, Lit};
+use difference_graph::Push;
 use mt_model::Bits;
-use propagate::{Reached, Trail};
+use propagate::Reached;
 use std::alloc::{AllocError, Global};
 
 /// What keeps a descent from going on.
@@ -36,55 +32,47 @@ pub enum Descent {
     Stopped(Conflict),
 }
 
-/// Propagates, and decides what the strategy says, until the problem is satisfied, a clause is false, or an edge is
-/// refused.
-pub fn descend(
-    alloc: Global,
-    theory: &Theory,
-    trail: &mut Trail,
-    db: &Db,
-    graph: &mut Graph,
-    strategy: &mut Strategy,
-    vars: u32,
-) -> Result<Descent, AllocError>
-    requires running { IsRunning vars db.now theory.now.links trail.old graph.old }
-    requires links { AreLinks theory.now.atoms theory.now.links }
-    requires nodes { graph.old.nodes ≡ theory.now.nodes }
-    ensures vars { OnOk result (trail.new.vars ≡ vars) }
-    ensures limits { OnOk result (HasSameLimits graph.old graph.new) }
-    ensures stopped { IfOk result (IfConflict (λ x. (base : List Edge) → IsRun db.now theory.now.links base trail.old graph.old → HasStopped db.now theory.now.links base trail.new graph.new x)) }
-    ensures run { IfOk result (IfMet (λ values. (base : List Edge) → IsRun db.now theory.now.links base trail.old graph.old → IsRun db.now theory.now.links base trail.new graph.new)) }
-    ensures met { IfOk result (IfMet (IsSatisfying theory.now.atoms db.now graph.new.numbers)) }
-{
-    let mut start = 0;
-    'decisions: loop {
-        let reached = trail.propagate(db, &theory.links, graph)?;
-        // With the level it is known that no variable is assigned twice.
-        let _ = trail.level();
-        match reached {
-            Reached::Quiet => {}
-            Reached::ClauseConflict(clause) => {
-                return Ok(Descent::Stopped(Conflict::False(clause)));
+impl SearchState {
+    /// Propagates, and decides what the strategy says, until the problem is satisfied, a clause is false, or an edge
+    /// is refused.
+    pub fn descend(&mut self, alloc: Global) -> Result<Descent, AllocError>
+        requires under_way { IsUnderWay self.old }
+        ensures descended { IfOk result (λ descent. (p : Problem) (n : ℕ) → IsSearch p self.old n → HasDescended p self.new n descent) }
+    {
+        let mut start = 0;
+        'decisions: loop {
+            let reached = self
+                .trail
+                .propagate(&self.derived.db, &self.theory.links, &mut self.graph)?;
+            // With the level it is known that no variable is assigned twice.
+            let _ = self.trail.level();
+            match reached {
+                Reached::Quiet => {}
+                Reached::ClauseConflict(clause) => {
+                    return Ok(Descent::Stopped(Conflict::False(clause)));
+                }
+                Reached::TheoryConflict(lit) => {
+                    return Ok(Descent::Stopped(Conflict::Refused(lit)));
+                }
             }
-            Reached::TheoryConflict(lit) => {
-                return Ok(Descent::Stopped(Conflict::Refused(lit)));
-            }
-        }
-        let sight = Sight {
-            trail,
-            db,
-            links: &theory.links,
-            graph,
-            vars,
-            nodes: theory.nodes,
-        };
-        match next(alloc, theory, &sight, strategy, start)? {
-            Decision::Done(values) => return Ok(Descent::Met(values)),
-            Decision::Decide { lit, start: begin } => {
-                start = begin;
-                match trail.decide(lit, &theory.links, graph) {
-                    Push::Kept => {}
-                    Push::Cycle => return Ok(Descent::Stopped(Conflict::Refused(lit))),
+            let theory = &self.theory;
+            let vars = theory.atoms.len();
+            let sight = Sight {
+                trail: &self.trail,
+                db: &self.derived.db,
+                links: &theory.links,
+                graph: &self.graph,
+                vars,
+                nodes: theory.nodes,
+            };
+            match next(alloc, theory, &sight, &mut self.strategy, start)? {
+                Decision::Done(values) => return Ok(Descent::Met(values)),
+                Decision::Decide { lit, start: begin } => {
+                    start = begin;
+                    match self.trail.decide(lit, &self.theory.links, &mut self.graph) {
+                        Push::Kept => {}
+                        Push::Cycle => return Ok(Descent::Stopped(Conflict::Refused(lit))),
+                    }
                 }
             }
         }

@@ -20,6 +20,7 @@ mod read_off;
 mod restarts;
 mod scores;
 mod sight;
+mod state;
 mod strategy;
 mod turn;
 mod walk;

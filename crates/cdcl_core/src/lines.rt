@@ -10,14 +10,14 @@ ghost use Rattle.skew_bounds.specs.Edges.{AreEdges};
 ghost use Rattle.axiom_rules.specs.declared.literal.Atom.{Atom};
 ghost use Rattle.axiom_rules.specs.declared.rule.Rule.{Rule};
 ghost use Rattle.cdcl_core.specs.Founds.{lessons};
-ghost use Rattle.cdcl_core.specs.Orders.{AreLinks, IsOrderAmong};
+ghost use Rattle.propagate.specs.Trails.{literals};
+ghost use Rattle.cdcl_core.specs.Orders.{AreLinks, IsOrderAmong, linked};
 ghost use Rattle.cdcl_core.specs.Recording.{IsLearnLine, IsRecord, cite_at, read_clause};
 ghost use Rattle.cdcl_core.specs.Running.{IsConflicted, IsStuck, IsStuckOver};
 ghost use Rattle.cdcl_core.specs.Extending.{Extends};
 ghost use Rattle.cdcl_core.specs.Spending.{IsSpending};
 
 use crate::derived::{Derived, read_hints, read_lits};
-use crate::linked::linked_lits;
 use crate::walk::{denied, steps_of};
 use axiom_rules::AtomTable;
 use clause_db::{ClauseRef, Lit};
@@ -27,11 +27,12 @@ use proof_log::Line;
 use propagate::{Links, Trail};
 use std::alloc::{AllocError, Global};
 
-// The line and the clause of the walk that a refused edge closes.
+/// The line and the clause of the walk that a refused edge closes, where these are the literals that have edges.
 pub fn add_cycle(
     alloc: Global,
     trail: &Trail,
     links: &Links,
+    orders: &[Lit],
     graph: &Graph,
     bounds: &[Bound],
     atoms: &AtomTable,
@@ -40,6 +41,7 @@ pub fn add_cycle(
     requires orders { All (IsOrderAmong MAX_NODES) atoms.now }
     requires links { AreLinks atoms.now links.now }
     requires vars { trail.now.vars ≡ length atoms.now }
+    requires linked { orders.now ≡ linked links.now (literals trail.now.entries) }
     requires stuck { IsStuckOver (length bounds.now) derived.old.db links.now trail.now graph.now }
     requires clause_room { length derived.old.db < 2 ^ 32 - 1 }
     requires line_room { length derived.old.lines < 2 ^ 32 - 1 }
@@ -57,9 +59,8 @@ pub fn add_cycle(
     // The held edges have a solution, and each atom has one variable.
     graphs_are_solved(graph);
     let _ = atoms.len();
-    let orders = linked_lits(alloc, trail, links)?;
-    let steps = steps_of(alloc, bounds, &orders, atoms, graph.cycle())?;
-    let lits = denied(alloc, bounds.len(), &orders, graph.cycle())?;
+    let steps = steps_of(alloc, bounds, orders, atoms, graph.cycle())?;
+    let lits = denied(alloc, bounds.len(), orders, graph.cycle())?;
     derived.add(&lits, Line::Cycle(steps))
 }
 

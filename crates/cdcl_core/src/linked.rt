@@ -1,6 +1,6 @@
 //! The literals of a trail that have edges.
 
-ghost use Rattle.std.specs.Prelude.{◌≡◌, length, IfOk};
+ghost use Rattle.std.specs.Prelude.{◌≡◌, ◌<◌, ◌≤◌, [], length, take, OnOk};
 ghost use Rattle.propagate.specs.Trails.{literals};
 ghost use Rattle.cdcl_core.specs.Orders.{linked};
 
@@ -8,18 +8,53 @@ use clause_db::Lit;
 use propagate::{Links, Trail};
 use std::alloc::{AllocError, Global};
 
-/// The literals of the trail that have an edge, in the order of assignment: literal n is that of edge n
-/// after those of the base.
-pub fn linked_lits(alloc: Global, trail: &Trail, links: &Links) -> Result<Vec<Lit>, AllocError>
-    requires vars { length links.now ≡ trail.now.vars }
-    ensures linked { IfOk result (λ v. v.items ≡ linked links.now (literals trail.now.entries)) }
-{
-    let mut lits = Vec::new(alloc);
-    for place in 0..trail.len() {
-        let lit = trail.lit(place);
-        if links.get(lit.var()).is_some() {
-            lits.push(lit)?;
+/// The literals that have an edge among the first of a trail, in the order of assignment: literal n is that of edge n
+/// after those of the base. To find one of an edge takes no walk along the trail.
+#[derive(Drop)]
+pub struct LinkedLits {
+    pub lits: Vec<Lit>,
+    /// How many literals of the trail were looked at.
+    pub seen: u32,
+}
+
+impl LinkedLits {
+    /// Of none.
+    pub fn new(alloc: Global) -> LinkedLits
+        ensures none { result.lits.items ≡ [] }
+        ensures unseen { result.seen ≡ 0 }
+    {
+        LinkedLits {
+            lits: Vec::new(alloc),
+            seen: 0,
         }
     }
-    Ok(lits)
+
+    /// Takes in the other literals of the trail.
+    pub fn take_in(&mut self, trail: &Trail, links: &Links) -> Result<(), AllocError>
+        requires vars { length links.now ≡ trail.now.vars }
+        requires within { self.old.seen ≤ length trail.now.entries }
+        requires linked { self.old.lits.items ≡ linked links.now (literals (take self.old.seen trail.now.entries)) }
+        ensures all { OnOk result (self.new.seen ≡ length trail.now.entries) }
+        ensures linked { OnOk result (self.new.lits.items ≡ linked links.now (literals trail.now.entries)) }
+    {
+        for place in self.seen..trail.len() {
+            let lit = trail.lit(place);
+            if links.get(lit.var()).is_some() {
+                self.lits.push(lit)?;
+            }
+        }
+        self.seen = trail.len();
+        Ok(())
+    }
+
+    /// Leaves those of a trail that went back to so many literals, of which so many have an edge.
+    pub fn cut(&mut self, len: u32, held: usize)
+        ensures shorter { len < self.old.seen → (self.new.seen ≡ len) × (self.new.lits.items ≡ take held self.old.lits.items) }
+        ensures same { self.old.seen ≤ len → (self.new.seen ≡ self.old.seen) × (self.new.lits.items ≡ self.old.lits.items) }
+    {
+        if len < self.seen {
+            self.lits.truncate(held);
+            self.seen = len;
+        }
+    }
 }

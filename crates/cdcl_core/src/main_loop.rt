@@ -9,16 +9,18 @@ ghost use Rattle.mtl_encode.specs.Problems.{Fits};
 ghost use Rattle.mtl_encode.specs.declared.problem.Problem.{Problem};
 ghost use Rattle.cdcl_core.specs.Founds.{IfSpent, IsFound, IsPosed};
 ghost use Rattle.cdcl_core.specs.Searching.{IsSearch};
-ghost use Rattle.cdcl_core.specs.Turns.{IsAnswer, IsReady, IsTheoryOf, IsUnderWay};
+ghost use Rattle.cdcl_core.specs.Turns.{IsAnswer, IsReady};
 
 use crate::Found;
 use crate::assignment::potentials_of;
-use crate::conflict::{Theory, refuted};
+use crate::conflict::Theory;
 use crate::derived::Derived;
 use crate::difference::{graph_of, links_of};
+use crate::linked::LinkedLits;
+use crate::state::SearchState;
 use crate::strategy::Strategy;
-use crate::turn::{Turn, take_turn};
-use difference_graph::{Graph, graphs_are_solved};
+use crate::turn::Turn;
+use difference_graph::graphs_are_solved;
 use formula_arena::{cores_are_cores, nodes_are_subtrees};
 use mtl_encode::Problem;
 use neg_cycle::Edge;
@@ -59,74 +61,64 @@ pub fn search(alloc: Global, problem: Problem, budget: u32) -> Result<Found, All
         links,
         nodes,
     };
-    start(alloc, &theory, edges.as_slice(), derived, budget)
+    let state = SearchState::begin(alloc, theory, edges.as_slice(), derived)?;
+    state.run(alloc, budget)
 }
 
-// Searches with an empty trail and the edges of the bounds.
-fn start(
-    alloc: Global,
-    theory: &Theory,
-    edges: &[Edge],
-    derived: Derived,
-    budget: u32,
-) -> Result<Found, AllocError>
-    requires some { 1 ≤ budget }
-    requires most { budget ≤ 1000000 }
-    requires ready { (problem : Problem) × IsReady problem theory.now edges.now derived }
-    ensures answer { IfOk result (λ found. (problem : Problem) → IsReady problem theory.now edges.now derived → IsAnswer problem budget found) }
-{
-    // The nodes of a formula name each other, so the atoms of the rules are in range.
-    cores_are_cores();
-    nodes_are_subtrees();
-    new_trail_is_in_step();
-    let vars = theory.atoms.len();
-    let mut graph = graph_of(alloc, theory.nodes, edges, vars)?;
-    let mut trail = Trail::new(alloc, vars)?;
-    // With the level it is known that no variable is assigned twice.
-    let _ = trail.level();
-    let mut strategy = Strategy::new(alloc, &derived, &theory.links, vars, theory.nodes)?;
-    run(
-        alloc,
-        theory,
-        &mut trail,
-        &mut graph,
-        derived,
-        &mut strategy,
-        vars,
-        budget,
-    )
-}
-
-// Goes on from conflict to conflict until there is an answer or the budget is spent.
-fn run(
-    alloc: Global,
-    theory: &Theory,
-    trail: &mut Trail,
-    graph: &mut Graph,
-    derived: Derived,
-    strategy: &mut Strategy,
-    vars: u32,
-    budget: u32,
-) -> Result<Found, AllocError>
-    requires some { 1 ≤ budget }
-    requires most { budget ≤ 1000000 }
-    requires begun { IsUnderWay theory.now vars trail.old graph.old derived 0 }
-    ensures answer { IfOk result (λ found. (problem : Problem) → IsTheoryOf problem theory.now → IsSearch problem vars theory.now.links trail.old graph.old derived 0 → IsAnswer problem budget found) }
-{
-    let mut derived = derived;
-    'conflicts: for _conflict in 0..budget {
-        match take_turn(alloc, theory, trail, graph, &mut derived, strategy, vars)? {
-            Turn::Met(values) => {
-                graphs_are_solved(graph);
-                let potentials = potentials_of(alloc, graph, theory.nodes)?;
-                return Ok(Found::Model { values, potentials });
-            }
-            Turn::Refuted(clause) => {
-                let lines = refuted(alloc, &theory.atoms, trail, derived, clause)?;
-                return Ok(Found::Refuted(lines));
-            }
-            Turn::Learnt => {}
-        }
+impl SearchState {
+    /// With an empty trail and the edges of the bounds.
+    fn begin(
+        alloc: Global,
+        theory: Theory,
+        edges: &[Edge],
+        derived: Derived,
+    ) -> Result<SearchState, AllocError>
+        requires ready { (problem : Problem) × IsReady problem theory edges.now derived }
+        ensures begun { IfOk result (λ s. (problem : Problem) → IsReady problem theory edges.now derived → IsSearch problem s 0) }
+    {
+        // The nodes of a formula name each other, so the atoms of the rules are in range.
+        cores_are_cores();
+        nodes_are_subtrees();
+        new_trail_is_in_step();
+        let vars = theory.atoms.len();
+        let graph = graph_of(alloc, theory.nodes, edges, vars)?;
+        let trail = Trail::new(alloc, vars)?;
+        // With the level it is known that no variable is assigned twice.
+        let _ = trail.level();
+        let strategy = Strategy::new(alloc, &derived, &theory.links, vars, theory.nodes)?;
+        let linked = LinkedLits::new(alloc);
+        Ok(SearchState {
+            theory,
+            trail,
+            graph,
+            linked,
+            derived,
+            strategy,
+        })
     }
-    Ok(Found::Spent(derived.lines))
+
+    /// Goes on from conflict to conflict until there is an answer or the budget is spent.
+    fn run(mut self, alloc: Global, budget: u32) -> Result<Found, AllocError>
+        requires some { 1 ≤ budget }
+        requires most { budget ≤ 1000000 }
+        requires begun { (problem : Problem) × IsSearch problem self 0 }
+        ensures answer { IfOk result (λ found. (problem : Problem) → IsSearch problem self 0 → IsAnswer problem budget found) }
+    {
+        'conflicts: for _conflict in 0..budget {
+            match self.take_turn(alloc)? {
+                Turn::Met(values) => {
+                    graphs_are_solved(&self.graph);
+                    let potentials = potentials_of(alloc, &self.graph, self.theory.nodes)?;
+                    return Ok(Found::Model { values, potentials });
+                }
+                Turn::Refuted(clause) => {
+                    let lines = self.refuted(alloc, clause)?;
+                    return Ok(Found::Refuted(lines));
+                }
+                Turn::Learnt => {}
+            }
+        }
+        let derived = self.derived;
+        Ok(Found::Spent(derived.lines))
+    }
 }

@@ -1,18 +1,14 @@
 //! A turn of a search: a descent, and what is learnt where it ends in conflict.
 
-ghost use Rattle.std.specs.Prelude.{ℕ, ◌<◌, IfOk};
+ghost use Rattle.std.specs.Prelude.{ℕ, IfOk};
 ghost use Rattle.mtl_encode.specs.declared.problem.Problem.{Problem};
 ghost use Rattle.cdcl_core.specs.Searching.{IsSearch};
-ghost use Rattle.cdcl_core.specs.Turns.{HasTurned, IsTheoryOf, IsUnderWay};
+ghost use Rattle.cdcl_core.specs.Turns.{HasTurned, IsUnderWay};
 
-use crate::conflict::{Theory, conflict_clause, learn_clause};
-use crate::derived::Derived;
-use crate::descent::{Descent, descend};
-use crate::strategy::Strategy;
+use crate::descent::Descent;
+use crate::state::SearchState;
 use clause_db::ClauseRef;
-use difference_graph::Graph;
 use mt_model::Bits;
-use propagate::Trail;
 use std::alloc::{AllocError, Global};
 
 /// What a turn came to.
@@ -26,36 +22,22 @@ pub enum Turn {
     Learnt,
 }
 
-/// Descends, and learns a clause where that ends in a conflict above level 0.
-pub fn take_turn(
-    alloc: Global,
-    theory: &Theory,
-    trail: &mut Trail,
-    graph: &mut Graph,
-    derived: &mut Derived,
-    strategy: &mut Strategy,
-    vars: u32,
-) -> Result<Turn, AllocError>
-    requires under_way { IsUnderWay theory.now vars trail.old graph.old derived.old 999999 }
-    ensures turned { IfOk result (λ turn. (problem : Problem) (n : ℕ) → IsTheoryOf problem theory.now → IsSearch problem vars theory.now.links trail.old graph.old derived.old n → HasTurned problem vars theory.now.links trail.new graph.new derived.new n turn) }
-{
-    match descend(alloc, theory, trail, &derived.db, graph, strategy, vars)? {
-        Descent::Met(values) => Ok(Turn::Met(values)),
-        Descent::Stopped(conflict) => {
-            let clause = conflict_clause(alloc, theory, trail, graph, derived, conflict)?;
-            if trail.level() == 0 {
-                return Ok(Turn::Refuted(clause));
+impl SearchState {
+    /// Descends, and learns a clause where that ends in a conflict above level 0.
+    pub fn take_turn(&mut self, alloc: Global) -> Result<Turn, AllocError>
+        requires under_way { IsUnderWay self.old }
+        ensures turned { IfOk result (λ turn. (p : Problem) (n : ℕ) → IsSearch p self.old n → HasTurned p self.new n turn) }
+    {
+        match self.descend(alloc)? {
+            Descent::Met(values) => Ok(Turn::Met(values)),
+            Descent::Stopped(conflict) => {
+                let clause = self.conflict_clause(alloc, conflict)?;
+                if self.trail.level() == 0 {
+                    return Ok(Turn::Refuted(clause));
+                }
+                self.learn_clause(alloc, clause)?;
+                Ok(Turn::Learnt)
             }
-            learn_clause(
-                alloc,
-                &theory.atoms,
-                trail,
-                graph,
-                derived,
-                strategy,
-                clause,
-            )?;
-            Ok(Turn::Learnt)
         }
     }
 }

@@ -20,26 +20,26 @@ at_end (Err e) old new lits P place clause holds = tt
 pub steps_of-requires-clause-within : goal.steps_of-requires-clause-within
 steps_of-requires-clause-within c =
     let s = c.requires.stuck in
-    rw (c.cycle.ensures.cycle, c.deref.ensures.value, c.in_ok-orders.ensures.linked)
+    rw (c.cycle.ensures.cycle, c.requires.linked)
     (walk_within c.args.atoms.now c.args.derived.now.db c.args.links.now s.base (length c.args.bounds.now) c.args.trail.now c.args.graph.now s.literal s.stuck s.count)
 
 pub steps_of-requires-clause-orders : goal.steps_of-requires-clause-orders
 steps_of-requires-clause-orders c =
-    rw (c.deref.ensures.value, c.in_ok-orders.ensures.linked) (are_orders c.args.atoms.now c.args.links.now (literals c.args.trail.now.entries) c.requires.links c.requires.orders)
+    rw (c.requires.linked) (are_orders c.args.atoms.now c.args.links.now (literals c.args.trail.now.entries) c.requires.links c.requires.orders)
 
 pub denied-requires : goal.denied-requires
 denied-requires c =
     let s = c.requires.stuck in
     record {
-      within = rw (c.cycle-2.ensures.cycle, c.deref-2.ensures.value, c.in_ok-orders.ensures.linked)
+      within = rw (c.cycle-2.ensures.cycle, c.requires.linked)
           (walk_within c.args.atoms.now c.args.derived.now.db c.args.links.now s.base (length c.args.bounds.now) c.args.trail.now c.args.graph.now s.literal s.stuck s.count);
     }
 
 pub add-requires-clause-once : goal.add-requires-clause-once
 add-requires-clause-once c =
     let s = c.requires.stuck in
-    let lits = rw (c.deref-2.ensures.value, c.in_ok-orders.ensures.linked, c.cycle-2.ensures.cycle) at c.in_ok-lits.ensures.clause in
-    rw (c.deref-3.ensures.value, lits) (clause_once c.args.atoms.now c.args.derived.now.db c.args.links.now s.base (length c.args.bounds.now) c.args.trail.now c.args.graph.now s.literal s.stuck s.count)
+    let lits = rw (c.requires.linked, c.cycle-2.ensures.cycle) at c.in_ok-lits.ensures.clause in
+    rw (c.deref.ensures.value, lits) (clause_once c.args.atoms.now c.args.derived.now.db c.args.links.now s.base (length c.args.bounds.now) c.args.trail.now c.args.graph.now s.literal s.stuck s.count)
 
 pub returns-clause-conflicted : goal.returns-clause-conflicted
 returns-clause-conflicted c =
@@ -48,8 +48,8 @@ returns-clause-conflicted c =
     let t = c.args.trail.now in
     let g = c.args.graph.now in
     let many = length c.args.bounds.now in
-    let lits = rw (c.deref-2.ensures.value, c.in_ok-orders.ensures.linked, c.cycle-2.ensures.cycle) at c.in_ok-lits.ensures.clause in
-    let clause = rw (c.deref-3.ensures.value, lits) at c.add.ensures.clause in
+    let lits = rw (c.requires.linked, c.cycle-2.ensures.cycle) at c.in_ok-lits.ensures.clause in
+    let clause = rw (c.deref.ensures.value, lits) at c.add.ensures.clause in
     at_end c.add.result db c.add.new.self.db (denied_in many (linked links (literals t.entries)) g.cycle)
     (λ d n. (base : List Edge) (l : Lit) → length base ≡ many → IsStuck db links base t g l → IsConflicted d links base t g n) c.add.ensures.place clause
     (λ base l count stuck. clause_conflicted c.args.atoms.now db links base many t g l stuck count c.requires.links c.requires.orders c.requires.vars c.graphs_are_solved.ensures.solution)
@@ -61,12 +61,12 @@ of_three A B C P (Err e) then a b c = tt
 
 pub returns-clause-derives : goal.returns-clause-derives
 returns-clause-derives c =
-    let same = rw (c.deref.ensures.value, c.in_ok-orders.ensures.linked, c.cycle.ensures.cycle) at c.in_ok-steps.ensures.steps in
-    let own = c.deref-3.ensures.value ∙ (rw (c.deref-2.ensures.value, c.in_ok-orders.ensures.linked, c.cycle-2.ensures.cycle) at c.in_ok-lits.ensures.clause) in
+    let same = rw (c.requires.linked, c.cycle.ensures.cycle) at c.in_ok-steps.ensures.steps in
+    let own = c.deref.ensures.value ∙ (rw (c.requires.linked, c.cycle-2.ensures.cycle) at c.in_ok-lits.ensures.clause) in
     of_three _ _ _ _ c.add.result (λ clause cite line log f v base l are stuck old.
     cycle_recorded log f v c.args.atoms.now c.args.derived.now.db c.args.derived.now.cites c.args.derived.now.lines c.args.bounds.now c.args.links.now base c.args.trail.now c.args.graph.now l c.in_ok-steps.steps
     old c.len.ensures.once c.requires.links c.requires.vars c.graphs_are_solved.ensures.solution are stuck same
-    c.deref-3.result.now c.add.new.self.db c.add.new.self.cites c.add.new.self.lines (omega (arith, c.requires.line_room)) own clause cite line)
+    c.deref.result.now c.add.new.self.db c.add.new.self.cites c.add.new.self.lines (omega (arith, c.requires.line_room)) own clause cite line)
     c.add.ensures.clause c.add.ensures.cite c.add.ensures.line
 
 pub returns-clause-spending : goal.returns-clause-spending

@@ -1,0 +1,98 @@
+-- What the calls of learning ask for, and where the search is after it.
+use Rattle.std.proofs.Common.{◌≡◌, subst, ap, ◌<◌, ◌∷◌, [], length, take, map, arith}
+use Rattle.std.specs.Prelude.{All}
+use Rattle.std.proofs.lemmas.List.{length-map, length_push}
+use Rattle.clause_db.specs.declared.lit.Lit.{Lit}
+use Rattle.propagate.specs.Trails.{Assigned, literals, up_to}
+use Rattle.cdcl_core.specs.Orders.{linked, read_lit}
+use Rattle.cdcl_core.specs.Recording.{cite_at, read_clause}
+use Rattle.cdcl_core.specs.Running.{IsRun}
+use Rattle.cdcl_core.proofs.Conflicts.{jump_below}
+use Rattle.cdcl_core.proofs.FreshLearned.{spending_learned}
+use Rattle.cdcl_core.proofs.Learned.{asserting_some, back_run, marks_held}
+use Rattle.cdcl_core.proofs.LinkedUpTo.{held_count, linked_cut, up_to_front}
+use Rattle.cdcl_core.proofs.Learning.{one_lesson, record_learned}
+use Rattle.cdcl_core.proofs.Progress.{cites_count, clause_room, conflict_reasons, edges_count, few_atoms, learned, line_room, trail_vars}
+use Rattle.cdcl_core.proofs.state.SearchState.learn_clause.Goals as goal
+
+pub learn-requires : goal.learn-requires
+learn-requires c =
+    let s = c.args.self.now in
+    let w = c.requires.conflicted in
+    let conflicted = w.midway.conflicted in
+    record {
+      reasons = conflict_reasons s.derived.db s.theory.links w.problem.edges s.trail s.graph c.args.conflict conflicted;
+      held = conflicted.conflict.held;
+      falsified = conflicted.conflict.falsified;
+      level = c.requires.level;
+      here = conflicted.here c.requires.level;
+    }
+
+pub learnt-requires : goal.learnt-requires
+learnt-requires c =
+    let s = c.args.self.now in
+    let w = c.requires.conflicted in
+    let vars = trail_vars w.problem s w.midway.search_for in
+    record {
+      lits = rw (c.as_slice-lits.ensures.items, ← vars) c.in_ok-learned.ensures.variables;
+      refs = rw (c.as_slice.ensures.items, cites_count w.problem s w.midway.search_for) c.in_ok-learned.ensures.refute.held;
+    }
+
+pub add-requires : goal.add-requires
+add-requires c =
+    let s = c.args.self.now in
+    let w = c.requires.conflicted in
+    let own = w.midway.search_for in
+    record {
+      once = rw c.as_slice-lits.ensures.items c.in_ok-learned.ensures.once;
+      clause_room = clause_room w.problem s own w.conflicts 1 w.midway.known w.few (omega arith) w.midway.spent;
+      line_room = line_room w.problem s own w.conflicts 1 w.midway.known w.few (omega arith) w.midway.spent;
+    }
+
+pub back_to-requires : goal.back_to-requires
+back_to-requires c =
+    let s = c.args.self.now in
+    let w = c.requires.conflicted in
+    let conflicted = w.midway.conflicted in
+    let less = jump_below s.trail c.in_ok-learned.learned.lits c.in_ok-learned.learned.jump c.requires.level c.in_ok-learned.ensures.asserting c.in_ok-learned.ensures.jump conflicted.trail in
+    record { level = omega (arith, less, c.level_after.ensures); marks = marks_held s.derived.db s.trail s.graph c.args.conflict s.theory.links w.problem.edges conflicted }
+
+pub returns : goal.returns
+returns c = record {
+  learnt = λ p n mid.
+      let s = c.args.self.now in
+      let own = mid.search_for in
+      let vars = trail_vars p s own in
+      let atoms = s.theory.atoms in
+      let lits = c.as_slice-lits.result.now in
+      let refs = c.as_slice.result.now in
+      let reasons = conflict_reasons s.derived.db s.theory.links p.edges s.trail s.graph c.args.conflict mid.conflicted in
+      let low = subst (λ m. All (All (λ (l : Lit). l.var < m)) s.derived.db) vars reasons.variables in
+      let some : 0 < length lits = rw c.as_slice-lits.ensures.items (asserting_some s.derived.db s.trail s.graph c.args.conflict c.in_ok-learned.learned.lits c.in_ok-learned.ensures.asserting) in
+      let w = c.requires.conflicted in
+      let room = line_room w.problem s w.midway.search_for w.conflicts 1 w.midway.known w.few (omega arith) w.midway.spent in
+      let run : IsRun c.add.new.self.db s.theory.links p.edges c.back_to.new.self c.back_to.new.graph =
+      rw (c.in_ok-add.ensures.clause, c.as_slice-lits.ensures.items)
+      (back_run s.derived.db s.trail s.graph c.args.conflict c.in_ok-learned.learned.lits c.in_ok-learned.learned.jump c.level_after.result c.back_to.new.self c.back_to.new.graph c.requires.level c.level_after.ensures
+      c.in_ok-learned.ensures.asserting c.in_ok-learned.ensures.jump c.in_ok-learned.ensures.variables c.in_ok-learned.ensures.two_above c.level.ensures.trail
+      c.back_to.ensures.in_step c.back_to.ensures.after_refusal c.back_to.ensures.closed s.theory.links p.edges mid.conflicted) in
+      let entries : c.back_to.new.self.entries ≡ up_to c.level_after.result s.trail.entries = ap (λ (x : Assigned). x.entries) c.back_to.ensures.trail in
+      let front : c.back_to.new.self.entries ≡ take (length c.back_to.new.self.entries) s.trail.entries = rw entries (up_to_front s.trail c.level_after.result mid.conflicted.trail) in
+      let held : c.saturating_sub-held.result ≡ length (linked s.theory.links (literals c.back_to.new.self.entries)) =
+      held_count s.theory.links p.edges c.back_to.new.graph.edges (literals c.back_to.new.self.entries) c.saturating_sub-held.result (length s.theory.bounds) run.step.edges (edges_count p s own) (grind (arith, c.saturating_sub-held.ensures, c.mark-edges.ensures.count, c.len-base.ensures.count)) in
+      let are = linked_cut s.theory.links s.trail.entries s.linked own.linked c.back_to.new.self.entries c.saturating_sub-held.result c.cut.new.self front held
+      (rw c.len-2.ensures.count at c.cut.ensures.shorter) (rw c.len-2.ensures.count at c.cut.ensures.same) in
+      learned p s n c.args.conflict c.back_to.new.self c.back_to.new.graph c.cut.new.self c.add.new.self c.cut-2.new.self mid (ap (λ (x : Assigned). x.vars) c.back_to.ensures.trail) c.back_to.ensures.limits are run
+      (lits ∷ [], c.in_ok-add.ensures.clause)
+      (rw c.in_ok-add.ensures.clause (length_push s.derived.db lits))
+      (rw c.in_ok-add.ensures.line (length_push s.derived.lines c.in_ok-line.line))
+      (rw c.in_ok-add.ensures.line (one_lesson s.derived.lines (read_clause atoms lits) (map (cite_at s.derived.cites) refs) c.in_ok-line.line c.in_ok-line.ensures.line (omega (arith, some, length-map lits (read_lit atoms)))))
+      (λ log f v old. rw (c.in_ok-add.ensures.clause, c.in_ok-add.ensures.cite, c.in_ok-add.ensures.line)
+      (record_learned log f v atoms s.derived.db s.derived.cites s.derived.lines old c.len.ensures.once (few_atoms p s own) low lits refs c.in_ok-line.line (rw (c.as_slice-lits.ensures.items, ← vars) c.in_ok-learned.ensures.variables)
+      (rw c.as_slice-lits.ensures.items c.in_ok-learned.ensures.once) some (rw (c.as_slice-lits.ensures.items, c.as_slice.ensures.items) c.in_ok-learned.ensures.refute) c.in_ok-line.ensures.line
+      (omega (arith, room))))
+      (λ log f v rules known quiet record_ old. rw (c.in_ok-add.ensures.clause, c.in_ok-add.ensures.cite, c.in_ok-add.ensures.line)
+      (spending_learned log f v rules atoms known s.derived.db s.derived.cites s.derived.lines s.trail old record_ quiet mid.conflicted.trail c.requires.level c.len.ensures.once low lits refs c.in_ok-line.line
+      (rw (c.as_slice-lits.ensures.items, ← vars) c.in_ok-learned.ensures.variables) (rw c.as_slice-lits.ensures.items c.in_ok-learned.ensures.below)
+      (rw (c.as_slice-lits.ensures.items, c.as_slice.ensures.items) c.in_ok-learned.ensures.used) c.in_ok-line.ensures.line));
+}
