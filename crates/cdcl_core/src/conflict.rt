@@ -3,7 +3,7 @@
 ghost use Rattle.std.specs.Prelude.{◌≡◌, ℕ, ◌+◌, ◌<◌, ◌≤◌, [], length, IfOk, OnOk};
 ghost use Rattle.mtl_encode.specs.declared.problem.Problem.{Problem};
 ghost use Rattle.cdcl_core.specs.Searching.{IsMidway, IsSearch, IsStopped};
-ghost use Rattle.cdcl_core.specs.Turns.{HasStoppedIn, IsFalseIn, AreRefuting};
+ghost use Rattle.cdcl_core.specs.Turns.{AreRefuting, HasStoppedIn, IsFalseIn};
 
 use crate::descent::Conflict;
 use crate::lines::{add_cycle, learnt};

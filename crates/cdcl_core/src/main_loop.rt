@@ -66,7 +66,7 @@ pub fn search(alloc: Global, problem: Problem, budget: u32) -> Result<Found, All
 }
 
 impl SearchState {
-    /// With an empty trail and the edges of the bounds.
+    // With an empty trail and the edges of the bounds.
     fn begin(
         alloc: Global,
         theory: Theory,
@@ -97,7 +97,7 @@ impl SearchState {
         })
     }
 
-    /// Goes on from conflict to conflict until there is an answer or the budget is spent.
+    // Goes on from conflict to conflict until there is an answer or the budget is spent.
     fn run(mut self, alloc: Global, budget: u32) -> Result<Found, AllocError>
         requires some { 1 ≤ budget }
         requires most { budget ≤ 1000000 }
