@@ -1,13 +1,62 @@
 //! The real files and streams behind the traits, a few lines each.
 
-ghost use Rattle.std.specs.Prelude.{[], false, true, codes, bytes_eq, ◌≡◌, ◌↔◌, ◌||◌, ◌≤◌, IsErr, IfOk, OnErr, OnOk, length};
+ghost use Rattle.std.specs.Prelude.{[], false, true, codes, bytes_eq, take, ◌≡◌, ◌↔◌, ◌||◌, ◌<◌, ◌≤◌, IsErr, IfOk, OnErr, OnOk, length};
+ghost use Rattle.std.specs.Io.KnownBytes.{Appends, Consumes, IsAtEnd, Keeps};
 ghost use Rattle.mt_port.specs.Port.{HasCause};
 
 use crate::{Failed, Shelf, Sink};
 use std::fs;
-use std::io::{self, Read, Write};
+use std::io::{self, ErrorKind, Read, Write};
 use std::marker::Model;
 use std::rt::Files;
+
+// Reads the next bytes that a reader has left to the front of a buffer.
+//
+// The system may break a call off for a signal, and asks for it again: that isn't a failure.
+fn read_next<R: Read>(reader: &mut R, buf: &mut [u8]) -> Result<usize, Failed>
+    ensures size { length buf.new ≡ length buf.old }
+    ensures count { IfOk result (λ n. n ≤ length buf.new) }
+    ensures given { IfOk result (λ n. Consumes (R.remaining reader.old) (R.remaining reader.new) (take n buf.new)) }
+    ensures end { IfOk result (λ n. n ≡ 0 → 0 < length buf.new → IsAtEnd (R.remaining reader.new)) }
+    ensures place { OnErr result (Keeps (R.remaining reader.old) (R.remaining reader.new)) }
+{
+    for _ in 0..u64::MAX {
+        match reader.read(buf) {
+            Ok(count) => return Ok(count),
+            Err(error) if error.kind() == ErrorKind::Interrupted => {}
+            Err(_) => return Err(Failed),
+        }
+    }
+    Err(Failed)
+}
+
+// Writes the first bytes of a piece, at least one of a piece that isn't empty.
+fn write_next<W: Write>(writer: &mut W, piece: &[u8]) -> Result<usize, Failed>
+    ensures count { IfOk result (λ n. n ≤ length piece.now) }
+    ensures some { IfOk result (λ n. 0 < length piece.now → 0 < n) }
+    ensures taken { IfOk result (λ n. Appends (W.contents writer.old) (W.contents writer.new) (take n piece.now)) }
+    ensures kept { OnErr result (Keeps (W.contents writer.old) (W.contents writer.new)) }
+{
+    for _ in 0..u64::MAX {
+        match writer.write(piece) {
+            Ok(count) if count > 0 || piece.is_empty() => return Ok(count),
+            Err(fault) if fault.kind() == ErrorKind::Interrupted => {}
+            _ => return Err(Failed),
+        }
+    }
+    Err(Failed)
+}
+
+// Counts a fault where the answer of a call is one.
+fn counted<T>(answer: Result<T, Failed>, faults: &mut u64) -> Result<T, Failed>
+    ensures same { result ≡ answer }
+    ensures cause { HasCause faults.old faults.new result }
+{
+    if answer.is_err() {
+        *faults = faults.saturating_add(1);
+    }
+    answer
+}
 
 // What a shelf of real files reads from.
 #[derive(Drop)]
@@ -95,16 +144,10 @@ impl<R: Files + Input> Shelf for FileShelf<'_, R> {
     {
         let given = match &mut self.source {
             Source::Nothing => unreachable!(),
-            Source::Opened(file) => file.read(buf),
-            Source::Input(input) => input.read(buf),
+            Source::Opened(file) => read_next(file, buf),
+            Source::Input(input) => read_next(input, buf),
         };
-        match given {
-            Ok(count) => Ok(count),
-            Err(_) => {
-                self.faults = self.faults.saturating_add(1);
-                Err(Failed)
-            }
-        }
+        counted(given, &mut self.faults)
     }
 }
 
@@ -141,12 +184,9 @@ impl<R: Print> Sink for StdSink<'_, R> {
 
     /// Fails where the system does, and where it takes nothing of a piece that isn't empty.
     fn write(&mut self, piece: &[u8]) -> Result<usize, Failed> {
-        match io::writer(self.rt).write(piece) {
-            Ok(count) if count > 0 || piece.is_empty() => Ok(count),
-            _ => {
-                self.faults = self.faults.saturating_add(1);
-                Err(Failed)
-            }
-        }
+        counted(
+            write_next(&mut io::writer(self.rt), piece),
+            &mut self.faults,
+        )
     }
 }

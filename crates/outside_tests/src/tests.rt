@@ -1,7 +1,7 @@
-use mt_port::{Failed, FileShelf, ReadFault, Sink, StdSink, read_all};
-use std::fmt::Display;
+use crate::fakes::{Call, Counted, LettersIn};
+use mt_port::{Failed, FileShelf, ReadFault, Sink, StdSink, read_all, write_all};
+use std::fs;
 use std::test::Fail;
-use std::{fs, io};
 
 #[test]
 fn reads_a_real_file(rt: HostRuntime) -> Result<(), Fail> {
@@ -19,34 +19,56 @@ fn reads_a_real_file(rt: HostRuntime) -> Result<(), Fail> {
     Ok(())
 }
 
-// An output that takes at most so many bytes at a time.
-#[derive(Drop)]
-struct Narrow(usize);
-
-impl Print for Narrow {
-    fn print<D: Display + Drop>(&self, _: D) -> io::Result<()> {
-        Ok(())
-    }
-
-    fn println<D: Display + Drop>(&self, _: D) -> io::Result<()> {
-        Ok(())
-    }
-
-    fn write_all(&self, _: &[u8]) -> io::Result<()> {
-        Ok(())
-    }
-
-    fn write_some(&self, bytes: &[u8]) -> io::Result<usize> {
-        Ok(bytes.len().min(self.0))
+// An input that is cut off by a failure isn't whole, and one that was interrupted is.
+#[test]
+fn a_read_that_fails_in_mid_stream_fails(rt: HostRuntime) {
+    let cut: &[Call] = &[Call::Moved(3), Call::Failed, Call::Moved(0)];
+    let broken_off: &[Call] = &[
+        Call::Interrupted,
+        Call::Moved(3),
+        Call::Interrupted,
+        Call::Moved(2),
+        Call::Moved(0),
+    ];
+    for (calls, want) in [(cut, Err(ReadFault::Failed)), (broken_off, Ok(5))] {
+        let input = LettersIn::new(&rt, calls);
+        let mut shelf = FileShelf::new(&input);
+        let text = read_all(rt.alloc(), &mut shelf, "-", 10);
+        assert_eq!(rt; text.map(|text| text.len()), want);
     }
 }
 
 #[test]
 fn an_output_that_takes_nothing_fails(rt: HostRuntime) {
-    for (width, want) in [(3, Ok(3)), (0, Err(Failed))] {
-        let output = Narrow(width);
+    let narrow: &[Call] = &[Call::Moved(3), Call::Moved(3)];
+    let full: &[Call] = &[Call::Moved(0), Call::Moved(0)];
+    for (calls, want) in [(narrow, Ok(3)), (full, Err(Failed))] {
+        let output = Counted::new(calls);
         let mut sink = StdSink::new(&output);
         assert_eq!(rt; sink.write(b"abcd"), want);
         assert_eq!(rt; sink.write(b""), Ok(0));
+    }
+}
+
+// An output that fails or takes nothing has what it took before, and one that was interrupted has all.
+#[test]
+fn a_write_that_fails_in_mid_stream_fails(rt: HostRuntime) {
+    let cut: &[Call] = &[Call::Moved(3), Call::Failed];
+    let full: &[Call] = &[Call::Moved(4), Call::Moved(0)];
+    let broken_off: &[Call] = &[
+        Call::Interrupted,
+        Call::Moved(3),
+        Call::Interrupted,
+        Call::Moved(2),
+    ];
+    for (calls, want, taken) in [
+        (cut, Err(Failed), 3),
+        (full, Err(Failed), 4),
+        (broken_off, Ok(()), 5),
+    ] {
+        let output = Counted::new(calls);
+        let mut sink = StdSink::new(&output);
+        assert_eq!(rt; write_all(&mut sink, b"abcde"), want);
+        assert_eq!(rt; output.taken(), taken);
     }
 }
