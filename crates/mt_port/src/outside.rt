@@ -1,6 +1,6 @@
 //! The real files and streams behind the traits, a few lines each.
 
-ghost use Rattle.std.specs.Prelude.{[], false, true, codes, bytes_eq, take, ◌≡◌, ◌↔◌, ◌||◌, ◌<◌, ◌≤◌, IsErr, IfOk, OnErr, OnOk, length};
+ghost use Rattle.std.specs.Prelude.{[], None, false, true, codes, bytes_eq, take, ◌≡◌, ◌↔◌, ◌||◌, ◌<◌, ◌≤◌, IsErr, IfOk, OnErr, OnOk, length};
 ghost use Rattle.std.specs.Io.KnownBytes.{Appends, Consumes, IsAtEnd, Keeps};
 ghost use Rattle.mt_port.specs.Port.{HasCause};
 
@@ -76,17 +76,17 @@ pub struct FileShelf<'a, R: Files + Input> {
 }
 
 impl<'a, R: Files + Input> Model for FileShelf<'a, R> {
-    ghost use Rattle.mt_port.specs.Outside.{Reached, stands_open};
+    ghost use Rattle.mt_port.specs.Outside.{Reached, left_of, stands_open};
 
     ghost Value = { Reached };
 
-    ghost view = { λ s. record { faults = s.faults; is_open = stands_open s.source; input_taken = s.input_taken } };
+    ghost view = { λ s. record { faults = s.faults; is_open = stands_open s.source; input_taken = s.input_taken; left = left_of R.File.remaining R.Reader.remaining s.source } };
 }
 
 impl<'a, R: Files + Input> FileShelf<'a, R> {
     /// A shelf over what the program was given, with nothing open and no fault so far.
     pub fn new(rt: &'a R) -> FileShelf<'a, R>
-        ensures { result ≡ record { faults = 0; is_open = false; input_taken = false } }
+        ensures { result ≡ record { faults = 0; is_open = false; input_taken = false; left = None } }
     {
         FileShelf {
             rt,
@@ -141,6 +141,11 @@ impl<R: Files + Input> Shelf for FileShelf<'_, R> {
         ensures count { IfOk result (λ n. n ≤ length buf.old) }
         ensures cause { HasCause self.old.faults self.new.faults result }
         ensures taken { self.new.input_taken ≡ self.old.input_taken }
+
+        // Where the open file or input tells what it has left, its next bytes are given, and none only at its end.
+        ensures given { IfOk result (λ n. Consumes self.old.left self.new.left (take n buf.new)) }
+        ensures end { IfOk result (λ n. n ≡ 0 → 0 < length buf.old → IsAtEnd self.new.left) }
+        ensures kept { OnErr result (Keeps self.old.left self.new.left) }
     {
         let given = match &mut self.source {
             Source::Nothing => unreachable!(),
