@@ -1,5 +1,5 @@
 -- What a shelf and a sink tell, and what their calls do to it.
-use Rattle.std.specs.Prelude.{◌≡◌, ℕ, ◌+◌, ◌^◌, ◌-◌, ◌<◌, ◌≤◌, min, List, [], ◌++◌, take, Option, Result, OnErr, bytes_eq, find, option_map}
+use Rattle.std.specs.Prelude.{◌≡◌, ℕ, ◌+◌, ◌^◌, ◌-◌, ◌<◌, ◌≤◌, min, List, [], ◌++◌, take, Option, None, Some, Result, OnErr, bytes_eq, find, option_map}
 
 -- a count rose, or stands at its end
 abbrev pub Rose : ℕ → ℕ → Type 0
@@ -9,6 +9,11 @@ Rose before now = min (before + 1) (2 ^ 64 - 1) ≤ now
 pub record HasCause {T E : Type 0} (before now : ℕ) (result : Result T E) : Type 0 where
   pub later : before ≤ now
   pub failed : OnErr result (Rose before now)
+
+-- a count that is told is one more, or stands at its end
+abbrev pub IsOneMore : Option ℕ → Option ℕ → Type 0
+IsOneMore None now = Unit {0}
+IsOneMore (Some before) now = now ≡ Some (min (before + 1) (2 ^ 64 - 1))
 
 -- named files
 abbrev pub Files : Type 0

@@ -1,7 +1,7 @@
 //! Whole files read within a limit, and whole texts written.
 
 ghost use Rattle.std.specs.Prelude.{◌≡◌, ◌+◌, ◌++◌, ◌^◌, ◌<◌, ◌≤◌, [], true, Some, length, IsErrOf, IsSome, IfOk, OnOk, OnErr};
-ghost use Rattle.mt_port.specs.Port.{HasCause, Rose, file_of};
+ghost use Rattle.mt_port.specs.Port.{HasCause, IsOneMore, Rose, file_of};
 ghost use Rattle.mt_port.specs.Whole.{GaveAtMost, GaveSoMany, IsLonger, WrotePrefix};
 
 use crate::{Failed, Shelf, Sink};
@@ -51,6 +51,9 @@ pub fn read_all<S: Shelf>(
     ensures too_long { IsErrOf result ReadFault.TooLong → S.tells shelf.old ≡ true → IsLonger (file_of (S.files shelf.old) name.now) limit }
     ensures given { IsErrOf result ReadFault.TooLong → S.tells shelf.old ≡ true → GaveSoMany (file_of (S.files shelf.old) name.now) (S.left shelf.new) (limit + 1) }
     ensures at_most { S.tells shelf.old ≡ true → S.is_open shelf.new ≡ true → ¬ IsErrOf result ReadFault.TooLong → GaveAtMost (file_of (S.files shelf.old) name.now) (S.left shelf.new) limit }
+
+    // It opens the file and nothing else, and once: so what was given is never lost by an opening after it.
+    ensures once { IsOneMore (S.openings shelf.old) (S.openings shelf.new) }
 
     ensures failed { IsErrOf result ReadFault.Failed → Rose (S.faults shelf.old) (S.faults shelf.new) }
     ensures never { S.steady shelf.old → S.tells shelf.old ≡ true → IsSome (file_of (S.files shelf.old) name.now) → IsErrOf result ReadFault.Failed → ⊥ }
