@@ -1,6 +1,6 @@
 //! A shelf and a sink in memory, which fail at chosen calls.
 
-ghost use Rattle.std.specs.Prelude.{◌≡◌, ◌⊎◌, ◌++◌, [], ◌<◌, ◌≤◌, ◌-◌, IfOk, IsErr, IsOk, IsSome, IsNone, IfSome, Some, Contains, IsTrue, ◌↔◌, OnOk, OnErr, true, false, position, bytes_eq, string_bytes, drop, take, min, length, ◌+◌};
+ghost use Rattle.std.specs.Prelude.{◌≡◌, ◌⊎◌, ◌++◌, [], ◌<◌, ◌≤◌, ◌-◌, ◌^◌, IfOk, IsErr, IsOk, IsSome, IsNone, IfSome, Some, Contains, IsTrue, ◌↔◌, OnOk, OnErr, true, false, position, bytes_eq, string_bytes, drop, take, min, length, ◌+◌};
 ghost use Rattle.mt_port.specs.Port.{Gives, HasCause, file_of};
 ghost use Rattle.mt_port.specs.Memory.{AreDistinct, IsFullFor, IsSteady, IsToFail, Shelved, Sunk, bytes_of, gave, left_at, named, not_opened, not_read, not_written, opened, took};
 
@@ -76,6 +76,7 @@ impl Sink for MemSink {
         ensures taken { IfOk result (λ n. self.new.bytes ≡ self.old.bytes ++ take n piece.now) }
         ensures kept { OnErr result (self.new.bytes ≡ self.old.bytes) }
         ensures cause { HasCause self.old.faults self.new.faults result }
+        ensures in_range { self.new.faults < 2 ^ 64 }
 
         // Exactly when it fails, how much it takes, and all that changes.
         ensures fails { IsErr result ↔ (IsToFail self.old.fails self.old.calls ⊎ IsFullFor self.old piece.now) }
@@ -228,6 +229,7 @@ impl Shelf for MemShelf {
         ensures at_start { OnOk result (file_of self.old.files name.now ≡ Some self.new.left) }
         ensures files { self.new.files ≡ self.old.files }
         ensures cause { HasCause self.old.faults self.new.faults result }
+        ensures in_range { self.new.faults < 2 ^ 64 }
         ensures steady { IsSteady self.old.fails self.old.calls → IsSteady self.new.fails self.new.calls }
         ensures never { IsSteady self.old.fails self.old.calls → IsSome (file_of self.old.files name.now) → IsOk result }
 
@@ -264,6 +266,7 @@ impl Shelf for MemShelf {
         ensures place { OnErr result (self.new.left ≡ self.old.left) }
         ensures files { self.new.files ≡ self.old.files }
         ensures cause { HasCause self.old.faults self.new.faults result }
+        ensures in_range { self.new.faults < 2 ^ 64 }
         ensures steady { IsSteady self.old.fails self.old.calls → IsSteady self.new.fails self.new.calls }
         ensures never { IsSteady self.old.fails self.old.calls → IsOk result }
 

@@ -1,6 +1,6 @@
 //! The real files and streams behind the traits, a few lines each.
 
-ghost use Rattle.std.specs.Prelude.{[], None, false, true, codes, bytes_eq, take, ◌≡◌, ◌↔◌, ◌||◌, ◌<◌, ◌≤◌, IsErr, IfOk, OnErr, OnOk, length};
+ghost use Rattle.std.specs.Prelude.{[], None, false, true, codes, bytes_eq, take, ◌≡◌, ◌↔◌, ◌||◌, ◌^◌, ◌<◌, ◌≤◌, IsErr, IfOk, OnErr, OnOk, length};
 ghost use Rattle.std.specs.Io.KnownBytes.{Appends, Consumes, IsAtEnd, Keeps};
 ghost use Rattle.mt_port.specs.Port.{HasCause};
 
@@ -47,15 +47,15 @@ fn write_next<W: Write>(writer: &mut W, piece: &[u8]) -> Result<usize, Failed>
     Err(Failed)
 }
 
-// Counts a fault where the answer of a call is one.
-fn counted<T>(answer: Result<T, Failed>, faults: &mut u64) -> Result<T, Failed>
-    ensures same { result ≡ answer }
-    ensures cause { HasCause faults.old faults.new result }
+// The count of faults after a call with this answer.
+fn count_after<T>(answer: &Result<T, Failed>, faults: u64) -> u64
+    ensures { HasCause faults result answer.now }
 {
     if answer.is_err() {
-        *faults = faults.saturating_add(1);
+        faults.saturating_add(1)
+    } else {
+        faults
     }
-    answer
 }
 
 // What a shelf of real files reads from.
@@ -76,11 +76,14 @@ pub struct FileShelf<'a, R: Files + Input> {
 }
 
 impl<'a, R: Files + Input> Model for FileShelf<'a, R> {
+    ghost use Rattle.std.specs.Prelude.{◌<◌, ◌^◌};
     ghost use Rattle.mt_port.specs.Outside.{Reached, left_of, stands_open};
 
     ghost Value = { Reached };
 
     ghost view = { λ s. record { faults = s.faults; is_open = stands_open s.source; input_taken = s.input_taken; left = left_of R.File.remaining R.Reader.remaining s.source } };
+
+    ghost invariant = { λ s. s.faults < 2 ^ 64 };
 }
 
 impl<'a, R: Files + Input> FileShelf<'a, R> {
@@ -115,6 +118,7 @@ impl<R: Files + Input> Shelf for FileShelf<'_, R> {
         ensures opened { OnOk result (self.new.is_open ≡ true) }
         ensures closed { OnErr result (self.new.is_open ≡ false) }
         ensures cause { HasCause self.old.faults self.new.faults result }
+        ensures in_range { self.new.faults < 2 ^ 64 }
 
         // The standard input opens at first, and never again.
         ensures input { name.now ≡ codes "-" → (IsErr result ↔ (self.old.input_taken ≡ true)) }
@@ -140,6 +144,7 @@ impl<R: Files + Input> Shelf for FileShelf<'_, R> {
         ensures open { self.new.is_open ≡ true }
         ensures count { IfOk result (λ n. n ≤ length buf.old) }
         ensures cause { HasCause self.old.faults self.new.faults result }
+        ensures in_range { self.new.faults < 2 ^ 64 }
         ensures taken { self.new.input_taken ≡ self.old.input_taken }
 
         // Where the open file or input tells what it has left, its next bytes are given, and none only at its end.
@@ -152,7 +157,8 @@ impl<R: Files + Input> Shelf for FileShelf<'_, R> {
             Source::Opened(file) => read_next(file, buf),
             Source::Input(input) => read_next(input, buf),
         };
-        counted(given, &mut self.faults)
+        self.faults = count_after(&given, self.faults);
+        given
     }
 }
 
@@ -189,9 +195,8 @@ impl<R: Print> Sink for StdSink<'_, R> {
 
     /// Fails where the system does, and where it takes nothing of a piece that isn't empty.
     fn write(&mut self, piece: &[u8]) -> Result<usize, Failed> {
-        counted(
-            write_next(&mut io::writer(self.rt), piece),
-            &mut self.faults,
-        )
+        let taken = write_next(&mut io::writer(self.rt), piece);
+        self.faults = count_after(&taken, self.faults);
+        taken
     }
 }

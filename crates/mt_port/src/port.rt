@@ -1,6 +1,6 @@
 //! What the program asks of the outside: a shelf to read from and a sink to write to.
 
-ghost use Rattle.std.specs.Prelude.{◌≡◌, ◌++◌, ◌<◌, ◌≤◌, ℕ, List, Bool, true, false, Option, None, Some, length, take, IsOk, IsSome, IfOk, OnOk, OnErr};
+ghost use Rattle.std.specs.Prelude.{◌≡◌, ◌++◌, ◌^◌, ◌<◌, ◌≤◌, ℕ, List, Bool, true, false, Option, None, Some, length, take, IsOk, IsSome, IfOk, OnOk, OnErr};
 ghost use Rattle.mt_port.specs.Port.{Files, file_of, HasCause, Gives, IsOneMore};
 
 /// A call of the outside that failed. The cause isn't told; the count of faults shows that there was one.
@@ -45,6 +45,7 @@ pub trait Shelf {
         ensures opening { IsOneMore (openings self.old) (openings self.new) }
 
         ensures cause { HasCause (faults self.old) (faults self.new) result }
+        ensures in_range { faults self.new < 2 ^ 64 }
         ensures steady { steady self.old → steady self.new }
         ensures never { steady self.old → tells self.old ≡ true → IsSome (file_of (files self.old) name.now) → IsOk result };
 
@@ -64,6 +65,7 @@ pub trait Shelf {
         ensures openings { openings self.new ≡ openings self.old }
 
         ensures cause { HasCause (faults self.old) (faults self.new) result }
+        ensures in_range { faults self.new < 2 ^ 64 }
         ensures steady { steady self.old → steady self.new }
         ensures never { steady self.old → IsOk result };
 }
@@ -91,5 +93,6 @@ pub trait Sink {
         ensures kept { OnErr result (tells self.old ≡ true → bytes self.new ≡ bytes self.old) }
 
         ensures telling { tells self.new ≡ tells self.old }
-        ensures cause { HasCause (faults self.old) (faults self.new) result };
+        ensures cause { HasCause (faults self.old) (faults self.new) result }
+        ensures in_range { faults self.new < 2 ^ 64 };
 }

@@ -59,6 +59,7 @@ pub fn read_all<S: Shelf>(
     ensures never { S.steady shelf.old → S.tells shelf.old ≡ true → IsSome (file_of (S.files shelf.old) name.now) → IsErrOf result ReadFault.Failed → ⊥ }
 
     ensures later { S.faults shelf.old ≤ S.faults shelf.new }
+    ensures in_range { S.faults shelf.new < 2 ^ 64 }
     ensures steady { S.steady shelf.old → S.steady shelf.new }
     ensures files { S.files shelf.new ≡ S.files shelf.old }
     ensures telling { S.tells shelf.new ≡ S.tells shelf.old }
@@ -89,6 +90,7 @@ pub fn write_all<K: Sink>(sink: &mut K, bytes: &[u8]) -> Result<(), Failed>
     ensures err { OnErr result (K.tells sink.old ≡ true → WrotePrefix (K.bytes sink.old) (K.bytes sink.new) bytes.now) }
     ensures telling { K.tells sink.new ≡ K.tells sink.old }
     ensures cause { HasCause (K.faults sink.old) (K.faults sink.new) result }
+    ensures in_range { OnErr result (K.faults sink.new < 2 ^ 64) }
 {
     let mut done = 0;
     while done < bytes.len() {

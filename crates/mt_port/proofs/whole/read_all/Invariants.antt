@@ -1,4 +1,4 @@
-use Rattle.std.proofs.Common.{◌≡◌, ◌+◌, ◌-◌, ◌≤◌, ◌++◌, length, true, Some, vec_len}
+use Rattle.std.proofs.Common.{◌≡◌, ◌+◌, ◌-◌, ◌<◌, ◌≤◌, ◌^◌, ◌++◌, length, true, Some, vec_len}
 use Rattle.mt_port.specs.Port.{IsOneMore, file_of}
 use Rattle.mt_port.proofs.whole.read_all.Given as goal
 
@@ -9,6 +9,7 @@ invariant-loop-bytes g l = record {
   within : vec_len l.bytes ≤ l.limit;
   bytes : g.S.Shelf.tells l.fn.shelf ≡ true → file_of (g.S.Shelf.files l.fn.shelf) l.name ≡ Some (l.bytes.items ++ g.S.Shelf.left l.shelf);
   later : g.S.Shelf.faults l.fn.shelf ≤ g.S.Shelf.faults l.shelf;
+  in_range : g.S.Shelf.faults l.shelf < 2 ^ 64;
   steady : g.S.Shelf.steady l.fn.shelf → g.S.Shelf.steady l.shelf;
   files : g.S.Shelf.files l.shelf ≡ g.S.Shelf.files l.fn.shelf;
   once : IsOneMore (g.S.Shelf.openings l.fn.shelf) (g.S.Shelf.openings l.shelf);

@@ -24,6 +24,7 @@ open-tells g c = record {
   telling = cc;
   opening = tt;
   cause = c.ensures.cause;
+  in_range = c.ensures.in_range;
   steady = λ no. no;
   never = λ no. absurd no;
 }
@@ -38,6 +39,7 @@ read-tells g c = record {
   telling = cc;
   openings = cc;
   cause = c.ensures.cause;
+  in_range = c.ensures.in_range;
   steady = λ no. no;
   never = λ no. absurd no;
 }
