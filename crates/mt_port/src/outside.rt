@@ -66,7 +66,9 @@ enum Source<F, I> {
     Input(I),
 }
 
-/// The real files by their paths, and the standard input under the name `-`. It tells no content.
+/// The real files by their paths, and the standard input under the name `-`.
+///
+/// It tells no content. Contracts see what the open one has left, where its reader tells that.
 #[derive(Drop)]
 pub struct FileShelf<'a, R: Files + Input> {
     rt: &'a R,
