@@ -1,5 +1,5 @@
 -- What an arena answers, where trees are added to it one after another.
-use Rattle.std.proofs.Common.{◌≡◌, ◌∙◌, ℕ, ◌≤◌, ◌<◌, List, [], ◌++◌, length, append_assoc, Result, Ok, Err, IfOk, OnOk, IsErr, IsErrAnd, sym, ap, subst, arith}
+use Rattle.std.proofs.Common.{◌≡◌, ◌∙◌, ℕ, ◌≤◌, ◌<◌, List, [], ◌++◌, length, append_assoc, Result, Ok, Err, IfOk, OnOk, IsErr, IsErrAnd, refl, sym, ap, subst, arith}
 use Rattle.std.proofs.lemmas.List.{append-nil}
 use Rattle.mt_model.specs.declared.tree.Tree.{Tree}
 use Rattle.mt_model.specs.Form.{Form, Not, form_of}
@@ -8,7 +8,11 @@ use Rattle.formula_arena.specs.declared.fault.ArenaFault.TheVariants.{TooManyNod
 use Rattle.formula_arena.specs.declared.arena.TheConstants.{MAX_NODES}
 use Rattle.formula_arena.specs.Cores.{core_of}
 use Rattle.formula_arena.specs.Growth.{IsGrown, with_subtrees, with_tree}
-use Rattle.formula_arena.specs.Nodes.{Extends, IsAt}
+use Rattle.formula_arena.specs.Nodes.{Extends, IsAt, tree_at}
+use Rattle.formula_arena.specs.declared.node.Operator.{Operator}
+use Rattle.formula_arena.specs.declared.node.Operator.TheVariants as operator
+use Rattle.formula_arena.specs.Operators.{form_over, node_over}
+use Rattle.formula_arena.specs.Table.{tree_over}
 use Rattle.formula_arena.proofs.TreeLists.{IsAt-old}
 
 extends_further : (a b c : List Form) → Extends a b → Extends b c → Extends a c
@@ -26,6 +30,10 @@ unchanged {old} (Err e) fault too_many = record { at = tt; nodes = tt; too_many 
 -- the same of an equal tree
 pub same_tree : {old new : List Form} {f g : Form} {r : Result ℕ ArenaFault} → f ≡ g → IsGrown old (with_tree old f) f r new → IsGrown old (with_tree old g) g r new
 same_tree {old} {new} {r = r} e grown = subst (λ h. IsGrown old (with_tree old h) h r new) e grown
+
+-- with what its subtrees add
+pub same_subtrees : {old new : List Form} {f g : Form} {r : Result ℕ ArenaFault} → f ≡ g → IsGrown old (with_subtrees old f) f r new → IsGrown old (with_subtrees old g) g r new
+same_subtrees {old} {new} {r = r} e grown = subst (λ h. IsGrown old (with_subtrees old h) h r new) e grown
 
 -- a fault at one of the trees is a fault at the last
 pub stopped : {old part all new : List Form} {f g : Form} {r : Result ℕ ArenaFault} {e : ArenaFault} (s : Result ℕ ArenaFault)
@@ -73,3 +81,9 @@ core tree = core_of (form_of tree)
 pub walked : {tree shape : Tree} {old new : List Form} {r : Result ℕ ArenaFault} → tree ≡ shape
     → IsGrown old (with_subtrees old (core shape)) (core shape) r new → IsGrown old (with_subtrees old (core tree)) (core tree) r new
 walked {old = old} {new = new} {r = r} e grown = subst (λ t. IsGrown old (with_subtrees old (core t)) (core t) r new) (sym e) grown
+
+-- the tree of an operator's node
+pub operator_tree : (operator : Operator) (trees : List Form) (a b : ℕ) → tree_over [] trees (node_over operator a b) ≡ form_over operator (tree_at trees a) (tree_at trees b)
+operator_tree operator.And trees a b = refl
+operator_tree (operator.Until I) trees a b = refl
+operator_tree (operator.Since I) trees a b = refl

@@ -7,3 +7,4 @@ pub mod CodedForms
 pub mod Table
 pub mod Growth
 pub mod Directions
+pub mod Operators

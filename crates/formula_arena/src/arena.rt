@@ -1,17 +1,18 @@
 ghost use Rattle.std.specs.Prelude.{◌≡◌, ◌<◌, ◌≤◌, ◌+◌, [], ◌∷◌, ◌++◌, length, slice_get, Contains, false, IfOk, OnOk, OnErr, IfSome, IfNone, IsOk, Some, Err};
-ghost use Rattle.mt_model.specs.Form.{Not, Prop, form_of};
+ghost use Rattle.mt_model.specs.Form.{Implies, Not, Or, Prop, True, form_of};
 ghost use Rattle.formula_arena.specs.Cores.{core_of};
 ghost use Rattle.indexmap.specs.IndexMap.{keys};
 ghost use Rattle.indexmap.specs.IndexSet.{spare};
 ghost use Rattle.formula_arena.specs.Nodes.{Extends, has_form, IsArena, IsAt, nodes_of, propositions_in, tree_at, with_nodes_of};
+ghost use Rattle.formula_arena.specs.Operators.{form_over};
 ghost use Rattle.formula_arena.specs.Shapes.{IsNode};
 ghost use Rattle.formula_arena.specs.Table.{IsOver, tree_of_proposition, tree_over};
 ghost use Rattle.formula_arena.specs.Growth.{IsGrown, with_subtrees, with_tree};
 
 use crate::ArenaFault;
-use crate::node::{Core, Proposition};
+use crate::node::{Core, Operator, Proposition};
 use indexmap::{IndexMap, IndexSet};
-use mt_model::{Formula, Interval, Name, NodeId, PropId, Tree};
+use mt_model::{Formula, Name, NodeId, PropId, Tree};
 use std::alloc::{AllocError, Global};
 use std::marker::Model;
 
@@ -181,71 +182,90 @@ impl Arena {
     }
 
     // The node of a tree's core. Its subtrees are added in the order in which the walk finishes them.
+    #[cycle(walk)]
     fn walk(&mut self, tree: &Tree) -> Result<NodeId, ArenaFault>
         ensures { let f = core_of (form_of tree.now) in IsGrown self.old (with_subtrees self.old f) f result self.new }
     {
         match tree {
             Tree::True => self.add(Core::True),
-            Tree::False => {
-                let truth = self.add(Core::True)?;
-                self.add(Core::Not(truth))
-            }
+            Tree::False => self.add_not(Core::True),
             Tree::Prop { host, name } => self.add_prop(host, name),
-            Tree::Not(f) => {
-                let f = self.walk(f)?;
-                self.add(Core::Not(f))
-            }
-            Tree::And(f, g) => {
-                let f = self.walk(f)?;
-                let g = self.walk(g)?;
-                self.add(Core::And(f, g))
-            }
-            Tree::Or(f, g) => {
-                let f = self.walk(f)?;
-                let not_f = self.add(Core::Not(f))?;
-                let g = self.walk(g)?;
-                let not_g = self.add(Core::Not(g))?;
-                self.add_not(Core::And(not_f, not_g))
-            }
-            Tree::Implies(f, g) => {
-                let f = self.walk(f)?;
-                let g = self.walk(g)?;
-                let not_g = self.add(Core::Not(g))?;
-                self.add_not(Core::And(f, not_g))
-            }
-            Tree::Until(interval, f, g) => {
-                let f = self.walk(f)?;
-                let g = self.walk(g)?;
-                self.add(Core::Until(*interval, f, g))
-            }
-            Tree::Since(interval, f, g) => {
-                let f = self.walk(f)?;
-                let g = self.walk(g)?;
-                self.add(Core::Since(*interval, f, g))
-            }
-            Tree::Eventually(interval, f) => {
-                let truth = self.add(Core::True)?;
-                let f = self.walk(f)?;
-                self.add(Core::Until(*interval, truth, f))
-            }
-            Tree::Always(interval, f) => {
-                let truth = self.add(Core::True)?;
-                let f = self.walk(f)?;
-                let not_f = self.add(Core::Not(f))?;
-                self.add_not(Core::Until(*interval, truth, not_f))
-            }
-            Tree::Once(interval, f) => {
-                let truth = self.add(Core::True)?;
-                let f = self.walk(f)?;
-                self.add(Core::Since(*interval, truth, f))
-            }
-            Tree::Historically(interval, f) => {
-                let truth = self.add(Core::True)?;
-                let f = self.walk(f)?;
-                let not_f = self.add(Core::Not(f))?;
-                self.add_not(Core::Since(*interval, truth, not_f))
-            }
+            Tree::Not(f) => self.walk_not(f),
+            Tree::And(f, g) => self.walk_both(Operator::And, f, g),
+            Tree::Or(f, g) => self.walk_or(f, g),
+            Tree::Implies(f, g) => self.walk_implies(f, g),
+            Tree::Until(interval, f, g) => self.walk_both(Operator::Until(*interval), f, g),
+            Tree::Since(interval, f, g) => self.walk_both(Operator::Since(*interval), f, g),
+            Tree::Eventually(interval, f) => self.walk_some(Operator::Until(*interval), f),
+            Tree::Once(interval, f) => self.walk_some(Operator::Since(*interval), f),
+            Tree::Always(interval, f) => self.walk_each(Operator::Until(*interval), f),
+            Tree::Historically(interval, f) => self.walk_each(Operator::Since(*interval), f),
         }
+    }
+
+    // The node of a negation.
+    #[cycle(walk)]
+    fn walk_not(&mut self, tree: &Tree) -> Result<NodeId, ArenaFault>
+        ensures { let f = Not (core_of (form_of tree.now)) in IsGrown self.old (with_subtrees self.old f) f result self.new }
+    {
+        let f = self.walk(tree)?;
+        self.add(Core::Not(f))
+    }
+
+    // The node of an operator that is its own core.
+    #[cycle(walk)]
+    fn walk_both(
+        &mut self,
+        operator: Operator,
+        left: &Tree,
+        right: &Tree,
+    ) -> Result<NodeId, ArenaFault>
+        ensures { let f = core_of (form_of left.now) in let g = core_of (form_of right.now) in let h = form_over operator f g in
+            IsGrown self.old (with_tree (with_subtrees (with_subtrees self.old f) g) h) h result self.new }
+    {
+        let f = self.walk(left)?;
+        let g = self.walk(right)?;
+        self.add(operator.over(f, g))
+    }
+
+    #[cycle(walk)]
+    fn walk_or(&mut self, left: &Tree, right: &Tree) -> Result<NodeId, ArenaFault>
+        ensures { let f = core_of (Or (form_of left.now) (form_of right.now)) in IsGrown self.old (with_subtrees self.old f) f result self.new }
+    {
+        let not_f = self.walk_not(left)?;
+        let not_g = self.walk_not(right)?;
+        self.add_not(Core::And(not_f, not_g))
+    }
+
+    #[cycle(walk)]
+    fn walk_implies(&mut self, left: &Tree, right: &Tree) -> Result<NodeId, ArenaFault>
+        ensures { let f = core_of (Implies (form_of left.now) (form_of right.now)) in IsGrown self.old (with_subtrees self.old f) f result self.new }
+    {
+        let f = self.walk(left)?;
+        let not_g = self.walk_not(right)?;
+        self.add_not(Core::And(f, not_g))
+    }
+
+    // The node of an operator whose left side is `true`.
+    #[cycle(walk)]
+    fn walk_some(&mut self, operator: Operator, tree: &Tree) -> Result<NodeId, ArenaFault>
+        ensures { let f = core_of (form_of tree.now) in let h = form_over operator True f in
+            IsGrown self.old (with_tree (with_subtrees (with_tree self.old True) f) h) h result self.new }
+    {
+        let truth = self.add(Core::True)?;
+        let f = self.walk(tree)?;
+        self.add(operator.over(truth, f))
+    }
+
+    // The node of an operator that is nowhere false: of its negation, with the negation on its right side.
+    #[cycle(walk)]
+    fn walk_each(&mut self, operator: Operator, tree: &Tree) -> Result<NodeId, ArenaFault>
+        ensures { let f = Not (core_of (form_of tree.now)) in let h = form_over operator True f in
+            IsGrown self.old (with_tree (with_tree (with_subtrees (with_tree self.old True) f) h) (Not h)) (Not h) result self.new }
+    {
+        let truth = self.add(Core::True)?;
+        let not_f = self.walk_not(tree)?;
+        self.add_not(operator.over(truth, not_f))
     }
 }
 
