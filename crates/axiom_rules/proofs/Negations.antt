@@ -3,13 +3,9 @@ use Rattle.std.proofs.Common.{ℤ, pos, ◌-ℤ◌, FitsSigned, arith}
 use Rattle.std.proofs.lemmas.Int.{ints}
 use Rattle.std.specs.Int.{w128}
 use Rattle.mt_model.specs.Log.{IsWithin}
-use Rattle.mt_model.specs.declared.limits.TheConstants.{MAX_ORDER}
 
 pub negation-fits : (c : ℤ) → IsWithin (pos 18446744073709551616) c → FitsSigned w128 (pos 0 -ℤ c)
 negation-fits c within = grind (arith, ints)
 
 pub negation_less-fits : (c : ℤ) → IsWithin (pos 18446744073709551616) c → FitsSigned w128 ((pos 0 -ℤ c) -ℤ pos 1)
 negation_less-fits c within = grind (arith, ints)
-
-pub negation_less-within : (c : ℤ) → IsWithin (pos 18446744073709551616) c → IsWithin MAX_ORDER ((pos 0 -ℤ c) -ℤ pos 1)
-negation_less-within c within = record { low = omega (arith, ints); high = omega (arith, ints) }

@@ -1,4 +1,4 @@
-ghost use Rattle.std.specs.Prelude.{◌≡◌, ◌^◌, pos};
+ghost use Rattle.std.specs.Prelude.{◌≡◌, ◌^◌, pos, ◌-ℤ◌, neg_ℤ};
 ghost use Rattle.mt_model.specs.Log.{IsWithin};
 ghost use Rattle.axiom_rules.specs.Parts.{after as after_part, not_after as not_after_part, not_order as not_order_part, order as order_part};
 ghost use Rattle.axiom_rules.specs.Rules.{is as is_part, is_not as is_not_part};
@@ -45,12 +45,21 @@ pub fn order(e: u32, f: u32, c: i128) -> Part
     }
 }
 
+// The bound of what is said where `t_e - t_f <= c` is denied.
+fn denied(c: i128) -> i128
+    requires { IsWithin (pos (2 ^ 64)) c }
+    ensures bound { result ≡ neg_ℤ c -ℤ pos 1 }
+    ensures range { IsWithin MAX_ORDER result }
+{
+    -c - 1
+}
+
 /// Not `t_e - t_f <= c`.
 pub fn not_order(e: u32, f: u32, c: i128) -> Part
     requires { IsWithin (pos (2 ^ 64)) c }
     ensures { result ≡ not_order_part e f c }
 {
-    order(f, e, -c - 1)
+    order(f, e, denied(c))
 }
 
 /// Event e is not after event f.

@@ -1,6 +1,6 @@
 //! Until and since as one.
 
-ghost use Rattle.std.specs.Prelude.{◌≡◌, ◌^◌, pos, false};
+ghost use Rattle.std.specs.Prelude.{◌≡◌, ◌^◌, pos, neg_ℤ, false};
 ghost use Rattle.std.specs.Option.{option_map_or};
 ghost use Rattle.mt_model.specs.Log.{IsWithin};
 ghost use Rattle.axiom_rules.specs.Rules as written;
@@ -17,6 +17,15 @@ pub struct Reach {
     /// The nodes of its sides, by their numbers.
     pub left: u32,
     pub right: u32,
+}
+
+// The bound of what is said where a distance is at least a lower bound.
+fn turned(low: u64) -> i128
+    ensures bound { result ≡ neg_ℤ (pos low) }
+    ensures range { IsWithin MAX_ORDER result }
+    ensures near { IsWithin (pos (2 ^ 64)) result }
+{
+    -(low as i128)
 }
 
 impl Reach {
@@ -60,14 +69,14 @@ impl Reach {
     pub(crate) fn is_from(&self, i: u32, j: u32) -> Part
         ensures { result ≡ written.is_from self.now.direction self.now.interval i j }
     {
-        self.order(i, j, -(self.interval.low as i128))
+        self.order(i, j, turned(self.interval.low))
     }
 
     /// Event j is less than the lower bound from event i.
     pub(crate) fn is_not_from(&self, i: u32, j: u32) -> Part
         ensures { result ≡ written.is_not_from self.now.direction self.now.interval i j }
     {
-        self.not_order(i, j, -(self.interval.low as i128))
+        self.not_order(i, j, turned(self.interval.low))
     }
 
     /// Event j is at most an upper bound from event i.
