@@ -1,6 +1,6 @@
-use Rattle.std.proofs.Common.{◌<◌, length, arith}
+use Rattle.std.proofs.Common.{◌<◌, length, None, arith}
 use Rattle.proof_log.specs.Reading.{hint_in, words_after}
-use Rattle.proof_log.proofs.Items.{one-read}
+use Rattle.proof_log.proofs.Items.{all-read, counted, none-read, one-read, stopped, uncounted}
 use Rattle.proof_log.proofs.reader.read_hints.Goals as goal
 
 pub loop-rest-preserved : goal.loop-rest-preserved
@@ -9,3 +9,20 @@ loop-rest-preserved c =
     let more : length c.loop-rest.hints < c.in-Some.count = omega (arith, c.len.ensures.count, c.loop-rest-test.true) in
     let next = one-read hint_in before.0 c.in-Some.count c.loop-rest.hints (words_after c.loop-rest.rest.now) c.in-Some-next_hint.hint (words_after c.in-Some-next_hint.after.now) before.2 more c.in-Some-next_hint.ensures in
     (before.0, before.1, rw c.in_ok-push.ensures.ok next)
+
+pub loop-rest-init : goal.loop-rest-init
+loop-rest-init c = (words_after c.in-Some.first.now, c.in-Some.ensures, rw c.requires (none-read hint_in (words_after c.in-Some.first.now) c.in-Some.count))
+
+pub returns : goal.returns
+returns c =
+    let before = c.loop-rest.invariant in
+    counted hint_in (words_after c.args.words.now) before.0 c.in-Some.count _ before.1 (all-read hint_in before.0 c.in-Some.count c.loop-rest.hints (words_after c.loop-rest.rest.now) before.2 (omega (arith, c.len.ensures.count, c.loop-rest-test.false)))
+
+pub returns-in_default : goal.returns-in_default
+returns-in_default c = uncounted hint_in (words_after c.args.words.now) c.in_default.ensures
+
+pub returns-in_default-next_hint : goal.returns-in_default-next_hint
+returns-in_default-next_hint c =
+    let before = c.loop-rest.invariant in
+    let more : length c.loop-rest.hints < c.in-Some.count = omega (arith, c.len.ensures.count, c.loop-rest-test.true) in
+    counted hint_in (words_after c.args.words.now) before.0 c.in-Some.count None before.1 (stopped hint_in before.0 c.in-Some.count c.loop-rest.hints (words_after c.loop-rest.rest.now) before.2 more c.in_default-next_hint.ensures)
