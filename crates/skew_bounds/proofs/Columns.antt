@@ -41,3 +41,17 @@ table-more incoming node numbers now new within up latest set = record {
       })
       (record { numbers = numbers; latest = latest; entries = λ i in-i. set.column i (rw set.nodes at in-i) });
 }
+
+-- the first columns are the rows of another table
+pub record AreTurnedUpTo (d : Differences) (count : ℕ) (turned : Differences) : Type 0 where
+  pub nodes : turned.nodes ≡ d.nodes
+  pub exchanged : (i j : ℕ) → i < count → j < d.nodes → entry turned j i ≡ entry d i j
+
+pub turned-more : (d : Differences) (node : ℕ) (numbers : List ℤ) (now new : Differences) → node < d.nodes → AreTurnedUpTo d node now → ((j : ℕ) → j < d.nodes → number_of numbers j ≡ entry d node j) → IsColumnSet now node numbers new
+    → AreTurnedUpTo d (node + 1) new
+turned-more d node numbers now new within up row set = record {
+  nodes = set.nodes ∙ up.nodes;
+  exchanged = λ i j below in-j. below_more (λ a. entry new j a ≡ entry d a j) node
+      (λ a less. set.others j a (rw up.nodes in-j) (rw up.nodes (omega arith)) (λ same. omega arith) ∙ up.exchanged a j less in-j)
+      (set.column j (rw up.nodes in-j) ∙ row j in-j) i below;
+}

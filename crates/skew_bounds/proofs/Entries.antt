@@ -1,6 +1,7 @@
 -- The entries of a square of numbers that is written row by row.
-use Rattle.std.proofs.Common.{◌≡◌, ℕ, ◌+◌, ◌*◌, ◌<◌, List, length, arith, get_or, set, ℤ, pos}
-use Rattle.std.proofs.lemmas.List.{get_or-set_same, get_or-set_other}
+use Rattle.std.proofs.Common.{◌≡◌, ◌∙◌, ℕ, ◌+◌, ◌-◌, ◌*◌, ◌<◌, List, length, arith, get_or, set, drop, ℤ, pos}
+use Rattle.std.specs.Prelude.{slice_range}
+use Rattle.std.proofs.lemmas.List.{get_or-drop, get_or-set_same, get_or-set_other, get_or-take}
 use Rattle.std.proofs.lemmas.Nat.{mul-add-lt, same_from_place}
 
 module _ (xs : List ℤ) (n : ℕ) (square : length xs ≡ n * n) (i j : ℕ) (in-i : i < n) (in-j : j < n) where
@@ -15,3 +16,9 @@ module _ (xs : List ℤ) (n : ℕ) (square : length xs ≡ n * n) (i j : ℕ) (i
     set-other a b in-b apart =
         rw now
         (get_or-set_other xs (i * n + j) (a * n + b) value (pos 0) (λ same. let both = same_from_place a b i j n in-b in-j same in apart both.0 both.1))
+
+-- an entry in a row of it
+pub row-read : (xs : List ℤ) (n i j : ℕ) → j < n → get_or (slice_range xs (i * n) ((i + 1) * n)) j (pos 0) ≡ get_or xs (i * n + j) (pos 0)
+row-read xs n i j in-j =
+    let within : j < (i + 1) * n - i * n = omega (arith, in-j) in
+    get_or-take ((i + 1) * n - i * n) (drop (i * n) xs) j (pos 0) within ∙ get_or-drop (i * n) xs j (pos 0)

@@ -33,3 +33,9 @@ AreSmall d = (i j : ℕ) → i < d.nodes → j < d.nodes → IsWithin FAR (entry
 pub record IsOfRows (d : Differences) : Type 0 where
   pub zero_moment : 0 < d.nodes
   pub small : AreSmall d
+
+-- a second table, over the same nodes as one of rows, has the nodes of each pair exchanged
+pub record AreTurned (d turned : Differences) : Type 0 where
+  pub of_rows : IsOfRows d
+  pub nodes : turned.nodes ≡ d.nodes
+  pub exchanged : (i j : ℕ) → i < d.nodes → j < d.nodes → entry turned j i ≡ entry d i j

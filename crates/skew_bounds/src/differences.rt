@@ -1,9 +1,13 @@
-ghost use Rattle.std.specs.Prelude.{◌≡◌, ◌+◌, ◌<◌};
+ghost use Rattle.std.specs.Prelude.{◌≡◌, ◌+◌, ◌<◌, IfOk, ◌+ℤ◌};
+ghost use Rattle.mt_model.specs.Log.{IsWithin};
+ghost use Rattle.mt_model.specs.declared.limits.TheConstants.{MAX_TIME};
 ghost use Rattle.skew_bounds.specs.Differences.{IsOfRows};
 ghost use Rattle.skew_bounds.specs.Tight.{events_of, greatest_of, least_of};
 
 use crate::matrix::Matrix;
+use crate::table::turned;
 use mt_model::EventId;
+use std::alloc::{AllocError, Global};
 use std::marker::Model;
 
 /// How long after one row of a log another comes at least and at most, over all timings that the log
@@ -12,25 +16,28 @@ use std::marker::Model;
 #[derive(Debug, Drop)]
 pub struct Tight {
     table: Matrix,
+    /// The table with rows for its columns: so both differences of a row to each other one stand side by side in memory.
+    turned: Matrix,
 }
 
 impl Model for Tight {
-    ghost use Rattle.skew_bounds.specs.Differences.{Differences, IsOfRows};
+    ghost use Rattle.skew_bounds.specs.Differences.{AreTurned, Differences};
 
     ghost Value = { Differences };
 
     ghost view = { λ t. t.table };
 
-    ghost invariant = { λ t. IsOfRows t.table };
+    ghost invariant = { λ t. AreTurned t.table t.turned };
 }
 
 impl Tight {
     /// The differences that a table says, which is over the zero moment and the rows of a log.
-    pub(crate) fn new(table: Matrix) -> Tight
+    pub(crate) fn new(alloc: Global, table: Matrix) -> Result<Tight, AllocError>
         requires { IsOfRows table }
-        ensures table { result ≡ table }
+        ensures table { IfOk result (λ t. t ≡ table) }
     {
-        Tight { table }
+        let turned = turned(alloc, &table)?;
+        Ok(Tight { table, turned })
     }
 
     /// How many rows the log has, each of which may be e or f below. Takes no memory.
@@ -45,6 +52,7 @@ impl Tight {
         requires e { e < events_of self.now }
         requires f { f < events_of self.now }
         ensures least { result ≡ least_of self.now e f }
+        ensures small { IsWithin (MAX_TIME +ℤ MAX_TIME) result }
     {
         -self.table.entry(node_of(e), node_of(f))
     }
@@ -54,8 +62,9 @@ impl Tight {
         requires e { e < events_of self.now }
         requires f { f < events_of self.now }
         ensures greatest { result ≡ greatest_of self.now e f }
+        ensures small { IsWithin (MAX_TIME +ℤ MAX_TIME) result }
     {
-        self.table.entry(node_of(f), node_of(e))
+        self.turned.entry(node_of(e), node_of(f))
     }
 }
 

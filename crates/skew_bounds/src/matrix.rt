@@ -1,6 +1,7 @@
 //! Numbers for pairs of nodes.
 
-ghost use Rattle.std.specs.Prelude.{◌≡◌, ℕ, ◌*◌, ◌<◌, ◌^◌, IfOk};
+ghost use Rattle.std.specs.Prelude.{◌≡◌, ℕ, ◌*◌, ◌<◌, ◌^◌, length, IfOk};
+ghost use Rattle.neg_cycle.specs.Systems.{number_of};
 ghost use Rattle.skew_bounds.specs.Differences.{IsSet, entry};
 
 use mt_model::MAX_TIME;
@@ -46,6 +47,7 @@ impl Matrix {
     /// How many nodes there are.
     pub fn nodes(&self) -> usize
         ensures count { result ≡ self.now.nodes }
+        ensures square { self.now.nodes * self.now.nodes < 2 ^ 64 }
     {
         self.nodes
     }
@@ -58,6 +60,15 @@ impl Matrix {
         ensures value { result ≡ entry self.now i j }
     {
         self.entries[i * self.nodes + j]
+    }
+
+    /// The most that the number of node i may be above that of each node, in the order of the nodes.
+    pub fn row(&self, i: usize) -> &[i128]
+        requires i { i < self.now.nodes }
+        ensures count { length result.now ≡ self.now.nodes }
+        ensures entries { (j : ℕ) → j < self.now.nodes → number_of result.now j ≡ entry self.now i j }
+    {
+        &self.entries[i * self.nodes..(i + 1) * self.nodes]
     }
 
     /// Sets one entry.

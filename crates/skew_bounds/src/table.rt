@@ -2,7 +2,7 @@
 
 ghost use Rattle.std.specs.Prelude.{◌≡◌, ◌*◌, ◌<◌, ◌^◌, ◌∷◌, length, pos, IfOk};
 ghost use Rattle.mt_model.specs.Timing.{Admissible};
-ghost use Rattle.skew_bounds.specs.Differences.{IsColumnSet, IsOfRows};
+ghost use Rattle.skew_bounds.specs.Differences.{AreTurned, IsColumnSet, IsOfRows};
 ghost use Rattle.skew_bounds.specs.Incoming.{IsNear, IsNetwork, lists_of};
 ghost use Rattle.skew_bounds.specs.Table.{IsTableOf};
 ghost use Rattle.skew_bounds.specs.Tight.{IsTight};
@@ -40,6 +40,18 @@ fn table_by(alloc: Global, incoming: &[Vec<Edge>], potential: &[i128]) -> Result
         set_column(&mut table, node, &numbers);
     }
     Ok(table)
+}
+
+/// The table with the nodes of each pair exchanged. An error is want of memory.
+pub fn turned(alloc: Global, table: &Matrix) -> Result<Matrix, AllocError>
+    requires { IsOfRows table.now }
+    ensures { IfOk result (AreTurned table.now) }
+{
+    let mut turned = Matrix::new(alloc, table.nodes())?;
+    for node in 0..table.nodes() {
+        set_column(&mut turned, node, table.row(node));
+    }
+    Ok(turned)
 }
 
 // The time of the zero moment, and these.

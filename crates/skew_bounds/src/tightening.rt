@@ -52,5 +52,5 @@ pub fn tight_from(alloc: Global, log: &Log, times: &[i128]) -> Result<Tight, All
     ensures exact { IfOk result (IsTight log.now) }
 {
     let table = table_of(alloc, log, times)?;
-    Ok(Tight::new(table))
+    Tight::new(alloc, table)
 }
