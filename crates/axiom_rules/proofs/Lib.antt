@@ -19,7 +19,7 @@ pub mod PartsMade
 pub mod RulesMade
 mod TableLemmas
 pub mod AtomLemmas
-mod IndexLemmas
+pub mod IndexLemmas
 pub mod ShapeLemmas
 pub mod RulesHold
 mod WorkedCases

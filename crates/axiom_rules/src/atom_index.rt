@@ -94,15 +94,16 @@ impl AtomIndex {
         Ok(())
     }
 
-    // Makes more buckets than there are atoms; where there aren't, the index becomes one of no atoms.
+    // Makes more than twice as many buckets as there are atoms, so that chains are short; where there aren't as many, the
+    // index becomes one of no atoms.
     fn make_room(&mut self, atoms: &[Atom]) -> Result<(), AllocError>
         requires index { IsIndex atoms.now self.old }
         requires few { length atoms.now < 2 ^ 32 }
         ensures index { IsIndex atoms.now self.new }
         ensures buckets { OnOk result (length atoms.now < length self.new.heads.items) }
     {
-        if self.heads.len() <= atoms.len() {
-            let heads = vec![in *self.heads.allocator(); 0; 2 * atoms.len() + 1]?;
+        if self.heads.len() <= 2 * atoms.len() {
+            let heads = vec![in *self.heads.allocator(); 0; 4 * atoms.len() + 1]?;
             self.links.clear();
             self.heads = heads;
         }
