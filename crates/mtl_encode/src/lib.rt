@@ -10,6 +10,7 @@ mod needless;
 mod problem;
 mod size;
 mod variables;
+mod workspace;
 
 pub use encoding::{encode, encode_by};
 pub use laws::{meanings_satisfy_rules, rules_are_exact, sizes_are_unique, small_cubes_are_small};

@@ -8,6 +8,7 @@ ghost use Rattle.mtl_encode.specs.Instances.{count_of as count_of_argument, inst
 
 use crate::clauses::Clauses;
 use crate::needless::{is_needless_throughout, needs_no_span};
+use crate::workspace::Workspace;
 use axiom_rules::{Argument, MAX_RULE, Rule, Rules, arguments_of};
 use skew_bounds::Tight;
 use std::alloc::{AllocError, Global};
@@ -70,7 +71,7 @@ impl Clauses {
     // Adds the rules of a number with these three first arguments.
     fn add_with_three(
         &mut self,
-        alloc: Global,
+        workspace: &mut Workspace,
         rules: &Rules,
         tight: &Tight,
         number: u8,
@@ -88,7 +89,7 @@ impl Clauses {
         }
         for d in 0..counts[3] {
             let args = [a, b, c, d];
-            self.add(alloc, rules, tight, Rule { number, args })?;
+            self.add(workspace, rules, tight, Rule { number, args })?;
         }
         Ok(())
     }
@@ -96,7 +97,7 @@ impl Clauses {
     // Adds the rules of a number with these two first arguments.
     fn add_with_two(
         &mut self,
-        alloc: Global,
+        workspace: &mut Workspace,
         rules: &Rules,
         tight: &Tight,
         number: u8,
@@ -109,7 +110,7 @@ impl Clauses {
         ensures { OnOk result (Gains rules.now self.old self.new (with_two rules.now (out_by tight.now rules.now) number counts a b)) }
     {
         for c in 0..third_count(rules, number, counts, a) {
-            self.add_with_three(alloc, rules, tight, number, counts, a, b, c)?;
+            self.add_with_three(workspace, rules, tight, number, counts, a, b, c)?;
         }
         Ok(())
     }
@@ -117,7 +118,7 @@ impl Clauses {
     // Adds the rules of a number with this first argument.
     fn add_with_one(
         &mut self,
-        alloc: Global,
+        workspace: &mut Workspace,
         rules: &Rules,
         tight: &Tight,
         number: u8,
@@ -135,7 +136,7 @@ impl Clauses {
             return Ok(());
         }
         for b in 0..counts[1] {
-            self.add_with_two(alloc, rules, tight, number, counts, a, b)?;
+            self.add_with_two(workspace, rules, tight, number, counts, a, b)?;
         }
         Ok(())
     }
@@ -143,7 +144,7 @@ impl Clauses {
     // Adds the rules of a number whose arguments are below these counts.
     fn add_with_none(
         &mut self,
-        alloc: Global,
+        workspace: &mut Workspace,
         rules: &Rules,
         tight: &Tight,
         number: u8,
@@ -154,7 +155,7 @@ impl Clauses {
         ensures { OnOk result (Gains rules.now self.old self.new (with_none rules.now (out_by tight.now rules.now) number counts)) }
     {
         for a in 0..counts[0] {
-            self.add_with_one(alloc, rules, tight, number, counts, a)?;
+            self.add_with_one(workspace, rules, tight, number, counts, a)?;
         }
         Ok(())
     }
@@ -162,7 +163,7 @@ impl Clauses {
     // Adds the rules of a number.
     fn add_number(
         &mut self,
-        alloc: Global,
+        workspace: &mut Workspace,
         rules: &Rules,
         tight: &Tight,
         nodes: u32,
@@ -176,7 +177,7 @@ impl Clauses {
         match arguments_of(number) {
             Some(arguments) => {
                 let counts = counts_of(rules, nodes, arguments);
-                self.add_with_none(alloc, rules, tight, number, counts)
+                self.add_with_none(workspace, rules, tight, number, counts)
             }
             None => Ok(()),
         }
@@ -195,8 +196,9 @@ impl Clauses {
         requires room { HasRoom rules.now (self.old.rules ++ instances rules.now (out_by tight.now rules.now)) }
         ensures { OnOk result (Gains rules.now self.old self.new (instances rules.now (out_by tight.now rules.now))) }
     {
+        let mut workspace = Workspace::new(alloc);
         for number in 0..MAX_RULE + 1 {
-            self.add_number(alloc, rules, tight, nodes, number)?;
+            self.add_number(&mut workspace, rules, tight, nodes, number)?;
         }
         Ok(())
     }

@@ -1,7 +1,9 @@
 //! Which instances of rules are needless, by the least and the greatest differences of events.
 
-ghost use Rattle.std.specs.Prelude.{◌≡◌, ◌||◌, true, false, int_le, int_lt, pos, length};
+ghost use Rattle.std.specs.Prelude.{◌≡◌, ◌||◌, true, false, int_le, int_lt, pos, length, ◌+ℤ◌};
 ghost use Rattle.std.specs.Option.{option_map_or};
+ghost use Rattle.mt_model.specs.Log.{IsWithin};
+ghost use Rattle.mt_model.specs.declared.limits.TheConstants.{MAX_TIME};
 ghost use Rattle.mtl_encode.specs.Needless as needless;
 
 use axiom_rules::{MAX_RULE, Reach, Rule, Rules};
@@ -45,7 +47,7 @@ pub enum Needless {
 }
 
 // The test of rule 1, of rule 2 and so on.
-const TESTS: [Needless; MAX_RULE as usize] = [
+static TESTS: [Needless; MAX_RULE as usize] = [
     Needless::Never,
     Needless::Never,
     Needless::Never,
@@ -89,7 +91,8 @@ fn test_of(number: u8) -> Option<Needless>
 
 // The greatest `t_f - t_e`, and 0 where there is no such event.
 fn greatest(tight: &Tight, e: u32, f: u32) -> i128
-    ensures { result ≡ (needless.extremes_of tight.now).greatest e f }
+    ensures greatest { result ≡ (needless.extremes_of tight.now).greatest e f }
+    ensures small { IsWithin (MAX_TIME +ℤ MAX_TIME) result }
 {
     let events = tight.events();
     if (e as usize) < events && (f as usize) < events {
@@ -101,7 +104,8 @@ fn greatest(tight: &Tight, e: u32, f: u32) -> i128
 
 // The least one.
 fn least(tight: &Tight, e: u32, f: u32) -> i128
-    ensures { result ≡ (needless.extremes_of tight.now).least e f }
+    ensures least { result ≡ (needless.extremes_of tight.now).least e f }
+    ensures small { IsWithin (MAX_TIME +ℤ MAX_TIME) result }
 {
     let events = tight.events();
     if (e as usize) < events && (f as usize) < events {
@@ -111,13 +115,14 @@ fn least(tight: &Tight, e: u32, f: u32) -> i128
     }
 }
 
-// How far event j is from event i at most, as a node looks.
+// How far event j is from event i at most, as a node looks. Where it looks behind that is what is told looking ahead,
+// negated: so what is asked of one event and each other one stands side by side in memory.
 pub fn farthest(tight: &Tight, direction: Direction, i: u32, j: u32) -> i128
     ensures { result ≡ needless.farthest (needless.extremes_of tight.now) direction i j }
 {
     match direction {
         Direction::Ahead => greatest(tight, i, j),
-        Direction::Behind => greatest(tight, j, i),
+        Direction::Behind => -least(tight, i, j),
     }
 }
 
@@ -127,7 +132,7 @@ pub fn nearest(tight: &Tight, direction: Direction, i: u32, j: u32) -> i128
 {
     match direction {
         Direction::Ahead => least(tight, i, j),
-        Direction::Behind => least(tight, j, i),
+        Direction::Behind => -greatest(tight, i, j),
     }
 }
 

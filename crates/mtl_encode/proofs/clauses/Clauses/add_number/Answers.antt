@@ -18,11 +18,9 @@ number-of s out number arguments counts is are = go (row_of number) is
     go None is = absurd (cc)
     go (Some row) is = let same : arguments ≡ row.arguments = cc in ap (with_none s out number) (are ∙ ap (map (count_of s)) same)
 
-same : (c : goal.After-add_with_none-arg-1) → with_none c.args.rules.now (out_by c.args.tight.now c.args.rules.now) c.args.number c.counts_of-counts.result ≡ of_number c.args.rules.now (out_by c.args.tight.now c.args.rules.now) c.args.number
-same c = number-of c.args.rules.now (out_by c.args.tight.now c.args.rules.now) c.args.number c.in-Some.arguments c.counts_of-counts.result (sym c.in-Some.is ∙ c.arguments_of.ensures) c.counts_of-counts.ensures
-
 pub add_with_none-requires-clause-room : goal.add_with_none-requires-clause-room
-add_with_none-requires-clause-room c = subst (λ rules. HasRoom c.args.rules.now (c.args.self.now.rules ++ rules)) (sym (same c)) c.requires.room
+add_with_none-requires-clause-room c = subst (λ rules. HasRoom c.args.rules.now (c.args.self.now.rules ++ rules))
+    (sym (number-of c.args.rules.now (out_by c.args.tight.now c.args.rules.now) c.args.number c.in-Some.arguments c.counts_of-counts.result (sym c.in-Some.is ∙ c.arguments_of.ensures) c.counts_of-counts.ensures)) c.requires.room
 
 pub returns-in-Some : goal.returns-in-Some
 returns-in-Some c = subst (λ rules. OnOk c.add_with_none.result (Gains c.args.rules.now c.args.self.now c.add_with_none.new.self rules))

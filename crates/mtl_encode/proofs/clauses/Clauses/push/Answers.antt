@@ -9,15 +9,15 @@ on-ok : {T E : Type 0} (r : Result T E) (A B : Type 0) → (A → B) → OnOk r 
 on-ok (Ok x) A B f a = f a
 on-ok (Err e) A B f a = tt
 
-pub lits_of-requires : goal.lits_of-requires
-lits_of-requires c = omega (arith, c.requires.clauses.few, c.requires.room, literals-one c.args.rules.now c.args.self.now.rules c.args.rule, few-by-number c.args.rules.now c.args.rule c.args.clause.now c.requires.clause)
+pub write_lits-requires : goal.write_lits-requires
+write_lits-requires c = omega (arith, c.requires.clauses.few, c.requires.room, literals-one c.args.rules.now c.args.self.now.rules c.args.rule, few-by-number c.args.rules.now c.args.rule c.args.clause.now c.requires.clause)
 
 pub add-requires-clause-room : goal.add-requires-clause-room
 add-requires-clause-room c = omega (arith, c.requires.clauses.count, c.requires.room, few-rules c.args.rules.now c.args.self.now.rules, literals-one c.args.rules.now c.args.self.now.rules c.args.rule)
 
 pub add-requires-clause-once : goal.add-requires-clause-once
-add-requires-clause-once c = rw c.deref.ensures.value (vars-once c.lits_of.new.atoms (c.in_ok-lits.lits).items c.args.clause.now c.in_ok-lits.ensures.lits (c.clauses_have_atoms_once.ensures c.args.rules.now c.args.rule c.args.clause.now c.requires.clause))
+add-requires-clause-once c = rw c.deref.ensures.value (vars-once c.write_lits.new.atoms (c.write_lits.new.lits).items c.args.clause.now c.in_ok-write_lits.ensures.lits (c.clauses_have_atoms_once.ensures c.args.rules.now c.args.rule c.args.clause.now c.requires.clause))
 
 pub returns : goal.returns
-returns c = on-ok c.push.result _ _ (λ rules. gains-one c.args.rules.now c.args.self.now (record { db = c.add.new.self; rules = c.push.new.self; atoms = c.lits_of.new.atoms }) c.args.rule c.args.clause.now (c.in_ok-lits.lits).items
-    c.requires.clauses c.requires.clause c.in_ok-lits.ensures.atoms c.in_ok-lits.ensures.lits (rw c.deref.ensures.value at c.in_ok-add.ensures.ok) rules) c.push.ensures.ok
+returns c = on-ok c.push.result _ _ (λ rules. gains-one c.args.rules.now c.args.self.now (record { db = c.add.new.self; rules = c.push.new.self; atoms = c.write_lits.new.atoms }) c.args.rule c.args.clause.now (c.write_lits.new.lits).items
+    c.requires.clauses c.requires.clause c.in_ok-write_lits.ensures.atoms c.in_ok-write_lits.ensures.lits (rw c.deref.ensures.value at c.in_ok-add.ensures.ok) rules) c.push.ensures.ok
