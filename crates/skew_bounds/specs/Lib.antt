@@ -1,4 +1,5 @@
 pub mod Edges
+pub mod System
 pub mod RowTimes
 pub mod Consistency
 pub mod Differences

@@ -1,12 +1,13 @@
 ghost use Rattle.std.specs.Prelude.{◌≡◌, ◌+◌, ◌<◌, length, map, All, IsSome, IfOk};
-ghost use Rattle.mt_model.specs.Bounds.{bounds_of, step_of as step_of_bound};
+ghost use Rattle.mt_model.specs.Bounds.{step_of as step_of_bound};
 ghost use Rattle.mt_model.specs.Walks.{edge_of};
 ghost use Rattle.neg_cycle.specs.Systems.{IsEdge};
 ghost use Rattle.skew_bounds.specs.Consistency.{Settles};
 ghost use Rattle.skew_bounds.specs.Edges.{AreEdges, bound_at};
+ghost use Rattle.skew_bounds.specs.System.{IsSystemOf};
 
 use crate::edges::edge_of;
-use crate::list::bounds;
+use crate::system::{BoundSystem, system_of};
 use crate::times::times_of;
 use mt_model::{Bound, Log, Step, Steps, Times, bounds_are_admissible};
 use neg_cycle::{EdgeList, Outcome, solve};
@@ -67,17 +68,24 @@ fn steps_of(alloc: Global, bounds: &[Bound], places: &[u32]) -> Result<Steps, Al
 pub fn settle(alloc: Global, log: &Log) -> Result<Consistency, AllocError>
     ensures answer { IfOk result (Settles log.now) }
 {
+    let system = system_of(alloc, log)?;
+    settle_by(alloc, log, &system)
+}
+
+/// The same where the bounds and their edges are known already.
+pub fn settle_by(alloc: Global, log: &Log, system: &BoundSystem) -> Result<Consistency, AllocError>
+    requires system { IsSystemOf log.now system.now }
+    ensures answer { IfOk result (Settles log.now) }
+{
     bounds_are_admissible();
-    let bounds = bounds(alloc, log)?;
-    let edges = edges_of(alloc, log, bounds.as_slice())?;
-    let outcome = solve(alloc, log.rows().len() as u32 + 1, edges.as_slice())?;
+    let outcome = solve(alloc, log.rows().len() as u32 + 1, system.edges.as_slice())?;
     match outcome {
         Outcome::Potential(numbers) => {
             let times = times_of(alloc, numbers.as_slice())?;
             Ok(Consistency::Timing(times))
         }
         Outcome::Cycle(places) => {
-            let steps = steps_of(alloc, bounds.as_slice(), places.as_slice())?;
+            let steps = steps_of(alloc, system.bounds.as_slice(), places.as_slice())?;
             Ok(Consistency::Conflict(steps))
         }
     }

@@ -16,14 +16,16 @@ mod list;
 mod lowering;
 mod matrix;
 mod rows;
+mod system;
 mod table;
 mod tightening;
 mod times;
 
 pub use broken::first_broken;
-pub use consistency::{Consistency, edges_of, settle, step_of};
+pub use consistency::{Consistency, edges_of, settle, settle_by, step_of};
 pub use differences::Tight;
 pub use edges::edge_of;
 pub use list::bounds;
-pub use tightening::{TightFault, tight, tight_from};
+pub use system::{BoundSystem, system_of};
+pub use tightening::{TightFault, tight, tight_by, tight_from};
 pub use times::times_of;

@@ -4,14 +4,14 @@ ghost use Rattle.std.specs.Prelude.{◌≡◌, ◌*◌, ◌<◌, ◌^◌, ◌∷
 ghost use Rattle.mt_model.specs.Timing.{Admissible};
 ghost use Rattle.skew_bounds.specs.Differences.{AreTurned, IsColumnSet, IsOfRows};
 ghost use Rattle.skew_bounds.specs.Incoming.{IsNear, IsNetwork, lists_of};
+ghost use Rattle.skew_bounds.specs.System.{IsSystemOf};
 ghost use Rattle.skew_bounds.specs.Table.{IsTableOf};
 ghost use Rattle.skew_bounds.specs.Tight.{IsTight};
 
-use crate::consistency::edges_of;
 use crate::incoming::incoming_of;
 use crate::latest::latest;
-use crate::list::bounds;
 use crate::matrix::Matrix;
+use crate::system::BoundSystem;
 use mt_model::{Log, bounds_are_admissible};
 use neg_cycle::Edge;
 use std::alloc::{AllocError, Global};
@@ -65,16 +65,20 @@ fn node_times(alloc: Global, times: &[i128]) -> Result<Vec<i128>, AllocError>
 }
 
 /// The table of the zero moment, which is node 0, and the rows of a log, of which row e is node e + 1,
-/// where the log admits these times.
-pub fn table_of(alloc: Global, log: &Log, times: &[i128]) -> Result<Matrix, AllocError>
-    requires { Admissible log.now times.now }
+/// where these are the log's bounds and the log admits these times.
+pub fn table_of(
+    alloc: Global,
+    log: &Log,
+    system: &BoundSystem,
+    times: &[i128],
+) -> Result<Matrix, AllocError>
+    requires system { IsSystemOf log.now system.now }
+    requires admissible { Admissible log.now times.now }
     ensures exact { IfOk result (IsTight log.now) }
     ensures rows { IfOk result IsOfRows }
 {
     bounds_are_admissible();
-    let bounds = bounds(alloc, log)?;
-    let edges = edges_of(alloc, log, bounds.as_slice())?;
-    let incoming = incoming_of(alloc, log.rows().len() + 1, edges.as_slice())?;
+    let incoming = incoming_of(alloc, log.rows().len() + 1, system.edges.as_slice())?;
     let potential = node_times(alloc, times)?;
     table_by(alloc, &incoming, &potential)
 }

@@ -1,10 +1,11 @@
 ghost use Rattle.std.specs.Prelude.{IfErr, IfOk, OnOk};
 ghost use Rattle.mt_model.specs.Timing.{Admissible};
 ghost use Rattle.skew_bounds.specs.Consistency.{IsConflict};
+ghost use Rattle.skew_bounds.specs.System.{IsSystemOf};
 ghost use Rattle.skew_bounds.specs.Tight.{IfCycle, IsConsistent, IsInconsistent, IsTight};
 
 use crate::table::table_of;
-use crate::{Consistency, Tight, settle};
+use crate::{BoundSystem, Consistency, Tight, settle_by, system_of};
 use mt_model::{Log, Steps, conflict_excludes_timings};
 use std::alloc::{AllocError, Global};
 
@@ -40,8 +41,9 @@ pub fn tight(alloc: Global, log: &Log) -> Result<Tight, TightFault>
     ensures inconsistent { IfErr result (λ fault. IfCycle fault (λ _. IsInconsistent log.now)) }
 {
     conflict_excludes_timings();
-    match settle(alloc, log)? {
-        Consistency::Timing(times) => Ok(tight_from(alloc, log, times.as_slice())?),
+    let system = system_of(alloc, log)?;
+    match settle_by(alloc, log, &system)? {
+        Consistency::Timing(times) => Ok(tight_by(alloc, log, &system, times.as_slice())?),
         Consistency::Conflict(steps) => Err(TightFault::Cycle(steps)),
     }
 }
@@ -51,6 +53,21 @@ pub fn tight_from(alloc: Global, log: &Log, times: &[i128]) -> Result<Tight, All
     requires admissible { Admissible log.now times.now }
     ensures exact { IfOk result (IsTight log.now) }
 {
-    let table = table_of(alloc, log, times)?;
+    let system = system_of(alloc, log)?;
+    tight_by(alloc, log, &system, times)
+}
+
+/// The same where the bounds and their edges are known too.
+pub fn tight_by(
+    alloc: Global,
+    log: &Log,
+    system: &BoundSystem,
+    times: &[i128],
+) -> Result<Tight, AllocError>
+    requires system { IsSystemOf log.now system.now }
+    requires admissible { Admissible log.now times.now }
+    ensures exact { IfOk result (IsTight log.now) }
+{
+    let table = table_of(alloc, log, system, times)?;
     Tight::new(alloc, table)
 }
