@@ -1,5 +1,5 @@
-ghost use Rattle.std.specs.Prelude.{◌≡◌, ◌↔◌, ◌<◌, ◌≤◌, ◌^◌, ℕ, length, IfOk, OnOk, None, Err};
-ghost use Rattle.mt_model.specs.Form.{form_of};
+ghost use Rattle.std.specs.Prelude.{◌≡◌, ◌↔◌, ◌+◌, ◌<◌, ◌≤◌, ◌^◌, ℕ, length, IfOk, OnOk, None, Err};
+ghost use Rattle.mt_model.specs.Form.{Form, form_of};
 ghost use Rattle.mt_model.specs.Log.{IsLog};
 ghost use Rattle.mt_model.specs.State.{unknown_host};
 ghost use Rattle.mt_model.specs.Truth.{IsValue};
@@ -16,7 +16,7 @@ use crate::laws::refuted_is_no_value;
 use axiom_rules::Rules;
 use formula_arena::{Arena, ArenaFault};
 use mt_list::ListOf;
-use mt_model::{Formula, Log};
+use mt_model::{Formula, Log, NodeId};
 use proof_log::Line;
 use smallvec::SmallVec;
 use std::alloc::{AllocError, Global};
@@ -91,6 +91,24 @@ impl Checker {
         let mut arena = Arena::new(alloc);
         let root = arena.intern(f)?;
         let rules = Rules::new(alloc, log, &arena, root, value)?;
+        Ok(Checker {
+            alloc,
+            rules,
+            clause: SmallVec::new(alloc),
+        })
+    }
+
+    /// The same where the nodes of the formula are known already, the root being the last. An error is want of memory.
+    pub fn by(
+        alloc: Global,
+        log: &Log,
+        arena: &Arena,
+        root: NodeId,
+        value: bool,
+    ) -> Result<Checker, AllocError>
+        ensures sought { IfOk result (λ c. (f : Form) → arena.now ≡ nodes_of f → root + 1 ≡ length arena.now → c ≡ sought_of log.now f value) }
+    {
+        let rules = Rules::new(alloc, log, arena, root, value)?;
         Ok(Checker {
             alloc,
             rules,

@@ -1,3 +1,4 @@
+pub mod Given
 pub mod Faults
 pub mod Right
 pub mod Claims

@@ -9,33 +9,36 @@ ghost use Rattle.report_text.specs.Spelled.{AreSpelledLines, IsSpelled, IsSpelle
 ghost use Rattle.verdict.specs.AuditPlace.{AuditPlace, FailsAt, IsAccepted, IsAudit, Shows};
 ghost use Rattle.verdict.specs.Claims.{Claims};
 ghost use Rattle.verdict.specs.Faults.{HasFewNodes, IsFault, IsJudged};
+ghost use Rattle.verdict.specs.Given.{IsGiven};
 ghost use Rattle.verdict.specs.Right.{IsRight, IsWitness};
 
-use crate::judges::{checker, replayer};
+use crate::given::{Given, given};
 use crate::laws::{accepted_reports_are_true, audits_are_exact, right_reports_are_accepted};
-use crate::nodes::{differences, nodes_of, small_enough};
 use crate::{Audit, Part, VerdictFault};
 use mt_model::{Formula, Log, Step};
-use proof_check::{Check, check_cycle};
+use proof_check::{Check, Checker, check_cycle};
 use proof_log::Line;
 use report_text::{Report, Section};
+use skew_bounds::first_broken;
 use std::alloc::{AllocError, Global};
+use witness_replay::truth_by;
 
 // Whether the log admits times and the formula has the value in them.
 fn is_witness(
     alloc: Global,
     log: &Log,
     f: &Formula,
+    given: &Given,
     value: bool,
     times: &[i128],
 ) -> Result<bool, AllocError>
     requires few { HasFewNodes log.now (form_of f.now) }
+    requires given { IsGiven log.now (form_of f.now) given.now }
     requires spelled { IsSpelledWitness (length log.now.rows) times.now }
     ensures witness { IfOk result (λ b. IsTrue b ↔ IsWitness log.now (form_of f.now) value times.now) }
 {
-    let mut judge = replayer(alloc, log, f)?;
-    let admits = judge.admits(times);
-    let truth = judge.truth(times);
+    let admits = first_broken(log, given.system.bounds.as_slice(), times).is_none();
+    let truth = truth_by(alloc, log, &given.nodes.arena, given.nodes.root, times)?;
     Ok(admits && truth == value)
 }
 
@@ -44,16 +47,17 @@ fn checked(
     alloc: Global,
     log: &Log,
     f: &Formula,
+    given: &Given,
     value: bool,
     lines: &[Line],
 ) -> Result<Check, AllocError>
-    requires few { HasFewNodes log.now (form_of f.now) }
+    requires given { IsGiven log.now (form_of f.now) given.now }
     requires spelled { AreSpelledLines lines.now }
     ensures refutes { IfOk result (λ c. (c ≡ Check.Refutes) ↔ Refutes log.now (form_of f.now) value lines.now) }
     ensures derives { IfOk result (λ c. (c ≡ Check.Derives) ↔ Derives log.now (form_of f.now) value lines.now) }
     ensures wrong { IfOk result (λ c. (n : ℕ) → (c ≡ Check.Wrong n) ↔ FirstWrong log.now (form_of f.now) value lines.now n) }
 {
-    let mut judge = checker(alloc, log, f, value)?;
+    let mut judge = Checker::by(alloc, log, &given.nodes.arena, given.nodes.root, value)?;
     judge.check(lines)
 }
 
@@ -80,26 +84,28 @@ fn failing_line(
     alloc: Global,
     log: &Log,
     f: &Formula,
+    given: &Given,
     budget: u32,
     value: bool,
     section: &Section,
 ) -> Result<Option<u32>, AllocError>
     requires few { HasFewNodes log.now (form_of f.now) }
+    requires given { IsGiven log.now (form_of f.now) given.now }
     requires spelled { IsSpelledSection (length log.now.rows) section.now }
     ensures shows { IfOk result (λ line. line ≡ None → Shows log.now (form_of f.now) budget value section.now) }
     ensures fails { IfOk result (λ line. IfSome line (FailsAt log.now (form_of f.now) budget value section.now)) }
 {
     match section {
         Section::Witness(times) => {
-            let shows = is_witness(alloc, log, f, value, times.as_slice())?;
+            let shows = is_witness(alloc, log, f, given, value, times.as_slice())?;
             Ok(if shows { None } else { Some(0) })
         }
-        Section::Refuted(lines) => match checked(alloc, log, f, value, lines.as_slice())? {
+        Section::Refuted(lines) => match checked(alloc, log, f, given, value, lines.as_slice())? {
             Check::Refutes => Ok(None),
             Check::Derives => Ok(Some(0)),
             Check::Wrong(line) => Ok(Some(line)),
         },
-        Section::Unknown(lines) => match checked(alloc, log, f, value, lines.as_slice())? {
+        Section::Unknown(lines) => match checked(alloc, log, f, given, value, lines.as_slice())? {
             Check::Derives if learn_lines(lines.as_slice()) == budget as usize => Ok(None),
             Check::Refutes | Check::Derives => Ok(Some(0)),
             Check::Wrong(line) => Ok(Some(line)),
@@ -112,20 +118,22 @@ fn audit_of_verdicts(
     alloc: Global,
     log: &Log,
     f: &Formula,
+    given: &Given,
     budget: u32,
     on_true: &Section,
     on_false: &Section,
 ) -> Result<Audit, AllocError>
     requires few { HasFewNodes log.now (form_of f.now) }
+    requires given { IsGiven log.now (form_of f.now) given.now }
     requires true_spelled { IsSpelledSection (length log.now.rows) on_true.now }
     requires false_spelled { IsSpelledSection (length log.now.rows) on_false.now }
     ensures audit { IfOk result (λ a. (events : ℕ) → events ≡ length log.now.rows → IsAudit log.now (form_of f.now) budget (Report.Verdicts events on_true.now on_false.now) a) }
 {
-    if let Some(line) = failing_line(alloc, log, f, budget, true, on_true)? {
+    if let Some(line) = failing_line(alloc, log, f, given, budget, true, on_true)? {
         let part = Part::OnTrue;
         return Ok(Audit::Refused { part, line });
     }
-    if let Some(line) = failing_line(alloc, log, f, budget, false, on_false)? {
+    if let Some(line) = failing_line(alloc, log, f, given, budget, false, on_false)? {
         let part = Part::OnFalse;
         return Ok(Audit::Refused { part, line });
     }
@@ -151,10 +159,12 @@ fn audit_of(
     alloc: Global,
     log: &Log,
     f: &Formula,
+    given: &Given,
     budget: u32,
     report: &Report,
 ) -> Result<Audit, AllocError>
     requires few { HasFewNodes log.now (form_of f.now) }
+    requires given { IsGiven log.now (form_of f.now) given.now }
     requires spelled { IsSpelled report.now }
     ensures audit { IfOk result (IsAudit log.now (form_of f.now) budget report.now) }
 {
@@ -169,7 +179,7 @@ fn audit_of(
             on_true,
             on_false,
             ..
-        } => audit_of_verdicts(alloc, log, f, budget, on_true, on_false),
+        } => audit_of_verdicts(alloc, log, f, given, budget, on_true, on_false),
     }
 }
 
@@ -200,8 +210,6 @@ pub fn audit(
     audits_are_exact();
     right_reports_are_accepted();
     let _ = log.rows();
-    let nodes = nodes_of(alloc, log, f)?;
-    let tight = differences(alloc, log)?;
-    small_enough(log, f, &nodes, tight.as_ref())?;
-    Ok(audit_of(alloc, log, f, budget, report)?)
+    let given = given(alloc, log, f)?;
+    Ok(audit_of(alloc, log, f, &given, budget, report)?)
 }

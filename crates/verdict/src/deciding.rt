@@ -1,26 +1,27 @@
 //! Reports of the values that a formula can have.
 
-ghost use Rattle.std.specs.Prelude.{◌≡◌, ◌≤◌, ◌+◌, length, IfErr, IfOk, OnOk};
+ghost use Rattle.std.specs.Prelude.{◌≡◌, ◌≤◌, length, IfErr, IfOk, OnOk};
 ghost use Rattle.mt_model.specs.Form.{form_of};
 ghost use Rattle.mt_model.specs.Timing.{Admissible};
 ghost use Rattle.mt_model.specs.Truth.{truth};
-ghost use Rattle.formula_arena.specs.Nodes.{nodes_of as nodes_of_form};
+ghost use Rattle.skew_bounds.specs.System.{IsSystemOf};
 ghost use Rattle.skew_bounds.specs.Tight.{IsConsistent, IsTight};
 ghost use Rattle.report_text.specs.Spelled.{IsSpelledSection};
 ghost use Rattle.verdict.specs.Claims.{Claims};
 ghost use Rattle.verdict.specs.Faults.{IsFault, IsJudged};
+ghost use Rattle.verdict.specs.Given.{AreNodesOf};
 ghost use Rattle.verdict.specs.Right.{IsRight, IsRightSection};
 
 use crate::VerdictFault;
-use crate::judges::replayer;
+use crate::given::{Given, Nodes, Settled, given};
 use crate::laws::right_reports_are_true;
-use crate::nodes::{Nodes, nodes_of, small_enough};
 use cdcl_core::{Found, search};
-use mt_model::{Formula, Log, Times, bounds_are_admissible, conflict_excludes_timings};
+use mt_model::{Formula, Log, Times, bounds_are_admissible};
 use mtl_encode::encode_by;
 use report_text::{Report, Section};
-use skew_bounds::{Consistency, Tight, settle, tight_from, times_of};
+use skew_bounds::{BoundSystem, Tight, times_of};
 use std::alloc::{AllocError, Global};
+use witness_replay::truth_by;
 
 // What a search finds of a value, with so many conflicts at most.
 fn searched(
@@ -28,6 +29,7 @@ fn searched(
     log: &Log,
     f: &Formula,
     nodes: &Nodes,
+    system: BoundSystem,
     tight: &Tight,
     value: bool,
     budget: u32,
@@ -36,8 +38,8 @@ fn searched(
     requires most { budget ≤ 1000000 }
     requires consistent { IsConsistent log.now }
     requires judged { IsJudged log.now (form_of f.now) }
-    requires nodes { nodes.now.arena ≡ nodes_of_form (form_of f.now) }
-    requires root { nodes.now.root + 1 ≡ length nodes.now.arena }
+    requires nodes { AreNodesOf (form_of f.now) nodes.now }
+    requires system { IsSystemOf log.now system }
     requires tight { IsTight log.now tight.now }
     ensures right { IfOk result (IsRightSection log.now (form_of f.now) budget value) }
     ensures spelled { IfOk result (IsSpelledSection (length log.now.rows)) }
@@ -46,7 +48,7 @@ fn searched(
     // What a log and a formula are, their parts are known with.
     let _ = log.rows();
     let _ = f.tree();
-    let problem = encode_by(alloc, log, &nodes.arena, nodes.root, value, tight)?;
+    let problem = encode_by(alloc, log, &nodes.arena, nodes.root, value, system, tight)?;
     match search(alloc, problem, budget)? {
         Found::Model {
             values: _,
@@ -58,14 +60,20 @@ fn searched(
 }
 
 // The value that the formula has in an admissible timing.
-fn value_in(alloc: Global, log: &Log, f: &Formula, times: &[i128]) -> Result<bool, AllocError>
+fn value_in(
+    alloc: Global,
+    log: &Log,
+    f: &Formula,
+    nodes: &Nodes,
+    times: &[i128],
+) -> Result<bool, AllocError>
     requires judged { IsJudged log.now (form_of f.now) }
+    requires nodes { AreNodesOf (form_of f.now) nodes.now }
     requires admissible { Admissible log.now times.now }
     ensures value { IfOk result (λ v. v ≡ truth log.now times.now 0 (form_of f.now)) }
 {
     let _ = log.rows();
-    let mut judge = replayer(alloc, log, f)?;
-    Ok(judge.truth(times))
+    truth_by(alloc, log, &nodes.arena, nodes.root, times)
 }
 
 // The timing is a witness of the value that the formula has in it, and the other value is searched for.
@@ -74,6 +82,7 @@ fn verdicts(
     log: &Log,
     f: &Formula,
     nodes: &Nodes,
+    system: BoundSystem,
     tight: &Tight,
     times: Times,
     budget: u32,
@@ -81,14 +90,14 @@ fn verdicts(
     requires some { 1 ≤ budget }
     requires most { budget ≤ 1000000 }
     requires judged { IsJudged log.now (form_of f.now) }
-    requires nodes { nodes.now.arena ≡ nodes_of_form (form_of f.now) }
-    requires root { nodes.now.root + 1 ≡ length nodes.now.arena }
+    requires nodes { AreNodesOf (form_of f.now) nodes.now }
+    requires system { IsSystemOf log.now system }
     requires tight { IsTight log.now tight.now }
     requires admissible { Admissible log.now times }
     ensures right { IfOk result (IsRight log.now (form_of f.now) budget) }
 {
-    let value = value_in(alloc, log, f, times.as_slice())?;
-    let other = searched(alloc, log, f, nodes, tight, !value, budget)?;
+    let value = value_in(alloc, log, f, nodes, times.as_slice())?;
+    let other = searched(alloc, log, f, nodes, system, tight, !value, budget)?;
     let events = log.rows().len() as u32;
     let witness = Section::Witness(times);
     if value {
@@ -121,19 +130,17 @@ pub fn decide(alloc: Global, log: &Log, f: &Formula, budget: u32) -> Result<Repo
     ensures fault { IfErr result (IsFault log.now (form_of f.now)) }
 {
     right_reports_are_true();
-    bounds_are_admissible();
-    conflict_excludes_timings();
     let events = log.rows().len() as u32;
-    let nodes = nodes_of(alloc, log, f)?;
-    match settle(alloc, log)? {
-        Consistency::Conflict(steps) => {
-            small_enough(log, f, &nodes, None)?;
-            Ok(Report::Inconsistent { events, steps })
-        }
-        Consistency::Timing(times) => {
-            let tight = tight_from(alloc, log, times.as_slice())?;
-            small_enough(log, f, &nodes, Some(&tight))?;
-            Ok(verdicts(alloc, log, f, &nodes, &tight, times, budget)?)
+    let Given {
+        nodes,
+        system,
+        settled,
+    } = given(alloc, log, f)?;
+    match settled {
+        Settled::Conflict(steps) => Ok(Report::Inconsistent { events, steps }),
+        Settled::Timing { times, tight } => {
+            let report = verdicts(alloc, log, f, &nodes, system, &tight, times, budget)?;
+            Ok(report)
         }
     }
 }

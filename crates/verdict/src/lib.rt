@@ -6,9 +6,8 @@ mod answer;
 mod auditing;
 mod deciding;
 mod fault;
-mod judges;
+mod given;
 mod laws;
-mod nodes;
 
 pub use answer::{Audit, Part};
 pub use auditing::audit;

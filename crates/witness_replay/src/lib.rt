@@ -10,4 +10,4 @@ mod states;
 mod sweep;
 mod timeline;
 
-pub use replayer::Replayer;
+pub use replayer::{Replayer, truth_by};

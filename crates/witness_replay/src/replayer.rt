@@ -7,7 +7,7 @@ ghost use Rattle.mt_model.specs.Timing.{Admissible};
 ghost use Rattle.mt_model.specs.Truth.{truth};
 ghost use Rattle.mt_model.specs.declared.limits.TheConstants.{MAX_TIME};
 ghost use Rattle.formula_arena.specs.Cores.{core_of};
-ghost use Rattle.formula_arena.specs.Nodes.{nodes_of};
+ghost use Rattle.formula_arena.specs.Nodes.{nodes_of, tree_at};
 ghost use Rattle.formula_arena.specs.declared.arena.TheConstants.{MAX_NODES};
 
 use crate::evaluator::truth_at_first;
@@ -136,4 +136,25 @@ impl Replayer {
             &mut self.table,
         )
     }
+}
+
+/// The truth of a formula, whose core is that of this node, at the first position of a timing. There is a time for each
+/// row. It takes the memory of a replayer, and no copies. An error is want of memory.
+pub fn truth_by(
+    alloc: Global,
+    log: &Log,
+    arena: &Arena,
+    root: NodeId,
+    times: &[i128],
+) -> Result<bool, AllocError>
+    requires node { root < length arena.now }
+    requires few { length arena.now ≤ MAX_NODES }
+    requires count { length times.now ≡ length log.now.rows }
+    requires range { All (IsWithin MAX_TIME) times.now }
+    ensures value { IfOk result (λ v. (f : Form) → core_of f ≡ tree_at arena.now root → v ≡ truth log.now times.now 0 f) }
+{
+    truth_of_core();
+    let mut moments = make_moments(alloc, log.rows().len())?;
+    let mut table = make_table(alloc, arena.len(), log.rows().len())?;
+    Ok(truth_at_first(log, arena, root, times, &mut moments, &mut table))
 }

@@ -1,7 +1,5 @@
-use Rattle.std.proofs.Common.{◌+◌, ap, length, inl, Ok, Err}
-use Rattle.std.specs.Prelude.{IfOk, IsErr, Result}
+use Rattle.std.proofs.Common.{◌+◌, ap, length, inl}
 use Rattle.axiom_rules.specs.Sought.{sought_of}
-use Rattle.skew_bounds.proofs.BoundCounts.{all-have}
 use Rattle.mtl_encode.proofs.EncodeLemmas.{all-listed, few-atoms, fits-of, lists-of, room-first, room-of}
 use Rattle.mtl_encode.proofs.ModelLemmas.{model-exact}
 use Rattle.mtl_encode.proofs.TightExtremes.{tight-extremes}
@@ -17,15 +15,12 @@ pub in_order-requires-clause-few : goal.in_order-requires-clause-few
 in_order-requires-clause-few c = few-atoms c.in_ok-sought.sought (out_by c.args.tight.now c.in_ok-sought.sought) c.new-clauses.result c.add_all.new.self c.new-clauses.ensures.rules c.in_ok-add_all.ensures
     (room-of c.cores_are_cores.ensures.equality c.in_ok-sought.sought _ c.args.tight.now c.in_ok-sought.ensures.rules c.rows.ensures.valid c.len-nodes.ensures.arena c.requires.consistent c.requires.tight c.requires.size)
 
-pub edges_of-requires : goal.edges_of-requires
-edges_of-requires c = rw (c.as_slice.ensures.items, c.in_ok-bounds.ensures.list) (all-have c.args.log.now)
-
 pub returns-clause-fits : goal.returns-clause-fits
 returns-clause-fits c = λ f nodes last.
-    fits-of c.in_ok-sought.sought (sought_of c.args.log.now f c.args.value) (out_by c.args.tight.now c.in_ok-sought.sought) c.in_ok-ordered.ordered c.in_ok-bounds.bounds c.in_ok-edges.edges _ (c.in_ok-sought.ensures.formula f nodes last) c.in_ok-ordered.ensures.clauses
+    fits-of c.in_ok-sought.sought (sought_of c.args.log.now f c.args.value) (out_by c.args.tight.now c.in_ok-sought.sought) c.in_ok-ordered.ordered c.args.system.bounds c.args.system.edges _ (c.in_ok-sought.ensures.formula f nodes last) c.in_ok-ordered.ensures.clauses
     (all-listed c.in_ok-sought.sought (out_by c.args.tight.now c.in_ok-sought.sought) c.new-clauses.result c.add_all.new.self c.in_ok-ordered.ordered.rules c.new-clauses.ensures.rules c.in_ok-add_all.ensures c.in_ok-ordered.ensures.rules)
     (room-of c.cores_are_cores.ensures.equality c.in_ok-sought.sought _ c.args.tight.now c.in_ok-sought.ensures.rules c.rows.ensures.valid c.len-nodes.ensures.arena c.requires.consistent c.requires.tight c.requires.size)
-    c.rows.ensures.valid c.in_ok-bounds.ensures.list (rw c.as_slice.ensures.items at c.in_ok-edges.ensures.edges) c.in_ok-edges.ensures.within (ap (λ rows. length rows + 1) c.rows.ensures.same)
+    c.rows.ensures.valid c.requires.system.bounds c.requires.system.edges c.requires.system.within (ap (λ rows. length rows + 1) c.rows.ensures.same)
 
 pub returns-clause-kept : goal.returns-clause-kept
 returns-clause-kept c = λ f nodes last. inl (record {
@@ -42,17 +37,3 @@ returns-clause-exact c = λ f nodes last values numbers model. model-exact c.rul
     (lists-of c.in_ok-sought.sought (sought_of c.args.log.now f c.args.value) (out_by c.args.tight.now) c.in_ok-ordered.ordered.rules (c.in_ok-sought.ensures.formula f nodes last)
     (all-listed c.in_ok-sought.sought (out_by c.args.tight.now c.in_ok-sought.sought) c.new-clauses.result c.add_all.new.self c.in_ok-ordered.ordered.rules c.new-clauses.ensures.rules c.in_ok-add_all.ensures c.in_ok-ordered.ensures.rules))
     c.len.ensures.once model
-
--- an error gives nothing of which something would be asked
-if-err : {T E : Type 0} (r : Result T E) (P : T → Type 0) → IsErr r → IfOk r P
-if-err (Ok x) P is = absurd (cc)
-if-err (Err e) P is = tt
-
-pub returns-in_err-bounds-clause-fits : goal.returns-in_err-bounds-clause-fits
-returns-in_err-bounds-clause-fits c = if-err c.from_residual-in_err-bounds.result _ c.from_residual-in_err-bounds.ensures.0
-
-pub returns-in_err-bounds-clause-kept : goal.returns-in_err-bounds-clause-kept
-returns-in_err-bounds-clause-kept c = if-err c.from_residual-in_err-bounds.result _ c.from_residual-in_err-bounds.ensures.0
-
-pub returns-in_err-bounds-clause-exact : goal.returns-in_err-bounds-clause-exact
-returns-in_err-bounds-clause-exact c = if-err c.from_residual-in_err-bounds.result _ c.from_residual-in_err-bounds.ensures.0

@@ -6,7 +6,7 @@ use Rattle.formula_arena.specs.declared.arena.TheConstants.{MAX_NODES}
 use Rattle.formula_arena.specs.declared.fault.ArenaFault.TheVariants.{TooManyNodes}
 use Rattle.formula_arena.proofs.NodeCounts.{with_nodes-empty}
 use Rattle.verdict.proofs.NotJudged.{of_arena}
-use Rattle.verdict.proofs.nodes.nodes_of.Goals as goal
+use Rattle.verdict.proofs.given.nodes_of.Goals as goal
 
 pub returns-in_err-root-clause-fault : goal.returns-in_err-root-clause-fault
 returns-in_err-root-clause-fault c =

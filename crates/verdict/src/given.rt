@@ -1,0 +1,122 @@
+//! What a question of a log and a formula needs again and again, and is made once.
+
+ghost use Rattle.std.specs.Prelude.{MatchOption, IfErr, IfOk, OnOk};
+ghost use Rattle.mt_model.specs.Form.{form_of};
+ghost use Rattle.skew_bounds.specs.System.{IsSystemOf};
+ghost use Rattle.skew_bounds.specs.Tight.{IsInconsistent, IsTight};
+ghost use Rattle.verdict.specs.Faults.{HasFewNodes, IsFault, IsJudged};
+ghost use Rattle.verdict.specs.Given.{AreNodesOf, IsGiven, IsSettled};
+
+use crate::VerdictFault;
+use formula_arena::Arena;
+use mt_model::{Formula, Log, NodeId, Steps, Times, conflict_excludes_timings};
+use mtl_encode::{MAX_SIZE, size_of, sizes_are_unique};
+use skew_bounds::{BoundSystem, Consistency, Tight, settle_by, system_of, tight_by};
+use std::alloc::{AllocError, Global};
+
+/// The nodes of one formula, of which the root is the last.
+#[derive(Debug, Drop)]
+pub struct Nodes {
+    pub arena: Arena,
+    pub root: NodeId,
+}
+
+/// Whether the bounds of a log can be met.
+#[derive(Debug, Drop)]
+pub enum Settled {
+    /// By this timing; and how far apart the log's events are in all that it admits.
+    Timing { times: Times, tight: Tight },
+    /// These bounds are in conflict.
+    Conflict(Steps),
+}
+
+/// The nodes of a formula, the bounds of a log with their edges, and whether these can be met.
+#[derive(Debug, Drop)]
+pub struct Given {
+    pub nodes: Nodes,
+    pub system: BoundSystem,
+    pub settled: Settled,
+}
+
+// The nodes of a formula. The first test that fails gives the fault: whether its hosts are in the log, and whether
+// it has few enough nodes.
+fn nodes_of(alloc: Global, log: &Log, f: &Formula) -> Result<Nodes, VerdictFault>
+    ensures few { OnOk result (HasFewNodes log.now (form_of f.now)) }
+    ensures nodes { IfOk result (AreNodesOf (form_of f.now)) }
+    ensures fault { IfErr result (IsFault log.now (form_of f.now)) }
+{
+    if let Some(index) = f.unknown_host(log) {
+        return Err(VerdictFault::UnknownHost { index });
+    }
+    let mut arena = Arena::new(alloc);
+    let root = arena.intern(f)?;
+    Ok(Nodes { arena, root })
+}
+
+// Whether bounds of a log can be met.
+fn settled_of(alloc: Global, log: &Log, system: &BoundSystem) -> Result<Settled, AllocError>
+    requires { IsSystemOf log.now system.now }
+    ensures { IfOk result (IsSettled log.now) }
+{
+    match settle_by(alloc, log, system)? {
+        Consistency::Conflict(steps) => Ok(Settled::Conflict(steps)),
+        Consistency::Timing(times) => {
+            let tight = tight_by(alloc, log, system, times.as_slice())?;
+            Ok(Settled::Timing { times, tight })
+        }
+    }
+}
+
+// How far apart the events of a log are, and None where no timing is admissible.
+fn differences<'a>(log: &Log, settled: &'a Settled) -> Option<&'a Tight>
+    requires { IsSettled log.now settled.now }
+    ensures { MatchOption result (IsInconsistent log.now) (λ t. IsTight log.now t.now) }
+{
+    conflict_excludes_timings();
+    match settled {
+        Settled::Timing { tight, .. } => Some(tight),
+        Settled::Conflict(_) => None,
+    }
+}
+
+// Whether the problem of a log and the nodes of a formula is small enough.
+fn small_enough(
+    log: &Log,
+    f: &Formula,
+    nodes: &Nodes,
+    tight: Option<&Tight>,
+) -> Result<(), VerdictFault>
+    requires few { HasFewNodes log.now (form_of f.now) }
+    requires nodes { AreNodesOf (form_of f.now) nodes.now }
+    requires tight { MatchOption tight (IsInconsistent log.now) (λ t. IsTight log.now t.now) }
+    ensures judged { OnOk result (IsJudged log.now (form_of f.now)) }
+    ensures fault { IfErr result (IsFault log.now (form_of f.now)) }
+{
+    sizes_are_unique();
+    // What a log is, that it is valid is known with.
+    let _ = log.rows();
+    let size = size_of(log, &nodes.arena, tight);
+    if size <= MAX_SIZE {
+        Ok(())
+    } else {
+        Err(VerdictFault::TooLarge { size })
+    }
+}
+
+/// What is given with a log and a formula. The first test that fails gives the fault: whether the formula's hosts are in
+/// the log, whether it has few enough nodes, and whether their problem is small enough.
+pub fn given(alloc: Global, log: &Log, f: &Formula) -> Result<Given, VerdictFault>
+    ensures given { IfOk result (IsGiven log.now (form_of f.now)) }
+    ensures judged { OnOk result (IsJudged log.now (form_of f.now)) }
+    ensures fault { IfErr result (IsFault log.now (form_of f.now)) }
+{
+    let nodes = nodes_of(alloc, log, f)?;
+    let system = system_of(alloc, log)?;
+    let settled = settled_of(alloc, log, &system)?;
+    small_enough(log, f, &nodes, differences(log, &settled))?;
+    Ok(Given {
+        nodes,
+        system,
+        settled,
+    })
+}
