@@ -8,7 +8,7 @@ use axiom_rules::{AtomTable, Rule};
 use clause_db::{ClauseRef, Db, Lit, Var};
 use mtl_encode::{MAX_SIZE, Problem, encode_by, size_of, sizes_are_unique};
 use neg_cycle::Edge;
-use skew_bounds::{Consistency, Tight, TightFault, settle, tight};
+use skew_bounds::{Consistency, Tight, TightFault, settle, system_of, tight};
 use std::alloc::Global;
 use table_case::{Parsed, push_line, push_marked, push_shown};
 
@@ -58,7 +58,8 @@ fn encoded_by(alloc: Global, parsed: &Parsed, value: bool, tight: &Tight) -> Opt
     sizes_are_unique();
     let Parsed { log, arena, root } = parsed;
     if size_of(log, arena, Some(tight)) <= MAX_SIZE {
-        encode_by(alloc, log, arena, *root, value, tight).ok()
+        let system = system_of(alloc, log).ok()?;
+        encode_by(alloc, log, arena, *root, value, system, tight).ok()
     } else {
         None
     }

@@ -4,6 +4,7 @@ ghost use Rattle.std.specs.Prelude.{◌≡◌, ◌≤◌, ◌+◌, length};
 ghost use Rattle.mt_model.specs.Form.{form_of};
 ghost use Rattle.mt_model.specs.Timing.{Admissible};
 ghost use Rattle.formula_arena.specs.Nodes.{nodes_of};
+ghost use Rattle.skew_bounds.specs.System.{IsSystemOf};
 ghost use Rattle.skew_bounds.specs.Tight.{IsTight};
 ghost use Rattle.mtl_encode.specs.Size.{IsSmall};
 
@@ -11,7 +12,7 @@ use cdcl_core::{Found, search};
 use formula_arena::Arena;
 use mt_model::{Formula, Log, NodeId, bounds_are_admissible};
 use mtl_encode::{MAX_SIZE, encode_by, size_of, sizes_are_unique};
-use skew_bounds::{Tight, tight_from};
+use skew_bounds::{BoundSystem, Tight, system_of, tight_by};
 use std::alloc::{AllocError, Global};
 
 /// What is searched for: a value, with so many conflicts at most.
@@ -29,6 +30,7 @@ fn searched_nodes(
     arena: &Arena,
     root: NodeId,
     times: &[i128],
+    system: BoundSystem,
     tight: &Tight,
     asked: Asked,
 ) -> Result<Found, AllocError>
@@ -37,6 +39,7 @@ fn searched_nodes(
     requires admissible { Admissible log.now times.now }
     requires nodes { arena.now ≡ nodes_of (form_of f.now) }
     requires last { root + 1 ≡ length arena.now }
+    requires system { IsSystemOf log.now system }
     requires tight { IsTight log.now tight.now }
     requires small { IsSmall log.now arena.now }
 {
@@ -44,7 +47,7 @@ fn searched_nodes(
     // What a log and a formula are, their parts are known with.
     let _ = log.rows();
     let _ = f.tree();
-    let problem = encode_by(alloc, log, arena, root, asked.value, tight)?;
+    let problem = encode_by(alloc, log, arena, root, asked.value, system, tight)?;
     search(alloc, problem, asked.budget)
 }
 
@@ -65,11 +68,10 @@ pub fn searched(
         return None;
     };
     sizes_are_unique();
-    let Ok(tight) = tight_from(alloc, log, times) else {
-        return None;
-    };
+    let system = system_of(alloc, log).ok()?;
+    let tight = tight_by(alloc, log, &system, times).ok()?;
     if size_of(log, &arena, Some(&tight)) <= MAX_SIZE {
-        searched_nodes(alloc, log, f, &arena, root, times, &tight, asked).ok()
+        searched_nodes(alloc, log, f, &arena, root, times, system, &tight, asked).ok()
     } else {
         None
     }

@@ -8,3 +8,4 @@ pub mod Searching
 pub mod Audits
 pub mod NotJudged
 pub mod Checking
+mod Roots

@@ -2,6 +2,8 @@
 
 ghost use Rattle.std.specs.Prelude.{◌≡◌, ◌↔◌, ◌<◌, ◌^◌, ℕ, length, IfErr, IfOk, IfSome, IsTrue, OnOk, None};
 ghost use Rattle.mt_model.specs.Form.{Form, form_of};
+ghost use Rattle.mt_model.specs.Timing.{Admissible};
+ghost use Rattle.skew_bounds.specs.System.{IsSystemOf};
 ghost use Rattle.proof_log.specs.Derivations.{Derives, FirstWrong, Refutes};
 ghost use Rattle.proof_log.specs.Freshness.{learn_lines as learn_lines_of};
 ghost use Rattle.report_text.specs.ReportText.{events_of as events_of_report};
@@ -12,16 +14,24 @@ ghost use Rattle.verdict.specs.Faults.{HasFewNodes, IsFault, IsJudged};
 ghost use Rattle.verdict.specs.Given.{IsGiven};
 ghost use Rattle.verdict.specs.Right.{IsRight, IsWitness};
 
-use crate::given::{Given, given};
+use crate::given::{Given, prepare, truth_in};
 use crate::laws::{accepted_reports_are_true, audits_are_exact, right_reports_are_accepted};
 use crate::{Audit, Part, VerdictFault};
 use mt_model::{Formula, Log, Step};
 use proof_check::{Check, Checker, check_cycle};
 use proof_log::Line;
 use report_text::{Report, Section};
-use skew_bounds::first_broken;
+use skew_bounds::{BoundSystem, first_broken};
 use std::alloc::{AllocError, Global};
-use witness_replay::truth_by;
+
+// Whether a log admits times, of which there is one for each row.
+fn admits(log: &Log, system: &BoundSystem, times: &[i128]) -> bool
+    requires system { IsSystemOf log.now system.now }
+    requires spelled { IsSpelledWitness (length log.now.rows) times.now }
+    ensures { IsTrue result ↔ Admissible log.now times.now }
+{
+    first_broken(log, system.bounds.as_slice(), times).is_none()
+}
 
 // Whether the log admits times and the formula has the value in them.
 fn is_witness(
@@ -37,9 +47,11 @@ fn is_witness(
     requires spelled { IsSpelledWitness (length log.now.rows) times.now }
     ensures witness { IfOk result (λ b. IsTrue b ↔ IsWitness log.now (form_of f.now) value times.now) }
 {
-    let admits = first_broken(log, given.system.bounds.as_slice(), times).is_none();
-    let truth = truth_by(alloc, log, &given.nodes.arena, given.nodes.root, times)?;
-    Ok(admits && truth == value)
+    if admits(log, &given.system, times) {
+        Ok(truth_in(alloc, log, f, &given.nodes, times)? == value)
+    } else {
+        Ok(false)
+    }
 }
 
 // What lines are.
@@ -79,6 +91,50 @@ fn learn_lines(lines: &[Line]) -> usize
         .count()
 }
 
+// The line at which a refuted section fails, and None where it shows what it says.
+fn refuted_line(
+    alloc: Global,
+    log: &Log,
+    f: &Formula,
+    given: &Given,
+    budget: u32,
+    value: bool,
+    lines: &[Line],
+) -> Result<Option<u32>, AllocError>
+    requires given { IsGiven log.now (form_of f.now) given.now }
+    requires spelled { AreSpelledLines lines.now }
+    ensures shows { IfOk result (λ line. line ≡ None → Shows log.now (form_of f.now) budget value (Section.Refuted lines.now)) }
+    ensures fails { IfOk result (λ line. IfSome line (FailsAt log.now (form_of f.now) budget value (Section.Refuted lines.now))) }
+{
+    match checked(alloc, log, f, given, value, lines)? {
+        Check::Refutes => Ok(None),
+        Check::Derives => Ok(Some(0)),
+        Check::Wrong(line) => Ok(Some(line)),
+    }
+}
+
+// The same of an unknown section.
+fn unknown_line(
+    alloc: Global,
+    log: &Log,
+    f: &Formula,
+    given: &Given,
+    budget: u32,
+    value: bool,
+    lines: &[Line],
+) -> Result<Option<u32>, AllocError>
+    requires given { IsGiven log.now (form_of f.now) given.now }
+    requires spelled { AreSpelledLines lines.now }
+    ensures shows { IfOk result (λ line. line ≡ None → Shows log.now (form_of f.now) budget value (Section.Unknown lines.now)) }
+    ensures fails { IfOk result (λ line. IfSome line (FailsAt log.now (form_of f.now) budget value (Section.Unknown lines.now))) }
+{
+    match checked(alloc, log, f, given, value, lines)? {
+        Check::Derives if learn_lines(lines) == budget as usize => Ok(None),
+        Check::Refutes | Check::Derives => Ok(Some(0)),
+        Check::Wrong(line) => Ok(Some(line)),
+    }
+}
+
 // The line at which a section fails, and None where it shows what it says.
 fn failing_line(
     alloc: Global,
@@ -100,16 +156,12 @@ fn failing_line(
             let shows = is_witness(alloc, log, f, given, value, times.as_slice())?;
             Ok(if shows { None } else { Some(0) })
         }
-        Section::Refuted(lines) => match checked(alloc, log, f, given, value, lines.as_slice())? {
-            Check::Refutes => Ok(None),
-            Check::Derives => Ok(Some(0)),
-            Check::Wrong(line) => Ok(Some(line)),
-        },
-        Section::Unknown(lines) => match checked(alloc, log, f, given, value, lines.as_slice())? {
-            Check::Derives if learn_lines(lines.as_slice()) == budget as usize => Ok(None),
-            Check::Refutes | Check::Derives => Ok(Some(0)),
-            Check::Wrong(line) => Ok(Some(line)),
-        },
+        Section::Refuted(lines) => {
+            refuted_line(alloc, log, f, given, budget, value, lines.as_slice())
+        }
+        Section::Unknown(lines) => {
+            unknown_line(alloc, log, f, given, budget, value, lines.as_slice())
+        }
     }
 }
 
@@ -210,6 +262,6 @@ pub fn audit(
     audits_are_exact();
     right_reports_are_accepted();
     let _ = log.rows();
-    let given = given(alloc, log, f)?;
+    let given = prepare(alloc, log, f)?;
     Ok(audit_of(alloc, log, f, &given, budget, report)?)
 }

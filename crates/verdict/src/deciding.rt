@@ -13,7 +13,7 @@ ghost use Rattle.verdict.specs.Given.{AreNodesOf};
 ghost use Rattle.verdict.specs.Right.{IsRight, IsRightSection};
 
 use crate::VerdictFault;
-use crate::given::{Given, Nodes, Settled, given};
+use crate::given::{Given, Nodes, Settled, prepare, truth_in};
 use crate::laws::right_reports_are_true;
 use cdcl_core::{Found, search};
 use mt_model::{Formula, Log, Times, bounds_are_admissible};
@@ -21,7 +21,6 @@ use mtl_encode::encode_by;
 use report_text::{Report, Section};
 use skew_bounds::{BoundSystem, Tight, times_of};
 use std::alloc::{AllocError, Global};
-use witness_replay::truth_by;
 
 // What a search finds of a value, with so many conflicts at most.
 fn searched(
@@ -73,7 +72,7 @@ fn value_in(
     ensures value { IfOk result (λ v. v ≡ truth log.now times.now 0 (form_of f.now)) }
 {
     let _ = log.rows();
-    truth_by(alloc, log, &nodes.arena, nodes.root, times)
+    truth_in(alloc, log, f, nodes, times)
 }
 
 // The timing is a witness of the value that the formula has in it, and the other value is searched for.
@@ -135,12 +134,11 @@ pub fn decide(alloc: Global, log: &Log, f: &Formula, budget: u32) -> Result<Repo
         nodes,
         system,
         settled,
-    } = given(alloc, log, f)?;
+    } = prepare(alloc, log, f)?;
     match settled {
         Settled::Conflict(steps) => Ok(Report::Inconsistent { events, steps }),
         Settled::Timing { times, tight } => {
-            let report = verdicts(alloc, log, f, &nodes, system, &tight, times, budget)?;
-            Ok(report)
+            Ok(verdicts(alloc, log, f, &nodes, system, &tight, times, budget)?)
         }
     }
 }

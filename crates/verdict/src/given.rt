@@ -1,18 +1,22 @@
 //! What a question of a log and a formula needs again and again, and is made once.
 
-ghost use Rattle.std.specs.Prelude.{MatchOption, IfErr, IfOk, OnOk};
+ghost use Rattle.std.specs.Prelude.{◌≡◌, MatchOption, All, length, IfErr, IfOk, OnOk};
 ghost use Rattle.mt_model.specs.Form.{form_of};
+ghost use Rattle.mt_model.specs.Log.{IsWithin};
+ghost use Rattle.mt_model.specs.Truth.{truth};
+ghost use Rattle.mt_model.specs.declared.limits.TheConstants.{MAX_TIME};
 ghost use Rattle.skew_bounds.specs.System.{IsSystemOf};
 ghost use Rattle.skew_bounds.specs.Tight.{IsInconsistent, IsTight};
 ghost use Rattle.verdict.specs.Faults.{HasFewNodes, IsFault, IsJudged};
 ghost use Rattle.verdict.specs.Given.{AreNodesOf, IsGiven, IsSettled};
 
 use crate::VerdictFault;
-use formula_arena::Arena;
+use formula_arena::{Arena, nodes_are_subtrees};
 use mt_model::{Formula, Log, NodeId, Steps, Times, conflict_excludes_timings};
 use mtl_encode::{MAX_SIZE, size_of, sizes_are_unique};
 use skew_bounds::{BoundSystem, Consistency, Tight, settle_by, system_of, tight_by};
 use std::alloc::{AllocError, Global};
+use witness_replay::truth_by;
 
 /// The nodes of one formula, of which the root is the last.
 #[derive(Debug, Drop)]
@@ -105,7 +109,7 @@ fn small_enough(
 
 /// What is given with a log and a formula. The first test that fails gives the fault: whether the formula's hosts are in
 /// the log, whether it has few enough nodes, and whether their problem is small enough.
-pub fn given(alloc: Global, log: &Log, f: &Formula) -> Result<Given, VerdictFault>
+pub fn prepare(alloc: Global, log: &Log, f: &Formula) -> Result<Given, VerdictFault>
     ensures given { IfOk result (IsGiven log.now (form_of f.now)) }
     ensures judged { OnOk result (IsJudged log.now (form_of f.now)) }
     ensures fault { IfErr result (IsFault log.now (form_of f.now)) }
@@ -119,4 +123,24 @@ pub fn given(alloc: Global, log: &Log, f: &Formula) -> Result<Given, VerdictFaul
         system,
         settled,
     })
+}
+
+/// The truth of the formula of these nodes at the first position of a timing. There is a time for each row.
+pub fn truth_in(
+    alloc: Global,
+    log: &Log,
+    f: &Formula,
+    nodes: &Nodes,
+    times: &[i128],
+) -> Result<bool, AllocError>
+    requires few { HasFewNodes log.now (form_of f.now) }
+    requires nodes { AreNodesOf (form_of f.now) nodes.now }
+    requires count { length times.now ≡ length log.now.rows }
+    requires range { All (IsWithin MAX_TIME) times.now }
+    ensures value { IfOk result (λ v. v ≡ truth log.now times.now 0 (form_of f.now)) }
+{
+    nodes_are_subtrees();
+    // What a formula is, its parts are known with.
+    let _ = f.tree();
+    truth_by(alloc, log, &nodes.arena, nodes.root, times)
 }

@@ -1,15 +1,13 @@
+use Rattle.std.proofs.Common.{refl, sym, false}
+use Rattle.std.proofs.Math.Bool.{beq}
 use Rattle.mt_model.specs.Form.{form_of}
 use Rattle.verdict.proofs.Witnesses.{by_truth, not_admitted}
-use Rattle.verdict.proofs.auditing.is_witness.Goals.{then-admits, else-admits}
 use Rattle.verdict.proofs.auditing.is_witness.Goals as goal
 
-pub returns : goal.returns
-returns c =
-    let log = c.args.log.now in
-    let f = form_of c.args.f.now in
-    let admissible = rw c.in_ok-judge.ensures.log at c.admits-admits.ensures.admissible in
-    let value = rw c.in_ok-judge.ensures.log at (c.truth-truth.ensures.value f (rw c.in_ok-judge.ensures.core)) in
-    elim c.if-admits.branch [
-      | then-admits w ↦ record { witness = by_truth log f c.args.value c.args.times.now c.admits-admits.result admissible c.if-admits.result c.truth-truth.result value w.if-admits.true w.result-is }
-      | else-admits w ↦ record { witness = not_admitted log f c.args.value c.args.times.now c.admits-admits.result admissible c.if-admits.result w.if-admits.false w.result-is }
-    ]
+pub returns-in_ok-truth_in : goal.returns-in_ok-truth_in
+returns-in_ok-truth_in c =
+    let found = c.in_ok-truth_in.field-0 in
+    record { witness = by_truth c.args.log.now (form_of c.args.f.now) c.args.value c.args.times.now c.admits.result c.admits.ensures (beq found c.args.value) found c.in_ok-truth_in.ensures.value c.if-admits.true refl }
+
+pub returns-else-admits : goal.returns-else-admits
+returns-else-admits c = record { witness = not_admitted c.args.log.now (form_of c.args.f.now) c.args.value c.args.times.now c.admits.result c.admits.ensures false c.if-admits.false (sym c.if-admits.false) }

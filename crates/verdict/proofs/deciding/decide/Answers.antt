@@ -4,19 +4,13 @@ use Rattle.report_text.specs.declared.report.Report.TheVariants as report
 use Rattle.verdict.proofs.Reporting.{inconsistent_right}
 use Rattle.verdict.proofs.deciding.decide.Goals as goal
 
--- bounds in conflict exclude every timing
-pub small_enough-requires-clause-tight : goal.small_enough-requires-clause-tight
-small_enough-requires-clause-tight c = λ t admissible.
-    let conflict = rw c.in-Conflict.is at c.in_ok-steps.ensures.answer in
-    c.conflict_excludes_timings.ensures c.args.log.now c.in-Conflict.steps t conflict.bounds conflict.conflict admissible
-
 pub returns-in-Conflict-clause-right : goal.returns-in-Conflict-clause-right
 returns-in-Conflict-clause-right c = inconsistent_right c.args.log.now (form_of c.args.f.now) c.args.budget (length c.rows.result.now) c.rows.ensures.valid (ap length c.rows.ensures.same)
-    c.in-Conflict.steps (rw c.in-Conflict.is at c.in_ok-steps.ensures.answer)
+    c.in-Conflict.steps (rw c.in-Conflict.is at c.in_ok-nodes.ensures.given.settled)
 
 pub returns-in-Conflict-clause-claims : goal.returns-in-Conflict-clause-claims
 returns-in-Conflict-clause-claims c =
     let log = c.args.log.now in
     let f = form_of c.args.f.now in
-    let right = inconsistent_right log f c.args.budget (length c.rows.result.now) c.rows.ensures.valid (ap length c.rows.ensures.same) c.in-Conflict.steps (rw c.in-Conflict.is at c.in_ok-steps.ensures.answer) in
+    let right = inconsistent_right log f c.args.budget (length c.rows.result.now) c.rows.ensures.valid (ap length c.rows.ensures.same) c.in-Conflict.steps (rw c.in-Conflict.is at c.in_ok-nodes.ensures.given.settled) in
     c.right_reports_are_true.ensures.claims log f c.args.budget (report.Inconsistent (length c.rows.result.now) c.in-Conflict.steps) c.rows.ensures.valid right
