@@ -1,4 +1,3 @@
-use Rattle.mt_model.specs.Form.{form_of}
 use Rattle.skew_bounds.proofs.Near.{times-near}
 use Rattle.verdict.proofs.deciding.value_in.Goals as goal
 

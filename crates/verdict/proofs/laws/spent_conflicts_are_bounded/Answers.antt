@@ -1,5 +1,4 @@
 use Rattle.std.proofs.Common.{arith}
-use Rattle.axiom_rules.specs.Sought.{sought_of}
 use Rattle.cdcl_core.proofs.KeptLists.{kept_refuted}
 use Rattle.verdict.proofs.laws.spent_conflicts_are_bounded.Goals as goal
 
