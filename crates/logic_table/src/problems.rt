@@ -58,7 +58,9 @@ fn encoded_by(alloc: Global, parsed: &Parsed, value: bool, tight: &Tight) -> Opt
     sizes_are_unique();
     let Parsed { log, arena, root } = parsed;
     if size_of(log, arena, Some(tight)) <= MAX_SIZE {
-        let system = system_of(alloc, log).ok()?;
+        let Ok(system) = system_of(alloc, log) else {
+            return None;
+        };
         encode_by(alloc, log, arena, *root, value, system, tight).ok()
     } else {
         None

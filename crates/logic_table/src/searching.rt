@@ -68,8 +68,12 @@ pub fn searched(
         return None;
     };
     sizes_are_unique();
-    let system = system_of(alloc, log).ok()?;
-    let tight = tight_by(alloc, log, &system, times).ok()?;
+    let Ok(system) = system_of(alloc, log) else {
+        return None;
+    };
+    let Ok(tight) = tight_by(alloc, log, &system, times) else {
+        return None;
+    };
     if size_of(log, &arena, Some(&tight)) <= MAX_SIZE {
         searched_nodes(alloc, log, f, &arena, root, times, system, &tight, asked).ok()
     } else {
