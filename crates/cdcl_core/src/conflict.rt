@@ -95,19 +95,17 @@ impl SearchState {
         Ok(())
     }
 
-    /// The lines with a last one, whose clause is empty, where a clause is false at level 0.
-    pub fn refuted(self, alloc: Global, conflict: ClauseRef) -> Result<Lines, AllocError>
-        requires level { self.trail.levels ≡ [] }
-        requires conflicted { IsFalseIn self conflict }
-        ensures refuted { IfOk result (λ lines. (p : Problem) (n : ℕ) → IsMidway p self n conflict → AreRefuting p n lines) }
+    /// Gives the lines out with a last one, whose clause is empty, where a clause is false at level 0.
+    pub fn refuted(&mut self, alloc: Global, conflict: ClauseRef) -> Result<Lines, AllocError>
+        requires level { self.old.trail.levels ≡ [] }
+        requires conflicted { IsFalseIn self.old conflict }
+        ensures refuted { IfOk result (λ lines. (p : Problem) (n : ℕ) → IsMidway p self.old n conflict → AreRefuting p n lines) }
     {
         // Each atom has one variable.
         let _ = self.theory.atoms.len();
         let hints = refute(alloc, &self.trail, &self.derived.db, conflict)?;
         let line = learnt(alloc, &self.theory.atoms, &self.derived, &[], &hints)?;
-        let derived = self.derived;
-        let mut lines = derived.lines;
-        lines.push(line)?;
-        Ok(lines)
+        self.derived.lines.push(line)?;
+        Ok(self.derived.take_lines(alloc))
     }
 }

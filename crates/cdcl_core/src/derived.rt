@@ -12,6 +12,7 @@ use axiom_rules::{Atom, AtomTable, RuleList};
 use clause_db::{ClauseRef, Db, Lit};
 use proof_log::{Hints, Line, Lines, Lits};
 use std::alloc::{AllocError, Global};
+use std::mem::replace;
 
 /// The clauses, the hint by which a line cites each of them, and the lines that were derived.
 #[derive(Drop)]
@@ -86,5 +87,12 @@ impl Derived {
         self.lines.push(line)?;
         self.cites.push(self.lines.len() as u32)?;
         self.db.add(lits)
+    }
+
+    /// Gives the lines out, after which there are none.
+    pub fn take_lines(&mut self, alloc: Global) -> Lines
+        ensures lines { result ≡ self.old.lines }
+    {
+        replace(&mut self.lines, Lines::new(alloc))
     }
 }

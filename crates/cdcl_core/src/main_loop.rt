@@ -61,7 +61,7 @@ pub fn search(alloc: Global, problem: Problem, budget: u32) -> Result<Found, All
         links,
         nodes,
     };
-    let state = SearchState::begin(alloc, theory, edges.as_slice(), derived)?;
+    let mut state = SearchState::begin(alloc, theory, edges.as_slice(), derived)?;
     state.run(alloc, budget)
 }
 
@@ -98,11 +98,11 @@ impl SearchState {
     }
 
     // Goes on from conflict to conflict until there is an answer or the budget is spent.
-    fn run(mut self, alloc: Global, budget: u32) -> Result<Found, AllocError>
+    fn run(&mut self, alloc: Global, budget: u32) -> Result<Found, AllocError>
         requires some { 1 ≤ budget }
         requires most { budget ≤ 1000000 }
-        requires begun { (problem : Problem) × IsSearch problem self 0 }
-        ensures answer { IfOk result (λ found. (problem : Problem) → IsSearch problem self 0 → IsAnswer problem budget found) }
+        requires begun { (problem : Problem) × IsSearch problem self.old 0 }
+        ensures answer { IfOk result (λ found. (problem : Problem) → IsSearch problem self.old 0 → IsAnswer problem budget found) }
     {
         'conflicts: for _conflict in 0..budget {
             match self.take_turn(alloc)? {
@@ -118,7 +118,6 @@ impl SearchState {
                 Turn::Learnt => {}
             }
         }
-        let derived = self.derived;
-        Ok(Found::Spent(derived.lines))
+        Ok(Found::Spent(self.derived.take_lines(alloc)))
     }
 }

@@ -12,7 +12,7 @@ use Rattle.cdcl_core.proofs.state.SearchState.refuted.Goals as goal
 pub refute-requires : goal.refute-requires
 refute-requires c =
     let w = c.requires.conflicted in
-    let s = c.args.self in
+    let s = c.args.self.now in
     record {
       reasons = conflict_reasons s.derived.db s.theory.links w.problem.edges s.trail s.graph c.args.conflict w.midway.conflicted;
       held = w.midway.conflicted.conflict.held;
@@ -21,19 +21,20 @@ refute-requires c =
     }
 
 pub learnt-requires-clause-refs : goal.learnt-requires-clause-refs
-learnt-requires-clause-refs c = let w = c.requires.conflicted in rw (c.deref.ensures.value, cites_count w.problem c.args.self w.midway.search_for) c.in_ok-hints.ensures.refute.held
+learnt-requires-clause-refs c = let w = c.requires.conflicted in rw (c.deref.ensures.value, cites_count w.problem c.args.self.now w.midway.search_for) c.in_ok-hints.ensures.refute.held
 
 pub returns : goal.returns
 returns c = record {
   refuted = λ p n mid.
-      let s = c.args.self in
+      let s = c.args.self.now in
       let own = mid.search_for in
       let reasons = conflict_reasons s.derived.db s.theory.links p.edges s.trail s.graph c.args.conflict mid.conflicted in
       let same = own.theory_of.atoms in
-      let count : length c.push.new.self ≡ length s.derived.lines + 1 = rw c.in_ok-push.ensures.ok (length_push s.derived.lines c.in_ok-line.line) in
-      let lessons_are : lessons c.push.new.self ≡ lessons s.derived.lines = rw c.in_ok-push.ensures.ok (no_lesson s.derived.lines (map (cite_at s.derived.cites) c.deref.result.now) c.in_ok-line.line c.in_ok-line.ensures.line) in
-      refutation p s n c.args.conflict c.push.new.self mid count lessons_are (λ log f v old.
-      rw c.in_ok-push.ensures.ok
+      let lines : c.take_lines.result ≡ c.push.new.self = c.take_lines.ensures.lines in
+      let count : length c.take_lines.result ≡ length s.derived.lines + 1 = rw (lines, c.in_ok-push.ensures.ok) (length_push s.derived.lines c.in_ok-line.line) in
+      let lessons_are : lessons c.take_lines.result ≡ lessons s.derived.lines = rw (lines, c.in_ok-push.ensures.ok) (no_lesson s.derived.lines (map (cite_at s.derived.cites) c.deref.result.now) c.in_ok-line.line c.in_ok-line.ensures.line) in
+      refutation p s n c.args.conflict c.take_lines.result mid count lessons_are (λ log f v old.
+      rw (lines, c.in_ok-push.ensures.ok)
       (record_refuted log f v s.theory.atoms s.derived.db s.derived.cites s.derived.lines (rw same old) c.len.ensures.once (few_atoms p s own)
       (subst (λ n. All (All (λ (l : Lit). l.var < n)) s.derived.db) (trail_vars p s own) reasons.variables)
       c.deref.result.now c.in_ok-line.line (rw c.deref.ensures.value c.in_ok-hints.ensures.refute) c.in_ok-line.ensures.line));

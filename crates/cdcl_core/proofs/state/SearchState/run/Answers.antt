@@ -56,7 +56,7 @@ returns c =
       answer = λ p start.
           let search = c.conflicts.invariant.search p start in
           record {
-            found_is = spent_found p c.conflicts.self c.conflicts._conflict c.args.budget all search;
+            found_is = rw c.take_lines.ensures.lines (spent_found p c.conflicts.self c.conflicts._conflict c.args.budget all search);
             bounded = spent_bounded p c.conflicts.self c.conflicts._conflict c.args.budget all search search.search_for.theory_of.posed;
             refuted_by_rules = spent_unrefuted p c.conflicts.self c.conflicts._conflict c.args.budget c.requires.some all search;
           };
