@@ -2,7 +2,7 @@
 use Rattle.std.specs.Prelude.{◌≡◌, ◌⊎◌, ℕ, ◌<◌, List, [], length, slice_index_or}
 use Rattle.mt_model.specs.Log.{Logged}
 use Rattle.mt_port.specs.Port.{Files}
-use Rattle.happened_before.specs.Order.{IsAcyclic, IsClock, IsCycle}
+use Rattle.happened_before.specs.Order.{IsAcyclic, IsClock, IsCycle, IsCyclic}
 use Rattle.skew_answers.specs.declared.status.Status.{Status}
 use Rattle.skew_answers.specs.declared.status.Status.TheVariants as status
 use Rattle.skew_answers.specs.Texts.{clocks_text, cycle_text}
@@ -20,8 +20,9 @@ pub record Clocked (log : Logged) (out : List ℕ) (s : Status) : Type 0 where
   pub written : out ≡ clocks_text clocks
   pub zero : s ≡ status.Zero
 
--- the answer is events each of which is directly before the next, and the last before the first
+-- some event happens before itself, and the answer is events each of which is directly before the next, and the last before the first
 pub record Cyclic (log : Logged) (out : List ℕ) (s : Status) : Type 0 where
+  pub cyclic : IsCyclic log
   pub events : List ℕ
   pub cycle : IsCycle log events
   pub written : out ≡ cycle_text events
