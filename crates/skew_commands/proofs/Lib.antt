@@ -1,3 +1,4 @@
 pub mod Steps
 pub mod Holding
 pub mod Questions
+pub mod Possible

@@ -2,6 +2,8 @@ pub mod Refusals
 pub mod Stops
 pub mod Tests
 pub mod Reads
+pub mod Possible
+pub mod Untold
 pub mod TimesOutcome
 pub mod ReplayOutcome
 pub mod OrderOutcome

@@ -38,6 +38,7 @@ pub fn file<S: Shelf>(
     ensures whole { IfOk result (λ bytes. S.tells shelf.old ≡ true → file_of (S.files shelf.old) name.now ≡ Some bytes.items) }
     ensures within { IfOk result (λ bytes. length bytes.items ≤ limit) }
     ensures refused { RefusesFor result (λ r. (r ≡ Refusal.Length named) × (S.tells shelf.old ≡ true → IsLonger (file_of (S.files shelf.old) name.now) limit)) }
+    ensures too_long { RefusesFor result (λ r. r ≡ Refusal.Length named) }
     ensures failed { IsErrOf result Stop.ReadFailed → Rose (S.faults shelf.old) (S.faults shelf.new) }
     ensures never { S.steady shelf.old → S.tells shelf.old ≡ true → IsSome (file_of (S.files shelf.old) name.now) → IsErrOf result Stop.ReadFailed → ⊥ }
     ensures later { S.faults shelf.old ≤ S.faults shelf.new }

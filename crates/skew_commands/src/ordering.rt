@@ -2,6 +2,7 @@ ghost use Rattle.std.specs.Prelude.{◌≡◌, ◌≤◌, true, IfOk, IsErrOf, I
 ghost use Rattle.mt_port.specs.Port.{Rose, file_of};
 ghost use Rattle.skew_answers.specs.Statuses.{IsVerdict};
 ghost use Rattle.skew_commands.specs.OrderOutcome.{OrderOfLog, OrderOutcome};
+ghost use Rattle.skew_commands.specs.Possible.{OfSomeLog};
 ghost use Rattle.skew_commands.specs.Stops.{Gives};
 
 use crate::files;
@@ -35,6 +36,7 @@ fn order_of_log(alloc: Global, log: &Log) -> Result<Reply, AllocError>
 /// What `order` answers for the log of a name.
 pub fn order<S: Shelf>(alloc: Global, shelf: &mut S, log: &str) -> Result<Reply, Stop>
     ensures outcome { S.tells shelf.old ≡ true → Gives (OrderOutcome (S.files shelf.old) log.now) result }
+    ensures possible { Gives (OfSomeLog OrderOutcome) result }
     ensures verdict { IfOk result (λ r. IsVerdict r.status) }
     ensures failed { IsErrOf result Stop.ReadFailed → Rose (S.faults shelf.old) (S.faults shelf.new) }
     ensures never { S.steady shelf.old → S.tells shelf.old ≡ true → IsSome (file_of (S.files shelf.old) log.now) → IsErrOf result Stop.ReadFailed → ⊥ }

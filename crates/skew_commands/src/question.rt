@@ -9,6 +9,7 @@ ghost use Rattle.skew_commands.specs.Reads.{HoldsQuestion, IsQuestion, NoThird};
 ghost use Rattle.skew_commands.specs.Refusals.{status_of, text_of};
 ghost use Rattle.skew_commands.specs.Stops.{NoAnswer, RefusesFor};
 ghost use Rattle.skew_commands.specs.Tests.{OnQuestion};
+ghost use Rattle.skew_commands.specs.Untold.{AreRead, RefusesSomeQuestion};
 
 use crate::files;
 use crate::limits::{FORMULA_LIMIT, LOG_LIMIT};
@@ -36,6 +37,8 @@ pub fn read_question<S: Shelf>(
     ensures short { IfOk result (λ q. length q.text.items < 2 ^ 31) }
     ensures reads { IfOk result (λ q. FormulaOf q.text.items (Ok (form_of q.formula))) }
     ensures read { IfOk result (λ q. S.tells shelf.old ≡ true → IsQuestion (S.files shelf.old) formula.now log.now q.text.items (form_of q.formula) q.log) }
+    ensures some_read { IfOk result (λ q. AreRead q.text.items (form_of q.formula) q.log) }
+    ensures some_refused { RefusesFor result RefusesSomeQuestion }
     ensures refused { S.tells shelf.old ≡ true → RefusesFor result (λ r. OnQuestion (S.files shelf.old) formula.now log.now NoAnswer (line (text_of r)) (status_of r)) }
     ensures failed { IsErrOf result Stop.ReadFailed → Rose (S.faults shelf.old) (S.faults shelf.new) }
     ensures never { S.steady shelf.old → S.tells shelf.old ≡ true → HoldsQuestion (S.files shelf.old) formula.now log.now NoThird → IsErrOf result Stop.ReadFailed → ⊥ }

@@ -7,10 +7,12 @@ ghost use Rattle.mt_port.specs.Port.{Rose, file_of};
 ghost use Rattle.mtl_parse.specs.FormulaOf.{FormulaOf};
 ghost use Rattle.skew_answers.specs.Statuses.{IsVerdict};
 ghost use Rattle.skew_answers.specs.Texts.{line};
+ghost use Rattle.skew_commands.specs.Possible.{OfSomeThird};
 ghost use Rattle.skew_commands.specs.Reads.{HoldsQuestion, HoldsThird};
 ghost use Rattle.skew_commands.specs.ReplayOutcome.{ReplayOfLog, ReplayOfTimes, ReplayOutcome, value_status, value_text};
 ghost use Rattle.skew_commands.specs.Stops.{Gives};
 ghost use Rattle.skew_commands.specs.Tests.{OnFile, OnTimes};
+ghost use Rattle.skew_commands.specs.Untold.{GivesForSome};
 ghost use Rattle.skew_commands.specs.declared.limits.TheConstants.{TIMES_LIMIT};
 
 use crate::files;
@@ -89,6 +91,7 @@ fn replay_of_file<S: Shelf>(
 ) -> Result<Reply, Stop>
     requires { replayer.old.log ≡ log.now }
     ensures outcome { S.tells shelf.old ≡ true → (f : Form) → core_of f ≡ replayer.old.core → Gives (OnFile (S.files shelf.old) times.now TIMES_LIMIT Named.Times (λ file. OnTimes file log.now (ReplayOfTimes log.now f))) result }
+    ensures possible { (f : Form) → core_of f ≡ replayer.old.core → GivesForSome (λ files name. OnFile files name TIMES_LIMIT Named.Times (λ file. OnTimes file log.now (ReplayOfTimes log.now f))) result }
     ensures verdict { IfOk result (λ r. IsVerdict r.status) }
     ensures failed { IsErrOf result Stop.ReadFailed → Rose (S.faults shelf.old) (S.faults shelf.new) }
     ensures never { S.steady shelf.old → S.tells shelf.old ≡ true → IsSome (file_of (S.files shelf.old) times.now) → IsErrOf result Stop.ReadFailed → ⊥ }
@@ -108,6 +111,7 @@ fn replay_of_question<S: Shelf>(
     requires short { length question.now.text.items < 2 ^ 31 }
     requires reads { FormulaOf question.now.text.items (Ok (form_of question.now.formula)) }
     ensures outcome { S.tells shelf.old ≡ true → Gives (ReplayOfLog (S.files shelf.old) times.now question.now.text.items (form_of question.now.formula) question.now.log) result }
+    ensures possible { GivesForSome (λ files name. ReplayOfLog files name question.now.text.items (form_of question.now.formula) question.now.log) result }
     ensures verdict { IfOk result (λ r. IsVerdict r.status) }
     ensures failed { IsErrOf result Stop.ReadFailed → Rose (S.faults shelf.old) (S.faults shelf.new) }
     ensures never { S.steady shelf.old → S.tells shelf.old ≡ true → HoldsThird (S.files shelf.old) times.now (form_of question.now.formula) question.now.log → IsErrOf result Stop.ReadFailed → ⊥ }
@@ -127,6 +131,7 @@ pub fn replay<S: Shelf>(
     times: &str,
 ) -> Result<Reply, Stop>
     ensures outcome { S.tells shelf.old ≡ true → Gives (ReplayOutcome (S.files shelf.old) formula.now log.now times.now) result }
+    ensures possible { Gives (OfSomeThird ReplayOutcome) result }
     ensures verdict { IfOk result (λ r. IsVerdict r.status) }
     ensures failed { IsErrOf result Stop.ReadFailed → Rose (S.faults shelf.old) (S.faults shelf.new) }
     ensures never { S.steady shelf.old → S.tells shelf.old ≡ true → HoldsQuestion (S.files shelf.old) formula.now log.now (HoldsThird (S.files shelf.old) times.now) → IsErrOf result Stop.ReadFailed → ⊥ }
