@@ -1,7 +1,10 @@
 -- From what was due to what words and files give.
-use Rattle.std.proofs.Common.{◌≡◌, List, ℕ, Some}
+use Rattle.std.proofs.Common.{◌≡◌, ◌⊎◌, refl, inl, inr, List, ℕ, Some, None, codes, subst}
 use Rattle.mt_port.specs.Port.{Files}
 use Rattle.skew_answers.specs.declared.status.Status.{Status}
+use Rattle.skew_answers.specs.declared.status.Status.TheVariants as status
+use Rattle.skew_answers.specs.Statuses.{IsAnswer}
+use Rattle.skew_answers.specs.Texts.{line}
 use Rattle.skew_words.specs.Words.{Audit, Check, Command, Demo, Order, Replay, Times, Word, command_of}
 use Rattle.skew_commands.specs.declared.limits.TheConstants.{LOG_LIMIT, TIMES_LIMIT}
 use Rattle.skew_commands.specs.declared.refusal.Named.TheVariants as named
@@ -14,7 +17,7 @@ use Rattle.skew_commands.proofs.Questions.{same-file, same-question, same-third}
 use Rattle.skew_cli.specs.declared.limits.TheConstants.{REPORT_LIMIT}
 use Rattle.skew_cli.specs.AuditOutcome.{AuditOfLog, AuditOfReport, AuditOutcome}
 use Rattle.skew_cli.specs.CheckOutcome.{CheckOfLog, CheckOutcome}
-use Rattle.skew_cli.specs.Outcome.{CommandOutcome, Ends, Outcome}
+use Rattle.skew_cli.specs.Outcome.{CommandOutcome, Ends, HasOutcome, Outcome}
 use Rattle.skew_cli.specs.ReportTests.{OnReport, OnSize}
 
 -- what is due may be said in a weaker way
@@ -53,3 +56,15 @@ module _ (held files : Files) (agree : Agree held files) (out : List ℕ) (s : S
 -- the outcome of a command, for files that agree with those that are held
 pub Outcome-command : (words : List Word) (c : Command) (held files : Files) (out : List ℕ) (s : Status) → command_of words ≡ Some c → Agree held files → CommandOutcome c held out s → Outcome words files out s
 Outcome-command words c held files out s is agree h = rw is (same-command held files agree out s c h)
+
+-- an answer has the status that was due with it, since it isn't one of a failed write
+pub due-status : (due s : Status) → (s ≡ due) ⊎ (s ≡ status.WriteFailed) → IsAnswer s → s ≡ due
+due-status due s (inl is) answer = is
+due-status due s (inr is) answer = absurd (subst IsAnswer is answer)
+
+pub HasOutcome-answer : (words : List Word) (files : Files) (out : List ℕ) (due s : Status) → (s ≡ due) ⊎ (s ≡ status.WriteFailed) → IsAnswer s → Outcome words files out due → HasOutcome words files s
+HasOutcome-answer words files out due s ended answer outcome = rw (due-status due s ended answer) (out, outcome)
+
+-- the outcome of words that are no command
+pub Outcome-words : (words : List Word) (files : Files) → command_of words ≡ None → Outcome words files (line (codes "refused words")) status.Words
+Outcome-words words files none = rw none (refl, refl)

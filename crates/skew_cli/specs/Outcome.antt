@@ -32,6 +32,10 @@ CommandOutcome (Demo seed) files = DemoOutcome seed
 abbrev pub Outcome : List Word → Files → List ℕ → Status → Type 0
 Outcome words files out s = MatchOption (command_of words) (Says (codes "refused words") status.Words out s) (λ command. CommandOutcome command files out s)
 
+-- the status is that of what words give, with some bytes
+abbrev pub HasOutcome : List Word → Files → Status → Type 0
+HasOutcome words files s = (out : List ℕ) × Outcome words files out s
+
 -- the files that a command comes to read are held
 abbrev pub HoldsFiles : Files → Command → Type 0
 HoldsFiles files (Times log) = IsSome (file_of files log)

@@ -5,7 +5,7 @@ ghost use Rattle.skew_answers.specs.Statuses.{IsAnswer, IsRefusal, IsVerdict};
 ghost use Rattle.skew_answers.specs.Texts.{line};
 ghost use Rattle.skew_words.specs.Words.{command_of};
 ghost use Rattle.skew_commands.specs.Reads.{Agree};
-ghost use Rattle.skew_cli.specs.Outcome.{CommandOutcome, Ends, HoldsFiles, HoldsNamed, Outcome};
+ghost use Rattle.skew_cli.specs.Outcome.{CommandOutcome, Ends, HasOutcome, HoldsFiles, HoldsNamed, Outcome};
 ghost use Rattle.skew_commands.specs.Refusals.{IsRefusalOf};
 ghost use Rattle.skew_commands.specs.Stops.{Gives, HasReason};
 
@@ -97,6 +97,9 @@ pub fn run<S: Shelf, K: Sink>(
     ensures outcome { S.tells shelf.old ≡ true → K.tells out.old ≡ true → (files : Files) → Agree (S.files shelf.old) files
         → Ends (Outcome (map string_bytes words.now.items) files) (K.bytes out.old) (K.bytes out.new) result }
     ensures silent { K.tells out.old ≡ true → (result ≡ Status.NoMemory) ⊎ (result ≡ Status.ReadFailed) → K.bytes out.new ≡ K.bytes out.old }
+
+    // The status of an answer is one that the words and files give, whatever the sink tells.
+    ensures status { S.tells shelf.old ≡ true → IsAnswer result → (files : Files) → Agree (S.files shelf.old) files → HasOutcome (map string_bytes words.now.items) files result }
 
     // The words are refused exactly where they are no command, whatever the shelf tells.
     ensures words { result ≡ Status.Words → command_of (map string_bytes words.now.items) ≡ None }
