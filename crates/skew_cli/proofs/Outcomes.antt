@@ -17,7 +17,7 @@ use Rattle.skew_commands.proofs.Questions.{same-file, same-question, same-third}
 use Rattle.skew_cli.specs.declared.limits.TheConstants.{REPORT_LIMIT}
 use Rattle.skew_cli.specs.AuditOutcome.{AuditOfLog, AuditOfReport, AuditOutcome}
 use Rattle.skew_cli.specs.CheckOutcome.{CheckOfLog, CheckOutcome}
-use Rattle.skew_cli.specs.Outcome.{CommandOutcome, Ends, HasOutcome, Outcome}
+use Rattle.skew_cli.specs.Outcome.{CommandOutcome, Ends, HasOutcome, HasPossible, IsPossible, IsPossibleOf, Outcome}
 use Rattle.skew_cli.specs.ReportTests.{OnReport, OnSize}
 
 -- what is due may be said in a weaker way
@@ -65,6 +65,16 @@ due-status due s (inr is) answer = absurd (subst IsAnswer is answer)
 pub HasOutcome-answer : (words : List Word) (files : Files) (out : List ℕ) (due s : Status) → (s ≡ due) ⊎ (s ≡ status.WriteFailed) → IsAnswer s → Outcome words files out due → HasOutcome words files s
 HasOutcome-answer words files out due s ended answer outcome = rw (due-status due s ended answer) (out, outcome)
 
+-- the same of what can be given
+pub IsPossible-command : (words : List Word) (c : Command) (out : List ℕ) (s : Status) → command_of words ≡ Some c → IsPossibleOf c out s → IsPossible words out s
+IsPossible-command words c out s is h = rw is h
+
+pub HasPossible-answer : (words : List Word) (out : List ℕ) (due s : Status) → (s ≡ due) ⊎ (s ≡ status.WriteFailed) → IsAnswer s → IsPossible words out due → HasPossible words s
+HasPossible-answer words out due s ended answer possible = rw (due-status due s ended answer) (out, possible)
+
 -- the outcome of words that are no command
 pub Outcome-words : (words : List Word) (files : Files) → command_of words ≡ None → Outcome words files (line (codes "refused words")) status.Words
 Outcome-words words files none = rw none (refl, refl)
+
+pub IsPossible-words : (words : List Word) → command_of words ≡ None → IsPossible words (line (codes "refused words")) status.Words
+IsPossible-words words none = rw none (refl, refl)

@@ -9,6 +9,7 @@ pub use Rattle.skew_commands.specs.Refusals
 pub use Rattle.skew_commands.specs.Stops
 pub use Rattle.skew_commands.specs.Tests
 pub use Rattle.skew_commands.specs.Reads
+pub use Rattle.skew_commands.specs.Possible
 pub use Rattle.skew_commands.specs.TimesOutcome
 pub use Rattle.skew_commands.specs.ReplayOutcome
 pub use Rattle.skew_commands.specs.OrderOutcome

@@ -7,6 +7,7 @@ use Rattle.skew_answers.specs.declared.status.Status.TheVariants as status
 use Rattle.skew_answers.specs.Statuses.{IsAnswer}
 use Rattle.skew_answers.specs.Texts.{line}
 use Rattle.skew_words.specs.Words.{Audit, Check, Command, Demo, Order, Replay, Times, Word, command_of}
+use Rattle.skew_commands.specs.Possible.{OfSomeLog, OfSomeQuestion, OfSomeThird}
 use Rattle.skew_commands.specs.Reads.{HoldsQuestion, HoldsThird, NoThird}
 use Rattle.skew_commands.specs.TimesOutcome.{TimesOutcome}
 use Rattle.skew_commands.specs.ReplayOutcome.{ReplayOutcome}
@@ -31,6 +32,23 @@ CommandOutcome (Demo seed) files = DemoOutcome seed
 -- what words give: the command's outcome, and a refusal where they are no command
 abbrev pub Outcome : List Word → Files → List ℕ → Status → Type 0
 Outcome words files out s = MatchOption (command_of words) (Says (codes "refused words") status.Words out s) (λ command. CommandOutcome command files out s)
+
+-- bytes and a status that a command gives of some files, under some names
+abbrev pub IsPossibleOf : Command → List ℕ → Status → Type 0
+IsPossibleOf (Times log) = OfSomeLog TimesOutcome
+IsPossibleOf (Replay formula log times) = OfSomeThird ReplayOutcome
+IsPossibleOf (Order log) = OfSomeLog OrderOutcome
+IsPossibleOf (Check conflicts formula log) = OfSomeQuestion (λ files. CheckOutcome files conflicts)
+IsPossibleOf (Audit conflicts formula log report) = OfSomeThird (λ files. AuditOutcome files conflicts)
+IsPossibleOf (Demo seed) = DemoOutcome seed
+
+-- bytes and a status that words can give: of their command, and the refusal where they are no command
+abbrev pub IsPossible : List Word → List ℕ → Status → Type 0
+IsPossible words out s = MatchOption (command_of words) (Says (codes "refused words") status.Words out s) (λ command. IsPossibleOf command out s)
+
+-- the status is that of what words can give, with some bytes
+abbrev pub HasPossible : List Word → Status → Type 0
+HasPossible words s = (out : List ℕ) × IsPossible words out s
 
 -- the status is that of what words give, with some bytes
 abbrev pub HasOutcome : List Word → Files → Status → Type 0

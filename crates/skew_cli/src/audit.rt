@@ -9,8 +9,10 @@ ghost use Rattle.report_text.specs.Spelled.{IsSpelled};
 ghost use Rattle.skew_answers.specs.Statuses.{IsVerdict};
 ghost use Rattle.skew_answers.specs.Texts.{line};
 ghost use Rattle.skew_cli.specs.AuditOutcome.{AuditOfLog, AuditOfReport, AuditOutcome, refused_part};
+ghost use Rattle.skew_commands.specs.Possible.{OfSomeThird};
 ghost use Rattle.skew_commands.specs.Reads.{HoldsQuestion, HoldsThird};
 ghost use Rattle.skew_commands.specs.Stops.{Gives};
+ghost use Rattle.skew_commands.specs.Untold.{GivesForSome};
 ghost use Rattle.skew_cli.specs.ReportTests.{OnSize};
 
 use crate::limits::REPORT_LIMIT;
@@ -81,6 +83,7 @@ fn audit_of_question<S: Shelf>(
     requires short { length question.now.text.items < 2 ^ 31 }
     requires reads { FormulaOf question.now.text.items (Ok (form_of question.now.formula)) }
     ensures outcome { S.tells shelf.old ≡ true → Gives (AuditOfLog (S.files shelf.old) conflicts report.now question.now.text.items (form_of question.now.formula) question.now.log) result }
+    ensures possible { GivesForSome (λ files name. AuditOfLog files conflicts name question.now.text.items (form_of question.now.formula) question.now.log) result }
     ensures verdict { IfOk result (λ r. IsVerdict r.status) }
     ensures failed { IsErrOf result Stop.ReadFailed → Rose (S.faults shelf.old) (S.faults shelf.new) }
     ensures never { S.steady shelf.old → S.tells shelf.old ≡ true → HoldsThird (S.files shelf.old) report.now (form_of question.now.formula) question.now.log → IsErrOf result Stop.ReadFailed → ⊥ }
@@ -104,6 +107,7 @@ pub fn audit<S: Shelf>(
     report: &str,
 ) -> Result<Reply, Stop>
     ensures outcome { S.tells shelf.old ≡ true → Gives (AuditOutcome (S.files shelf.old) conflicts formula.now log.now report.now) result }
+    ensures possible { Gives (OfSomeThird (λ files. AuditOutcome files conflicts)) result }
     ensures verdict { IfOk result (λ r. IsVerdict r.status) }
     ensures failed { IsErrOf result Stop.ReadFailed → Rose (S.faults shelf.old) (S.faults shelf.new) }
     ensures never { S.steady shelf.old → S.tells shelf.old ≡ true → HoldsQuestion (S.files shelf.old) formula.now log.now (HoldsThird (S.files shelf.old) report.now) → IsErrOf result Stop.ReadFailed → ⊥ }

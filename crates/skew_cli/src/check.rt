@@ -11,6 +11,7 @@ ghost use Rattle.verdict.specs.Right.{IsRight, is_witness};
 ghost use Rattle.skew_words.specs.declared.limits.TheConstants.{MAX_CONFLICTS};
 ghost use Rattle.skew_answers.specs.Statuses.{IsVerdict};
 ghost use Rattle.skew_cli.specs.CheckOutcome.{CheckOfLog, CheckOutcome, IsReportStatus, IsVerdictsStatus, IsWitnessed};
+ghost use Rattle.skew_commands.specs.Possible.{OfSomeQuestion};
 ghost use Rattle.skew_commands.specs.Reads.{HoldsQuestion, NoThird};
 ghost use Rattle.skew_cli.specs.ReportTests.{TellsLarge};
 ghost use Rattle.skew_commands.specs.Stops.{Gives, RefusesFor};
@@ -119,6 +120,7 @@ pub fn check<S: Shelf>(
     requires some { 1 ≤ conflicts }
     requires most { conflicts ≤ MAX_CONFLICTS }
     ensures outcome { S.tells shelf.old ≡ true → Gives (CheckOutcome (S.files shelf.old) conflicts formula.now log.now) result }
+    ensures possible { Gives (OfSomeQuestion (λ files. CheckOutcome files conflicts)) result }
     ensures verdict { IfOk result (λ r. IsVerdict r.status) }
     ensures failed { IsErrOf result Stop.ReadFailed → Rose (S.faults shelf.old) (S.faults shelf.new) }
     ensures never { S.steady shelf.old → S.tells shelf.old ≡ true → HoldsQuestion (S.files shelf.old) formula.now log.now NoThird → IsErrOf result Stop.ReadFailed → ⊥ }

@@ -5,7 +5,7 @@ ghost use Rattle.skew_answers.specs.Statuses.{IsAnswer, IsRefusal, IsVerdict};
 ghost use Rattle.skew_answers.specs.Texts.{line};
 ghost use Rattle.skew_words.specs.Words.{command_of};
 ghost use Rattle.skew_commands.specs.Reads.{Agree};
-ghost use Rattle.skew_cli.specs.Outcome.{CommandOutcome, Ends, HasOutcome, HoldsFiles, HoldsNamed, Outcome};
+ghost use Rattle.skew_cli.specs.Outcome.{CommandOutcome, Ends, HasOutcome, HasPossible, HoldsFiles, HoldsNamed, IsPossible, IsPossibleOf, Outcome};
 ghost use Rattle.skew_commands.specs.Refusals.{IsRefusalOf};
 ghost use Rattle.skew_commands.specs.Stops.{Gives, HasReason};
 
@@ -36,6 +36,7 @@ fn finish<K: Sink>(out: &mut K, text: &[u8], status: Status) -> Status
 fn work<S: Shelf>(alloc: Global, shelf: &mut S, call: Call<'_>) -> Result<Reply, Stop>
     requires { HasFewConflicts call }
     ensures outcome { S.tells shelf.old ≡ true → Gives (CommandOutcome (command_in call.entry) (S.files shelf.old)) result }
+    ensures possible { Gives (IsPossibleOf (command_in call.entry)) result }
     ensures verdict { IfOk result (λ r. IsVerdict r.status) }
     ensures failed { IsErrOf result Stop.ReadFailed → Rose (S.faults shelf.old) (S.faults shelf.new) }
     ensures never { S.steady shelf.old → S.tells shelf.old ≡ true → HoldsFiles (S.files shelf.old) (command_in call.entry) → IsErrOf result Stop.ReadFailed → ⊥ }
@@ -68,6 +69,7 @@ fn work<S: Shelf>(alloc: Global, shelf: &mut S, call: Call<'_>) -> Result<Reply,
 fn reply<S: Shelf>(alloc: Global, shelf: &mut S, call: Call<'_>) -> Result<Reply, Stop>
     requires { HasFewConflicts call }
     ensures outcome { IfOk result (λ r. S.tells shelf.old ≡ true → CommandOutcome (command_in call.entry) (S.files shelf.old) r.text.items r.status) }
+    ensures possible { IfOk result (λ r. IsPossibleOf (command_in call.entry) r.text.items r.status) }
     ensures answer { IfOk result (λ r. IsAnswer r.status) }
     ensures command { IfOk result (λ r. r.status ≡ Status.Words → ⊥) }
     ensures refused { IfOk result (λ r. IsRefusal r.status → IsRefusalOf r.status r.text.items) }
@@ -100,6 +102,11 @@ pub fn run<S: Shelf, K: Sink>(
 
     // The status of an answer is one that the words and files give, whatever the sink tells.
     ensures status { S.tells shelf.old ≡ true → IsAnswer result → (files : Files) → Agree (S.files shelf.old) files → HasOutcome (map string_bytes words.now.items) files result }
+
+    // Whatever the shelf tells, what is written with an answer is what the words give of some files, and
+    // where writing failed it is the beginning of that. Whatever is told, the status is one of those.
+    ensures possible { K.tells out.old ≡ true → Ends (IsPossible (map string_bytes words.now.items)) (K.bytes out.old) (K.bytes out.new) result }
+    ensures possible_status { IsAnswer result → HasPossible (map string_bytes words.now.items) result }
 
     // The words are refused exactly where they are no command, whatever the shelf tells.
     ensures words { result ≡ Status.Words → command_of (map string_bytes words.now.items) ≡ None }

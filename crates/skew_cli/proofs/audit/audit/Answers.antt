@@ -4,6 +4,7 @@ use Rattle.mt_model.specs.Form.{form_of}
 use Rattle.skew_cli.specs.AuditOutcome.{AuditOfLog}
 use Rattle.skew_commands.specs.Reads.{HoldsThird}
 use Rattle.skew_commands.proofs.Holding.{next-held, question-held}
+use Rattle.skew_commands.proofs.Possible.{some-third-given, third-refused}
 use Rattle.skew_commands.proofs.Questions.{question-given, question-stopped}
 use Rattle.skew_cli.proofs.audit.audit.Goals as goal
 
@@ -33,3 +34,13 @@ returns-clause-never g c = λ steady tells holds failed.
     let f = form_of q.formula in
     let next = next-held held c.args.formula.now c.args.log.now (HoldsThird held c.args.report.now) q.text.items f q.log (c.in_ok-question.ensures.read tells) holds in
     c.audit_of_question.ensures.never (c.in_ok-question.ensures.steady steady) (c.in_ok-question.ensures.telling ∙ tells) (rw c.in_ok-question.ensures.files next) failed
+
+pub returns-in_err-question-clause-possible : goal.returns-in_err-question-clause-possible
+returns-in_err-question-clause-possible g c =
+    let p = err_from_is_err_and c.from_residual.result c.from_residual.ensures.1 in
+    rw (p.1, p.2) (third-refused (λ files. AuditOfLog files c.args.conflicts) c.in_err-question.field-0.0 c.in_err-question.ensures.some_refused)
+
+pub returns-clause-possible : goal.returns-clause-possible
+returns-clause-possible g c =
+    let q = c.in_ok-question.question in
+    some-third-given q.text.items (form_of q.formula) q.log c.in_ok-question.ensures.some_read c.audit_of_question.result (λ files. AuditOfLog files c.args.conflicts) c.audit_of_question.ensures.possible

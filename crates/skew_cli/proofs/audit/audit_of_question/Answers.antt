@@ -8,6 +8,7 @@ use Rattle.skew_commands.specs.declared.refusal.Named.TheVariants as named
 use Rattle.skew_cli.specs.AuditOutcome.{AuditOfReport}
 use Rattle.skew_cli.specs.ReportTests.{TellsFaultyLine, OnReport, OnSize}
 use Rattle.skew_cli.proofs.ReportSteps.{report-read, report-refused}
+use Rattle.skew_commands.proofs.Possible.{third-long, third-read, third-uncounted, third-unread}
 use Rattle.skew_commands.proofs.Steps.{At, gives-weaker, reason-weaker, third-given, third-too_long}
 use Rattle.skew_cli.proofs.audit.audit_of_question.Goals as goal
 
@@ -44,5 +45,51 @@ returns-clause-outcome g c = λ tells.
     let reads = rw c.deref-2.ensures.value at c.in_ok-report.ensures.report in
     third-given (g.S.Shelf.files c.args.shelf.now) c.args.report.now REPORT_LIMIT named.Report q.text.items f q.log (AuditOfFile c.args.conflicts f q.log) c.in_ok-known_hosts.ensures.known c.in_ok-few_nodes.ensures.few
     file c.audit_of_report.result (c.in_ok-file.ensures.whole tells) c.in_ok-file.ensures.within
+    (gives-weaker c.audit_of_report.result (OnSize f q.log (AuditOfReport c.args.conflicts f q.log report)) (AuditOfFile c.args.conflicts f q.log file)
+    (λ out s. report-read file (λ r. OnSize f q.log (AuditOfReport c.args.conflicts f q.log r)) report out s reads) c.audit_of_report.ensures.outcome)
+
+pub returns-in_err-known_hosts-clause-possible : goal.returns-in_err-known_hosts-clause-possible
+returns-in_err-known_hosts-clause-possible g c =
+    let p = err_from_is_err_and c.from_residual.result c.from_residual.ensures.1 in
+    let q = c.args.question.now in
+    let f = form_of q.formula in
+    let refused = rw c.deref.ensures.value at c.in_err-known_hosts.ensures.refused in
+    rw (p.1, p.2) (third-unread REPORT_LIMIT named.Report q.text.items f q.log (AuditOfFile c.args.conflicts f q.log) c.in_err-known_hosts.field-0.0 refused)
+
+pub returns-in_err-few_nodes-clause-possible : goal.returns-in_err-few_nodes-clause-possible
+returns-in_err-few_nodes-clause-possible g c =
+    let p = err_from_is_err_and c.from_residual-in_err-few_nodes.result c.from_residual-in_err-few_nodes.ensures.1 in
+    let q = c.args.question.now in
+    let f = form_of q.formula in
+    rw (p.1, p.2) (third-uncounted REPORT_LIMIT named.Report q.text.items f q.log (AuditOfFile c.args.conflicts f q.log) c.in_ok-known_hosts.ensures.known c.in_err-few_nodes.field-0.0 c.in_err-few_nodes.ensures.refused)
+
+pub returns-in_err-file-clause-possible : goal.returns-in_err-file-clause-possible
+returns-in_err-file-clause-possible g c =
+    let p = err_from_is_err_and c.from_residual-in_err-file.result c.from_residual-in_err-file.ensures.1 in
+    let q = c.args.question.now in
+    let f = form_of q.formula in
+    rw (p.1, p.2) (third-long REPORT_LIMIT named.Report q.text.items f q.log (AuditOfFile c.args.conflicts f q.log) c.in_ok-known_hosts.ensures.known c.in_ok-few_nodes.ensures.few c.in_err-file.field-0.0 c.in_err-file.ensures.too_long)
+
+pub returns-in_err-report-clause-possible : goal.returns-in_err-report-clause-possible
+returns-in_err-report-clause-possible g c =
+    let p = err_from_is_err_and c.from_residual-in_err-report.result c.from_residual-in_err-report.ensures.1 in
+    let q = c.args.question.now in
+    let f = form_of q.formula in
+    let file = c.in_ok-file.file.items in
+    let stop = c.in_err-report.field-0.0 in
+    let refused = rw c.deref-2.ensures.value at c.in_err-report.ensures.refused in
+    rw (p.1, p.2) (third-read REPORT_LIMIT named.Report q.text.items f q.log (AuditOfFile c.args.conflicts f q.log) c.in_ok-known_hosts.ensures.known c.in_ok-few_nodes.ensures.few
+    file (Err stop) c.in_ok-file.ensures.within
+    (reason-weaker stop (TellsFaultyLine file) (At (AuditOfFile c.args.conflicts f q.log file)) (report-refused file (λ r. OnSize f q.log (AuditOfReport c.args.conflicts f q.log r))) refused))
+
+pub returns-clause-possible : goal.returns-clause-possible
+returns-clause-possible g c =
+    let q = c.args.question.now in
+    let f = form_of q.formula in
+    let file = c.in_ok-file.file.items in
+    let report = c.in_ok-report.report in
+    let reads = rw c.deref-2.ensures.value at c.in_ok-report.ensures.report in
+    third-read REPORT_LIMIT named.Report q.text.items f q.log (AuditOfFile c.args.conflicts f q.log) c.in_ok-known_hosts.ensures.known c.in_ok-few_nodes.ensures.few
+    file c.audit_of_report.result c.in_ok-file.ensures.within
     (gives-weaker c.audit_of_report.result (OnSize f q.log (AuditOfReport c.args.conflicts f q.log report)) (AuditOfFile c.args.conflicts f q.log file)
     (λ out s. report-read file (λ r. OnSize f q.log (AuditOfReport c.args.conflicts f q.log r)) report out s reads) c.audit_of_report.ensures.outcome)

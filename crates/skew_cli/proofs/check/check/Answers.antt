@@ -1,6 +1,7 @@
 use Rattle.std.proofs.lemmas.Result.{err_from_is_err_and}
 use Rattle.mt_model.specs.Form.{form_of}
 use Rattle.skew_cli.specs.CheckOutcome.{CheckOfLog}
+use Rattle.skew_commands.proofs.Possible.{question-refused, some-question-given}
 use Rattle.skew_commands.proofs.Questions.{question-given, question-stopped}
 use Rattle.skew_cli.proofs.check.check.Goals as goal
 
@@ -15,3 +16,13 @@ returns-clause-outcome g c = λ tells.
     let held = g.S.Shelf.files c.args.shelf.now in
     let q = c.in_ok-question.question in
     question-given held c.args.formula.now c.args.log.now (CheckOfLog c.args.conflicts) q.text.items (form_of q.formula) q.log c.check_of_question.result (c.in_ok-question.ensures.read tells) c.check_of_question.ensures.outcome
+
+pub returns-in_err-question-clause-possible : goal.returns-in_err-question-clause-possible
+returns-in_err-question-clause-possible g c =
+    let p = err_from_is_err_and c.from_residual.result c.from_residual.ensures.1 in
+    rw (p.1, p.2) (question-refused (λ files. CheckOfLog c.args.conflicts) c.in_err-question.field-0.0 c.in_err-question.ensures.some_refused)
+
+pub returns-clause-possible : goal.returns-clause-possible
+returns-clause-possible g c =
+    let q = c.in_ok-question.question in
+    some-question-given q.text.items (form_of q.formula) q.log c.in_ok-question.ensures.some_read c.check_of_question.result (CheckOfLog c.args.conflicts) c.check_of_question.ensures.outcome

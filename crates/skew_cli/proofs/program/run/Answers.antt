@@ -3,7 +3,7 @@ use Rattle.std.specs.Prelude.{codes, map, string_bytes}
 use Rattle.skew_answers.specs.declared.status.Status.TheVariants as status
 use Rattle.skew_answers.specs.Texts.{line}
 use Rattle.skew_words.specs.Called.{command_in}
-use Rattle.skew_cli.proofs.Outcomes.{Ends-weaker, HasOutcome-answer, Outcome-command, Outcome-words}
+use Rattle.skew_cli.proofs.Outcomes.{Ends-weaker, HasOutcome-answer, HasPossible-answer, IsPossible-command, IsPossible-words, Outcome-command, Outcome-words}
 use Rattle.skew_cli.proofs.program.run.Goals as goal
 
 pub call_of-requires : goal.call_of-requires
@@ -26,8 +26,32 @@ returns-in-Ok-reply-clause-status g c = λ tells answer files agree.
     let outcome = Outcome-command (map string_bytes c.args.words.now.items) (command_in c.in-Ok-call_of.call) (g.S.Shelf.files c.args.shelf.now) files reply.text.items reply.status command agree (c.in-Ok-reply.ensures.outcome tells) in
     HasOutcome-answer (map string_bytes c.args.words.now.items) files reply.text.items reply.status c.finish-in-Ok-reply.result c.finish-in-Ok-reply.ensures.status answer outcome
 
+pub returns-in-Ok-reply-clause-possible : goal.returns-in-Ok-reply-clause-possible
+returns-in-Ok-reply-clause-possible g c = λ told.
+    let list = ap (map string_bytes) c.deref-2.ensures.value ∙ c.in-Ok.ensures in
+    let called = c.in-Ok-call_of.ensures.command c.in-Some.spoken (sym c.verb.ensures) list in
+    let command = rw c.deref.ensures.value at (sym c.in-Some.ensures.command ∙ called) in
+    let reply = c.in-Ok-reply.reply in
+    let possible = IsPossible-command (map string_bytes c.args.words.now.items) (command_in c.in-Ok-call_of.call) reply.text.items reply.status command c.in-Ok-reply.ensures.possible in
+    Ends-weaker _ _ _ _ _ (λ b s due. rw (due.0, due.1, c.deref-in-Ok-reply.ensures.value) possible) (c.finish-in-Ok-reply.ensures.ends told)
+
+pub returns-in-Ok-reply-clause-possible_status : goal.returns-in-Ok-reply-clause-possible_status
+returns-in-Ok-reply-clause-possible_status g c = λ answer.
+    let list = ap (map string_bytes) c.deref-2.ensures.value ∙ c.in-Ok.ensures in
+    let called = c.in-Ok-call_of.ensures.command c.in-Some.spoken (sym c.verb.ensures) list in
+    let command = rw c.deref.ensures.value at (sym c.in-Some.ensures.command ∙ called) in
+    let reply = c.in-Ok-reply.reply in
+    let possible = IsPossible-command (map string_bytes c.args.words.now.items) (command_in c.in-Ok-call_of.call) reply.text.items reply.status command c.in-Ok-reply.ensures.possible in
+    HasPossible-answer (map string_bytes c.args.words.now.items) reply.text.items reply.status c.finish-in-Ok-reply.result c.finish-in-Ok-reply.ensures.status answer possible
+
 pub returns-in_default-clause-status : goal.returns-in_default-clause-status
 returns-in_default-clause-status g c = λ tells answer files agree.
     let words = map string_bytes c.args.words.now.items in
     let none = rw c.deref.ensures.value at (sym c.in_default.ensures.command) in
     HasOutcome-answer words files (line (codes "refused words")) status.Words c.finish.result c.finish.ensures.status answer (Outcome-words words files none)
+
+pub returns-in_default-clause-possible_status : goal.returns-in_default-clause-possible_status
+returns-in_default-clause-possible_status g c = λ answer.
+    let words = map string_bytes c.args.words.now.items in
+    let none = rw c.deref.ensures.value at (sym c.in_default.ensures.command) in
+    HasPossible-answer words (line (codes "refused words")) status.Words c.finish.result c.finish.ensures.status answer (IsPossible-words words none)
