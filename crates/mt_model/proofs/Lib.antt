@@ -10,5 +10,5 @@ mod BrokenBounds
 pub mod Conflicts
 pub mod PreviousRows
 mod HappenedBefore
-mod Widening
+mod GreaterSkews
 mod WorkedCases

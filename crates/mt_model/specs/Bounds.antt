@@ -1,5 +1,5 @@
 -- The bounds of a log, in their order.
-use Rattle.std.specs.Prelude.{◌≡◌, ◌↔◌, ℕ, List, [], ◌∷◌, ◌++◌, length, map, find, All, Bool, false, not, Option, None, IfSome, is_some, if◌then◌else◌, ℤ, ◌-ℤ◌, int_le}
+use Rattle.std.specs.Prelude.{◌≡◌, ◌↔◌, ℕ, List, [], ◌∷◌, ◌++◌, length, map, find, All, Bool, false, not, ◌&&◌, Option, None, IfSome, is_some, if◌then◌else◌, ℤ, ◌-ℤ◌, int_le}
 use Rattle.std.specs.List.{flat_map, range_with_len}
 use Rattle.std.specs.Option.{option_map_or}
 use Rattle.mt_model.specs.declared.bound.Bound.{Bound}
@@ -7,7 +7,7 @@ use Rattle.mt_model.specs.declared.bound.Bound.TheVariants as bound
 use Rattle.mt_model.specs.declared.step.Step.{Step}
 use Rattle.mt_model.specs.declared.step.Step.TheVariants as step
 use Rattle.mt_model.specs.Log.{Logged}
-use Rattle.mt_model.specs.Timing.{Admissible, previous_row, send_of}
+use Rattle.mt_model.specs.Timing.{Admissible, most_delay, previous_row, send_of}
 use Rattle.mt_model.specs.Walks.{Edge, Meets, edge_of, node_time}
 
 -- a bound as a step of a walk
@@ -16,12 +16,22 @@ step_of (bound.Low e) = step.Low e
 step_of (bound.High e) = step.High e
 step_of (bound.Rise e) = step.Rise e
 step_of (bound.Message e) = step.Message e
+step_of (bound.Late e) = step.Late e
 step_of (bound.Extra k) = step.Extra k
+
+-- row r is a receive that comes at most some time after its send
+abbrev pub is_limited : Logged → ℕ → Bool
+is_limited log r = is_some (send_of log r) && is_some (most_delay log r)
 
 -- the bounds of a row
 abbrev pub bounds_at : Logged → ℕ → List Bound
 bounds_at log e =
-    bound.Low e ∷ bound.High e ∷ [] ++ (if is_some (previous_row log e) then bound.Rise e ∷ [] else []) ++ (if is_some (send_of log e) then bound.Message e ∷ [] else [])
+    bound.Low e
+    ∷ bound.High e
+    ∷ []
+    ++ (if is_some (previous_row log e) then bound.Rise e ∷ [] else [])
+    ++ (if is_some (send_of log e) then bound.Message e ∷ [] else [])
+    ++ (if is_limited log e then bound.Late e ∷ [] else [])
 
 -- the bounds of a log: those of each row, in the order of the rows, and then the extra bounds
 abbrev pub bounds_of : Logged → List Bound

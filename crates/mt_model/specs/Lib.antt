@@ -2,6 +2,8 @@ pub mod Name
 pub mod Log
 pub mod Limits
 pub mod Timing
+pub mod Spans
+pub mod VersionOne
 pub mod Walks
 pub mod Bounds
 pub mod Before

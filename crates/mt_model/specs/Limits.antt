@@ -1,6 +1,6 @@
 -- The numbers that limit logs, timings and formulas.
 use Rattle.std.specs.Prelude.{◌≡◌, pos}
-use Rattle.mt_model.specs.declared.limits.TheConstants.{MAX_NAME_LENGTH, MAX_HOSTS, MAX_ROWS, MAX_EXTRAS, MAX_LOCAL, MAX_WRITTEN_SKEW, MAX_SKEW, MAX_GAP, MAX_EXTRA, MAX_ORDER, MAX_HEIGHT, MAX_PROPOSITIONS, MAX_DISTANCE, MAX_TIME}
+use Rattle.mt_model.specs.declared.limits.TheConstants.{MAX_NAME_LENGTH, MAX_HOSTS, MAX_ROWS, MAX_EXTRAS, MAX_LOCAL, MAX_WRITTEN_SKEW, MAX_SKEW, MAX_GAP, MIN_DELAY, MAX_DELAY, MAX_EXTRA, MAX_ORDER, MAX_HEIGHT, MAX_PROPOSITIONS, MAX_DISTANCE, MAX_TIME}
 
 -- the limits of logs, whose skews, gaps and local times are below the limits of true times and bounds
 pub record LogLimits : Type 0 where
@@ -12,6 +12,8 @@ pub record LogLimits : Type 0 where
   pub written_skew : MAX_WRITTEN_SKEW ≡ pos 1000000000000000000
   pub skew : MAX_SKEW ≡ pos 2000000000000000000
   pub gap : MAX_GAP ≡ pos 1000000000000000000
+  pub least_delay : MIN_DELAY ≡ 1
+  pub delay : MAX_DELAY ≡ 1000000000000000000
   pub extra : MAX_EXTRA ≡ pos 100000000000000000000
   pub time : MAX_TIME ≡ pos 10000000000000000000
   pub order : MAX_ORDER ≡ pos 1000000000000000000000

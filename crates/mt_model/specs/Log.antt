@@ -2,17 +2,27 @@
 use Rattle.std.specs.Prelude.{◌≡◌, ◌≢◌, ℕ, ◌<◌, ◌≤◌, List, [], ◌∷◌, ◌++◌, length, map, All, AllPairs, Any, IfSome, Option, Some, None, true, false, ℤ, pos, ◌+ℤ◌, ◌≤ℤ◌}
 use Rattle.mt_model.specs.declared.log.Host.{Host}
 use Rattle.mt_model.specs.declared.log.Row.{Row}
+use Rattle.mt_model.specs.declared.resync.Resync.{Resync}
 use Rattle.mt_model.specs.declared.log.Extra.{Extra}
 use Rattle.mt_model.specs.declared.log.Act.{Act}
 use Rattle.mt_model.specs.declared.log.Act.TheVariants.{Set, Clear, Send, Recv, Note}
-use Rattle.mt_model.specs.declared.limits.TheConstants.{MAX_HOSTS, MAX_ROWS, MAX_EXTRAS, MAX_LOCAL, MAX_SKEW, MAX_WRITTEN_SKEW, MAX_GAP, MAX_EXTRA}
+use Rattle.mt_model.specs.declared.limits.TheConstants.{MAX_HOSTS, MAX_ROWS, MAX_EXTRAS, MAX_LOCAL, MAX_SKEW, MAX_WRITTEN_SKEW, MAX_GAP, MIN_DELAY, MAX_DELAY, MAX_EXTRA}
 use Rattle.mt_model.specs.Name.{is_name, is_reserved}
 
--- a log: its hosts, its rows and its extra bounds, each in order
+-- a log: its hosts, its rows, its resyncs and its extra bounds, each in order
 pub record Logged : Type 0 where
   pub hosts : List Host
   pub rows : List Row
+  pub resyncs : List Resync
   pub extras : List Extra
+
+-- the log of these hosts, rows and resyncs, without extra bounds
+abbrev pub log_with : List Host → List Row → List Resync → Logged
+log_with hosts rows resyncs = record { hosts = hosts; rows = rows; resyncs = resyncs; extras = [] }
+
+-- the log of these hosts and rows, without resyncs and extra bounds
+abbrev pub plain_log : List Host → List Row → Logged
+plain_log hosts rows = record { hosts = hosts; rows = rows; resyncs = []; extras = [] }
 
 -- the name in an act: that of a proposition, of a message or of a note
 abbrev pub name_in : Act → List ℕ
@@ -43,7 +53,14 @@ pub record IsWithin (n x : ℤ) : Type 0 where
   pub low : pos 0 ≤ℤ (x +ℤ n)
   pub high : x ≤ℤ n
 
--- a host's name is a name that is not reserved, and its skew and gap are in their ranges
+-- the delays of what a host receives are in their range, and the greatest is not below the least
+pub record HasDelays (h : Host) : Type 0 where
+  pub least_low : MIN_DELAY ≤ h.least
+  pub least_high : h.least ≤ MAX_DELAY
+  pub most_low : IfSome h.most (λ most. h.least ≤ most)
+  pub most_high : IfSome h.most (λ most. most ≤ MAX_DELAY)
+
+-- a host's name is a name that is not reserved, and its skew, its gap and the delays of what it receives are in their ranges
 pub record IsHost (h : Host) : Type 0 where
   pub called : is_name h.name ≡ true
   pub name : is_reserved h.name ≡ false
@@ -51,12 +68,27 @@ pub record IsHost (h : Host) : Type 0 where
   pub skew_high : h.skew ≤ℤ MAX_SKEW
   pub gap_low : pos 0 ≤ℤ h.gap
   pub gap_high : h.gap ≤ℤ MAX_GAP
+  pub delays : HasDelays h
 
 -- a row of a log of so many hosts
 pub record IsRow (hosts : ℕ) (r : Row) : Type 0 where
   pub host : r.host < hosts
   pub local : IsWithin MAX_LOCAL r.local
   pub named : is_name (name_in r.act) ≡ true
+
+-- a resync of a log of so many hosts and rows, some of which may stand before it
+pub record IsResync (hosts rows : ℕ) (r : Resync) : Type 0 where
+  pub host : r.host < hosts
+  pub place : r.place ≤ rows
+  pub skew_low : pos 0 ≤ℤ r.skew
+  pub skew_high : r.skew ≤ℤ MAX_SKEW
+  pub gap_low : pos 0 ≤ℤ r.gap
+  pub gap_high : r.gap ≤ℤ MAX_GAP
+
+-- resyncs of a log of so many hosts and rows: their places do not fall
+pub record AreResyncs (hosts rows : ℕ) (resyncs : List Resync) : Type 0 where
+  pub each : All (IsResync hosts rows) resyncs
+  pub in_order : AllPairs (λ q r. q.place ≤ r.place) resyncs
 
 -- an extra bound of a log of so many rows
 pub record IsExtra (rows : ℕ) (x : Extra) : Type 0 where
@@ -91,21 +123,27 @@ pub record IsLog (log : Logged) : Type 0 where
   pub names : AllPairs (λ g h. h.name ≡ g.name → ⊥) log.hosts
   pub hosts : All IsHost log.hosts
   pub rows : AreRows (length log.hosts) log.rows
+  pub resyncs : AreResyncs (length log.hosts) (length log.rows) log.resyncs
   pub extras : All (IsExtra (length log.rows)) log.extras
 
 -- a log that a log file can state: no extra bounds, and no skew above the greatest that a file may state
 pub record IsPlain (log : Logged) : Type 0 where
   pub no_extras : log.extras ≡ []
   pub skews : All (λ h. h.skew ≤ℤ MAX_WRITTEN_SKEW) log.hosts
+  pub resyncs : All (λ r. r.skew ≤ℤ MAX_WRITTEN_SKEW) log.resyncs
 
 -- the log with one extra bound more, at the end
 abbrev pub with_extra : Logged → Extra → Logged
-with_extra log x = record { hosts = log.hosts; rows = log.rows; extras = log.extras ++ x ∷ [] }
+with_extra log x = record { hosts = log.hosts; rows = log.rows; resyncs = log.resyncs; extras = log.extras ++ x ∷ [] }
 
 -- the host with a skew that is greater by s
 abbrev pub widened_host : ℤ → Host → Host
-widened_host s h = record { name = h.name; skew = h.skew +ℤ s; gap = h.gap }
+widened_host s h = record { name = h.name; skew = h.skew +ℤ s; gap = h.gap; least = h.least; most = h.most }
+
+-- the resync to a skew that is greater by s
+abbrev pub widened_resync : ℤ → Resync → Resync
+widened_resync s r = record { place = r.place; host = r.host; skew = r.skew +ℤ s; gap = r.gap }
 
 -- the log with each skew greater by s
 abbrev pub widened : ℤ → Logged → Logged
-widened s log = record { hosts = map (widened_host s) log.hosts; rows = log.rows; extras = log.extras }
+widened s log = record { hosts = map (widened_host s) log.hosts; rows = log.rows; resyncs = map (widened_resync s) log.resyncs; extras = log.extras }

@@ -1,8 +1,10 @@
 -- Timings, and which of them a log admits. A timing is a list of whole numbers, one per row: the rows' true times.
-use Rattle.std.specs.Prelude.{◌≡◌, ℕ, zero, suc, ◌==◌, ◌<◌, List, length, Bool, false, Option, Some, None, if◌then◌else◌, slice_get, slice_index_or, position, bytes_eq, option_and_then, ℤ, pos, ◌+ℤ◌, ◌-ℤ◌, ◌≤ℤ◌}
+use Rattle.std.specs.Prelude.{◌≡◌, ℕ, zero, suc, ◌==◌, ◌<◌, List, length, nat_le, ◌&&◌, Bool, false, Option, Some, None, if◌then◌else◌, slice_get, slice_index_or, find, position, reverse, bytes_eq, option_map, option_and_then, ℤ, pos, ◌+ℤ◌, ◌-ℤ◌, ◌≤ℤ◌}
 use Rattle.std.specs.Option.{option_map_or}
 use Rattle.mt_model.specs.declared.log.Row.{Row}
+use Rattle.mt_model.specs.declared.resync.Resync.{Resync}
 use Rattle.mt_model.specs.declared.log.Extra.{Extra}
+use Rattle.mt_model.specs.declared.limits.TheConstants.{MIN_DELAY}
 use Rattle.mt_model.specs.Log.{Logged, sent_by, received_by}
 
 -- the true time of row e
@@ -17,13 +19,28 @@ local_of log e = option_map_or (λ r. r.local) (slice_get log.rows e) (pos 0)
 abbrev pub host_of : Logged → ℕ → ℕ
 host_of log e = option_map_or (λ r. r.host) (slice_get log.rows e) 0
 
+-- the skew and the gap with which the host of row e was declared
+abbrev pub declared_skew : Logged → ℕ → ℤ
+declared_skew log e = option_map_or (λ h. h.skew) (slice_get log.hosts (host_of log e)) (pos 0)
+
+abbrev pub declared_gap : Logged → ℕ → ℤ
+declared_gap log e = option_map_or (λ h. h.gap) (slice_get log.hosts (host_of log e)) (pos 0)
+
+-- a resync is of row e's host and does not stand behind the row
+abbrev pub applies_to : Logged → ℕ → Resync → Bool
+applies_to log e r = r.host == host_of log e && nat_le r.place e
+
+-- the last resync of row e's host that does not stand behind the row
+abbrev pub resync_of : Logged → ℕ → Option Resync
+resync_of log e = find (applies_to log e) (reverse log.resyncs)
+
 -- by how much the local time of row e may differ from its true time
 abbrev pub skew_of : Logged → ℕ → ℤ
-skew_of log e = option_map_or (λ h. h.skew) (slice_get log.hosts (host_of log e)) (pos 0)
+skew_of log e = option_map_or (λ r. r.skew) (resync_of log e) (declared_skew log e)
 
 -- how long after the row before it, on its host, row e comes at least
 abbrev pub gap_of : Logged → ℕ → ℤ
-gap_of log e = option_map_or (λ h. h.gap) (slice_get log.hosts (host_of log e)) (pos 0)
+gap_of log e = option_map_or (λ r. r.gap) (resync_of log e) (declared_gap log e)
 
 -- the greatest number below n that passes the test
 abbrev pub last_below : (ℕ → Bool) → ℕ → Option ℕ
@@ -46,9 +63,13 @@ received_in log r = option_and_then (λ x. received_by x.act) (slice_get log.row
 abbrev pub send_of : Logged → ℕ → Option ℕ
 send_of log r = option_and_then (λ message. position (is_send_of message) log.rows) (received_in log r)
 
--- how long after its send a receive comes at least
-abbrev pub least_delay : ℤ
-least_delay = pos 1
+-- how long after its send the receive r comes at least, which its host says
+abbrev pub least_delay : Logged → ℕ → ℤ
+least_delay log r = option_map_or (λ h. pos h.least) (slice_get log.hosts (host_of log r)) (pos MIN_DELAY)
+
+-- how long after its send the receive r comes at most, where its host says so
+abbrev pub most_delay : Logged → ℕ → Option ℤ
+most_delay log r = option_and_then (λ h. option_map pos h.most) (slice_get log.hosts (host_of log r))
 
 -- the log admits the timing
 pub record Admissible (log : Logged) (t : List ℤ) : Type 0 where
@@ -59,6 +80,8 @@ pub record Admissible (log : Logged) (t : List ℤ) : Type 0 where
   -- a row comes at least its gap after the row before it on its host
   pub rise : (e f : ℕ) → f < length log.rows → previous_row log f ≡ Some e → (time_of t e +ℤ gap_of log f) ≤ℤ time_of t f
   -- a receive comes at least the least delay after the send of its message
-  pub message : (s r : ℕ) → r < length log.rows → send_of log r ≡ Some s → (time_of t s +ℤ least_delay) ≤ℤ time_of t r
+  pub message : (s r : ℕ) → r < length log.rows → send_of log r ≡ Some s → (time_of t s +ℤ least_delay log r) ≤ℤ time_of t r
+  -- and at most the greatest delay, where there is one
+  pub late : (s r : ℕ) (most : ℤ) → r < length log.rows → send_of log r ≡ Some s → most_delay log r ≡ Some most → time_of t r ≤ℤ (time_of t s +ℤ most)
   -- the extra bounds hold
   pub extra : (k : ℕ) (x : Extra) → slice_get log.extras k ≡ Some x → (time_of t x.e -ℤ time_of t x.f) ≤ℤ x.c

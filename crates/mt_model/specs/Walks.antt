@@ -1,11 +1,11 @@
 -- Steps between moments, and closed walks of them. Node 0 is the zero moment, whose time is 0; node e + 1 is row e.
-use Rattle.std.specs.Prelude.{◌≡◌, ℕ, zero, suc, ◌==◌, ◌&&◌, nat_lt, not, if◌then◌else◌, List, [], ◌∷◌, length, map, Bool, Option, Some, None, option_map, slice_get, ℤ, pos, ◌+ℤ◌, ◌-ℤ◌, ◌<ℤ◌, ◌≤ℤ◌, neg_ℤ}
+use Rattle.std.specs.Prelude.{◌≡◌, ℕ, zero, suc, ◌==◌, ◌&&◌, nat_lt, not, if◌then◌else◌, List, [], ◌∷◌, length, map, Bool, Option, Some, None, option_map, option_and_then, slice_get, ℤ, pos, ◌+ℤ◌, ◌-ℤ◌, ◌<ℤ◌, ◌≤ℤ◌, neg_ℤ}
 use Rattle.std.specs.Prelude.{int_le}
 use Rattle.mt_model.specs.declared.step.Step.{Step}
-use Rattle.mt_model.specs.declared.step.Step.TheVariants.{Low, High, Rise, Message, Extra, Order}
+use Rattle.mt_model.specs.declared.step.Step.TheVariants.{Low, High, Rise, Message, Late, Extra, Order}
 use Rattle.mt_model.specs.declared.limits.TheConstants.{MAX_ORDER}
 use Rattle.mt_model.specs.Log.{Logged}
-use Rattle.mt_model.specs.Timing.{time_of, local_of, skew_of, gap_of, previous_row, send_of, least_delay}
+use Rattle.mt_model.specs.Timing.{time_of, local_of, skew_of, gap_of, previous_row, send_of, least_delay, most_delay}
 
 -- the constraint that the time of a node less that of another is at most a bound
 pub record Edge : Type 0 where
@@ -27,7 +27,9 @@ edge_of log (Low e) = if is_row log e then Some (record { from = 0; to = suc e; 
 edge_of log (High e) = if is_row log e then Some (record { from = suc e; to = 0; bound = local_of log e +ℤ skew_of log e }) else None
 edge_of log (Rise f) =
     if is_row log f then option_map (λ e. record { from = suc e; to = suc f; bound = neg_ℤ (gap_of log f) }) (previous_row log f) else None
-edge_of log (Message r) = option_map (λ s. record { from = suc s; to = suc r; bound = neg_ℤ least_delay }) (send_of log r)
+edge_of log (Message r) = option_map (λ s. record { from = suc s; to = suc r; bound = neg_ℤ (least_delay log r) }) (send_of log r)
+edge_of log (Late r) =
+    option_and_then (λ s. option_map (λ most. record { from = suc r; to = suc s; bound = most }) (most_delay log r)) (send_of log r)
 edge_of log (Extra k) = option_map (λ x. record { from = suc x.e; to = suc x.f; bound = x.c }) (slice_get log.extras k)
 edge_of log (Order e f c) = if is_order log e f c then Some (record { from = suc e; to = suc f; bound = c }) else None
 

@@ -4,14 +4,16 @@ use mt_list::ListOf;
 /// A bound that a log sets to the true times of its rows.
 #[derive(Clone, Copy, Debug, PartialEq, Eq)]
 pub enum Bound {
-    /// A row's true time is at least its local time less its host's skew.
+    /// A row's true time is at least its local time less its skew.
     Low(EventId),
-    /// A row's true time is at most its local time and its host's skew.
+    /// A row's true time is at most its local time and its skew.
     High(EventId),
-    /// A row comes at least its host's gap after the row before it there.
+    /// A row comes at least its gap after the row before it on its host.
     Rise(EventId),
-    /// A receive comes at least 1 after its send.
+    /// A receive comes at least the least delay of its host after its send.
     Message(EventId),
+    /// A receive comes at most the greatest delay of its host after its send.
+    Late(EventId),
     /// An extra bound, by its place from 0.
     Extra(u32),
 }

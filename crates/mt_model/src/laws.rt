@@ -3,6 +3,7 @@ ghost use Rattle.mt_model.specs.Bounds.{BoundsAreAdmissible, UnbrokenIsAdmissibl
 ghost use Rattle.mt_model.specs.Laws.{ConflictExcludesTimings, PreviousRowIsLast};
 ghost use Rattle.mt_model.specs.Limits.{FormulaLimits, LogLimits};
 ghost use Rattle.mt_model.specs.TruthLaws.{PositionsAreTimes, TruthByRows, TruthIsTheTable, ValuesHaveTimings};
+ghost use Rattle.mt_model.specs.VersionOne.{VersionOneIsKept};
 
 /// Where bounds of a log form a closed walk of negative sum, the log admits no timing.
 pub fn conflict_excludes_timings()
@@ -23,6 +24,12 @@ pub fn bounds_are_admissible()
 /// A time per row breaks none of the log's bounds exactly where the log admits the timing.
 pub fn unbroken_is_admissible()
     ensures { UnbrokenIsAdmissible }
+{}
+
+/// A log without resyncs and latencies admits the timings that each host's one skew and gap and the
+/// delay 1 of each message allow, and no others.
+pub fn version_one_is_kept()
+    ensures { VersionOneIsKept }
 {}
 
 /// The positions of a timing are the true times of the rows, each once, rising.

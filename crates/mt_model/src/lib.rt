@@ -9,9 +9,13 @@ mod laws;
 mod limits;
 mod log;
 mod name;
+mod resync;
+mod spans;
 mod step;
 mod times;
 mod tree;
+mod validity;
+mod widening;
 
 pub use bound::{Bound, BoundList};
 pub use formula::Formula;
@@ -19,14 +23,17 @@ pub use ids::{EventId, HostId, NodeId, PropId};
 pub use laws::{
     before_is_not_later, bounds_are_admissible, conflict_excludes_timings, cycles_exclude_timings,
     limits_are_numbers, positions_are_times, previous_row_is_last, truth_by_rows,
-    truth_is_the_table, unbroken_is_admissible, values_have_timings,
+    truth_is_the_table, unbroken_is_admissible, values_have_timings, version_one_is_kept,
 };
 pub use limits::{
-    MAX_DISTANCE, MAX_EXTRA, MAX_EXTRAS, MAX_GAP, MAX_HEIGHT, MAX_HOSTS, MAX_LOCAL,
+    MAX_DELAY, MAX_DISTANCE, MAX_EXTRA, MAX_EXTRAS, MAX_GAP, MAX_HEIGHT, MAX_HOSTS, MAX_LOCAL,
     MAX_NAME_LENGTH, MAX_ORDER, MAX_PROPOSITIONS, MAX_ROWS, MAX_SKEW, MAX_TIME, MAX_WRITTEN_SKEW,
+    MIN_DELAY,
 };
 pub use log::{Act, Extra, ExtraList, Host, HostList, Log, Row, RowList};
 pub use name::Name;
+pub use resync::{Resync, ResyncList};
+pub use spans::{Span, SpanList};
 pub use step::{Step, Steps};
 pub use times::{Bits, Times, Walk};
 pub use tree::{Interval, Tree};

@@ -1,4 +1,4 @@
-//! The limits of logs, timings and formulas, in one place. Times, skews, gaps and bounds are in the log's one unit of time.
+//! The limits of logs, timings and formulas, in one place. Times, skews, gaps, delays and bounds are in the log's one unit of time.
 
 /// The most bytes of a name.
 pub const MAX_NAME_LENGTH: usize = 32;
@@ -23,6 +23,12 @@ pub const MAX_SKEW: i128 = 2_000_000_000_000_000_000;
 
 /// The greatest gap of a host.
 pub const MAX_GAP: i128 = 1_000_000_000_000_000_000;
+
+/// The least delay that a message may have, which is that of a host without a latency of its own.
+pub const MIN_DELAY: u64 = 1;
+
+/// The greatest delay that a latency may state.
+pub const MAX_DELAY: u64 = 1_000_000_000_000_000_000;
 
 /// The greatest magnitude of an extra bound.
 pub const MAX_EXTRA: i128 = 100_000_000_000_000_000_000;

@@ -1,23 +1,24 @@
 ghost use Rattle.std.specs.Prelude.{◌≡◌, [], ◌↔◌, IsTrue, IsSome, IfSome, IfOk, IfErr, option_copied, Any, Some, All, AllPairs, map, pos, ◌+ℤ◌, ◌≤ℤ◌};
-ghost use Rattle.mt_model.specs.Log.{Logged, IsLog, IsHost, IsRow, IsExtra, IsPlain, AreRows, SendSame, IsSent, name_in, sent_by, received_by, with_extra, widened, widened_host};
+ghost use Rattle.mt_model.specs.Log.{Logged, IsLog, log_with, plain_log, IsHost, IsRow, IsExtra, IsPlain, AreRows, SendSame, IsSent, name_in, sent_by, received_by, with_extra, widened, widened_host};
 ghost use Rattle.mt_model.specs.State.{host_named};
 
-use crate::name::is_reserved_name;
-use crate::{
-    EventId, HostId, MAX_EXTRA, MAX_EXTRAS, MAX_GAP, MAX_HOSTS, MAX_LOCAL, MAX_ROWS, MAX_SKEW,
-    MAX_WRITTEN_SKEW, Name,
-};
+use crate::validity::{is_extra, is_valid};
+use crate::widening::{may_widen_hosts, may_widen_resyncs, widened_hosts, widened_resyncs};
+use crate::{EventId, HostId, MAX_EXTRAS, MAX_SKEW, MAX_WRITTEN_SKEW, Name, Resync, ResyncList};
 use mt_list::ListOf;
 use std::alloc::{AllocError, Global};
 use std::marker::Model;
 
 /// A host of a log: its clock may be off by the skew, and two of its rows on end are at least the
-/// gap apart, both in the log's unit of time.
+/// gap apart, until it is resynchronised. A message that it receives took at least the least delay
+/// and, where there is a greatest, at most that. All are in the log's unit of time.
 #[derive(Debug, Drop)]
 pub struct Host {
     pub name: Name,
     pub skew: i128,
     pub gap: i128,
+    pub least: u64,
+    pub most: Option<u64>,
 }
 
 /// What happened at a row.
@@ -60,15 +61,17 @@ pub type RowList = ListOf<Row>;
 /// Extra bounds in order.
 pub type ExtraList = ListOf<Extra>;
 
-/// A valid log, which contracts see as its hosts, rows and extra bounds.
+/// A valid log, which contracts see as its hosts, rows, resyncs and extra bounds.
 ///
 /// It has 1 to 64 hosts of distinct names, none of them `true`, `false` or `inf`, and 1 to 1,024 rows
-/// of them. No message is sent twice, and each one that is received is sent. Skews, gaps, local
-/// times and extra bounds are in the ranges that this crate's constants state.
+/// of them. No message is sent twice, and each one that is received is sent. The places of resyncs do
+/// not fall. Skews, gaps, delays, local times and extra bounds are in the ranges that this crate's
+/// constants state.
 #[derive(Debug, Drop)]
 pub struct Log {
     hosts: HostList,
     rows: RowList,
+    resyncs: ResyncList,
     extras: ExtraList,
 }
 
@@ -77,27 +80,9 @@ impl Model for Log {
 
     ghost Value = { Logged };
 
-    ghost view = { λ l. record { hosts = l.hosts; rows = l.rows; extras = l.extras } };
+    ghost view = { λ l. record { hosts = l.hosts; rows = l.rows; resyncs = l.resyncs; extras = l.extras } };
 
-    ghost invariant = { λ l. IsLog (record { hosts = l.hosts; rows = l.rows; extras = l.extras }) };
-}
-
-fn is_host(host: &Host) -> bool
-    ensures { IsTrue result ↔ IsHost host.now }
-{
-    !is_reserved_name(&host.name)
-        && 0 <= host.skew
-        && host.skew <= MAX_SKEW
-        && 0 <= host.gap
-        && host.gap <= MAX_GAP
-}
-
-fn is_row(row: &Row, hosts: usize) -> bool
-    ensures { IsTrue result ↔ IsRow hosts row.now }
-{
-    // What a name is, its bytes are known to be.
-    let _ = row.act.name().bytes();
-    (row.host.get() as usize) < hosts && -MAX_LOCAL <= row.local && row.local <= MAX_LOCAL
+    ghost invariant = { λ l. IsLog (record { hosts = l.hosts; rows = l.rows; resyncs = l.resyncs; extras = l.extras }) };
 }
 
 impl Act {
@@ -157,6 +142,8 @@ impl Host {
             name: self.name.copy(alloc)?,
             skew: self.skew,
             gap: self.gap,
+            least: self.least,
+            most: self.most,
         })
     }
 }
@@ -174,87 +161,17 @@ impl Row {
     }
 }
 
-fn is_named(hosts: &[Host], name: &[u8]) -> bool
-    ensures { IsTrue result ↔ Any (λ h. h.name ≡ name.now) hosts.now }
+// Whether no skew is above the greatest that a log file may state.
+fn are_written_hosts(hosts: &[Host]) -> bool
+    ensures { IsTrue result ↔ All (λ h. h.skew ≤ℤ MAX_WRITTEN_SKEW) hosts.now }
 {
-    hosts.iter().any(|h| h.name.bytes() == name)
+    hosts.iter().all(|host| host.skew <= MAX_WRITTEN_SKEW)
 }
 
-fn names_differ(hosts: &[Host]) -> bool
-    ensures { IsTrue result ↔ AllPairs (λ g h. h.name ≡ g.name → ⊥) hosts.now }
+fn are_written_resyncs(resyncs: &[Resync]) -> bool
+    ensures { IsTrue result ↔ All (λ r. r.skew ≤ℤ MAX_WRITTEN_SKEW) resyncs.now }
 {
-    for (i, host) in hosts.iter().enumerate() {
-        if is_named(&hosts[i + 1..], host.name.bytes()) {
-            return false;
-        }
-    }
-    true
-}
-
-fn sends(row: &Row, message: &[u8]) -> bool
-    ensures { IsTrue result ↔ (sent_by row.now.act ≡ Some message.now) }
-{
-    match row.act.sent() {
-        Some(name) => name.bytes() == message,
-        None => false,
-    }
-}
-
-fn is_sent(rows: &[Row], message: &[u8]) -> bool
-    ensures { IsTrue result ↔ IsSent rows.now message.now }
-{
-    rows.iter().any(|row| sends(row, message))
-}
-
-// Whether one of the rows sends what a row sends.
-fn repeats(row: &Row, rest: &[Row]) -> bool
-    ensures { IsTrue result ↔ Any (λ r. SendSame row.now r) rest.now }
-{
-    match row.act.sent() {
-        Some(message) => is_sent(rest, message.bytes()),
-        None => false,
-    }
-}
-
-fn sent_once(rows: &[Row]) -> bool
-    ensures { IsTrue result ↔ AllPairs (λ q r. SendSame q r → ⊥) rows.now }
-{
-    for (i, row) in rows.iter().enumerate() {
-        if repeats(row, &rows[i + 1..]) {
-            return false;
-        }
-    }
-    true
-}
-
-fn all_sent(rows: &[Row]) -> bool
-    ensures { IsTrue result ↔ All (λ r. IfSome (received_by r.act) (IsSent rows.now)) rows.now }
-{
-    rows.iter().all(|row| match row.act.received() {
-        Some(message) => is_sent(rows, message.bytes()),
-        None => true,
-    })
-}
-
-fn are_rows(hosts: usize, rows: &[Row]) -> bool
-    ensures { IsTrue result ↔ AreRows hosts rows.now }
-{
-    let each = rows.iter().all(|row| is_row(row, hosts));
-    let once = sent_once(rows);
-    let sent = all_sent(rows);
-    each && once && sent
-}
-
-fn is_valid(hosts: &[Host], rows: &[Row]) -> bool
-    ensures { IsTrue result ↔ IsLog (record { hosts = hosts.now; rows = rows.now; extras = [] }) }
-{
-    !hosts.is_empty()
-        && hosts.len() <= MAX_HOSTS
-        && !rows.is_empty()
-        && rows.len() <= MAX_ROWS
-        && names_differ(hosts)
-        && hosts.iter().all(is_host)
-        && are_rows(hosts.len(), rows)
+    resyncs.iter().all(|resync| resync.skew <= MAX_WRITTEN_SKEW)
 }
 
 fn copy_hosts(alloc: Global, hosts: &[Host]) -> Result<HostList, AllocError>
@@ -277,82 +194,41 @@ fn copy_rows(alloc: Global, rows: &[Row]) -> Result<RowList, AllocError>
     Ok(list)
 }
 
+fn copy_resyncs(alloc: Global, resyncs: &[Resync]) -> Result<ResyncList, AllocError>
+    ensures { IfOk result (λ list. list ≡ resyncs.now) }
+{
+    Ok(ResyncList::from_vec(resyncs.to_vec(alloc)?))
+}
+
 fn copy_extras(alloc: Global, extras: &[Extra]) -> Result<ExtraList, AllocError>
     ensures { IfOk result (λ list. list ≡ extras.now) }
 {
     Ok(ExtraList::from_vec(extras.to_vec(alloc)?))
 }
 
-fn is_extra(extra: &Extra, rows: usize) -> bool
-    ensures { IsTrue result ↔ IsExtra rows extra.now }
-{
-    (extra.e.get() as usize) < rows
-        && (extra.f.get() as usize) < rows
-        && extra.e != extra.f
-        && -MAX_EXTRA <= extra.c
-        && extra.c <= MAX_EXTRA
-}
-
-// Whether a skew stays in its range when it grows by s.
-fn may_widen(host: &Host, s: i128) -> bool
-    requires { pos 0 ≤ℤ s }
-    ensures { IsTrue result ↔ ((host.now.skew +ℤ s) ≤ℤ MAX_SKEW) }
-{
-    host.skew <= MAX_SKEW - s
-}
-
-fn may_widen_all(hosts: &[Host], s: i128) -> bool
-    requires { pos 0 ≤ℤ s }
-    ensures { IsTrue result ↔ All (λ h. (h.skew +ℤ s) ≤ℤ MAX_SKEW) hosts.now }
-{
-    hosts.iter().all(|host| may_widen(host, s))
-}
-
-// Adds s to a skew.
-fn widen_host(host: &mut Host, s: i128)
-    requires low { pos 0 ≤ℤ s }
-    requires small { s ≤ℤ MAX_SKEW }
-    requires skew { IsHost host.old }
-    ensures { host.new ≡ widened_host s host.old }
-{
-    host.skew += s;
-}
-
-// Adds s to each skew.
-fn widen(hosts: &mut [Host], s: i128)
-    requires low { pos 0 ≤ℤ s }
-    requires small { s ≤ℤ MAX_SKEW }
-    requires hosts { All IsHost hosts.old }
-    ensures { hosts.new ≡ map (widened_host s) hosts.old }
-{
-    for host in hosts.iter_mut() {
-        widen_host(host, s);
-    }
-}
-
-fn widened_hosts(hosts: HostList, s: i128) -> HostList
-    requires low { pos 0 ≤ℤ s }
-    requires small { s ≤ℤ MAX_SKEW }
-    requires hosts { All IsHost hosts }
-    ensures { result ≡ map (widened_host s) hosts }
-{
-    let mut items = hosts.into_vec();
-    widen(&mut items, s);
-    ListOf::from_vec(items)
-}
-
 impl Log {
-    /// The log of these hosts and rows, without extra bounds, and None exactly where they make no
-    /// valid log. Takes no memory.
+    /// The log of these hosts and rows, without resyncs and extra bounds, and None exactly where they
+    /// make no valid log. Takes no memory.
     pub fn build(hosts: HostList, rows: RowList) -> Option<Log>
-        ensures valid { IsSome result ↔ IsLog (record { hosts = hosts; rows = rows; extras = [] }) }
-        ensures log { IfSome result (λ l. l ≡ record { hosts = hosts; rows = rows; extras = [] }) }
+        ensures valid { IsSome result ↔ IsLog (plain_log hosts rows) }
+        ensures log { IfSome result (λ l. l ≡ plain_log hosts rows) }
     {
-        if is_valid(hosts.as_slice(), rows.as_slice()) {
+        let resyncs = ListOf::new(hosts.allocator());
+        Log::build_with(hosts, rows, resyncs)
+    }
+
+    /// The log of these hosts, rows and resyncs, without extra bounds, and None exactly where they make
+    /// no valid log. Takes no memory.
+    pub fn build_with(hosts: HostList, rows: RowList, resyncs: ResyncList) -> Option<Log>
+        ensures valid { IsSome result ↔ IsLog (log_with hosts rows resyncs) }
+        ensures log { IfSome result (λ l. l ≡ log_with hosts rows resyncs) }
+    {
+        if is_valid(hosts.as_slice(), rows.as_slice(), resyncs.as_slice()) {
             let extras = ListOf::new(hosts.allocator());
             Some(Log {
                 hosts,
                 rows,
+                resyncs,
                 extras,
             })
         } else {
@@ -374,6 +250,14 @@ impl Log {
         ensures same { result.now ≡ self.now.rows }
     {
         self.rows.as_slice()
+    }
+
+    /// The resyncs in order. Takes no memory.
+    pub fn resyncs(&self) -> &[Resync]
+        ensures valid { IsLog self.now }
+        ensures same { result.now ≡ self.now.resyncs }
+    {
+        self.resyncs.as_slice()
     }
 
     /// The extra bounds in order.
@@ -400,10 +284,12 @@ impl Log {
     {
         let hosts = copy_hosts(alloc, self.hosts.as_slice())?;
         let rows = copy_rows(alloc, self.rows.as_slice())?;
+        let resyncs = copy_resyncs(alloc, self.resyncs.as_slice())?;
         let extras = copy_extras(alloc, self.extras.as_slice())?;
         Ok(Log {
             hosts,
             rows,
+            resyncs,
             extras,
         })
     }
@@ -426,17 +312,20 @@ impl Log {
         let Log {
             hosts,
             rows,
+            resyncs,
             mut extras,
         } = self;
         match extras.push(extra) {
             Ok(()) => Ok(Log {
                 hosts,
                 rows,
+                resyncs,
                 extras,
             }),
             Err(_) => Err(Log {
                 hosts,
                 rows,
+                resyncs,
                 extras,
             }),
         }
@@ -444,9 +333,11 @@ impl Log {
 
     /// Whether each skew stays in its range when it grows by s, which is at least 0.
     pub fn takes_widening(&self, s: i128) -> bool
-        ensures valid { IsTrue result ↔ ((pos 0 ≤ℤ s) × All (λ h. (h.skew +ℤ s) ≤ℤ MAX_SKEW) self.now.hosts) }
+        ensures valid { IsTrue result ↔ ((pos 0 ≤ℤ s) × All (λ h. (h.skew +ℤ s) ≤ℤ MAX_SKEW) self.now.hosts × All (λ r. (r.skew +ℤ s) ≤ℤ MAX_SKEW) self.now.resyncs) }
     {
-        0 <= s && may_widen_all(self.hosts.as_slice(), s)
+        0 <= s
+            && may_widen_hosts(self.hosts.as_slice(), s)
+            && may_widen_resyncs(self.resyncs.as_slice(), s)
     }
 
     /// The log with s added to each skew, in the log's unit of time. s is at least 0, and no skew may
@@ -454,16 +345,19 @@ impl Log {
     pub fn widened(self, s: i128) -> Log
         requires low { pos 0 ≤ℤ s }
         requires high { All (λ h. (h.skew +ℤ s) ≤ℤ MAX_SKEW) self.hosts }
+        requires resyncs { All (λ r. (r.skew +ℤ s) ≤ℤ MAX_SKEW) self.resyncs }
         ensures log { result ≡ widened s self }
     {
         let Log {
             hosts,
             rows,
+            resyncs,
             extras,
         } = self;
         Log {
             hosts: widened_hosts(hosts, s),
             rows,
+            resyncs: widened_resyncs(resyncs, s),
             extras,
         }
     }
@@ -474,10 +368,7 @@ impl Log {
         ensures plain { IsTrue result ↔ IsPlain self.now }
     {
         self.extras.len() == 0
-            && self
-                .hosts
-                .as_slice()
-                .iter()
-                .all(|host| host.skew <= MAX_WRITTEN_SKEW)
+            && are_written_hosts(self.hosts.as_slice())
+            && are_written_resyncs(self.resyncs.as_slice())
     }
 }

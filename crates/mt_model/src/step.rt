@@ -4,14 +4,16 @@ use std::fmt;
 /// A step of a walk from a node x to a node y, which says `x - y <= c`. Rows and extras count from 0.
 #[derive(Clone, Copy, Debug, PartialEq, Eq)]
 pub enum Step {
-    /// The true time of a row is at least its local time less its host's skew.
+    /// The true time of a row is at least its local time less its skew.
     Low(u32),
-    /// The true time of a row is at most its local time and its host's skew.
+    /// The true time of a row is at most its local time and its skew.
     High(u32),
-    /// A row comes at least its host's gap after the row before it there.
+    /// A row comes at least its gap after the row before it on its host.
     Rise(u32),
-    /// A receive comes at least 1 after its send.
+    /// A receive comes at least the least delay of its host after its send.
     Message(u32),
+    /// A receive comes at most the greatest delay of its host after its send.
+    Late(u32),
     /// An extra bound of the log.
     Extra(u32),
     /// `t_e - t_f <= c`, which is no bound of the log.
@@ -33,6 +35,7 @@ impl fmt::Display for Step {
             Step::High(e) => write!(f, "high {e}"),
             Step::Rise(e) => write!(f, "rise {e}"),
             Step::Message(e) => write!(f, "message {e}"),
+            Step::Late(e) => write!(f, "late {e}"),
             Step::Extra(k) => write!(f, "extra {k}"),
             Step::Order { e, f: other, c } => write!(f, "order {e} {other} {c}"),
         }

@@ -1,5 +1,5 @@
 use Rattle.std.proofs.lemmas.Int.{to_z-of_z}
-use Rattle.mt_model.proofs.Widening.{least-room, log-widened}
+use Rattle.mt_model.proofs.GreaterSkews.{least-room, log-widened}
 use Rattle.mt_model.proofs.log.Log.widened.Goals as goal
 
 pub widened_hosts-requires-clause-small : goal.widened_hosts-requires-clause-small

@@ -2,7 +2,7 @@ use Rattle.std.proofs.Common.{arith}
 use Rattle.std.proofs.lemmas.Int.{to_z-of_z}
 use Rattle.std.proofs.lemmas.List.Edits.{map_over_more}
 use Rattle.mt_model.specs.Log.{widened_host}
-use Rattle.mt_model.proofs.log.widen.Goals as goal
+use Rattle.mt_model.proofs.widening.widen_hosts.Goals as goal
 
 pub loop-host-preserved : goal.loop-host-preserved
 loop-host-preserved c =

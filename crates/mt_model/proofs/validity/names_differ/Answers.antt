@@ -2,7 +2,7 @@ use Rattle.std.proofs.Common.{◌≡◌, rules}
 use Rattle.std.proofs.lemmas.List.{take_rest}
 use Rattle.mt_model.specs.declared.log.Host.{Host}
 use Rattle.mt_model.proofs.Pairs.{pair_found, pairs_more}
-use Rattle.mt_model.proofs.log.names_differ.Goals as goal
+use Rattle.mt_model.proofs.validity.names_differ.Goals as goal
 
 pub returns-then-is_named : goal.returns-then-is_named
 returns-then-is_named c =

@@ -2,7 +2,7 @@ use Rattle.std.proofs.Common.{rules}
 use Rattle.std.proofs.lemmas.List.{take_rest}
 use Rattle.mt_model.specs.Log.{SendSame}
 use Rattle.mt_model.proofs.Pairs.{pair_found, pairs_more}
-use Rattle.mt_model.proofs.log.sent_once.Goals as goal
+use Rattle.mt_model.proofs.validity.sent_once.Goals as goal
 
 pub returns-then-repeats : goal.returns-then-repeats
 returns-then-repeats c =

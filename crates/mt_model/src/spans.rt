@@ -1,0 +1,129 @@
+//! What a log says of a row's clock and of the delay of a receive.
+
+ghost use Rattle.std.specs.Prelude.{◌≡◌, ◌==◌, ◌<◌, ◌≤◌, ◌&&◌, length, find, reverse, slice_get, nat_le, map, All, Contains, IfOk, IfSome, Some, pos, ◌≤ℤ◌};
+ghost use Rattle.mt_model.specs.Log.{IsHost, IsResync, IsWithin};
+ghost use Rattle.mt_model.specs.Spans.{IsSpan, spans_of};
+ghost use Rattle.mt_model.specs.Timing.{gap_of, host_of, least_delay, most_delay, resync_of, skew_of};
+
+use crate::{Host, Log, MAX_DELAY, MAX_GAP, MAX_SKEW, MIN_DELAY, Resync};
+use mt_list::ListOf;
+use std::alloc::{AllocError, Global};
+
+/// What holds of a row's clock: how far it may be off, and how long after the row before it on its host
+/// the row comes at least, both in the log's unit of time.
+#[derive(Clone, Copy, Debug, PartialEq, Eq)]
+pub struct Span {
+    pub skew: i128,
+    pub gap: i128,
+}
+
+/// Spans, one per row, in the order of the rows.
+pub type SpanList = ListOf<Span>;
+
+fn host_at(log: &Log, e: usize) -> u32
+    requires { e < length log.now.rows }
+    ensures host { result ≡ host_of log.now e }
+    ensures within { result < length log.now.hosts }
+{
+    log.rows()[e].host.get()
+}
+
+// A row's host.
+fn host(log: &Log, e: usize) -> &Host
+    requires { e < length log.now.rows }
+    ensures found { slice_get log.now.hosts (host_of log.now e) ≡ Some result.now }
+    ensures valid { IsHost result.now }
+{
+    &log.hosts()[host_at(log, e) as usize]
+}
+
+// The last resync of a host that does not stand behind row e.
+fn last_resync(resyncs: &[Resync], host: u32, e: usize) -> Option<Resync>
+    ensures last { result ≡ find (λ r. r.host == host && nat_le r.place e) (reverse resyncs.now) }
+    ensures one { IfSome result (Contains resyncs.now) }
+{
+    for k in (0..resyncs.len()).rev() {
+        let resync = resyncs[k];
+        if resync.host.get() == host && resync.place as usize <= e {
+            return Some(resync);
+        }
+    }
+    None
+}
+
+// The resync by which a row's clock goes, if any.
+fn resync_at(log: &Log, e: usize) -> Option<Resync>
+    requires { e < length log.now.rows }
+    ensures resync { result ≡ resync_of log.now e }
+    ensures valid { IfSome result (IsResync (length log.now.hosts) (length log.now.rows)) }
+{
+    last_resync(log.resyncs(), host_at(log, e), e)
+}
+
+impl Log {
+    /// By how much the local time of row e may differ from its true time: what the last resync of its
+    /// host says that does not stand behind the row, else what the host says. Takes no memory.
+    pub fn skew_at(&self, e: usize) -> i128
+        requires { e < length self.now.rows }
+        ensures skew { result ≡ skew_of self.now e }
+        ensures range { IsWithin MAX_SKEW result }
+    {
+        match resync_at(self, e) {
+            Some(resync) => resync.skew,
+            None => host(self, e).skew,
+        }
+    }
+
+    /// How long after the row before it on its host row e comes at least, by the same rule. Takes no
+    /// memory.
+    pub fn gap_at(&self, e: usize) -> i128
+        requires { e < length self.now.rows }
+        ensures gap { result ≡ gap_of self.now e }
+        ensures range { IsWithin MAX_GAP result }
+    {
+        match resync_at(self, e) {
+            Some(resync) => resync.gap,
+            None => host(self, e).gap,
+        }
+    }
+
+    /// How long after its send row r comes at least, where it is a receive: that is its host's to say.
+    /// Takes no memory.
+    pub fn least_delay_at(&self, r: usize) -> i128
+        requires { r < length self.now.rows }
+        ensures delay { result ≡ least_delay self.now r }
+        ensures low { pos MIN_DELAY ≤ℤ result }
+        ensures high { result ≤ℤ pos MAX_DELAY }
+    {
+        i128::from(host(self, r).least)
+    }
+
+    /// How long after its send row r comes at most, where it is a receive and its host says so. Takes no
+    /// memory.
+    pub fn most_delay_at(&self, r: usize) -> Option<i128>
+        requires { r < length self.now.rows }
+        ensures delay { result ≡ most_delay self.now r }
+        ensures low { IfSome result (λ most. pos MIN_DELAY ≤ℤ most) }
+        ensures high { IfSome result (λ most. most ≤ℤ pos MAX_DELAY) }
+    {
+        match host(self, r).most {
+            Some(most) => Some(i128::from(most)),
+            None => None,
+        }
+    }
+
+    /// The skew and the gap of each row, in one pass over rows and resyncs. An error is want of memory.
+    pub fn spans(&self, alloc: Global) -> Result<SpanList, AllocError>
+        ensures spans { IfOk result (λ spans. spans ≡ spans_of self.now) }
+        ensures ranges { IfOk result (λ spans. All IsSpan spans) }
+    {
+        let mut spans = SpanList::new(alloc);
+        for e in 0..self.rows().len() {
+            spans.push(Span {
+                skew: self.skew_at(e),
+                gap: self.gap_at(e),
+            })?;
+        }
+        Ok(spans)
+    }
+}
