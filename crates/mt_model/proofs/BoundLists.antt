@@ -10,10 +10,10 @@ use Rattle.std.proofs.lemmas.Option.{slice_get_within}
 use Rattle.mt_model.specs.declared.bound.Bound.{Bound}
 use Rattle.mt_model.specs.declared.bound.Bound.TheVariants as bound
 use Rattle.mt_model.specs.declared.log.Extra.{Extra}
-use Rattle.mt_model.specs.Bounds.{BoundsAreAdmissible, MeetsBounds, bounds_at, bounds_of, step_of}
+use Rattle.mt_model.specs.Bounds.{BoundsAreAdmissible, MeetsBounds, bounds_at, bounds_of, is_limited, step_of}
 use Rattle.mt_model.specs.Laws.{IsBound}
 use Rattle.mt_model.specs.Log.{Logged}
-use Rattle.mt_model.specs.Timing.{Admissible, gap_of, least_delay, local_of, previous_row, send_of, skew_of, time_of}
+use Rattle.mt_model.specs.Timing.{Admissible, gap_of, least_delay, local_of, most_delay, previous_row, send_of, skew_of, time_of}
 use Rattle.mt_model.specs.Walks.{Meets, edge_of, is_row}
 use Rattle.mt_model.proofs.Conflicts.{edge_holds}
 
@@ -49,6 +49,7 @@ step_of-is_bound (bound.Low e) = tt
 step_of-is_bound (bound.High e) = tt
 step_of-is_bound (bound.Rise e) = tt
 step_of-is_bound (bound.Message e) = tt
+step_of-is_bound (bound.Late e) = tt
 step_of-is_bound (bound.Extra k) = tt
 
 module _ (log : Logged) (t : List ℤ) where
@@ -73,9 +74,19 @@ module _ (log : Logged) (t : List ℤ) where
   abbrev messages : ℕ → List Bound
   messages r = cond (is_some (send_of log r)) (bound.Message r ∷ []) []
 
+  abbrev lates : ℕ → List Bound
+  lates r = cond (is_limited log r) (bound.Late r ∷ []) []
+
+  -- the bounds of a row but for the one on a greatest delay
+  abbrev others : ℕ → List Bound
+  others e = bound.Low e ∷ bound.High e ∷ [] ++ rises e ++ messages e
+
+  others_met : MeetsBounds log t → (e : ℕ) → e < length log.rows → All IsMet (others e)
+  others_met all e within = All-front IsMet (others e) (lates e) (row_met all e within)
+
   two_met : MeetsBounds log t → (e : ℕ) → e < length log.rows → All IsMet (bound.Low e ∷ bound.High e ∷ [])
   two_met all e within =
-      All-front IsMet (bound.Low e ∷ bound.High e ∷ []) (rises e) (All-front IsMet (bound.Low e ∷ bound.High e ∷ [] ++ rises e) (messages e) (row_met all e within))
+      All-front IsMet (bound.Low e ∷ bound.High e ∷ []) (rises e) (All-front IsMet (bound.Low e ∷ bound.High e ∷ [] ++ rises e) (messages e) (others_met all e within))
 
   low_met : MeetsBounds log t → (e : ℕ) → e < length log.rows → (local_of log e -ℤ skew_of log e) ≤ℤ time_of t e
   low_met all e within =
@@ -91,18 +102,26 @@ module _ (log : Logged) (t : List ℤ) where
 
   rise_met : MeetsBounds log t → (e f : ℕ) → f < length log.rows → previous_row log f ≡ Some e → (time_of t e +ℤ gap_of log f) ≤ℤ time_of t f
   rise_met all e f within previous =
-      let both = All-front IsMet (bound.Low f ∷ bound.High f ∷ [] ++ rises f) (messages f) (row_met all f within) in
+      let both = All-front IsMet (bound.Low f ∷ bound.High f ∷ [] ++ rises f) (messages f) (others_met all f within) in
       let some = rw previous at (All-back IsMet (bound.Low f ∷ bound.High f ∷ []) (rises f) both) in
       let here = All-head IsMet (bound.Rise f) [] some in
       let meets = rw (row_at f within, previous) at here in
       omega (arith, ints, meets)
 
-  message_met : MeetsBounds log t → (s r : ℕ) → r < length log.rows → send_of log r ≡ Some s → (time_of t s +ℤ least_delay) ≤ℤ time_of t r
+  message_met : MeetsBounds log t → (s r : ℕ) → r < length log.rows → send_of log r ≡ Some s → (time_of t s +ℤ least_delay log r) ≤ℤ time_of t r
   message_met all s r within sent =
-      let back = All-back IsMet (bound.Low r ∷ bound.High r ∷ [] ++ rises r) (messages r) (row_met all r within) in
+      let back = All-back IsMet (bound.Low r ∷ bound.High r ∷ [] ++ rises r) (messages r) (others_met all r within) in
       let some = rw sent at back in
       let here = All-head IsMet (bound.Message r) [] some in
       let meets = rw sent at here in
+      omega (arith, ints, meets)
+
+  late_met : MeetsBounds log t → (s r : ℕ) (most : ℤ) → r < length log.rows → send_of log r ≡ Some s → most_delay log r ≡ Some most → time_of t r ≤ℤ (time_of t s +ℤ most)
+  late_met all s r most within sent limited =
+      let back = All-back IsMet (others r) (lates r) (row_met all r within) in
+      let some = rw (sent, limited) at back in
+      let here = All-head IsMet (bound.Late r) [] some in
+      let meets = rw (sent, limited) at here in
       omega (arith, ints, meets)
 
   extra_met : MeetsBounds log t → (k : ℕ) (x : Extra) → slice_get log.extras k ≡ Some x → (time_of t x.e -ℤ time_of t x.f) ≤ℤ x.c
@@ -122,6 +141,7 @@ bounds-admissible log t = (
     high = high_met log t all.1;
     rise = rise_met log t all.1;
     message = message_met log t all.1;
+    late = late_met log t all.1;
     extra = extra_met log t all.1;
   },
 )

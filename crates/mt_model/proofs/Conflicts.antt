@@ -6,7 +6,7 @@ use Rattle.std.proofs.lemmas.Int.{ints}
 use Rattle.std.proofs.lemmas.List.Elements.{All-head, All-tail}
 use Rattle.std.proofs.lemmas.Option.{cond_some, option_and_then_some, slice_get_within}
 use Rattle.mt_model.specs.declared.step.Step.{Step}
-use Rattle.mt_model.specs.declared.step.Step.TheVariants.{Low, High, Rise, Message, Extra, Order}
+use Rattle.mt_model.specs.declared.step.Step.TheVariants.{Low, High, Rise, Message, Late, Extra, Order}
 use Rattle.mt_model.specs.Log.{Logged, received_by}
 use Rattle.mt_model.specs.Timing.{Admissible, previous_row, received_in, is_send_of, send_of}
 use Rattle.mt_model.specs.Walks.{Edge, node_time, is_row, edge_of, LeadsTo, IsClosedWalk, HasEdges, sum_of_bounds}
@@ -48,6 +48,10 @@ module _ (log : Logged) (t : List ℤ) (ok : Admissible log t) where
   edge_holds (Message r) x bound is =
       let parts = mapped_some _ _ _ is in
       rw (← parts.2) (omega (arith, ints, ok.message parts.0 r (receive_within log r parts.0 parts.1) parts.1))
+  edge_holds (Late r) x bound is =
+      option_and_then_some _ (send_of log r) x is
+      (λ s sent limited. let parts = mapped_some _ _ _ limited in
+      rw (← parts.2) (omega (arith, ints, ok.late s r parts.0 (receive_within log r s sent) sent parts.1)))
   edge_holds (Extra k) x bound is =
       let parts = mapped_some _ _ _ is in
       rw (← parts.2) (omega (arith, ints, ok.extra k parts.0 parts.1))

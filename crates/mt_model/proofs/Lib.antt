@@ -9,6 +9,12 @@ pub mod TruthLemmas
 mod BrokenBounds
 pub mod Conflicts
 pub mod PreviousRows
+pub mod Resyncs
+pub mod Clocks
+pub mod PlacesInOrder
+pub mod LastPassing
+mod VersionOneCases
 mod HappenedBefore
 mod GreaterSkews
 mod WorkedCases
+mod ClockCases

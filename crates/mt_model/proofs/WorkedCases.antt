@@ -10,27 +10,27 @@ use Rattle.mt_model.specs.declared.log.Act.TheVariants.{Set, Clear, Send, Recv, 
 use Rattle.mt_model.specs.declared.log.Extra as extra
 use Rattle.mt_model.specs.declared.step.Step.TheVariants.{Low, High, Rise, Message, Extra, Order}
 use Rattle.mt_model.specs.declared.limits.TheConstants.{MAX_ORDER}
-use Rattle.mt_model.specs.Log.{Logged}
+use Rattle.mt_model.specs.Log.{Logged, plain_log}
 use Rattle.mt_model.specs.Name.{is_name, is_reserved}
-use Rattle.mt_model.specs.Timing.{Admissible, time_of, local_of, skew_of, gap_of, previous_row, send_of}
+use Rattle.mt_model.specs.Timing.{Admissible, time_of, local_of, skew_of, gap_of, least_delay, most_delay, previous_row, send_of}
 use Rattle.mt_model.specs.Walks.{Edge, edge_of, HasEdges, IsClosedWalk, sum_of_bounds, Conflict}
 use Rattle.mt_model.specs.Laws.{IsBound}
 use Rattle.mt_model.proofs.Conflicts.{excludes_timings}
 
-abbrev host : List ℕ → ℤ → ℤ → Host
-host name skew gap = record { name = name; skew = skew; gap = gap }
+abbrev pub host : List ℕ → ℤ → ℤ → Host
+host name skew gap = record { name = name; skew = skew; gap = gap; least = 1; most = None }
 
-abbrev row : ℕ → ℤ → Act → Row
+abbrev pub row : ℕ → ℤ → Act → Row
 row host local act = record { host = host; local = local; act = act }
 
 abbrev log_of : List Host → List Row → Logged
-log_of hosts rows = record { hosts = hosts; rows = rows; extras = [] }
+log_of = plain_log
 
-abbrev edge : ℕ → ℕ → ℤ → Edge
+abbrev pub edge : ℕ → ℕ → ℤ → Edge
 edge from to bound = record { from = from; to = to; bound = bound }
 
 -- what holds of 0 and of 1 holds of each number below 2
-below_two : (P : ℕ → Type 0) → P 0 → P 1 → (e : ℕ) → e < 2 → P e
+pub below_two : (P : ℕ → Type 0) → P 0 → P 1 → (e : ℕ) → e < 2 → P e
 below_two P first second zero low = first
 below_two P first second (suc zero) low = second
 below_two P first second (suc (suc e)) low = absurd (omega arith)
@@ -56,6 +56,7 @@ request_admits x y a b c d = record {
   high = below_two _ b d;
   rise = λ e f low before. absurd (cc (nothing_before f low));
   message = λ s r low sent. absurd (cc (nothing_received r low));
+  late = λ s r most low sent limited. absurd (cc (nothing_received r low));
   extra = λ k x at. absurd (cc);
 }
 
@@ -245,11 +246,12 @@ abbrev crowded : Logged
 crowded = record {
   hosts = host (codes "a") (pos 5) (pos 3) ∷ host (codes "b") (pos 5) (pos 0) ∷ [];
   rows = row 0 (pos 10) (Send (codes "m")) ∷ row 0 (pos 10) (Note (codes "n")) ∷ row 1 (pos 10) (Recv (codes "m")) ∷ [];
+  resyncs = [];
   extras = record { e = 2; f = 1; c = negsuc 1 } ∷ [];
 }
 
 -- what holds of 0, 1 and 2 holds of each number below 3
-below_three : (P : ℕ → Type 0) → P 0 → P 1 → P 2 → (e : ℕ) → e < 3 → P e
+pub below_three : (P : ℕ → Type 0) → P 0 → P 1 → P 2 → (e : ℕ) → e < 3 → P e
 below_three P first second third zero low = first
 below_three P first second third (suc zero) low = second
 below_three P first second third (suc (suc zero)) low = third
@@ -269,6 +271,14 @@ crowded_message t h s (suc zero) low sent = absurd (cc)
 crowded_message t h s (suc (suc zero)) low sent = let first : 0 ≡ s = cc in rw (← first) h
 crowded_message t h s (suc (suc (suc r))) low sent = absurd (omega arith)
 
+-- Each host's least delay is 1.
+crowded_delay : (r : ℕ) → r < 3 → least_delay crowded r ≡ pos 1
+crowded_delay = below_three (λ r. least_delay crowded r ≡ pos 1) refl refl refl
+
+-- No host has a greatest delay.
+crowded_unlimited : (r : ℕ) → r < 3 → most_delay crowded r ≡ None
+crowded_unlimited = below_three (λ r. most_delay crowded r ≡ None) refl refl refl
+
 -- There is one extra bound.
 crowded_extra : (t : List ℤ) → (time_of t 2 -ℤ time_of t 1) ≤ℤ negsuc 1 → (k : ℕ) (x : extra.Extra) → slice_get crowded.extras k ≡ Some x → (time_of t x.e -ℤ time_of t x.f) ≤ℤ x.c
 crowded_extra t h zero x at = let one : record { e = 2; f = 1; c = negsuc 1 } ≡ x = cc in rw (← one) h
@@ -284,7 +294,8 @@ just_in_time = record {
   low = below_three (λ e. (local_of crowded e -ℤ skew_of crowded e) ≤ℤ time_of just e) (omega arith) (omega arith) (omega arith);
   high = below_three (λ e. time_of just e ≤ℤ (local_of crowded e +ℤ skew_of crowded e)) (omega arith) (omega arith) (omega arith);
   rise = crowded_rise just (omega arith);
-  message = crowded_message just (omega arith);
+  message = λ s r low sent. rw (crowded_delay r low) (crowded_message just (omega arith) s r low sent);
+  late = λ s r most low sent limited. absurd (cc (crowded_unlimited r low));
   extra = crowded_extra just (omega arith);
 }
 

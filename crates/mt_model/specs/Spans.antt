@@ -1,6 +1,9 @@
 -- The skew and the gap of each row.
-use Rattle.std.specs.Prelude.{ℕ, List, length, map}
+use Rattle.std.specs.Prelude.{◌≡◌, ℕ, ◌==◌, ◌<◌, ◌≤◌, List, length, map, find, reverse, slice_get, slice_index_or, pos}
 use Rattle.std.specs.List.{range_with_len}
+use Rattle.std.specs.Option.{option_map_or}
+use Rattle.mt_model.specs.declared.log.Host.{Host}
+use Rattle.mt_model.specs.declared.resync.Resync.{Resync}
 use Rattle.mt_model.specs.declared.spans.Span.{Span}
 use Rattle.mt_model.specs.declared.limits.TheConstants.{MAX_GAP, MAX_SKEW}
 use Rattle.mt_model.specs.Log.{IsWithin, Logged}
@@ -10,6 +13,30 @@ use Rattle.mt_model.specs.Timing.{gap_of, skew_of}
 pub record IsSpan (s : Span) : Type 0 where
   pub skew : IsWithin MAX_SKEW s.skew
   pub gap : IsWithin MAX_GAP s.gap
+
+-- what a host says before each resync
+abbrev pub declared_span : Host → Span
+declared_span h = record { skew = h.skew; gap = h.gap }
+
+-- what a resync says
+abbrev pub resynced_span : Resync → Span
+resynced_span r = record { skew = r.skew; gap = r.gap }
+
+-- the clock of a host after these resyncs: what the last of them says that is of the host, else what the host says
+abbrev pub clock_after : List Host → List Resync → ℕ → Span
+clock_after hosts resyncs h =
+    option_map_or resynced_span (find (λ r. r.host == h) (reverse resyncs)) (option_map_or declared_span (slice_get hosts h) (record { skew = pos 0; gap = pos 0 }))
+
+-- a clock for each host after these resyncs
+pub record AreClocks (hosts : List Host) (resyncs : List Resync) (clocks : List Span) : Type 0 where
+  pub count : length clocks ≡ length hosts
+  pub each : (h : ℕ) (d : Span) → h < length hosts → slice_index_or clocks h d ≡ clock_after hosts resyncs h
+
+-- the first k resyncs are those that do not stand behind row e
+pub record HavePassed (resyncs : List Resync) (k e : ℕ) : Type 0 where
+  pub within : k ≤ length resyncs
+  pub before : (i : ℕ) (d : Resync) → i < k → (slice_index_or resyncs i d).place ≤ e
+  pub behind : (d : Resync) → k < length resyncs → e < (slice_index_or resyncs k d).place
 
 -- the skew and the gap of row e
 abbrev pub span_of : Logged → ℕ → Span

@@ -3,7 +3,7 @@ ghost use Rattle.mt_model.specs.Log.{Logged, IsLog, log_with, plain_log, IsHost,
 ghost use Rattle.mt_model.specs.State.{host_named};
 
 use crate::validity::{is_extra, is_valid};
-use crate::widening::{may_widen_hosts, may_widen_resyncs, widened_hosts, widened_resyncs};
+use crate::widening::{may_widen_all, widened_hosts, widened_resyncs};
 use crate::{EventId, HostId, MAX_EXTRAS, MAX_SKEW, MAX_WRITTEN_SKEW, Name, Resync, ResyncList};
 use mt_list::ListOf;
 use std::alloc::{AllocError, Global};
@@ -162,16 +162,12 @@ impl Row {
 }
 
 // Whether no skew is above the greatest that a log file may state.
-fn are_written_hosts(hosts: &[Host]) -> bool
-    ensures { IsTrue result ↔ All (λ h. h.skew ≤ℤ MAX_WRITTEN_SKEW) hosts.now }
+fn are_written(hosts: &[Host], resyncs: &[Resync]) -> bool
+    ensures { IsTrue result ↔ (All (λ h. h.skew ≤ℤ MAX_WRITTEN_SKEW) hosts.now × All (λ r. r.skew ≤ℤ MAX_WRITTEN_SKEW) resyncs.now) }
 {
-    hosts.iter().all(|host| host.skew <= MAX_WRITTEN_SKEW)
-}
-
-fn are_written_resyncs(resyncs: &[Resync]) -> bool
-    ensures { IsTrue result ↔ All (λ r. r.skew ≤ℤ MAX_WRITTEN_SKEW) resyncs.now }
-{
-    resyncs.iter().all(|resync| resync.skew <= MAX_WRITTEN_SKEW)
+    let declared = hosts.iter().all(|host| host.skew <= MAX_WRITTEN_SKEW);
+    let later = resyncs.iter().all(|resync| resync.skew <= MAX_WRITTEN_SKEW);
+    declared && later
 }
 
 fn copy_hosts(alloc: Global, hosts: &[Host]) -> Result<HostList, AllocError>
@@ -335,9 +331,7 @@ impl Log {
     pub fn takes_widening(&self, s: i128) -> bool
         ensures valid { IsTrue result ↔ ((pos 0 ≤ℤ s) × All (λ h. (h.skew +ℤ s) ≤ℤ MAX_SKEW) self.now.hosts × All (λ r. (r.skew +ℤ s) ≤ℤ MAX_SKEW) self.now.resyncs) }
     {
-        0 <= s
-            && may_widen_hosts(self.hosts.as_slice(), s)
-            && may_widen_resyncs(self.resyncs.as_slice(), s)
+        0 <= s && may_widen_all(self.hosts.as_slice(), self.resyncs.as_slice(), s)
     }
 
     /// The log with s added to each skew, in the log's unit of time. s is at least 0, and no skew may
@@ -367,8 +361,6 @@ impl Log {
     pub fn plain(&self) -> bool
         ensures plain { IsTrue result ↔ IsPlain self.now }
     {
-        self.extras.len() == 0
-            && are_written_hosts(self.hosts.as_slice())
-            && are_written_resyncs(self.resyncs.as_slice())
+        self.extras.len() == 0 && are_written(self.hosts.as_slice(), self.resyncs.as_slice())
     }
 }

@@ -1,8 +1,8 @@
 //! What a log says of a row's clock and of the delay of a receive.
 
-ghost use Rattle.std.specs.Prelude.{◌≡◌, ◌==◌, ◌<◌, ◌≤◌, ◌&&◌, length, find, reverse, slice_get, nat_le, map, All, Contains, IfOk, IfSome, Some, pos, ◌≤ℤ◌};
+ghost use Rattle.std.specs.Prelude.{◌≡◌, ◌==◌, ◌<◌, ◌≤◌, ◌&&◌, length, find, reverse, slice_get, slice_index_or, slice_set, take, nat_le, ℕ, map, All, IfOk, IfSome, Some, pos, ◌≤ℤ◌};
 ghost use Rattle.mt_model.specs.Log.{IsHost, IsResync, IsWithin};
-ghost use Rattle.mt_model.specs.Spans.{IsSpan, spans_of};
+ghost use Rattle.mt_model.specs.Spans.{AreClocks, HavePassed, IsSpan, declared_span, resynced_span, spans_of};
 ghost use Rattle.mt_model.specs.Timing.{gap_of, host_of, least_delay, most_delay, resync_of, skew_of};
 
 use crate::{Host, Log, MAX_DELAY, MAX_GAP, MAX_SKEW, MIN_DELAY, Resync};
@@ -37,15 +37,20 @@ fn host(log: &Log, e: usize) -> &Host
     &log.hosts()[host_at(log, e) as usize]
 }
 
+// Whether a resync is of a host and does not stand behind row e.
+fn applies(resync: &Resync, host: u32, e: usize) -> bool
+    ensures { result ≡ (resync.now.host == host && nat_le resync.now.place e) }
+{
+    resync.host.get() == host && resync.place as usize <= e
+}
+
 // The last resync of a host that does not stand behind row e.
 fn last_resync(resyncs: &[Resync], host: u32, e: usize) -> Option<Resync>
-    ensures last { result ≡ find (λ r. r.host == host && nat_le r.place e) (reverse resyncs.now) }
-    ensures one { IfSome result (Contains resyncs.now) }
+    ensures { result ≡ find (λ r. r.host == host && nat_le r.place e) (reverse resyncs.now) }
 {
     for k in (0..resyncs.len()).rev() {
-        let resync = resyncs[k];
-        if resync.host.get() == host && resync.place as usize <= e {
-            return Some(resync);
+        if applies(&resyncs[k], host, e) {
+            return Some(resyncs[k]);
         }
     }
     None
@@ -58,6 +63,66 @@ fn resync_at(log: &Log, e: usize) -> Option<Resync>
     ensures valid { IfSome result (IsResync (length log.now.hosts) (length log.now.rows)) }
 {
     last_resync(log.resyncs(), host_at(log, e), e)
+}
+
+// The clocks of hosts before each resync.
+fn declared_spans(alloc: Global, hosts: &[Host]) -> Result<Vec<Span>, AllocError>
+    ensures { IfOk result (λ clocks. clocks.items ≡ map declared_span hosts.now) }
+{
+    let mut clocks = Vec::new(alloc);
+    for host in hosts {
+        clocks.push(Span {
+            skew: host.skew,
+            gap: host.gap,
+        })?;
+    }
+    Ok(clocks)
+}
+
+// Sets the clock of a host to what a resync says.
+fn set_clock(clocks: &mut [Span], resync: &Resync)
+    requires { resync.now.host < length clocks.old }
+    ensures { clocks.new ≡ slice_set clocks.old resync.now.host (resynced_span resync.now) }
+{
+    clocks[resync.host.get() as usize] = Span {
+        skew: resync.skew,
+        gap: resync.gap,
+    };
+}
+
+// Sets the clocks by the resyncs from a place on that do not stand behind row e, and gives the place of
+// the first that does. All before the place do not stand behind the row either.
+fn pass_resyncs(log: &Log, clocks: &mut [Span], from: usize, e: usize) -> usize
+    requires from { from ≤ length log.now.resyncs }
+    requires before { (i : ℕ) (d : Resync) → i < from → (slice_index_or log.now.resyncs i d).place ≤ e }
+    requires clocks { AreClocks log.now.hosts (take from log.now.resyncs) clocks.old }
+    ensures passed { HavePassed log.now.resyncs result e }
+    ensures clocks { AreClocks log.now.hosts (take result log.now.resyncs) clocks.new }
+{
+    let resyncs = log.resyncs();
+    for k in from..resyncs.len() {
+        let resync = &resyncs[k];
+        if e < resync.place as usize {
+            return k;
+        }
+        set_clock(clocks, resync);
+    }
+    resyncs.len()
+}
+
+// The span of each row, where these are the clocks of the hosts before each resync.
+fn spans_from(alloc: Global, log: &Log, clocks: &mut [Span]) -> Result<SpanList, AllocError>
+    requires { clocks.old ≡ map declared_span log.now.hosts }
+    ensures spans { IfOk result (λ spans. spans ≡ spans_of log.now) }
+    ensures ranges { IfOk result (All IsSpan) }
+{
+    let mut spans = SpanList::new(alloc);
+    let mut passed = 0;
+    for e in 0..log.rows().len() {
+        passed = pass_resyncs(log, clocks, passed, e);
+        spans.push(clocks[host_at(log, e) as usize])?;
+    }
+    Ok(spans)
 }
 
 impl Log {
@@ -115,15 +180,9 @@ impl Log {
     /// The skew and the gap of each row, in one pass over rows and resyncs. An error is want of memory.
     pub fn spans(&self, alloc: Global) -> Result<SpanList, AllocError>
         ensures spans { IfOk result (λ spans. spans ≡ spans_of self.now) }
-        ensures ranges { IfOk result (λ spans. All IsSpan spans) }
+        ensures ranges { IfOk result (All IsSpan) }
     {
-        let mut spans = SpanList::new(alloc);
-        for e in 0..self.rows().len() {
-            spans.push(Span {
-                skew: self.skew_at(e),
-                gap: self.gap_at(e),
-            })?;
-        }
-        Ok(spans)
+        let mut clocks = declared_spans(alloc, self.hosts())?;
+        spans_from(alloc, self, &mut clocks)
     }
 }

@@ -1,6 +1,6 @@
 //! When hosts, rows, resyncs and extra bounds make a valid log.
 
-ghost use Rattle.std.specs.Prelude.{◌≡◌, ◌↔◌, IsTrue, IfSome, Any, Some, All, AllPairs};
+ghost use Rattle.std.specs.Prelude.{◌≡◌, ◌↔◌, ◌≤◌, length, IsTrue, IfSome, Any, Some, All, AllPairs};
 ghost use Rattle.mt_model.specs.Log.{IsLog, IsHost, HasDelays, IsRow, IsExtra, AreRows, SendSame, IsSent, log_with, sent_by, received_by};
 
 use crate::name::is_reserved_name;
@@ -111,18 +111,30 @@ fn are_rows(hosts: usize, rows: &[Row]) -> bool
     each && once && sent
 }
 
+// Whether a log may have so many hosts and rows.
+fn are_few(hosts: &[Host], rows: &[Row]) -> bool
+    ensures { IsTrue result ↔ ((1 ≤ length hosts.now) × (length hosts.now ≤ MAX_HOSTS) × (1 ≤ length rows.now) × (length rows.now ≤ MAX_ROWS)) }
+{
+    !hosts.is_empty() && hosts.len() <= MAX_HOSTS && !rows.is_empty() && rows.len() <= MAX_ROWS
+}
+
+// Whether each host is one, and no two have one name.
+fn are_hosts(hosts: &[Host]) -> bool
+    ensures { IsTrue result ↔ (AllPairs (λ g h. h.name ≡ g.name → ⊥) hosts.now × All IsHost hosts.now) }
+{
+    let each = hosts.iter().all(is_host);
+    each && names_differ(hosts)
+}
+
 /// Whether these make a valid log.
 pub fn is_valid(hosts: &[Host], rows: &[Row], resyncs: &[Resync]) -> bool
     ensures { IsTrue result ↔ IsLog (log_with hosts.now rows.now resyncs.now) }
 {
-    !hosts.is_empty()
-        && hosts.len() <= MAX_HOSTS
-        && !rows.is_empty()
-        && rows.len() <= MAX_ROWS
-        && names_differ(hosts)
-        && hosts.iter().all(is_host)
-        && are_rows(hosts.len(), rows)
-        && are_resyncs(hosts.len(), rows.len(), resyncs)
+    let are_few = are_few(hosts, rows);
+    let are_hosts = are_hosts(hosts);
+    let are_rows = are_rows(hosts.len(), rows);
+    let are_resyncs = are_resyncs(hosts.len(), rows.len(), resyncs);
+    are_few && are_hosts && are_rows && are_resyncs
 }
 
 /// Whether this can be an extra bound of a log of so many rows.

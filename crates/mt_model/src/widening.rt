@@ -14,12 +14,26 @@ fn may_widen(skew: i128, s: i128) -> bool
     skew <= MAX_SKEW - s
 }
 
-/// Whether each host's skew stays in its range when it grows by s.
-pub fn may_widen_hosts(hosts: &[Host], s: i128) -> bool
+fn may_widen_hosts(hosts: &[Host], s: i128) -> bool
     requires { pos 0 ≤ℤ s }
     ensures { IsTrue result ↔ All (λ h. (h.skew +ℤ s) ≤ℤ MAX_SKEW) hosts.now }
 {
     hosts.iter().all(|host| may_widen(host.skew, s))
+}
+
+fn may_widen_resyncs(resyncs: &[Resync], s: i128) -> bool
+    requires { pos 0 ≤ℤ s }
+    ensures { IsTrue result ↔ All (λ r. (r.skew +ℤ s) ≤ℤ MAX_SKEW) resyncs.now }
+{
+    resyncs.iter().all(|resync| may_widen(resync.skew, s))
+}
+
+/// Whether each skew of hosts and of resyncs stays in its range when it grows by s.
+pub fn may_widen_all(hosts: &[Host], resyncs: &[Resync], s: i128) -> bool
+    requires { pos 0 ≤ℤ s }
+    ensures { IsTrue result ↔ (All (λ h. (h.skew +ℤ s) ≤ℤ MAX_SKEW) hosts.now × All (λ r. (r.skew +ℤ s) ≤ℤ MAX_SKEW) resyncs.now) }
+{
+    may_widen_hosts(hosts, s) && may_widen_resyncs(resyncs, s)
 }
 
 // Adds s to a skew.
@@ -54,14 +68,6 @@ pub fn widened_hosts(hosts: HostList, s: i128) -> HostList
     let mut items = hosts.into_vec();
     widen_hosts(&mut items, s);
     ListOf::from_vec(items)
-}
-
-/// Whether the skew of each resync stays in its range when it grows by s.
-pub fn may_widen_resyncs(resyncs: &[Resync], s: i128) -> bool
-    requires { pos 0 ≤ℤ s }
-    ensures { IsTrue result ↔ All (λ r. (r.skew +ℤ s) ≤ℤ MAX_SKEW) resyncs.now }
-{
-    resyncs.iter().all(|resync| may_widen(resync.skew, s))
 }
 
 // Adds s to the skew of a resync.

@@ -1,0 +1,5 @@
+use Rattle.mt_model.proofs.Clocks.{IsSpanning}
+use Rattle.mt_model.proofs.spans.spans_from.Given as goal
+
+abbrev pub invariant-loop-e : goal.invariant-loop-e
+invariant-loop-e l = IsSpanning l.log l.clocks l.spans l.passed l.e
