@@ -1,29 +1,35 @@
 -- What was read so far stays the beginning of a valid log.
-use Rattle.std.proofs.Common.{◌≡◌, ◌∙◌, sym, ap, refl, arith, ℕ, ◌<◌, ◌≤◌, Bool, true, false, List, [], ◌∷◌, ◌++◌, length, length-append, get_or, Option, Some, None, ℤ, pos, neg_ℤ, ◌≤ℤ◌, ◌==◌, lit≤}
-use Rattle.std.specs.Prelude.{All, IfSome, if◌then◌else◌, ◌&&◌, ◌||◌, not, int_le, option_map, option_and_then, nat_le, bytes_eq, is_none}
+use Rattle.std.proofs.Common.{◌≡◌, ◌∙◌, sym, ap, refl, arith, ℕ, suc, ◌<◌, ◌≤◌, Bool, true, false, List, [], ◌∷◌, ◌++◌, length, length-append, get_or, Option, Some, None, ℤ, pos, neg_ℤ, ◌≤ℤ◌, ◌==◌, lit≤}
+use Rattle.std.specs.Prelude.{All, IfSome, codes, map, nat_lt, unwrap_or, if◌then◌else◌, ◌&&◌, ◌||◌, not, int_le, option_map, option_and_then, nat_le, bytes_eq, is_none}
 use Rattle.std.specs.Option.{option_map_or}
 use Rattle.std.specs.Ordering.{int_eq}
 use Rattle.std.specs.Str.Parse.{digits_value}
 use Rattle.std.proofs.lemmas.Int.{ints}
+use Rattle.std.specs.List.{position_or_len}
+use Rattle.std.proofs.lemmas.Bool.{leb-true, ltb-false, ltb-true}
 use Rattle.std.proofs.lemmas.Bool.Decides.{nat_tests}
+use Rattle.std.proofs.lemmas.List.{get_or-map, length-map}
 use Rattle.std.proofs.lemmas.List.Elements.{All-nil, All-push}
 use Rattle.std.proofs.lemmas.List.Quantifiers.{all_pairs_push, position-Some}
-use Rattle.std.proofs.lemmas.List.Folds.{list_any_at}
+use Rattle.std.proofs.lemmas.List.Folds.{find_at, list_any_at}
 use Rattle.std.proofs.lemmas.Slice.Eq.{bytes_eq-Decides}
 use Rattle.mt_model.specs.declared.log.Act.{Act}
 use Rattle.mt_model.specs.declared.log.Host.{Host}
 use Rattle.mt_model.specs.declared.log.Row.{Row}
-use Rattle.mt_model.specs.declared.limits.TheConstants.{MAX_HOSTS, MAX_ROWS, MAX_WRITTEN_SKEW, MAX_GAP, MAX_LOCAL}
-use Rattle.mt_model.specs.Log.{Logged, IsLog, IsHost, IsRow, IsExtra, IsWithin, IsSent, SendSame, name_in, sent_by, received_by}
+use Rattle.mt_model.specs.declared.limits.TheConstants.{MAX_HOSTS, MAX_ROWS, MAX_WRITTEN_SKEW, MAX_GAP, MAX_LOCAL, MAX_DELAY, MIN_DELAY}
+use Rattle.mt_model.specs.declared.resync.Resync.{Resync}
+use Rattle.mt_model.specs.Log.{AreResyncs, IsLog, IsHost, IsResync, IsRow, IsExtra, IsWithin, IsSent, SendSame, name_in, sent_by, received_by}
 use Rattle.mt_model.specs.Name.{is_name, is_reserved}
 use Rattle.mt_model.specs.Timing.{is_send_of}
+use Rattle.log_read.specs.declared.latency.Latency.{Latency}
 use Rattle.log_read.specs.declared.fault.LogFault.{LogFault}
 use Rattle.log_read.specs.declared.kind.EventKind.{EventKind}
 use Rattle.log_read.specs.declared.kind.EventKind.TheVariants as event
 use Rattle.decimal.specs.Numbers.{is_number, number_up_to, negated, signed_up_to}
-use Rattle.log_read.specs.Records.{host_with, row_with, place_of_host, act_of}
-use Rattle.log_read.specs.LogOf.{host_fault, event_fault, is_declared, sends_again}
-use Rattle.log_read.specs.Reading.{IsBegun}
+use Rattle.log_read.specs.Records.{Listing, host_with, row_with, place_of_host, act_of, delay_in, delayed, delayed_by, greatest_in, latency_of, latency_with, least_in, log_from, resync_with}
+use Rattle.log_read.specs.LogOf.{host_fault, event_fault, is_declared, is_delayed, is_empty, latency_fault, sends_again}
+use Rattle.log_read.specs.Reading.{IsBegun, IsLatency}
+use Rattle.mt_model.proofs.Resyncs.{at-place}
 
 -- where the first test that fails is none, each test passed
 four_pass : (a b c d : Bool) (w x y z : LogFault) → (if a then Some w else if b then Some x else if c then Some y else if d then Some z else None) ≡ None
@@ -58,18 +64,20 @@ record HostRead (name first second : List ℕ) (h : Host) : Type 0 where
   named : h.name ≡ name
   skew : number_up_to MAX_WRITTEN_SKEW first ≡ Some h.skew
   gap : number_up_to MAX_GAP second ≡ Some h.gap
+  least : h.least ≡ MIN_DELAY
+  most : h.most ≡ None
 
-host_of_numbers : (name : List ℕ) (s g : Option ℤ) (h : Host) → option_and_then (λ x. option_map (λ y. let made : Host = record { name = name; skew = x; gap = y } in made) g) s ≡ Some h
-    → (h.name ≡ name) × (s ≡ Some h.skew) × (g ≡ Some h.gap)
+host_of_numbers : (name : List ℕ) (s g : Option ℤ) (h : Host) → option_and_then (λ x. option_map (λ y. let made : Host = record { name = name; skew = x; gap = y; least = MIN_DELAY; most = None } in made) g) s ≡ Some h
+    → (h.name ≡ name) × (s ≡ Some h.skew) × (g ≡ Some h.gap) × (h.least ≡ MIN_DELAY) × (h.most ≡ None)
 host_of_numbers name None g h e = cc
 host_of_numbers name (Some x) None h e = cc
 host_of_numbers name (Some x) (Some y) h e =
-    (ap (λ o. option_map_or (λ (k : Host). k.name) o name) (sym e), ap (λ o. Some (option_map_or (λ (k : Host). k.skew) o x)) e, ap (λ o. Some (option_map_or (λ (k : Host). k.gap) o y)) e)
+    (ap (λ o. option_map_or (λ (k : Host). k.name) o name) (sym e), ap (λ o. Some (option_map_or (λ (k : Host). k.skew) o x)) e, ap (λ o. Some (option_map_or (λ (k : Host). k.gap) o y)) e, ap (λ o. option_map_or (λ (k : Host). k.least) o MIN_DELAY) (sym e), ap (λ o. option_map_or (λ (k : Host). k.most) o None) (sym e))
 
 host_read : (name skew gap : List ℕ) (h : Host) → host_with name skew gap ≡ Some h → HostRead name skew gap h
 host_read name skew gap h e =
     let parts = host_of_numbers name (number_up_to MAX_WRITTEN_SKEW skew) (number_up_to MAX_GAP gap) h e in
-    record { named = parts.0; skew = parts.1; gap = parts.2 }
+    record { named = parts.0; skew = parts.1; gap = parts.2; least = parts.3; most = parts.4 }
 
 -- no host of a list is named so, where the test finds none
 not_declared : (hosts : List Host) (name : List ℕ) (k : ℕ) (d : Host) → is_declared hosts name ≡ false → k < length hosts → (get_or hosts k d).name ≡ name → ⊥
@@ -93,9 +101,23 @@ name_in-act_of event.Send name = refl
 name_in-act_of event.Recv name = refl
 name_in-act_of event.Note name = refl
 
+-- resyncs of a log stay so in one of more hosts and rows
+resyncs-more : (hosts rows more_hosts more_rows : ℕ) (rs : List Resync) → hosts ≤ more_hosts → rows ≤ more_rows → AreResyncs hosts rows rs → AreResyncs more_hosts more_rows rs
+resyncs-more hosts rows more_hosts more_rows rs wider longer are = record {
+  each = λ k d within. let r = are.each k d within in record {
+    host = omega (arith, r.host, wider);
+    place = omega (arith, r.place, longer);
+    skew_low = r.skew_low;
+    skew_high = r.skew_high;
+    gap_low = r.gap_low;
+    gap_high = r.gap_high;
+  };
+  in_order = are.in_order;
+}
+
 -- a host that has no fault may be added
-pub begun_host : (place : ℕ) (log : Logged) (h : Host) (name skew gap : List ℕ) → IsBegun log → host_fault place log.hosts name skew gap ≡ None → host_with name skew gap ≡ Some h
-    → IsBegun (record { hosts = log.hosts ++ h ∷ []; rows = log.rows; extras = [] })
+pub begun_host : (place : ℕ) (log : Listing) (h : Host) (name skew gap : List ℕ) → IsBegun log → host_fault place log.hosts name skew gap ≡ None → host_with name skew gap ≡ Some h
+    → IsBegun (record { hosts = log.hosts ++ h ∷ []; rows = log.rows; resyncs = log.resyncs; latencies = log.latencies })
 begun_host place log h name skew gap begun clear e =
     let read = host_read name skew gap h e in
     let tests = four_pass (not (is_name name) || is_reserved name) (is_declared log.hosts name) (nat_le MAX_HOSTS (length log.hosts)) (is_none (number_up_to MAX_WRITTEN_SKEW skew) || is_none (number_up_to MAX_GAP gap)) _ _ _ _ clear in
@@ -108,6 +130,12 @@ begun_host place log h name skew gap begun clear e =
       skew_high = omega (arith, ints, skews.1);
       gap_low = gaps.0;
       gap_high = gaps.1;
+      delays = record {
+        least_low = rw read.least (omega arith);
+        least_high = rw read.least (omega arith);
+        most_low = rw read.most tt;
+        most_high = rw read.most tt;
+      };
     } in
     record {
       few_hosts = let room = tests.2 in grind (arith, nat_tests, length-append);
@@ -116,6 +144,8 @@ begun_host place log h name skew gap begun clear e =
       hosts = All-push IsHost log.hosts h begun.hosts host;
       rows = λ k d within. let row = begun.rows k d within in record { host = omega (arith, row.host, length-append log.hosts (h ∷ [])); local = row.local; named = row.named };
       sent_once = begun.sent_once;
+      resyncs = resyncs-more (length log.hosts) (length log.rows) (length (log.hosts ++ h ∷ [])) (length log.rows) log.resyncs (omega (arith, length-append log.hosts (h ∷ []))) (omega arith) begun.resyncs;
+      latencies = begun.latencies;
     }
 
 -- the fields of a row that was read
@@ -182,13 +212,13 @@ not_sent rows event.Recv name r k d new act within same = absurd (cc (ap sent_by
 not_sent rows event.Note name r k d new act within same = absurd (cc (ap sent_by (sym act), same.second))
 
 -- a row that has no fault may be added
-pub begun_row : (place : ℕ) (log : Logged) (r : Row) (e : EventKind) (host local name : List ℕ) → IsBegun log → event_fault place log.hosts log.rows e host local name ≡ None
-    → row_with log.hosts e host local name ≡ Some r → IsBegun (record { hosts = log.hosts; rows = log.rows ++ r ∷ []; extras = [] })
+pub begun_row : (place : ℕ) (log : Listing) (r : Row) (e : EventKind) (host local name : List ℕ) → IsBegun log → event_fault place log.hosts log.rows e host local name ≡ None
+    → row_with log.hosts e host local name ≡ Some r → IsBegun (record { hosts = log.hosts; rows = log.rows ++ r ∷ []; resyncs = log.resyncs; latencies = log.latencies })
 begun_row place log r e host local name begun clear h =
     let read = row_read log.hosts e host local name r h in
     let tests = five_pass (is_none (place_of_host log.hosts host)) (is_none (signed_up_to MAX_LOCAL local)) (not (is_name name)) (sends_again e log.rows name) (nat_le MAX_ROWS (length log.rows)) _ _ _ _ _ clear in
     let row : IsRow (length log.hosts) r = record {
-      host = (position-Some (λ h. bytes_eq h.name host) log.hosts r.host (record { name = name; skew = pos 0; gap = pos 0 }) read.host).0;
+      host = (position-Some (λ h. bytes_eq h.name host) log.hosts r.host (record { name = name; skew = pos 0; gap = pos 0; least = MIN_DELAY; most = None }) read.host).0;
       local = signed_in_range MAX_LOCAL local r.local read.local;
       named = rw (read.act, name_in-act_of e name) (named-true name tests.2);
     } in
@@ -199,22 +229,163 @@ begun_row place log r e host local name begun clear h =
       hosts = begun.hosts;
       rows = All-push (IsRow (length log.hosts)) log.rows r begun.rows row;
       sent_once = all_pairs_push (λ (q p : Row). SendSame q p → ⊥) log.rows r begun.sent_once (λ k d within same. not_sent log.rows e name r k d tests.3 read.act within same);
+      resyncs = resyncs-more (length log.hosts) (length log.rows) (length log.hosts) (length (log.rows ++ r ∷ [])) log.resyncs (omega arith) (omega (arith, length-append log.rows (r ∷ []))) begun.resyncs;
+      latencies = begun.latencies;
     }
 
 some_host : (hosts : ℕ) (rows : List Row) → All (IsRow hosts) rows → 1 ≤ length rows → 1 ≤ hosts
 some_host hosts [] all some = absurd (omega arith)
 some_host hosts (r ∷ rs) all some = let row = all 0 r (omega arith) in omega (arith, row.host)
 
+-- the fields of a resync that was read
+resync_of_parts : (rows : ℕ) (o : Option ℕ) (s g : Option ℤ) (r : Resync) → option_and_then (λ h. option_and_then (λ x. option_map (λ y. let made : Resync = record { place = rows; host = h; skew = x; gap = y } in made) g) s) o ≡ Some r
+    → (r.place ≡ rows) × (o ≡ Some r.host) × (s ≡ Some r.skew) × (g ≡ Some r.gap)
+resync_of_parts rows None s g r e = absurd (cc)
+resync_of_parts rows (Some h) None g r e = absurd (cc)
+resync_of_parts rows (Some h) (Some x) None r e = absurd (cc)
+resync_of_parts rows (Some h) (Some x) (Some y) r e = (
+  ap (λ o. option_map_or (λ (q : Resync). q.place) o rows) (sym e),
+  ap (λ o. Some (option_map_or (λ (q : Resync). q.host) o h)) e,
+  ap (λ o. Some (option_map_or (λ (q : Resync). q.skew) o x)) e,
+  ap (λ o. Some (option_map_or (λ (q : Resync). q.gap) o y)) e,
+)
+
+-- a resync that was read may be added
+pub begun_resync : (log : Listing) (r : Resync) (host skew gap : List ℕ) → IsBegun log → resync_with log.hosts (length log.rows) host skew gap ≡ Some r
+    → IsBegun (record { hosts = log.hosts; rows = log.rows; resyncs = log.resyncs ++ r ∷ []; latencies = log.latencies })
+begun_resync log r host skew gap begun h =
+    let read = resync_of_parts (length log.rows) (place_of_host log.hosts host) (number_up_to MAX_WRITTEN_SKEW skew) (number_up_to MAX_GAP gap) r h in
+    let skews = number_in_range MAX_WRITTEN_SKEW skew r.skew read.2 in
+    let gaps = number_in_range MAX_GAP gap r.gap read.3 in
+    let found = (position-Some (λ h. bytes_eq h.name host) log.hosts r.host (record { name = host; skew = pos 0; gap = pos 0; least = MIN_DELAY; most = None }) read.1).0 in
+    let one : IsResync (length log.hosts) (length log.rows) r = record {
+      host = found;
+      place = omega (arith, read.0);
+      skew_low = skews.0;
+      skew_high = omega (arith, ints, skews.1);
+      gap_low = gaps.0;
+      gap_high = gaps.1;
+    } in
+    record {
+      few_hosts = begun.few_hosts;
+      few_rows = begun.few_rows;
+      names = begun.names;
+      hosts = begun.hosts;
+      rows = begun.rows;
+      sent_once = begun.sent_once;
+      resyncs = record {
+        each = All-push (IsResync (length log.hosts) (length log.rows)) log.resyncs r begun.resyncs.each one;
+        in_order = all_pairs_push (λ (q p : Resync). q.place ≤ p.place) log.resyncs r begun.resyncs.in_order (λ k d within. let before = begun.resyncs.each k d within in omega (arith, before.place, read.0));
+      };
+      latencies = begun.latencies;
+    }
+
+-- a delay that was read is at most the greatest
+delay-high : (field : List ℕ) (n : ℕ) → delay_in field ≡ Some n → n ≤ MAX_DELAY
+delay-high field n h = go (is_number field && nat_lt (digits_value 10 field) (suc MAX_DELAY)) refl h
+  where
+    go : (b : Bool) → (is_number field && nat_lt (digits_value 10 field) (suc MAX_DELAY)) ≡ b → (let o : Option ℕ = (if b then Some (digits_value 10 field) else None) in o) ≡ Some n → n ≤ MAX_DELAY
+    go true is same =
+        let low = both_true (is_number field) (nat_lt (digits_value 10 field) (suc MAX_DELAY)) is in
+        let value : digits_value 10 field ≡ n = ap (λ o. unwrap_or o n) same in
+        let less = ltb-true (digits_value 10 field) (suc MAX_DELAY) low in
+        omega (arith, value, less)
+    go false is same = absurd (cc)
+
+least-parts : (o : Option ℕ) (n : ℕ) → option_and_then (λ k. let p : Option ℕ = (if nat_le MIN_DELAY k then Some k else None) in p) o ≡ Some n → (o ≡ Some n) × (MIN_DELAY ≤ n)
+least-parts None n h = absurd (cc)
+least-parts (Some k) n h = go (nat_le MIN_DELAY k) refl h
+  where
+    go : (b : Bool) → nat_le MIN_DELAY k ≡ b → (let p : Option ℕ = (if b then Some k else None) in p) ≡ Some n → (Some k ≡ Some n) × (MIN_DELAY ≤ n)
+    go true is same = let value : k ≡ n = ap (λ o. unwrap_or o n) same in let low = leb-true MIN_DELAY k is in (same, omega (arith, value, low))
+    go false is same = absurd (cc)
+
+greatest-high : (field : List ℕ) (m : Option ℕ) → greatest_in field ≡ Some m → IfSome m (λ most. most ≤ MAX_DELAY)
+greatest-high field m h = go (bytes_eq field (codes "inf")) (delay_in field) refl h
+  where
+    go : (b : Bool) (o : Option ℕ) → delay_in field ≡ o → (let p : Option (Option ℕ) = (if b then Some None else option_map Some o) in p) ≡ Some m → IfSome m (λ most. most ≤ MAX_DELAY)
+    go true o is same = let value : None ≡ m = ap (λ p. unwrap_or p m) same in rw (← value) tt
+    go false None is same = absurd (cc)
+    go false (Some n) is same = let value : Some n ≡ m = ap (λ p. unwrap_or p m) same in rw (← value) (delay-high field n is)
+
+latency_of_parts : (host : List ℕ) (o : Option ℕ) (g : Option (Option ℕ)) (l : Latency) → option_and_then (λ x. option_map (λ m. let made : Latency = record { host = host; least = x; most = m } in made) g) o ≡ Some l
+    → (o ≡ Some l.least) × (g ≡ Some l.most)
+latency_of_parts host None g l e = absurd (cc)
+latency_of_parts host (Some x) None l e = absurd (cc)
+latency_of_parts host (Some x) (Some m) l e = (ap (λ o. Some (option_map_or (λ (k : Latency). k.least) o x)) e, ap (λ o. Some (option_map_or (λ (k : Latency). k.most) o m)) e)
+
+-- a latency whose greatest delay is not below the least
+not-empty : (least : ℕ) (most : Option ℕ) → option_map_or (λ m. nat_lt m least) most false ≡ false → IfSome most (λ m. least ≤ m)
+not-empty least None h = tt
+not-empty least (Some m) h = ltb-false m least h
+
+-- a latency that has no fault may be added
+pub begun_latency : (place : ℕ) (log : Listing) (l : Latency) (host least most : List ℕ) → IsBegun log → latency_fault place log.hosts log.latencies host least most ≡ None → latency_with host least most ≡ Some l
+    → IsBegun (record { hosts = log.hosts; rows = log.rows; resyncs = log.resyncs; latencies = log.latencies ++ l ∷ [] })
+begun_latency place log l host least most begun clear h =
+    let tests = four_pass (is_none (place_of_host log.hosts host)) (is_delayed log.latencies host) (is_none (least_in least) || is_none (greatest_in most)) (option_map_or is_empty (latency_with host least most) false) _ _ _ _ clear in
+    let read = latency_of_parts host (least_in least) (greatest_in most) l h in
+    let parts = least-parts (delay_in least) l.least read.0 in
+    let range : is_empty l ≡ false = ap (λ o. option_map_or is_empty o false) (sym h) ∙ tests.3 in
+    let one : IsLatency l = record {
+      least_low = parts.1;
+      least_high = delay-high least l.least parts.0;
+      most_low = not-empty l.least l.most range;
+      most_high = greatest-high most l.most read.1;
+    } in
+    record {
+      few_hosts = begun.few_hosts;
+      few_rows = begun.few_rows;
+      names = begun.names;
+      hosts = begun.hosts;
+      rows = begun.rows;
+      sent_once = begun.sent_once;
+      resyncs = begun.resyncs;
+      latencies = All-push IsLatency log.latencies l begun.latencies one;
+    }
+
+-- a host with delays that are stated of it
+delayed-host : (latencies : List Latency) (h : Host) → All IsLatency latencies → IsHost h → IsHost (delayed latencies h)
+delayed-host latencies h all host = go (latency_of latencies h.name) refl
+  where
+    go : (o : Option Latency) → latency_of latencies h.name ≡ o → IsHost (delayed_by o h)
+    go None is = host
+    go (Some l) is =
+        let stated = at-place IsLatency latencies (position_or_len (λ k. bytes_eq k.host h.name) latencies) l all (sym (find_at (λ k. bytes_eq k.host h.name) latencies) ∙ is) in
+        record {
+          called = host.called;
+          name = host.name;
+          skew_low = host.skew_low;
+          skew_high = host.skew_high;
+          gap_low = host.gap_low;
+          gap_high = host.gap_high;
+          delays = record { least_low = stated.least_low; least_high = stated.least_high; most_low = stated.most_low; most_high = stated.most_high };
+        }
+
+delayed-name : (o : Option Latency) (h : Host) → (delayed_by o h).name ≡ h.name
+delayed-name None h = refl
+delayed-name (Some l) h = refl
+
 -- what was read is a valid log, where it has a row and each message that is received is sent
-pub finished : (log : Logged) → IsBegun log → log.extras ≡ [] → 1 ≤ length log.rows → All (λ r. IfSome (received_by r.act) (IsSent log.rows)) log.rows → IsLog log
-finished log begun none some sent = record {
-  some_hosts = some_host (length log.hosts) log.rows begun.rows some;
-  few_hosts = begun.few_hosts;
-  some_rows = some;
-  few_rows = begun.few_rows;
-  few_extras = rw none (lit≤ tt);
-  names = begun.names;
-  hosts = begun.hosts;
-  rows = record { each = begun.rows; sent_once = begun.sent_once; sent = sent };
-  extras = rw none (All-nil (IsExtra (length log.rows)));
-}
+pub finished : (log : Listing) → IsBegun log → 1 ≤ length log.rows → All (λ r. IfSome (received_by r.act) (IsSent log.rows)) log.rows → IsLog (log_from log)
+finished log begun some sent =
+    let delay = delayed log.latencies in
+    let same : length (map delay log.hosts) ≡ length log.hosts = length-map log.hosts delay in
+    record {
+      some_hosts = rw same (some_host (length log.hosts) log.rows begun.rows some);
+      few_hosts = rw same begun.few_hosts;
+      some_rows = some;
+      few_rows = begun.few_rows;
+      few_extras = lit≤ tt;
+      names = λ i j d before within.
+          let below : j < length log.hosts = rw same at within in
+          let first : i < length log.hosts = omega arith in
+          rw (get_or-map delay log.hosts i d d first, get_or-map delay log.hosts j d d below, delayed-name (latency_of log.latencies (get_or log.hosts i d).name) (get_or log.hosts i d), delayed-name (latency_of log.latencies (get_or log.hosts j d).name) (get_or log.hosts j d))
+          (begun.names i j d before below);
+      hosts = λ k d within.
+          let below : k < length log.hosts = rw same at within in
+          rw (get_or-map delay log.hosts k d d below) (delayed-host log.latencies (get_or log.hosts k d) begun.latencies (begun.hosts k d below));
+      rows = rw same (record { each = begun.rows; sent_once = begun.sent_once; sent = sent });
+      resyncs = rw same begun.resyncs;
+      extras = All-nil (IsExtra (length log.rows));
+    }

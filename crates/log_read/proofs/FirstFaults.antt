@@ -11,14 +11,15 @@ use Rattle.std.proofs.lemmas.List.Folds.{Any-from_list_any}
 use Rattle.std.proofs.lemmas.Slice.Eq.{bytes_eq-Decides}
 use Rattle.mt_model.specs.declared.log.Host.{Host}
 use Rattle.mt_model.specs.declared.log.Row.{Row}
-use Rattle.mt_model.specs.Log.{Logged, IsSent, sent_by, received_by}
+use Rattle.mt_model.specs.Log.{IsSent, sent_by, received_by}
 use Rattle.mt_model.specs.Timing.{is_send_of}
+use Rattle.log_read.specs.declared.version.Version.{Version}
 use Rattle.log_read.specs.declared.fault.LogFault.TheVariants as fault
 use Rattle.log_read.specs.declared.kind.Kind.{Kind}
 use Rattle.log_read.specs.declared.kind.Kind.TheVariants as kind
 use Rattle.log_read.specs.declared.kind.EventKind.TheVariants as event
-use Rattle.log_read.specs.Records.{Record, kind_of, row_by, row_in, host_in, rows_after, listed}
-use Rattle.log_read.specs.LogOf.{fault_of, or_else, first_fault, is_sent, is_unmatched, is_unmatched_by, is_header, log_under_header, log_of_records}
+use Rattle.log_read.specs.Records.{Listing, Record, kind_of, row_by, row_in, host_in, log_from, rows_after, listed}
+use Rattle.log_read.specs.LogOf.{fault_of, or_else, first_fault, is_sent, is_unmatched, is_unmatched_by, log_of_records, log_under, log_under_header, version_of}
 use Rattle.log_read.specs.Reading.{with_record}
 use Rattle.log_read.proofs.Listing.{listed-push}
 use Rattle.log_read.proofs.Begun.{row_read}
@@ -29,24 +30,24 @@ take-more records i r within is = rw (add-one, take-suc records i r within, ← 
 drop-more : (records : List Record) (i : ℕ) (r : Record) → i < length records → r ≡ get_or records i r → drop i records ≡ r ∷ drop (i + 1) records
 drop-more records i r within is = rw (add-one, drop-cons records i r within, ← is) refl
 
-first_fault-step : (records : List Record) (i : ℕ) (r : Record) → i < length records → r ≡ get_or records i r
-    → first_fault (take i records) (drop i records) ≡ or_else (fault_of (i + 2) (listed (take i records)) r) (first_fault (take (i + 1) records) (drop (i + 1) records))
-first_fault-step records i r within is =
+first_fault-step : (v : Version) (records : List Record) (i : ℕ) (r : Record) → i < length records → r ≡ get_or records i r
+    → first_fault v (take i records) (drop i records) ≡ or_else (fault_of v (i + 2) (listed (take i records)) r) (first_fault v (take (i + 1) records) (drop (i + 1) records))
+first_fault-step v records i r within is =
     let size : length (take i records) ≡ i = length-take-le i records (omega arith) in
     let tail = drop-more records i r within is in
     let front = take-more records i r within is in
     rw (tail, front, size) refl
 
 -- the records before place i have no fault, and were read
-pub record IsReadUpTo (records : List Record) (i : ℕ) (log : Logged) : Type 0 where
+pub record IsReadUpTo (v : Version) (records : List Record) (i : ℕ) (log : Listing) : Type 0 where
   pub read : log ≡ listed (take i records)
-  pub clear : first_fault [] records ≡ first_fault (take i records) (drop i records)
+  pub clear : first_fault v [] records ≡ first_fault v (take i records) (drop i records)
 
-pub read-more : (records : List Record) (i : ℕ) (r : Record) (log now : Logged) → i < length records → r ≡ get_or records i r → IsReadUpTo records i log
-    → fault_of (i + 2) log r ≡ None → now ≡ with_record log r → IsReadUpTo records (i + 1) now
-read-more records i r log now within is before none due = record {
+pub read-more : (v : Version) (records : List Record) (i : ℕ) (r : Record) (log now : Listing) → i < length records → r ≡ get_or records i r → IsReadUpTo v records i log
+    → fault_of v (i + 2) log r ≡ None → now ≡ with_record log r → IsReadUpTo v records (i + 1) now
+read-more v records i r log now within is before none due = record {
   read = due ∙ ap (λ l. with_record l r) before.read ∙ sym (ap listed (take-more records i r within is) ∙ listed-push (take i records) r);
-  clear = before.clear ∙ first_fault-step records i r within is ∙ ap (λ o. or_else o (first_fault (take (i + 1) records) (drop (i + 1) records))) (ap (λ l. fault_of (i + 2) l r) (sym before.read) ∙ none);
+  clear = before.clear ∙ first_fault-step v records i r within is ∙ ap (λ o. or_else o (first_fault v (take (i + 1) records) (drop (i + 1) records))) (ap (λ l. fault_of v (i + 2) l r) (sym before.read) ∙ none);
 }
 
 prefix_step : {X : Type 0} (p : X → Bool) (x : X) (xs : List X) (b : Bool) → p x ≡ b → (length xs ≤ position_or_len p xs → All (λ x. p x ≡ false) xs)
@@ -77,6 +78,8 @@ row-matched : (all : List Row) (hosts : List Host) (k : Option Kind) (host local
     → IfSome (received_by r.act) (IsSent all)
 row-matched all hosts None host local name r matched h = cc
 row-matched all hosts (Some kind.Host) host local name r matched h = cc
+row-matched all hosts (Some kind.Resync) host local name r matched h = cc
+row-matched all hosts (Some kind.Latency) host local name r matched h = cc
 row-matched all hosts (Some (kind.Event event.Recv)) host local name r matched h =
     rw ((row_read hosts event.Recv host local name r h).act) (IsSent-from_test all name (let sent = is_sent all name in by sent matched))
   where
@@ -113,22 +116,22 @@ pub all-matched : (records : List Record) → position (is_unmatched (listed rec
 all-matched records none = rows-matched (listed records).rows [] records (All-position_none (is_unmatched (listed records).rows) records none)
 
 -- the answers of the tests after the last record
-pub unmatched-is : (records : List Record) (i : ℕ) → first_fault [] records ≡ None → position (is_unmatched (listed records).rows) records ≡ Some i
-    → log_under_header records ≡ Err (fault.UnmatchedReceive (i + 2))
-unmatched-is records i clear found = rw (clear, found) refl
+pub unmatched-is : (v : Version) (records : List Record) (i : ℕ) → first_fault v [] records ≡ None → position (is_unmatched (listed records).rows) records ≡ Some i
+    → log_under_header v records ≡ Err (fault.UnmatchedReceive (i + 2))
+unmatched-is v records i clear found = rw (clear, found) refl
 
-pub no_event-is : (records : List Record) → first_fault [] records ≡ None → position (is_unmatched (listed records).rows) records ≡ None → length (listed records).rows ≡ 0
-    → log_under_header records ≡ Err fault.NoEvent
-no_event-is records clear none empty = rw (clear, none, empty) refl
+pub no_event-is : (v : Version) (records : List Record) → first_fault v [] records ≡ None → position (is_unmatched (listed records).rows) records ≡ None → length (listed records).rows ≡ 0
+    → log_under_header v records ≡ Err fault.NoEvent
+no_event-is v records clear none empty = rw (clear, none, empty) refl
 
-pub log-is : (records : List Record) → first_fault [] records ≡ None → position (is_unmatched (listed records).rows) records ≡ None → 1 ≤ length (listed records).rows
-    → log_under_header records ≡ Ok (listed records)
-log-is records clear none some =
+pub log-is : (v : Version) (records : List Record) → first_fault v [] records ≡ None → position (is_unmatched (listed records).rows) records ≡ None → 1 ≤ length (listed records).rows
+    → log_under_header v records ≡ Ok (log_from (listed records))
+log-is v records clear none some =
     let test : nat_le 1 (length (listed records).rows) ≡ true = grind (arith, nat_tests) in
     rw (clear, none, test) refl
 
 -- the records under the header
-pub under-header : (records : List Record) (header : Record) → 1 ≤ length records → header ≡ get_or records 0 header → is_header header ≡ true
-    → log_of_records records ≡ log_under_header (take (length records - 1) (drop 1 records))
-under-header [] header some is test = absurd (omega arith)
-under-header (r ∷ rs) header some is test = rw (← is, test, take_rest (r ∷ rs) 1) refl
+pub under-header : (records : List Record) (header : Record) → 1 ≤ length records → header ≡ get_or records 0 header
+    → log_of_records records ≡ log_under (version_of header) (take (length records - 1) (drop 1 records))
+under-header [] header some is = absurd (omega arith)
+under-header (r ∷ rs) header some is = rw (← is, take_rest (r ∷ rs) 1) refl

@@ -1,17 +1,21 @@
 -- What records list, one more record at a time.
-use Rattle.std.proofs.Common.{◌≡◌, ◌∙◌, sym, ap, refl, arith, ℕ, ◌<◌, ◌≤◌, List, [], ◌∷◌, ◌++◌, length, get_or, Option, Some, None, append_assoc}
+use Rattle.std.proofs.Common.{◌≡◌, ◌∙◌, sym, ap, refl, arith, ℕ, ◌+◌, ◌<◌, ◌≤◌, List, [], ◌∷◌, ◌++◌, length, length-append, get_or, Option, Some, None, append_assoc}
 use Rattle.std.specs.Prelude.{option_to_list, Result}
-use Rattle.std.specs.List.{cons_option}
+use Rattle.std.specs.List.{cons_option, filter_map}
 use Rattle.std.proofs.lemmas.List.{append-nil}
 use Rattle.std.proofs.lemmas.List.Elements.{filter_map-append}
 use Rattle.mt_model.specs.declared.log.Host.{Host}
 use Rattle.mt_model.specs.declared.log.Row.{Row}
-use Rattle.mt_model.specs.Log.{Logged}
+use Rattle.mt_model.specs.declared.resync.Resync.{Resync}
+use Rattle.log_read.specs.declared.latency.Latency.{Latency}
 use Rattle.log_read.specs.declared.fault.LogFault.{LogFault}
+use Rattle.log_read.specs.declared.version.Version.{Version}
+use Rattle.log_read.specs.declared.version.Version.TheVariants as version
+use Rattle.log_read.specs.declared.kind.Kind.{Kind}
 use Rattle.log_read.specs.declared.kind.Kind.TheVariants as kind
 use Rattle.log_read.specs.declared.kind.EventKind.{EventKind}
-use Rattle.log_read.specs.Records.{Record, kind_of, row_with, host_in, row_in, hosts_in, rows_after, listed}
-use Rattle.log_read.specs.LogOf.{fault_of, event_fault}
+use Rattle.log_read.specs.Records.{Listing, Record, host_by, host_in, host_with, hosts_in, kind_of, latencies_in, latency_by, latency_in, latency_with, listed, resync_by, resync_in, resync_with, resyncs_after, row_by, row_in, row_with, rows_after}
+use Rattle.log_read.specs.LogOf.{event_fault, fault_by, fault_of, host_fault, known_in, latency_fault, resync_fault}
 use Rattle.log_read.specs.Reading.{Adds, with_record}
 
 -- four items are all of a list of four
@@ -24,19 +28,55 @@ four_items (w ∷ x ∷ y ∷ []) a b c d least most p q r s = absurd (omega ari
 four_items (w ∷ x ∷ y ∷ z ∷ []) a b c d least most p q r s = cc
 four_items (w ∷ x ∷ y ∷ z ∷ v ∷ vs) a b c d least most p q r s = absurd (omega arith)
 
--- an event record was taken in
-pub adds_event : (place : ℕ) (log now : Logged) (fields : Record) (w h t n : List ℕ) (e : EventKind) (r : Result (Unit {0}) LogFault)
-    → fields ≡ w ∷ h ∷ t ∷ n ∷ [] → kind_of w ≡ Some (kind.Event e)
-    → Adds r (event_fault place log.hosts log.rows e h t n) now (record { hosts = log.hosts; rows = log.rows ++ option_to_list (row_with log.hosts e h t n); extras = log.extras })
-    → Adds r (fault_of place log fields) now (with_record log fields)
-adds_event place log now fields w h t n e r four event added = rw (four, event, append-nil) added
+-- a kind that a file of the version may have is the one that the word names
+known-is : (v : Version) (k : Option Kind) (x : Kind) → known_in v k ≡ Some x → k ≡ Some x
+known-is version.One None x h = absurd (cc)
+known-is version.One (Some kind.Host) x h = h
+known-is version.One (Some (kind.Event e)) x h = h
+known-is version.One (Some kind.Resync) x h = absurd (cc)
+known-is version.One (Some kind.Latency) x h = absurd (cc)
+known-is version.Two k x h = h
+
+module _ (v : Version) (place : ℕ) (l now : Listing) (fields : Record) (w a b c : List ℕ) (r : Result (Unit {0}) LogFault) (four : fields ≡ w ∷ a ∷ b ∷ c ∷ []) where
+  -- a record of a kind was taken in
+  adds : (x : Kind) → known_in v (kind_of w) ≡ Some x
+      → Adds r (fault_by place l (Some x) a b c) now (record {
+        hosts = l.hosts ++ option_to_list (host_by (Some x) a b c);
+        rows = l.rows ++ option_to_list (row_by l.hosts (Some x) a b c);
+        resyncs = l.resyncs ++ option_to_list (resync_by l.hosts (length l.rows) (Some x) a b c);
+        latencies = l.latencies ++ option_to_list (latency_by (Some x) a b c);
+      })
+      → Adds r (fault_of v place l fields) now (with_record l fields)
+  adds x known added =
+      let is = known-is v (kind_of w) x known in
+      let test : known_in v (Some x) ≡ Some x = ap (known_in v) (sym is) ∙ known in
+      rw (four, is, test) added
+
+  pub adds_host : known_in v (kind_of w) ≡ Some kind.Host
+      → Adds r (host_fault place l.hosts a b c) now (record { hosts = l.hosts ++ option_to_list (host_with a b c); rows = l.rows; resyncs = l.resyncs; latencies = l.latencies }) → Adds r (fault_of v place l fields) now (with_record l fields)
+  adds_host known added = adds kind.Host known (rw (append-nil l.rows, append-nil l.resyncs, append-nil l.latencies) added)
+
+  pub adds_event : (e : EventKind) → known_in v (kind_of w) ≡ Some (kind.Event e)
+      → Adds r (event_fault place l.hosts l.rows e a b c) now (record { hosts = l.hosts; rows = l.rows ++ option_to_list (row_with l.hosts e a b c); resyncs = l.resyncs; latencies = l.latencies })
+      → Adds r (fault_of v place l fields) now (with_record l fields)
+  adds_event e known added = adds (kind.Event e) known (rw (append-nil l.hosts, append-nil l.resyncs, append-nil l.latencies) added)
+
+  pub adds_resync : known_in v (kind_of w) ≡ Some kind.Resync
+      → Adds r (resync_fault place l.hosts a b c) now (record { hosts = l.hosts; rows = l.rows; resyncs = l.resyncs ++ option_to_list (resync_with l.hosts (length l.rows) a b c); latencies = l.latencies })
+      → Adds r (fault_of v place l fields) now (with_record l fields)
+  adds_resync known added = adds kind.Resync known (rw (append-nil l.hosts, append-nil l.rows, append-nil l.latencies) added)
+
+  pub adds_latency : known_in v (kind_of w) ≡ Some kind.Latency
+      → Adds r (latency_fault place l.hosts l.latencies a b c) now (record { hosts = l.hosts; rows = l.rows; resyncs = l.resyncs; latencies = l.latencies ++ option_to_list (latency_with a b c) })
+      → Adds r (fault_of v place l fields) now (with_record l fields)
+  adds_latency known added = adds kind.Latency known (rw (append-nil l.hosts, append-nil l.rows, append-nil l.resyncs) added)
 
 cons_option-is : {X : Type 0} (o : Option X) (xs : List X) → cons_option o xs ≡ option_to_list o ++ xs
 cons_option-is None xs = refl
 cons_option-is (Some x) xs = refl
 
-hosts_in-push : (rs : List Record) (r : Record) → hosts_in (rs ++ r ∷ []) ≡ hosts_in rs ++ option_to_list (host_in r)
-hosts_in-push rs r = filter_map-append host_in rs (r ∷ []) ∙ ap (λ xs. hosts_in rs ++ xs) (cons_option-is (host_in r) [] ∙ append-nil (option_to_list (host_in r)))
+filter_map-push : {X : Type 0} (f : Record → Option X) (rs : List Record) (r : Record) → filter_map f (rs ++ r ∷ []) ≡ filter_map f rs ++ option_to_list (f r)
+filter_map-push f rs r = filter_map-append f rs (r ∷ []) ∙ ap (λ xs. filter_map f rs ++ xs) (cons_option-is (f r) [] ∙ append-nil (option_to_list (f r)))
 
 rows_after-push : (hosts : List Host) (rs : List Record) (r : Record) → rows_after hosts (rs ++ r ∷ []) ≡ rows_after hosts rs ++ option_to_list (row_in (hosts ++ hosts_in rs) r)
 rows_after-push hosts [] r = rw (append-nil (option_to_list (row_in hosts r)), append-nil hosts) refl
@@ -46,8 +86,27 @@ rows_after-push hosts (x ∷ xs) r =
     append_assoc hosts (option_to_list (host_in x)) (hosts_in xs) ∙ ap (λ ys. hosts ++ ys) (sym (cons_option-is (host_in x) (hosts_in xs))) in
     rw (more, same, append_assoc) refl
 
--- one more record lists one more host or row
+resyncs_after-push : (hosts : List Host) (n : ℕ) (rs : List Record) (r : Record) → resyncs_after hosts n (rs ++ r ∷ []) ≡ resyncs_after hosts n rs ++ option_to_list (resync_in (hosts ++ hosts_in rs) (n + length (rows_after hosts rs)) r)
+resyncs_after-push hosts n [] r = let none : n + 0 ≡ n = omega arith in rw (append-nil (option_to_list (resync_in hosts n r)), append-nil hosts, none) refl
+resyncs_after-push hosts n (x ∷ xs) r =
+    let others = hosts ++ option_to_list (host_in x) in
+    let given = option_to_list (row_in hosts x) in
+    let more = resyncs_after-push others (n + length given) xs r in
+    let same : others ++ hosts_in xs ≡ hosts ++ hosts_in (x ∷ xs) =
+    append_assoc hosts (option_to_list (host_in x)) (hosts_in xs) ∙ ap (λ ys. hosts ++ ys) (sym (cons_option-is (host_in x) (hosts_in xs))) in
+    let count : n + length given + length (rows_after others xs) ≡ n + length (rows_after hosts (x ∷ xs)) = let sum = length-append given (rows_after others xs) in omega (arith, sum) in
+    ap (λ ys. option_to_list (resync_in hosts n x) ++ ys) (more ∙ ap (λ hs. resyncs_after others (n + length given) xs ++ option_to_list (resync_in hs (n + length given + length (rows_after others xs)) r)) same
+    ∙ ap (λ k. resyncs_after others (n + length given) xs ++ option_to_list (resync_in (hosts ++ hosts_in (x ∷ xs)) k r)) count)
+    ∙ sym (append_assoc (option_to_list (resync_in hosts n x)) (resyncs_after others (n + length given) xs) (option_to_list (resync_in (hosts ++ hosts_in (x ∷ xs)) (n + length (rows_after hosts (x ∷ xs))) r)))
+
+-- what one more record lists comes at the end
 pub listed-push : (rs : List Record) (r : Record) → listed (rs ++ r ∷ []) ≡ with_record (listed rs) r
 listed-push rs r =
-    let made = λ (hosts : List Host) (rows : List Row). (let log : Logged = record { hosts = hosts; rows = rows; extras = [] } in log) in
-    ap (λ hosts. made hosts (rows_after [] (rs ++ r ∷ []))) (hosts_in-push rs r) ∙ ap (made (hosts_in rs ++ option_to_list (host_in r))) (rows_after-push [] rs r)
+    let made = λ (hosts : List Host) (rows : List Row) (resyncs : List Resync) (latencies : List Latency). (let l : Listing = record { hosts = hosts; rows = rows; resyncs = resyncs; latencies = latencies } in l) in
+    let hosts = hosts_in rs ++ option_to_list (host_in r) in
+    let rows = rows_after [] rs ++ option_to_list (row_in (hosts_in rs) r) in
+    let resyncs = resyncs_after [] 0 rs ++ option_to_list (resync_in (hosts_in rs) (length (rows_after [] rs)) r) in
+    ap (λ hs. made hs (rows_after [] (rs ++ r ∷ [])) (resyncs_after [] 0 (rs ++ r ∷ [])) (latencies_in (rs ++ r ∷ []))) (filter_map-push host_in rs r)
+    ∙ ap (λ ys. made hosts ys (resyncs_after [] 0 (rs ++ r ∷ [])) (latencies_in (rs ++ r ∷ []))) (rows_after-push [] rs r)
+    ∙ ap (λ ys. made hosts rows ys (latencies_in (rs ++ r ∷ []))) (resyncs_after-push [] 0 rs r ∙ ap (λ n. resyncs_after [] 0 rs ++ option_to_list (resync_in (hosts_in rs) n r)) (let none : 0 + length (rows_after [] rs) ≡ length (rows_after [] rs) = omega arith in none))
+    ∙ ap (made hosts rows resyncs) (filter_map-push latency_in rs r)

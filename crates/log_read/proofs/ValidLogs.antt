@@ -7,57 +7,84 @@ use Rattle.std.proofs.lemmas.List.Elements.{All-nil}
 use Rattle.csv.specs.Reading.{default_config, records, strip_bom}
 use Rattle.mt_model.specs.declared.log.Host.{Host}
 use Rattle.mt_model.specs.declared.log.Row.{Row}
-use Rattle.mt_model.specs.Log.{Logged, IsLog, IsHost, IsRow}
+use Rattle.mt_model.specs.Log.{Logged, IsLog, IsHost, IsResync, IsRow}
 use Rattle.log_read.specs.declared.fault.LogFault.{LogFault}
 use Rattle.log_read.specs.declared.fault.LogFault.TheVariants as fault
+use Rattle.mt_model.specs.declared.resync.Resync.{Resync}
+use Rattle.log_read.specs.declared.latency.Latency.{Latency}
+use Rattle.log_read.specs.declared.version.Version.{Version}
+use Rattle.log_read.specs.declared.version.Version.TheVariants as version
 use Rattle.log_read.specs.declared.kind.Kind.{Kind}
 use Rattle.log_read.specs.declared.kind.Kind.TheVariants as kind
-use Rattle.log_read.specs.LogOf.{fault_by, fault_of, first_fault, is_header, is_unmatched, log_of_records, log_under_header, no_event, or_else, unless}
-use Rattle.log_read.specs.Reading.{IsBegun, with_record}
-use Rattle.log_read.specs.Records.{Record, host_by, host_with, kind_of, listed, row_by, row_with}
+use Rattle.log_read.specs.LogOf.{fault_by, fault_of, first_fault, is_unmatched, known_in, log_of_records, log_under, log_under_header, no_event, or_else, unless, version_of}
+use Rattle.log_read.specs.Reading.{IsBegun, IsLatency, with_record}
+use Rattle.log_read.specs.Records.{Listing, Record, host_by, host_with, kind_of, latency_by, latency_with, listed, log_from, resync_by, resync_with, row_by, row_with}
 use Rattle.log_read.specs.ValidLogs.{LogsAreValid}
-use Rattle.log_read.proofs.Begun.{begun_host, begun_row, finished}
+use Rattle.log_read.proofs.Begun.{begun_host, begun_latency, begun_resync, begun_row, finished}
 use Rattle.log_read.proofs.FirstFaults.{all-matched}
 use Rattle.log_read.proofs.Listing.{listed-push}
 
--- a log without extra bounds
-abbrev plain_log : List Host → List Row → Logged
-plain_log hosts rows = record { hosts = hosts; rows = rows; extras = [] }
+module _ (place : ℕ) (l : Listing) (begun : IsBegun l) where
+  -- what a record of a kind lists after it
+  abbrev Next : Option Kind → List ℕ → List ℕ → List ℕ → Listing
+  Next k a b c = record {
+    hosts = l.hosts ++ option_to_list (host_by k a b c);
+    rows = l.rows ++ option_to_list (row_by l.hosts k a b c);
+    resyncs = l.resyncs ++ option_to_list (resync_by l.hosts (length l.rows) k a b c);
+    latencies = l.latencies ++ option_to_list (latency_by k a b c);
+  }
 
-module _ (place : ℕ) (hosts : List Host) (rows : List Row) (begun : IsBegun (plain_log hosts rows)) where
-  kind-begun : (k : Option Kind) (a b c : List ℕ) → fault_by place (plain_log hosts rows) k a b c ≡ None
-      → IsBegun (plain_log (hosts ++ option_to_list (host_by k a b c)) (rows ++ option_to_list (row_by hosts k a b c)))
+  kind-begun : (k : Option Kind) (a b c : List ℕ) → fault_by place l k a b c ≡ None → IsBegun (Next k a b c)
   kind-begun None a b c clear = absurd (cc)
-  kind-begun (Some kind.Host) a b c clear = go (host_with a b c) refl
+  kind-begun (Some kind.Host) a b c clear = rw (append-nil l.rows, append-nil l.resyncs, append-nil l.latencies) (go (host_with a b c) refl)
     where
-      go : (o : Option Host) → host_with a b c ≡ o → IsBegun (plain_log (hosts ++ option_to_list o) (rows ++ []))
-      go None is = rw (append-nil hosts, append-nil rows) begun
-      go (Some h) is = rw (append-nil rows) (begun_host place (plain_log hosts rows) h a b c begun clear is)
-  kind-begun (Some (kind.Event e)) a b c clear = go (row_with hosts e a b c) refl
+      go : (o : Option Host) → host_with a b c ≡ o → IsBegun (record { hosts = l.hosts ++ option_to_list o; rows = l.rows; resyncs = l.resyncs; latencies = l.latencies })
+      go None is = rw (append-nil l.hosts) begun
+      go (Some h) is = begun_host place l h a b c begun clear is
+  kind-begun (Some (kind.Event e)) a b c clear = rw (append-nil l.hosts, append-nil l.resyncs, append-nil l.latencies) (go (row_with l.hosts e a b c) refl)
     where
-      go : (o : Option Row) → row_with hosts e a b c ≡ o → IsBegun (plain_log (hosts ++ []) (rows ++ option_to_list o))
-      go None is = rw (append-nil hosts, append-nil rows) begun
-      go (Some r) is = rw (append-nil hosts) (begun_row place (plain_log hosts rows) r e a b c begun clear is)
+      go : (o : Option Row) → row_with l.hosts e a b c ≡ o → IsBegun (record { hosts = l.hosts; rows = l.rows ++ option_to_list o; resyncs = l.resyncs; latencies = l.latencies })
+      go None is = rw (append-nil l.rows) begun
+      go (Some r) is = begun_row place l r e a b c begun clear is
+  kind-begun (Some kind.Resync) a b c clear = rw (append-nil l.hosts, append-nil l.rows, append-nil l.latencies) (go (resync_with l.hosts (length l.rows) a b c) refl)
+    where
+      go : (o : Option Resync) → resync_with l.hosts (length l.rows) a b c ≡ o → IsBegun (record { hosts = l.hosts; rows = l.rows; resyncs = l.resyncs ++ option_to_list o; latencies = l.latencies })
+      go None is = rw (append-nil l.resyncs) begun
+      go (Some r) is = begun_resync l r a b c begun is
+  kind-begun (Some kind.Latency) a b c clear = rw (append-nil l.hosts, append-nil l.rows, append-nil l.resyncs) (go (latency_with a b c) refl)
+    where
+      go : (o : Option Latency) → latency_with a b c ≡ o → IsBegun (record { hosts = l.hosts; rows = l.rows; resyncs = l.resyncs; latencies = l.latencies ++ option_to_list o })
+      go None is = rw (append-nil l.latencies) begun
+      go (Some d) is = begun_latency place l d a b c begun clear is
 
-  record-begun : (r : Record) → fault_of place (plain_log hosts rows) r ≡ None → IsBegun (with_record (plain_log hosts rows) r)
-  record-begun [] clear = absurd (cc)
-  record-begun (a ∷ []) clear = absurd (cc)
-  record-begun (a ∷ b ∷ []) clear = absurd (cc)
-  record-begun (a ∷ b ∷ c ∷ []) clear = absurd (cc)
-  record-begun (a ∷ b ∷ c ∷ d ∷ []) clear = kind-begun (kind_of a) b c d clear
-  record-begun (a ∷ b ∷ c ∷ d ∷ x ∷ xs) clear = absurd (cc)
+  -- a kind that the version does not know is a fault, so that the kind is the one of the word
+  known-begun : (v : Version) (k : Option Kind) (a b c : List ℕ) → fault_by place l (known_in v k) a b c ≡ None → IsBegun (Next k a b c)
+  known-begun version.One None a b c clear = absurd (cc)
+  known-begun version.One (Some kind.Host) a b c clear = kind-begun (Some kind.Host) a b c clear
+  known-begun version.One (Some (kind.Event e)) a b c clear = kind-begun (Some (kind.Event e)) a b c clear
+  known-begun version.One (Some kind.Resync) a b c clear = absurd (cc)
+  known-begun version.One (Some kind.Latency) a b c clear = absurd (cc)
+  known-begun version.Two k a b c clear = kind-begun k a b c clear
+
+  record-begun : (v : Version) (r : Record) → fault_of v place l r ≡ None → IsBegun (with_record l r)
+  record-begun v [] clear = absurd (cc)
+  record-begun v (a ∷ []) clear = absurd (cc)
+  record-begun v (a ∷ b ∷ []) clear = absurd (cc)
+  record-begun v (a ∷ b ∷ c ∷ []) clear = absurd (cc)
+  record-begun v (a ∷ b ∷ c ∷ d ∷ []) clear = known-begun v (kind_of a) b c d clear
+  record-begun v (a ∷ b ∷ c ∷ d ∷ x ∷ xs) clear = absurd (cc)
 
 neither : (a b : Option LogFault) → or_else a b ≡ None → (a ≡ None) × (b ≡ None)
 neither None b h = (refl, h)
 neither (Some f) b h = absurd (cc)
 
 -- what records list that have no fault is the beginning of a valid log
-records-begun : (before rest : List Record) → IsBegun (listed before) → first_fault before rest ≡ None → IsBegun (listed (before ++ rest))
-records-begun before [] begun clear = rw (append-nil before) begun
-records-begun before (r ∷ rs) begun clear =
-    let both = neither (fault_of (length before + 2) (listed before) r) (first_fault (before ++ r ∷ []) rs) clear in
-    let next : IsBegun (listed (before ++ r ∷ [])) = rw (listed-push before r) (record-begun (length before + 2) (listed before).hosts (listed before).rows begun r both.0) in
-    subst (λ records. IsBegun (listed records)) (append_assoc before (r ∷ []) rs) (records-begun (before ++ r ∷ []) rs next both.1)
+records-begun : (v : Version) (before rest : List Record) → IsBegun (listed before) → first_fault v before rest ≡ None → IsBegun (listed (before ++ rest))
+records-begun v before [] begun clear = rw (append-nil before) begun
+records-begun v before (r ∷ rs) begun clear =
+    let both = neither (fault_of v (length before + 2) (listed before) r) (first_fault v (before ++ r ∷ []) rs) clear in
+    let next : IsBegun (listed (before ++ r ∷ [])) = rw (listed-push before r) (record-begun (length before + 2) (listed before) begun v r both.0) in
+    subst (λ records. IsBegun (listed records)) (append_assoc before (r ∷ []) rs) (records-begun v (before ++ r ∷ []) rs next both.1)
 
 none-begun : IsBegun (listed [])
 none-begun = record {
@@ -67,6 +94,8 @@ none-begun = record {
   hosts = All-nil IsHost;
   rows = All-nil (IsRow 0);
   sent_once = λ i j d less below. absurd (omega arith);
+  resyncs = record { each = All-nil (IsResync 0 0); in_order = λ i j d less below. absurd (omega arith) };
+  latencies = All-nil IsLatency;
 }
 
 unless-ok : (o : Option LogFault) (l log : Logged) → unless o l ≡ Ok log → (o ≡ None) × (l ≡ log)
@@ -77,28 +106,28 @@ found-none : (o : Option ℕ) → option_map (λ n. fault.UnmatchedReceive (n + 
 found-none None h = refl
 found-none (Some n) h = absurd (cc)
 
-some-row : (log : Logged) → no_event log ≡ None → 1 ≤ length log.rows
+some-row : (log : Listing) → no_event log ≡ None → 1 ≤ length log.rows
 some-row log = go (nat_le 1 (length log.rows)) refl
   where
     go : (b : Bool) → nat_le 1 (length log.rows) ≡ b → (let o : Option LogFault = (if b then None else Some fault.NoEvent) in o) ≡ None → 1 ≤ length log.rows
     go true is h = grind (arith, nat_tests)
     go false is h = absurd (cc)
 
-under-valid : (rest : List Record) (log : Logged) → log_under_header rest ≡ Ok log → IsLog log
-under-valid rest log is =
-    let ok = unless-ok _ (listed rest) log is in
-    let first = neither (first_fault [] rest) _ ok.0 in
+under-valid : (v : Version) (rest : List Record) (log : Logged) → log_under_header v rest ≡ Ok log → IsLog log
+under-valid v rest log is =
+    let ok = unless-ok _ (log_from (listed rest)) log is in
+    let first = neither (first_fault v [] rest) _ ok.0 in
     let second = neither _ (no_event (listed rest)) first.1 in
     let none = found-none (position (is_unmatched (listed rest).rows) rest) second.0 in
-    subst IsLog ok.1 (finished (listed rest) (records-begun [] rest none-begun first.0) refl (some-row (listed rest) second.1) (all-matched rest none))
+    subst IsLog ok.1 (finished (listed rest) (records-begun v [] rest none-begun first.0) (some-row (listed rest) second.1) (all-matched rest none))
 
 records-valid : (rs : List Record) (log : Logged) → log_of_records rs ≡ Ok log → IsLog log
 records-valid [] log is = absurd (cc)
-records-valid (header ∷ rest) log is = go (is_header header) is
+records-valid (header ∷ rest) log is = go (version_of header) is
   where
-    go : (b : Bool) → (let r : Result Logged LogFault = (if b then log_under_header rest else Err (fault.Header 1)) in r) ≡ Ok log → IsLog log
-    go true is = under-valid rest log is
-    go false is = absurd (cc)
+    go : (o : Option Version) → log_under o rest ≡ Ok log → IsLog log
+    go (Some v) is = under-valid v rest log is
+    go None is = absurd (cc)
 
 pub logs-valid : LogsAreValid
 logs-valid bytes log is = records-valid (records default_config (strip_bom bytes)) log is

@@ -19,6 +19,8 @@ number_of (fault.UnmatchedReceive place) = 10
 number_of fault.NoEvent = 11
 number_of (fault.TooManyHosts place) = 12
 number_of (fault.TooManyEvents place) = 13
+number_of (fault.DoubleLatency place) = 15
+number_of (fault.LatencyRange place) = 16
 
 -- the number of the record that a fault is of, from 1; a log without a row has its fault in none
 abbrev pub record_of : LogFault → Option ℕ
@@ -36,3 +38,5 @@ record_of (fault.UnmatchedReceive place) = Some place
 record_of fault.NoEvent = None
 record_of (fault.TooManyHosts place) = Some place
 record_of (fault.TooManyEvents place) = Some place
+record_of (fault.DoubleLatency place) = Some place
+record_of (fault.LatencyRange place) = Some place

@@ -1,13 +1,17 @@
 -- The one text of a plain log.
-use Rattle.std.specs.Prelude.{◌≡◌, ℕ, List, [], ◌∷◌, ◌++◌, map, codes, slice_get, Ok}
+use Rattle.std.specs.Prelude.{◌≡◌, ℕ, suc, ◌==◌, ◌&&◌, ◌||◌, not, Bool, List, [], ◌∷◌, ◌++◌, length, map, filter, codes, slice_get, Option, Some, None, is_some, Ok, if◌then◌else◌}
 use Rattle.std.specs.Option.{option_map_or}
-use Rattle.std.specs.List.{flat_map, join_with_byte}
-use Rattle.std.specs.Fmt.{signed_decimal}
+use Rattle.std.specs.List.{flat_map, join_with_byte, list_any}
+use Rattle.std.specs.Fmt.{decimal, signed_decimal}
 use Rattle.mt_model.specs.declared.log.Act.{Act}
 use Rattle.mt_model.specs.declared.log.Act.TheVariants.{Set, Clear, Send, Recv, Note}
 use Rattle.mt_model.specs.declared.log.Host.{Host}
 use Rattle.mt_model.specs.declared.log.Row.{Row}
+use Rattle.mt_model.specs.declared.resync.Resync.{Resync}
+use Rattle.mt_model.specs.declared.limits.TheConstants.{MIN_DELAY}
 use Rattle.mt_model.specs.Log.{Logged, IsLog, IsPlain, name_in}
+use Rattle.log_read.specs.declared.version.Version.{Version}
+use Rattle.log_read.specs.declared.version.Version.TheVariants as version
 use Rattle.log_read.specs.Records.{Record}
 use Rattle.log_read.specs.LogOf.{log_of}
 
@@ -29,21 +33,53 @@ act_word (Note name) = codes "note"
 abbrev pub host_name : List Host → ℕ → List ℕ
 host_name hosts place = option_map_or (λ (h : Host). h.name) (slice_get hosts place) []
 
--- the fields `kind`, `host`, `time`, `name`
-abbrev pub header : Record
-header = codes "kind" ∷ codes "host" ∷ codes "time" ∷ codes "name" ∷ []
+-- a host has other delays than one without a latency
+abbrev pub has_latency : Host → Bool
+has_latency h = not (h.least == MIN_DELAY) || is_some h.most
+
+-- the version that states a log: the second one where there is a resync or a latency
+abbrev pub version_for : Logged → Version
+version_for log = if (length log.resyncs == 0) && not (list_any has_latency log.hosts) then version.One else version.Two
+
+-- the fields `kind` or `skewlog2`, `host`, `time`, `name`
+abbrev pub header : Version → Record
+header version.One = codes "kind" ∷ codes "host" ∷ codes "time" ∷ codes "name" ∷ []
+header version.Two = codes "skewlog2" ∷ codes "host" ∷ codes "time" ∷ codes "name" ∷ []
 
 -- the word `host`, the host's name, its skew and its gap
 abbrev pub host_fields : Host → Record
 host_fields h = codes "host" ∷ h.name ∷ signed_decimal h.skew ∷ signed_decimal h.gap ∷ []
 
+-- a greatest delay, or `inf` where there is none
+abbrev pub most_text : Option ℕ → List ℕ
+most_text None = codes "inf"
+most_text (Some most) = decimal most
+
+-- the word `latency`, the host's name, and the least and the greatest delay
+abbrev pub latency_fields : Host → Record
+latency_fields h = codes "latency" ∷ h.name ∷ decimal h.least ∷ most_text h.most ∷ []
+
+-- the word `resync`, the name of its host, its skew and its gap
+abbrev pub resync_fields : List Host → Resync → Record
+resync_fields hosts r = codes "resync" ∷ host_name hosts r.host ∷ signed_decimal r.skew ∷ signed_decimal r.gap ∷ []
+
 -- the word of a row's act, the name of its host, its local time and its act's name
 abbrev pub row_fields : List Host → Row → Record
 row_fields hosts r = act_word r.act ∷ host_name hosts r.host ∷ signed_decimal r.local ∷ name_in r.act ∷ []
 
--- the header, then each host, then each row
+-- the resyncs at a place, in order
+abbrev pub resyncs_at : List Host → List Resync → ℕ → List Record
+resyncs_at hosts resyncs place = map (resync_fields hosts) (filter (λ r. r.place == place) resyncs)
+
+-- rows from a place on, each after the resyncs at its place, and the resyncs behind them
+abbrev pub rows_from : List Host → List Resync → ℕ → List Row → List Record
+rows_from hosts resyncs place [] = resyncs_at hosts resyncs place
+rows_from hosts resyncs place (r ∷ rs) = resyncs_at hosts resyncs place ++ row_fields hosts r ∷ rows_from hosts resyncs (suc place) rs
+
+-- the header, then each host, then the latency of each host that has one, then the rows and resyncs
 abbrev pub log_records : Logged → List Record
-log_records log = header ∷ map host_fields log.hosts ++ map (row_fields log.hosts) log.rows
+log_records log =
+    header (version_for log) ∷ map host_fields log.hosts ++ map latency_fields (filter has_latency log.hosts) ++ rows_from log.hosts log.resyncs 0 log.rows
 
 -- fields with a comma between each two, and the end of the line
 abbrev pub line_of : Record → List ℕ

@@ -1,17 +1,20 @@
 -- The records of a log file, each a list of fields, and what one lists.
-use Rattle.std.specs.Prelude.{ℕ, List, [], ◌∷◌, ◌++◌, Option, Some, None, option_map, option_and_then, option_to_list, if◌then◌else◌, bytes_eq, codes, position}
+use Rattle.std.specs.Prelude.{ℕ, suc, ◌+◌, nat_le, List, [], ◌∷◌, ◌++◌, length, map, find, Option, Some, None, option_map, option_and_then, option_to_list, if◌then◌else◌, bytes_eq, codes, position}
+use Rattle.std.specs.Option.{option_map_or}
 use Rattle.std.specs.List.{filter_map}
 use Rattle.mt_model.specs.declared.log.Host.{Host}
 use Rattle.mt_model.specs.declared.log.Row.{Row}
 use Rattle.mt_model.specs.declared.log.Act.{Act}
 use Rattle.mt_model.specs.declared.log.Act.TheVariants as act
-use Rattle.mt_model.specs.declared.limits.TheConstants.{MAX_WRITTEN_SKEW, MAX_GAP, MAX_LOCAL}
-use Rattle.mt_model.specs.Log.{Logged}
+use Rattle.mt_model.specs.declared.resync.Resync.{Resync}
+use Rattle.mt_model.specs.declared.limits.TheConstants.{MAX_WRITTEN_SKEW, MAX_GAP, MAX_LOCAL, MAX_DELAY, MIN_DELAY}
+use Rattle.mt_model.specs.Log.{Logged, log_with}
 use Rattle.log_read.specs.declared.kind.Kind.{Kind}
 use Rattle.log_read.specs.declared.kind.Kind.TheVariants as kind
 use Rattle.log_read.specs.declared.kind.EventKind.{EventKind}
 use Rattle.log_read.specs.declared.kind.EventKind.TheVariants as event
-use Rattle.decimal.specs.Numbers.{number_up_to, signed_up_to}
+use Rattle.log_read.specs.declared.latency.Latency.{Latency}
+use Rattle.decimal.specs.Numbers.{number_below, number_up_to, signed_up_to}
 
 -- the fields of one line
 abbrev pub Record : Type 0
@@ -26,6 +29,8 @@ kind_of word =
     else if bytes_eq word (codes "send") then Some (kind.Event event.Send)
     else if bytes_eq word (codes "recv") then Some (kind.Event event.Recv)
     else if bytes_eq word (codes "note") then Some (kind.Event event.Note)
+    else if bytes_eq word (codes "resync") then Some kind.Resync
+    else if bytes_eq word (codes "latency") then Some kind.Latency
     else None
 
 -- what happened, by the kind and the name of an event record
@@ -43,24 +48,67 @@ place_of_host hosts name = position (λ h. bytes_eq h.name name) hosts
 -- the host of a host record's fields
 abbrev pub host_with : List ℕ → List ℕ → List ℕ → Option Host
 host_with name skew gap =
-    option_and_then (λ s. option_map (λ g. record { name = name; skew = s; gap = g }) (number_up_to MAX_GAP gap)) (number_up_to MAX_WRITTEN_SKEW skew)
+    option_and_then (λ s. option_map (λ g. record { name = name; skew = s; gap = g; least = MIN_DELAY; most = None }) (number_up_to MAX_GAP gap)) (number_up_to MAX_WRITTEN_SKEW skew)
 
 -- the row of an event record's fields, after these hosts were declared
 abbrev pub row_with : List Host → EventKind → List ℕ → List ℕ → List ℕ → Option Row
 row_with hosts e host local name =
     option_and_then (λ h. option_map (λ t. record { host = h; local = t; act = act_of e name }) (signed_up_to MAX_LOCAL local)) (place_of_host hosts host)
 
+-- the resync of a resync record's fields, after these hosts were declared and so many rows were given
+abbrev pub resync_with : List Host → ℕ → List ℕ → List ℕ → List ℕ → Option Resync
+resync_with hosts rows host skew gap =
+    option_and_then
+    (λ h. option_and_then (λ s. option_map (λ g. record { place = rows; host = h; skew = s; gap = g }) (number_up_to MAX_GAP gap)) (number_up_to MAX_WRITTEN_SKEW skew))
+    (place_of_host hosts host)
+
+-- the delay that a field states, which is at most the greatest
+abbrev pub delay_in : List ℕ → Option ℕ
+delay_in field = number_below (suc MAX_DELAY) field
+
+-- the least delay that a field states
+abbrev pub least_in : List ℕ → Option ℕ
+least_in field = option_and_then (λ n. if nat_le MIN_DELAY n then Some n else None) (delay_in field)
+
+-- the greatest delay that a field states, which is none where the field is `inf`
+abbrev pub greatest_in : List ℕ → Option (Option ℕ)
+greatest_in field = if bytes_eq field (codes "inf") then Some None else option_map Some (delay_in field)
+
+-- the latency of a latency record's fields
+abbrev pub latency_with : List ℕ → List ℕ → List ℕ → Option Latency
+latency_with host least most = option_and_then (λ l. option_map (λ m. record { host = host; least = l; most = m }) (greatest_in most)) (least_in least)
+
 -- the host that a record of a kind declares
 abbrev pub host_by : Option Kind → List ℕ → List ℕ → List ℕ → Option Host
 host_by None name skew gap = None
 host_by (Some kind.Host) name skew gap = host_with name skew gap
 host_by (Some (kind.Event e)) name skew gap = None
+host_by (Some kind.Resync) host skew gap = None
+host_by (Some kind.Latency) host least most = None
 
 -- the row that a record of a kind gives
 abbrev pub row_by : List Host → Option Kind → List ℕ → List ℕ → List ℕ → Option Row
 row_by hosts None host local name = None
 row_by hosts (Some kind.Host) host local name = None
 row_by hosts (Some (kind.Event e)) host local name = row_with hosts e host local name
+row_by hosts (Some kind.Resync) host skew gap = None
+row_by hosts (Some kind.Latency) host least most = None
+
+-- the resync that a record of a kind gives
+abbrev pub resync_by : List Host → ℕ → Option Kind → List ℕ → List ℕ → List ℕ → Option Resync
+resync_by hosts rows None host skew gap = None
+resync_by hosts rows (Some kind.Host) name skew gap = None
+resync_by hosts rows (Some (kind.Event e)) host local name = None
+resync_by hosts rows (Some kind.Resync) host skew gap = resync_with hosts rows host skew gap
+resync_by hosts rows (Some kind.Latency) host least most = None
+
+-- the latency that a record of a kind states
+abbrev pub latency_by : Option Kind → List ℕ → List ℕ → List ℕ → Option Latency
+latency_by None host least most = None
+latency_by (Some kind.Host) name skew gap = None
+latency_by (Some (kind.Event e)) host local name = None
+latency_by (Some kind.Resync) host skew gap = None
+latency_by (Some kind.Latency) host least most = latency_with host least most
 
 -- the host that a record declares
 abbrev pub host_in : Record → Option Host
@@ -72,15 +120,61 @@ abbrev pub row_in : List Host → Record → Option Row
 row_in hosts (word ∷ host ∷ local ∷ name ∷ []) = row_by hosts (kind_of word) host local name
 row_in hosts _ = None
 
+-- the resync that a record gives, after these hosts were declared and so many rows were given
+abbrev pub resync_in : List Host → ℕ → Record → Option Resync
+resync_in hosts rows (word ∷ host ∷ skew ∷ gap ∷ []) = resync_by hosts rows (kind_of word) host skew gap
+resync_in hosts rows _ = None
+
+-- the latency that a record states
+abbrev pub latency_in : Record → Option Latency
+latency_in (word ∷ host ∷ least ∷ most ∷ []) = latency_by (kind_of word) host least most
+latency_in _ = None
+
 -- the hosts that records declare, in order
 abbrev pub hosts_in : List Record → List Host
 hosts_in records = filter_map host_in records
+
+-- the latencies that records state, in order
+abbrev pub latencies_in : List Record → List Latency
+latencies_in records = filter_map latency_in records
 
 -- the rows that records give, in order, each of a host declared before it
 abbrev pub rows_after : List Host → List Record → List Row
 rows_after hosts [] = []
 rows_after hosts (r ∷ rs) = option_to_list (row_in hosts r) ++ rows_after (hosts ++ option_to_list (host_in r)) rs
 
--- the log that records list
-abbrev pub listed : List Record → Logged
-listed records = record { hosts = hosts_in records; rows = rows_after [] records; extras = [] }
+-- the resyncs that records give, in order, each of a host declared before it and at the number of rows before it
+abbrev pub resyncs_after : List Host → ℕ → List Record → List Resync
+resyncs_after hosts rows [] = []
+resyncs_after hosts rows (r ∷ rs) =
+    option_to_list (resync_in hosts rows r) ++ resyncs_after (hosts ++ option_to_list (host_in r)) (rows + length (option_to_list (row_in hosts r))) rs
+
+-- what records list: hosts, rows, resyncs and latencies, each in order
+pub record Listing : Type 0 where
+  pub hosts : List Host
+  pub rows : List Row
+  pub resyncs : List Resync
+  pub latencies : List Latency
+
+abbrev pub listed : List Record → Listing
+listed records = record { hosts = hosts_in records; rows = rows_after [] records; resyncs = resyncs_after [] 0 records; latencies = latencies_in records }
+
+-- the latency that is stated of the host of a name
+abbrev pub latency_of : List Latency → List ℕ → Option Latency
+latency_of latencies name = find (λ l. bytes_eq l.host name) latencies
+
+-- the host with these delays
+abbrev pub with_delays : Host → ℕ → Option ℕ → Host
+with_delays h least most = record { name = h.name; skew = h.skew; gap = h.gap; least = least; most = most }
+
+-- the host with the latency that is stated of it, if any
+abbrev pub delayed_by : Option Latency → Host → Host
+delayed_by None h = h
+delayed_by (Some l) h = with_delays h l.least l.most
+
+abbrev pub delayed : List Latency → Host → Host
+delayed latencies h = delayed_by (latency_of latencies h.name) h
+
+-- the log that is listed: its hosts have the latencies that are stated of them
+abbrev pub log_from : Listing → Logged
+log_from l = log_with (map (delayed l.latencies) l.hosts) l.rows l.resyncs

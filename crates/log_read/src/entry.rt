@@ -1,15 +1,18 @@
 ghost use Rattle.std.specs.Prelude.{◌≡◌, ◌≤◌, length};
 ghost use Rattle.mt_model.specs.Name.{is_reserved};
 ghost use Rattle.mt_model.specs.Timing.{is_send_of};
-ghost use Rattle.log_read.specs.LogOf.{host_fault, event_fault, is_declared, is_sent, sends_again};
+ghost use Rattle.log_read.specs.LogOf.{host_fault, event_fault, is_declared, is_delayed, is_sent, latency_fault, resync_fault, sends_again};
 ghost use Rattle.log_read.specs.Reading.{Enters};
-ghost use Rattle.log_read.specs.Records.{host_with, row_with, place_of_host};
+ghost use Rattle.log_read.specs.Records.{host_with, latency_with, resync_with, row_with, place_of_host};
 
 use crate::LogFault;
+use crate::fields::Field;
 use crate::kind::EventKind;
+use crate::latency::{Latency, greatest_of, least_of};
 use decimal::{signed_number, unsigned_number};
 use mt_model::{
-    Host, HostId, MAX_GAP, MAX_HOSTS, MAX_LOCAL, MAX_ROWS, MAX_WRITTEN_SKEW, Name, Row,
+    Host, HostId, MAX_GAP, MAX_HOSTS, MAX_LOCAL, MAX_ROWS, MAX_WRITTEN_SKEW, MIN_DELAY, Name,
+    Resync, Row,
 };
 use std::alloc::Global;
 
@@ -90,6 +93,8 @@ pub fn host_entry(
         name: new_name,
         skew,
         gap,
+        least: MIN_DELAY,
+        most: None,
     })
 }
 
@@ -127,4 +132,73 @@ pub fn row_entry(
         local,
         act: kind.act(new_name),
     })
+}
+
+/// The resync of a resync record's fields, after hosts that were declared and so many rows.
+pub fn resync_entry(
+    place: u32,
+    hosts: &[Host],
+    rows: usize,
+    host: &[u8],
+    skew: &[u8],
+    gap: &[u8],
+) -> Result<Resync, LogFault>
+    requires hosts { length hosts.now ≤ MAX_HOSTS }
+    requires rows { rows ≤ MAX_ROWS }
+    ensures entry { Enters result (resync_fault place hosts.now host.now skew.now gap.now) (resync_with hosts.now rows host.now skew.now gap.now) }
+{
+    let Some(host) = place_of(hosts, host) else {
+        return Err(LogFault::UnknownHost { place });
+    };
+    let Some(skew) = unsigned_number(skew, MAX_WRITTEN_SKEW) else {
+        return Err(LogFault::Number { place });
+    };
+    let Some(gap) = unsigned_number(gap, MAX_GAP) else {
+        return Err(LogFault::Number { place });
+    };
+    Ok(Resync {
+        place: rows as u32,
+        host: HostId::new(host as u32),
+        skew,
+        gap,
+    })
+}
+
+fn has_latency(latencies: &[Latency], host: &[u8]) -> bool
+    ensures { result ≡ is_delayed latencies.now host.now }
+{
+    latencies
+        .iter()
+        .any(|latency| latency.host.bytes() == host)
+}
+
+/// The latency of a latency record's fields, after hosts and latencies that stand before it.
+pub fn latency_entry(
+    alloc: Global,
+    place: u32,
+    hosts: &[Host],
+    latencies: &[Latency],
+    host: &[u8],
+    least: &[u8],
+    most: &[u8],
+) -> Result<Latency, LogFault>
+    ensures entry { Enters result (latency_fault place hosts.now latencies.now host.now least.now most.now) (latency_with host.now least.now most.now) }
+{
+    if place_of(hosts, host).is_none() {
+        return Err(LogFault::UnknownHost { place });
+    }
+    if has_latency(latencies, host) {
+        return Err(LogFault::DoubleLatency { place });
+    }
+    let Some(least) = least_of(least) else {
+        return Err(LogFault::Number { place });
+    };
+    let Some(most) = greatest_of(most) else {
+        return Err(LogFault::Number { place });
+    };
+    if most.is_some_and(|most| most < least) {
+        return Err(LogFault::LatencyRange { place });
+    }
+    let host = Field::new(alloc, host)?;
+    Ok(Latency { host, least, most })
 }

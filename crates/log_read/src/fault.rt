@@ -8,11 +8,11 @@ use thiserror::Error;
 /// from 1, the header included.
 #[derive(Clone, Copy, Debug, PartialEq, Eq, Error)]
 pub enum LogFault {
-    #[error("record {place} is not the header `kind,host,time,name`")]
+    #[error("record {place} is neither the header `kind,host,time,name` nor `skewlog2,host,time,name`")]
     Header { place: u32 },
     #[error("record {place} has not four fields")]
     Width { place: u32 },
-    #[error("record {place} is of no known kind")]
+    #[error("record {place} is of no kind that the file's version knows")]
     Kind { place: u32 },
     #[error("record {place} declares a host with a word that names none")]
     HostName { place: u32 },
@@ -34,12 +34,16 @@ pub enum LogFault {
     TooManyHosts { place: u32 },
     #[error("record {place} is a row too many")]
     TooManyEvents { place: u32 },
+    #[error("record {place} states a latency of a host that has one")]
+    DoubleLatency { place: u32 },
+    #[error("record {place} states a greatest delay below the least")]
+    LatencyRange { place: u32 },
     #[error("out of memory")]
     Memory,
 }
 
 impl LogFault {
-    /// Its number, 1 to 13, and 0 for want of memory.
+    /// Its number, 1 to 13, 15 or 16, and 0 for want of memory.
     pub fn number(&self) -> u8
         ensures number { result ≡ number_of self.now }
     {
@@ -58,6 +62,8 @@ impl LogFault {
             LogFault::NoEvent => 11,
             LogFault::TooManyHosts { .. } => 12,
             LogFault::TooManyEvents { .. } => 13,
+            LogFault::DoubleLatency { .. } => 15,
+            LogFault::LatencyRange { .. } => 16,
         }
     }
 
@@ -78,7 +84,9 @@ impl LogFault {
             | LogFault::DoubleSend { place }
             | LogFault::UnmatchedReceive { place }
             | LogFault::TooManyHosts { place }
-            | LogFault::TooManyEvents { place } => Some(*place),
+            | LogFault::TooManyEvents { place }
+            | LogFault::DoubleLatency { place }
+            | LogFault::LatencyRange { place } => Some(*place),
             LogFault::NoEvent | LogFault::Memory => None,
         }
     }

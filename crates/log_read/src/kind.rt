@@ -13,11 +13,14 @@ pub enum EventKind {
     Note,
 }
 
-/// What a record tells: it declares a host, or gives an event.
+/// What a record tells: it declares a host, gives an event, resynchronises a host or states the latency
+/// of what a host receives.
 #[derive(Clone, Copy)]
 pub enum Kind {
     Host,
     Event(EventKind),
+    Resync,
+    Latency,
 }
 
 impl Kind {
@@ -37,6 +40,10 @@ impl Kind {
             Some(Kind::Event(EventKind::Recv))
         } else if word == b"note".as_slice() {
             Some(Kind::Event(EventKind::Note))
+        } else if word == b"resync".as_slice() {
+            Some(Kind::Resync)
+        } else if word == b"latency".as_slice() {
+            Some(Kind::Latency)
         } else {
             None
         }

@@ -5,10 +5,12 @@ mod entry;
 mod fault;
 mod fields;
 mod kind;
+mod latency;
 mod laws;
 mod reader;
 mod reading;
 mod records;
+mod version;
 mod writer;
 
 pub use fault::LogFault;

@@ -1,5 +1,5 @@
 ghost use Rattle.std.specs.Prelude.{◌≡◌, ◌^◌, ◌<◌, ◌≤◌, [], length, Some, IfOk, position};
-ghost use Rattle.log_read.specs.LogOf.{first_fault, is_header, is_unmatched, log_of, log_of_records, log_under_header};
+ghost use Rattle.log_read.specs.LogOf.{first_fault, is_unmatched, log_of, log_of_records, log_under_header};
 ghost use Rattle.log_read.specs.Reading.{Answers, Enters};
 ghost use Rattle.log_read.specs.Records.{listed};
 
@@ -9,31 +9,18 @@ use crate::fields::{Fields, RecordList};
 use crate::kind::{EventKind, Kind};
 use crate::reading::Reading;
 use crate::records::all_records;
+use crate::version::{Version, version_of};
 use mt_model::{Log, Row};
 use std::alloc::Global;
 
-fn names_columns(fields: &Fields) -> bool
-    ensures { result ≡ is_header fields.now }
-{
-    match fields.as_slice() {
-        [kind, host, time, name] => {
-            kind.bytes() == b"kind".as_slice()
-                && host.bytes() == b"host".as_slice()
-                && time.bytes() == b"time".as_slice()
-                && name.bytes() == b"name".as_slice()
-        }
-        _ => false,
-    }
-}
-
 // What the records under the header list.
-fn reading_of(alloc: Global, records: &[Fields]) -> Result<Reading, LogFault>
+fn reading_of(alloc: Global, version: Version, records: &[Fields]) -> Result<Reading, LogFault>
     requires { length records.now ≤ 2 ^ 31 }
-    ensures { Enters result (first_fault [] records.now) (Some (listed records.now)) }
+    ensures { Enters result (first_fault version [] records.now) (Some (listed records.now)) }
 {
     let mut reading = Reading::new(alloc);
     for (i, fields) in records.iter().enumerate() {
-        reading.add(alloc, i as u32 + 2, fields)?;
+        reading.add(alloc, version, i as u32 + 2, fields)?;
     }
     Ok(reading)
 }
@@ -59,12 +46,12 @@ fn first_unsent(rows: &[Row], records: &[Fields]) -> Option<usize>
         .position(|fields| receives_unsent(rows, fields))
 }
 
-fn log_under(alloc: Global, records: &[Fields]) -> Result<Log, LogFault>
+fn log_under(alloc: Global, version: Version, records: &[Fields]) -> Result<Log, LogFault>
     requires { length records.now ≤ 2 ^ 31 }
-    ensures answer { Answers result (log_under_header records.now) }
+    ensures answer { Answers result (log_under_header version records.now) }
     ensures plain { IfOk result (λ log. log.extras ≡ []) }
 {
-    let reading = reading_of(alloc, records)?;
+    let reading = reading_of(alloc, version, records)?;
     if let Some(i) = first_unsent(reading.rows(), records) {
         return Err(LogFault::UnmatchedReceive {
             place: i as u32 + 2,
@@ -83,21 +70,22 @@ fn log_in(alloc: Global, records: &[Fields]) -> Result<Log, LogFault>
 {
     match records {
         [] => Err(LogFault::Header { place: 1 }),
-        [header, rest @ ..] => {
-            if names_columns(header) {
-                log_under(alloc, rest)
-            } else {
-                Err(LogFault::Header { place: 1 })
-            }
-        }
+        [header, rest @ ..] => match version_of(header) {
+            Some(version) => log_under(alloc, version, rest),
+            None => Err(LogFault::Header { place: 1 }),
+        },
     }
 }
 
-/// The log that records list, the first of them the header `kind,host,time,name`.
+/// The log that records list, the first of them the header `kind,host,time,name`, or
+/// `skewlog2,host,time,name` in version 2.
 ///
 /// A record of `host`, a name, a skew and a gap declares the next host. One of `set`, `clear`,
-/// `send`, `recv` or `note`, a declared host, a local time and a name gives the next row. Skews, gaps
-/// and local times are decimal numbers in the log's one unit of time.
+/// `send`, `recv` or `note`, a declared host, a local time and a name gives the next row. In version 2
+/// one of `resync`, a declared host, a skew and a gap says what holds of the host's clock from there on,
+/// and one of `latency`, a declared host, a least delay and a greatest one or `inf` says how long what the
+/// host receives took. Skews, gaps, delays and local times are decimal numbers in the log's one unit of
+/// time.
 ///
 /// The fault is that of the first faulty record, else of the first receive whose message is sent
 /// nowhere, else that there is no row; or it is want of memory.
