@@ -1,11 +1,11 @@
 -- The records of the rows of a log's text pass each test.
-use Rattle.std.proofs.Common.{◌≡◌, ◌∙◌, sym, ap, refl, subst, arith, ℕ, ◌+◌, ◌≤◌, Bool, false, List, [], ◌∷◌, ◌++◌, length, length-append, map, Some, None, append_assoc}
-use Rattle.std.specs.Prelude.{All, AllPairs, if◌then◌else◌, is_none, nat_le, not}
+use Rattle.std.proofs.Common.{◌≡◌, ◌∙◌, sym, ap, refl, subst, arith, ℕ, suc, ◌+◌, ◌≤◌, Bool, false, List, [], ◌∷◌, ◌++◌, length, length-append, map, Some, None, append_assoc}
+use Rattle.std.specs.Prelude.{All, AllPairs, if◌then◌else◌, is_none, nat_le, not, option_to_list}
 use Rattle.std.specs.Fmt.{signed_decimal}
 use Rattle.std.proofs.lemmas.Bool.{false_from_ne_true}
 use Rattle.std.proofs.lemmas.Bool.Decides.{nat_tests}
 use Rattle.std.proofs.lemmas.Int.{ints}
-use Rattle.std.proofs.lemmas.List.{map_push}
+use Rattle.std.proofs.lemmas.List.{append-nil}
 use Rattle.std.proofs.lemmas.List.Folds.{list_any_none}
 use Rattle.mt_model.specs.declared.log.Act.{Act}
 use Rattle.mt_model.specs.declared.log.Act.TheVariants as act
@@ -16,14 +16,19 @@ use Rattle.mt_model.specs.Log.{SendSame, sent_by, name_in}
 use Rattle.mt_model.specs.Timing.{is_send_of}
 use Rattle.log_read.specs.declared.fault.LogFault.{LogFault}
 use Rattle.decimal.specs.Numbers.{signed_up_to}
-use Rattle.log_read.specs.Records.{place_of_host, listed}
-use Rattle.log_read.specs.LogOf.{fault_of, first_fault, sends_again}
-use Rattle.log_read.specs.LogText.{host_fields, host_name, row_fields}
+use Rattle.mt_model.specs.declared.resync.Resync.{Resync}
+use Rattle.log_read.specs.declared.latency.Latency.{Latency}
+use Rattle.log_read.specs.declared.version.Version.{Version}
+use Rattle.log_read.specs.Reading.{with_record}
+use Rattle.log_read.specs.Records.{Listing, host_in, latency_in, place_of_host, resync_in, row_in}
+use Rattle.log_read.specs.LogOf.{fault_of, sends_again}
+use Rattle.log_read.specs.LogText.{host_name, resyncs_at, row_fields, rows_from}
 use Rattle.log_read.proofs.FirstFaults.{sent_by-is}
-use Rattle.log_read.proofs.Middles.{All-front, All-middle, AllPairs-middle}
+use Rattle.log_read.proofs.Middles.{All-middle, AllPairs-middle}
 use Rattle.decimal.proofs.Printed.{signed-printed}
-use Rattle.log_read.proofs.WrittenRecords.{IsOf, kind_in, kind_of-word, listed-written, place-found}
-use Rattle.log_read.proofs.ClearHosts.{AreHosts}
+use Rattle.log_read.proofs.ClearResyncs.{resyncs_before}
+use Rattle.log_read.proofs.Runs.{Runs, known-event, runs-append, runs-cons}
+use Rattle.log_read.proofs.WrittenRecords.{AreDistinct, IsOf, bare, kind_in, kind_of-word, place-bare, row_in-bare}
 
 -- where each of the tests passes, there is no fault
 five_clear : (a b c d e : Bool) (v w x y z : LogFault) → a ≡ false → b ≡ false → c ≡ false → d ≡ false → e ≡ false
@@ -36,11 +41,6 @@ pub record AreRowsOf (hosts : List Host) (rows : List Row) : Type 0 where
   pub sent_once : AllPairs (λ q r. SendSame q r → ⊥) rows
   pub each : All (IsOf hosts) rows
 
--- what the records of the hosts and of the first rows list
-listed-rows : (hosts : List Host) (before : List Row) (r : Row) (after : List Row) → AreHosts hosts → AreRowsOf hosts (before ++ r ∷ after)
-    → listed (map host_fields hosts ++ map (row_fields hosts) before) ≡ record { hosts = hosts; rows = before; extras = [] }
-listed-rows hosts before r after declared rows = listed-written hosts before declared.each declared.distinct (All-front (IsOf hosts) before (r ∷ after) rows.each)
-
 -- a message that is sent once isn't sent before
 not_again : (before : List Row) (r : Row) (a : Act) → r.act ≡ a → All (λ q. SendSame q r → ⊥) before → sends_again (kind_in a) before (name_in a) ≡ false
 not_again before r (act.Send m) is others =
@@ -51,22 +51,48 @@ not_again before r (act.Clear name) is others = refl
 not_again before r (act.Recv name) is others = refl
 not_again before r (act.Note name) is others = refl
 
--- the record after them has no fault
-row-clear : (hosts : List Host) (before : List Row) (r : Row) (after : List Row) → AreHosts hosts → AreRowsOf hosts (before ++ r ∷ after) → (place : ℕ)
-    → fault_of place (listed (map host_fields hosts ++ map (row_fields hosts) before)) (row_fields hosts r) ≡ None
-row-clear hosts before r after declared rows place =
-    let is = All-middle (IsOf hosts) before r after rows.each in
-    let once = not_again before r r.act refl (AllPairs-middle (λ q p. SendSame q p → ⊥) before r after rows.sent_once) in
-    let room : nat_le MAX_ROWS (length before) ≡ false = let few = rows.few in grind (arith, nat_tests, length-append before (r ∷ after)) in
-    let known : is_none (place_of_host hosts (host_name hosts r.host)) ≡ false = ap is_none (place-found hosts r.host declared.distinct is.host) in
-    let timed : is_none (signed_up_to MAX_LOCAL (signed_decimal r.local)) ≡ false = ap is_none (signed-printed MAX_LOCAL r.local (omega (arith, ints)) is.local.low is.local.high) in
-    ap (λ log. fault_of place log (row_fields hosts r)) (listed-rows hosts before r after declared rows)
-    ∙ rw (kind_of-word r.act) (five_clear _ _ _ _ _ _ _ _ _ _ known timed (ap not is.name) once room)
+module _ (v : Version) (hosts : List Host) (rs : List Resync) (latencies : List Latency) (distinct : AreDistinct hosts) where
+  -- after so many rows and resyncs
+  abbrev pub rows_listing : List Row → List Resync → Listing
+  rows_listing rows done = record { hosts = map bare hosts; rows = rows; resyncs = done; latencies = latencies }
 
--- no record of a row is faulty
-pub rows-clear : (hosts : List Host) (before after : List Row) → AreHosts hosts → AreRowsOf hosts (before ++ after)
-    → first_fault (map host_fields hosts ++ map (row_fields hosts) before) (map (row_fields hosts) after) ≡ None
-rows-clear hosts before [] declared rows = refl
-rows-clear hosts before (r ∷ rs) declared rows =
-    let more = rows-clear hosts (before ++ r ∷ []) rs declared (subst (AreRowsOf hosts) (sym (append_assoc before (r ∷ []) rs)) rows) in
-    rw (row-clear hosts before r rs declared rows (length (map host_fields hosts ++ map (row_fields hosts) before) + 2), append_assoc, ← map_push (row_fields hosts) before r) more
+  module _ (before : List Row) (r : Row) (after : List Row) (rows : AreRowsOf hosts (before ++ r ∷ after)) (done : List Resync) where
+    -- the record of a row has no fault
+    row-clear : (place : ℕ) → fault_of v place (rows_listing before done) (row_fields hosts r) ≡ None
+    row-clear place =
+        let is = All-middle (IsOf hosts) before r after rows.each in
+        let once = not_again before r r.act refl (AllPairs-middle (λ q p. SendSame q p → ⊥) before r after rows.sent_once) in
+        let room : nat_le MAX_ROWS (length before) ≡ false = let few = rows.few in grind (arith, nat_tests, length-append before (r ∷ after)) in
+        let known : is_none (place_of_host (map bare hosts) (host_name hosts r.host)) ≡ false = ap is_none (place-bare hosts r.host distinct is.host) in
+        let timed : is_none (signed_up_to MAX_LOCAL (signed_decimal r.local)) ≡ false = ap is_none (signed-printed MAX_LOCAL r.local (omega (arith, ints)) is.local.low is.local.high) in
+        rw (kind_of-word r.act, known-event v (kind_in r.act)) (five_clear _ _ _ _ _ _ _ _ _ _ known timed (ap not is.name) once room)
+
+    -- and gives it
+    row-step : with_record (rows_listing before done) (row_fields hosts r) ≡ rows_listing (before ++ r ∷ []) done
+    row-step =
+        let is = All-middle (IsOf hosts) before r after rows.each in
+        let given = row_in-bare hosts r distinct is in
+        let made = λ (hs : List Host) (xs : List Row) (ys : List Resync) (ls : List Latency). (let l : Listing = record { hosts = hs; rows = xs; resyncs = ys; latencies = ls } in l) in
+        let host : host_in (row_fields hosts r) ≡ None = rw (kind_of-word r.act) refl in
+        let resync : resync_in (map bare hosts) (length before) (row_fields hosts r) ≡ None = rw (kind_of-word r.act) refl in
+        let latency : latency_in (row_fields hosts r) ≡ None = rw (kind_of-word r.act) refl in
+        ap (λ o. made (map bare hosts ++ option_to_list o) (before ++ option_to_list (row_in (map bare hosts) (row_fields hosts r))) (done ++ option_to_list (resync_in (map bare hosts) (length before) (row_fields hosts r))) (latencies ++ option_to_list (latency_in (row_fields hosts r)))) host
+        ∙ ap (λ hs. made hs (before ++ option_to_list (row_in (map bare hosts) (row_fields hosts r))) (done ++ option_to_list (resync_in (map bare hosts) (length before) (row_fields hosts r))) (latencies ++ option_to_list (latency_in (row_fields hosts r)))) (append-nil (map bare hosts))
+        ∙ ap (λ o. made (map bare hosts) (before ++ option_to_list o) (done ++ option_to_list (resync_in (map bare hosts) (length before) (row_fields hosts r))) (latencies ++ option_to_list (latency_in (row_fields hosts r)))) given
+        ∙ ap (λ o. made (map bare hosts) (before ++ r ∷ []) (done ++ option_to_list o) (latencies ++ option_to_list (latency_in (row_fields hosts r)))) resync
+        ∙ ap (λ o. made (map bare hosts) (before ++ r ∷ []) (done ++ []) (latencies ++ option_to_list o)) latency
+        ∙ ap (λ ys. made (map bare hosts) (before ++ r ∷ []) ys (latencies ++ [])) (append-nil done)
+        ∙ ap (made (map bare hosts) (before ++ r ∷ []) done) (append-nil latencies)
+
+  -- the records of rows, with the resyncs between them, are read as both
+  pub rows-run : ((given : List Row) → Runs v (rows_listing given (resyncs_before rs (length given))) (resyncs_at hosts rs (length given)) (rows_listing given (resyncs_before rs (suc (length given)))))
+      → (rows before after : List Row) → before ++ after ≡ rows → AreRowsOf hosts rows
+      → Runs v (rows_listing before (resyncs_before rs (length before))) (rows_from hosts rs (length before) after) (rows_listing rows (resyncs_before rs (suc (length rows))))
+  rows-run block rows before [] split are = let same : before ≡ rows = sym (append-nil before) ∙ split in rw same (block rows)
+  rows-run block rows before (r ∷ more) split are =
+      let parts : AreRowsOf hosts (before ++ r ∷ more) = rw split are in
+      let count : length (before ++ r ∷ []) ≡ suc (length before) = length-append before (r ∷ []) ∙ (let one : length before + 1 ≡ suc (length before) = omega arith in one) in
+      let rest = rw count at (rows-run block rows (before ++ r ∷ []) more (append_assoc before (r ∷ []) more ∙ split) are) in
+      let done = resyncs_before rs (suc (length before)) in
+      runs-append v (rows_listing before (resyncs_before rs (length before))) (rows_listing before done) (rows_listing rows (resyncs_before rs (suc (length rows)))) (resyncs_at hosts rs (length before)) (row_fields hosts r ∷ rows_from hosts rs (suc (length before)) more) (block before)
+      (runs-cons v (rows_listing before done) (rows_listing (before ++ r ∷ []) done) (rows_listing rows (resyncs_before rs (suc (length rows)))) (row_fields hosts r) (rows_from hosts rs (suc (length before)) more) (row-clear before r more parts done) (row-step before r more parts done) rest)

@@ -1,6 +1,8 @@
 pub mod AllRecords
 pub mod Begun
 pub mod ClearHosts
+pub mod ClearLatencies
+pub mod ClearResyncs
 pub mod ClearRows
 pub mod Copies
 pub mod FirstFaults
@@ -10,6 +12,7 @@ pub mod Middles
 pub mod PlainFields
 pub mod PushedLines
 pub mod ReadBack
+pub mod Runs
 pub mod ValidLogs
 pub mod WrittenLines
 pub mod WrittenRecords

@@ -42,7 +42,7 @@ name-plain (b ∷ bs) is =
     let bytes = both (is_letter b) (list_all is_name_byte bs) parts.0 in
     either (needs_byte default_writer b) (list_any (needs_byte default_writer) bs) (letter-plain b bytes.0) (all-plain is_name_byte name_byte-plain bs bytes.1)
 
-decimal-plain : (n : ℕ) → n < 2 ^ 64 → IsPlainField (decimal n)
+pub decimal-plain : (n : ℕ) → n < 2 ^ 64 → IsPlainField (decimal n)
 decimal-plain n small = all-plain is_ascii_digit digit-plain (decimal n) (digits_decimal digits_model n small)
 
 -- a number

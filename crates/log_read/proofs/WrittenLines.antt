@@ -1,8 +1,10 @@
 -- The records of a log's text are lines of plain fields, which `csv` reads as they are.
-use Rattle.std.proofs.Common.{◌≡◌, refl, arith, ℕ, ◌<◌, true, List, [], ◌∷◌, length, map}
-use Rattle.std.specs.Prelude.{All}
+use Rattle.std.proofs.Common.{◌≡◌, ◌∙◌, ap, refl, arith, ℕ, suc, ◌<◌, ◌≤◌, ◌==◌, true, Option, Some, None, ◌++◌, List, [], ◌∷◌, length, map}
+use Rattle.std.specs.Prelude.{All, IfSome, filter}
+use Rattle.std.specs.Fmt.{decimal}
+use Rattle.std.specs.List.{flat_map}
 use Rattle.std.proofs.lemmas.Int.{ints}
-use Rattle.std.proofs.lemmas.List.Elements.{All-append, All-cons, All-from_recursion, All-map}
+use Rattle.std.proofs.lemmas.List.Elements.{All-append, All-cons, All-filter, All-from_recursion, All-head, All-map, All-tail}
 use Rattle.std.proofs.lemmas.Option.{slice_get-get_or}
 use Rattle.csv.specs.Reading.{default_config, records, strip_bom}
 use Rattle.mt_model.specs.declared.log.Act.{Act}
@@ -11,9 +13,15 @@ use Rattle.mt_model.specs.declared.log.Host.{Host}
 use Rattle.mt_model.specs.declared.log.Row.{Row}
 use Rattle.mt_model.specs.Log.{Logged, name_in}
 use Rattle.mt_model.specs.Name.{is_name}
-use Rattle.log_read.specs.LogText.{act_word, header, host_fields, host_name, log_records, log_text, row_fields}
+use Rattle.log_read.specs.LogText.{act_word, has_latency, header, host_fields, host_name, latency_fields, line_of, log_records, log_text, most_text, resync_fields, resyncs_at, row_fields, rows_from, version_for}
+use Rattle.mt_model.specs.declared.resync.Resync.{Resync}
+use Rattle.mt_model.specs.declared.limits.TheConstants.{MAX_DELAY}
+use Rattle.log_read.specs.declared.version.Version.{Version}
+use Rattle.log_read.specs.declared.version.Version.TheVariants as version
+use Rattle.log_read.specs.Records.{Record}
+use Rattle.log_read.proofs.ClearResyncs.{IsWritableResync}
 use Rattle.log_read.proofs.Lines.{IsLine, IsPlainField, records-lines}
-use Rattle.log_read.proofs.PlainFields.{name-plain, signed_decimal-plain}
+use Rattle.log_read.proofs.PlainFields.{decimal-plain, name-plain, signed_decimal-plain}
 use Rattle.log_read.proofs.WrittenRecords.{IsOf, IsWritable}
 
 -- four plain fields are a line
@@ -51,11 +59,53 @@ row-line hosts r all is =
     (let low = is.local.low in let high = is.local.high in signed_decimal-plain r.local (omega (arith, ints)) (omega (arith, ints)))
     (name-plain (name_in r.act) is.name)
 
--- the records of a log's text are those of the log
-pub records-written : (log : Logged) → All IsWritable log.hosts → All (IsOf log.hosts) log.rows → records default_config (strip_bom (log_text log)) ≡ log_records log
+-- the record of a latency is a line
+latency-line : (h : Host) → IsWritable h → IsLine (latency_fields h)
+latency-line h is =
+    let delays = is.valid.delays in
+    let least : IsPlainField (decimal h.least) = let high = delays.least_high in decimal-plain h.least (omega (arith, high)) in
+    four-fields _ _ _ _ refl (name-plain h.name is.name) least (most h.most delays.most_high)
+  where
+    most : (m : Option ℕ) → IfSome m (λ n. n ≤ MAX_DELAY) → IsPlainField (most_text m)
+    most None high = refl
+    most (Some n) high = decimal-plain n (omega (arith, high))
+
+-- the record of a resync is a line
+resync-line : (hosts : List Host) (rows : ℕ) (r : Resync) → All IsWritable hosts → IsWritableResync (length hosts) rows r → IsLine (resync_fields hosts r)
+resync-line hosts rows r all is =
+    four-fields _ _ _ _ refl (name-plain (host_name hosts r.host) (named hosts r.host all is.valid.host))
+    (let low = is.valid.skew_low in let high = is.skew in signed_decimal-plain r.skew (omega (arith, ints)) (omega (arith, ints)))
+    (let low = is.valid.gap_low in let high = is.valid.gap_high in signed_decimal-plain r.gap (omega (arith, ints)) (omega (arith, ints)))
+
+module _ (hosts : List Host) (count : ℕ) (rs : List Resync) (writable : All IsWritable hosts) (each : All (IsWritableResync (length hosts) count) rs) where
+  block-lines : (place : ℕ) → All IsLine (resyncs_at hosts rs place)
+  block-lines place =
+      All-map IsLine (resync_fields hosts) (filter (λ r. r.place == place) rs) (All-filter (λ r. r.place == place) (λ r. IsLine (resync_fields hosts r)) rs (λ k d within. resync-line hosts count _ writable (each k d within)))
+
+  pub rows-lines : (place : ℕ) (rows : List Row) → All (IsOf hosts) rows → All IsLine (rows_from hosts rs place rows)
+  rows-lines place [] of = block-lines place
+  rows-lines place (r ∷ more) of =
+      All-append IsLine (resyncs_at hosts rs place) (row_fields hosts r ∷ rows_from hosts rs (suc place) more) (block-lines place)
+      (All-cons IsLine (row_fields hosts r) (rows_from hosts rs (suc place) more) (row-line hosts r writable (All-head (IsOf hosts) r more of)) (rows-lines (suc place) more (All-tail (IsOf hosts) r more of)))
+
+header-line : (v : Version) → IsLine (header v)
+header-line version.One = four-fields _ _ _ _ refl refl refl refl
+header-line version.Two = four-fields _ _ _ _ refl refl refl refl
+
+-- the text has no byte order mark
+header-first : (v : Version) (rest : List Record) → strip_bom (flat_map line_of (header v ∷ rest)) ≡ flat_map line_of (header v ∷ rest)
 unfolding strip_bom
-records-written log hosts rows =
-    records-lines (log_records log) (All-cons IsLine header _ (four-fields _ _ _ _ refl refl refl refl)
-    (All-append IsLine (map host_fields log.hosts) (map (row_fields log.hosts) log.rows)
+header-first version.One rest = refl
+header-first version.Two rest = refl
+
+-- the records of a log's text are those of the log
+pub records-written : (log : Logged) → All IsWritable log.hosts → All (IsWritableResync (length log.hosts) (length log.rows)) log.resyncs → All (IsOf log.hosts) log.rows → records default_config (strip_bom (log_text log)) ≡ log_records log
+records-written log hosts resyncs rows =
+    let rest = map host_fields log.hosts ++ map latency_fields (filter has_latency log.hosts) ++ rows_from log.hosts log.resyncs 0 log.rows in
+    ap (records default_config) (header-first (version_for log) rest)
+    ∙ records-lines (log_records log) (All-cons IsLine (header (version_for log)) rest (header-line (version_for log))
+    (All-append IsLine (map host_fields log.hosts ++ map latency_fields (filter has_latency log.hosts)) (rows_from log.hosts log.resyncs 0 log.rows)
+    (All-append IsLine (map host_fields log.hosts) (map latency_fields (filter has_latency log.hosts))
     (All-map IsLine host_fields log.hosts (λ k d within. host-line _ (hosts k d within)))
-    (All-map IsLine (row_fields log.hosts) log.rows (λ k d within. row-line log.hosts _ hosts (rows k d within)))))
+    (All-map IsLine latency_fields (filter has_latency log.hosts) (All-filter has_latency (λ h. IsLine (latency_fields h)) log.hosts (λ k d within. latency-line _ (hosts k d within)))))
+    (rows-lines log.hosts (length log.rows) log.resyncs hosts resyncs 0 log.rows rows)))

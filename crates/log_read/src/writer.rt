@@ -1,5 +1,5 @@
 ghost use Rattle.std.specs.Prelude.{◌≡◌, [], ◌∷◌, ◌++◌, ◌<◌, length, map, filter, All, IfOk, OnOk, Ok};
-ghost use Rattle.std.specs.List.{flat_map};
+ghost use Rattle.std.specs.List.{flat_map, list_any};
 ghost use Rattle.mt_model.specs.Log.{IsPlain, log_with};
 ghost use Rattle.log_read.specs.LogOf.{log_of};
 ghost use Rattle.log_read.specs.LogText.{TextsReadBack, act_word, has_latency, header, host_fields, latency_fields, line_of, log_text, resync_fields, resyncs_at, row_fields, rows_from, version_for};
@@ -175,10 +175,16 @@ fn push_rows(
     push_resyncs_at(alloc, text, hosts, resyncs, rows.len())
 }
 
+fn any_delays(hosts: &[Host]) -> bool
+    ensures { result ≡ list_any has_latency hosts.now }
+{
+    hosts.iter().any(delays)
+}
+
 fn version_of(hosts: &[Host], resyncs: &[Resync]) -> Version
     ensures { result ≡ version_for (log_with hosts.now [] resyncs.now) }
 {
-    if resyncs.len() == 0 && !hosts.iter().any(delays) {
+    if resyncs.len() == 0 && !any_delays(hosts) {
         Version::One
     } else {
         Version::Two
