@@ -44,8 +44,8 @@ module _ (v : Version) (before : List Host) (h : Host) (after : List Host) (host
       let others = AllPairs-middle (λ (g k : Host). k.name ≡ g.name → ⊥) before h after hosts.distinct in
       list_any_none (λ g. bytes_eq g.name h.name) (map bare before)
       (λ k d within.
-          let below : k < length before = rw length-map at within in
-          rw (get_or-map bare before k d d below) (false_from_ne_true _ (λ same. others k d below (sym ((bytes_eq-Decides _ h.name).0 same)))))
+      let below : k < length before = rw length-map at within in
+      rw (get_or-map bare before k d d below) (false_from_ne_true _ (λ same. others k d below (sym ((bytes_eq-Decides _ h.name).0 same)))))
 
   -- so its record has no fault
   host-clear : (place : ℕ) → fault_of v place (hosts_listing before) (host_fields h) ≡ None

@@ -1,8 +1,7 @@
 -- The records of the latencies of a log's text pass each test, and give each host its delays back.
-use Rattle.std.proofs.Common.{◌≡◌, ◌∙◌, sym, ap, refl, subst, arith, ℕ, zero, suc, ◌+◌, ◌<◌, ◌≤◌, ◌^◌, ◌==◌, Bool, true, false, cond, List, [], ◌∷◌, ◌++◌, ◌-◌, length, length-append, get_or, map, Option, Some, None, append_assoc}
-use Rattle.std.specs.Prelude.{All, IfSome, bytes_eq, codes, filter, find, is_none, is_some, nat_le, nat_lt, not, option_and_then, option_map, option_to_list, ◌||◌, if◌then◌else◌}
+use Rattle.std.proofs.Common.{◌≡◌, ◌∙◌, sym, ap, refl, arith, ℕ, suc, ◌+◌, ◌≤◌, ◌==◌, Bool, true, false, cond, List, [], ◌∷◌, ◌++◌, ◌-◌, length, length-append, get_or, map, Option, Some, None, append_assoc}
+use Rattle.std.specs.Prelude.{All, IfSome, bytes_eq, codes, filter, find, is_none, is_some, nat_lt, not, option_to_list, ◌||◌}
 use Rattle.std.specs.Option.{option_map_or, option_or}
-use Rattle.std.specs.List.{list_any}
 use Rattle.std.specs.Fmt.{decimal}
 use Rattle.std.proofs.lemmas.Bool.{eqb-true, false_from_ne_true, le-leb, le-ltb}
 use Rattle.std.proofs.lemmas.List.{append-nil, get_or_at, map-append}
@@ -12,17 +11,17 @@ use Rattle.std.proofs.lemmas.List.Folds.{find-append, list_any_none}
 use Rattle.std.proofs.lemmas.Slice.Eq.{bytes_eq-Decides}
 use Rattle.mt_model.specs.declared.log.Host.{Host}
 use Rattle.mt_model.specs.declared.limits.TheConstants.{MAX_DELAY, MIN_DELAY}
-use Rattle.mt_model.specs.Log.{HasDelays, Logged}
+use Rattle.mt_model.specs.Log.{HasDelays}
 use Rattle.decimal.proofs.Printed.{number-below-printed}
 use Rattle.log_read.specs.declared.latency.Latency.{Latency}
 use Rattle.log_read.specs.declared.version.Version.TheVariants as version
 use Rattle.log_read.specs.LogOf.{fault_of, is_delayed, is_empty}
-use Rattle.log_read.specs.LogText.{has_latency, host_name, latency_fields, most_text}
+use Rattle.log_read.specs.LogText.{has_latency, latency_fields, most_text}
 use Rattle.log_read.specs.Reading.{with_record}
 use Rattle.log_read.specs.Records.{Listing, delay_in, delayed, delayed_by, greatest_in, latency_in, latency_of, latency_with, least_in, place_of_host, with_delays}
 use Rattle.mt_model.proofs.Clocks.{find-none}
 use Rattle.log_read.proofs.ClearHosts.{AreHosts, four_clear}
-use Rattle.log_read.proofs.Middles.{All-front, All-middle, AllPairs-middle}
+use Rattle.log_read.proofs.Middles.{All-middle, AllPairs-middle}
 use Rattle.log_read.proofs.Runs.{Runs, runs-cons, runs-none}
 use Rattle.log_read.proofs.WrittenRecords.{AreDistinct, IsWritable, bare, host_name-at, place-bare}
 
@@ -140,9 +139,11 @@ same-least h none =
     neither : (a b : Bool) → (a || b) ≡ false → (a ≡ false) × (b ≡ false)
     neither true b e = absurd (cc)
     neither false b e = (refl, e)
+
     not-false : (b : Bool) → not b ≡ false → b ≡ true
     not-false true e = refl
     not-false false e = absurd (cc)
+
     no-most : (m : Option ℕ) → is_some m ≡ false → m ≡ None
     no-most None e = refl
     no-most (Some n) e = absurd (cc)

@@ -1,7 +1,6 @@
 -- The records of the resyncs of a log's text pass each test, and give the resyncs back in order.
-use Rattle.std.proofs.Common.{◌≡◌, ◌∙◌, sym, ap, refl, arith, ℕ, suc, ◌+◌, ◌<◌, ◌≤◌, ◌==◌, ◌⊎◌, inl, inr, Bool, true, false, cond, List, [], ◌∷◌, ◌++◌, length, map, Option, Some, None, append_assoc, ◌≤ℤ◌}
-use Rattle.std.specs.Prelude.{All, AllPairs, filter, is_none, nat_lt, option_to_list, ◌||◌}
-use Rattle.std.specs.Fmt.{signed_decimal}
+use Rattle.std.proofs.Common.{◌≡◌, ◌∙◌, sym, ap, refl, arith, ℕ, suc, ◌<◌, ◌≤◌, ◌==◌, ◌⊎◌, inl, inr, Bool, true, false, cond, List, [], ◌∷◌, ◌++◌, length, map, Some, None, append_assoc, ◌≤ℤ◌}
+use Rattle.std.specs.Prelude.{All, AllPairs, filter, nat_lt, option_to_list}
 use Rattle.std.proofs.lemmas.Bool.{cases_eq, eq-eqb, eqb-true, lt-ltb, le-ltb, ltb-false, ltb-true, ne_eqb}
 use Rattle.std.proofs.lemmas.Int.{ints}
 use Rattle.std.proofs.lemmas.List.{append-nil}
@@ -11,15 +10,13 @@ use Rattle.mt_model.specs.declared.log.Row.{Row}
 use Rattle.mt_model.specs.declared.resync.Resync.{Resync}
 use Rattle.mt_model.specs.declared.limits.TheConstants.{MAX_GAP, MAX_WRITTEN_SKEW}
 use Rattle.mt_model.specs.Log.{IsResync}
-use Rattle.decimal.specs.Numbers.{number_up_to}
 use Rattle.decimal.proofs.Printed.{number-printed}
-use Rattle.log_read.specs.declared.fault.LogFault.{LogFault}
 use Rattle.log_read.specs.declared.latency.Latency.{Latency}
 use Rattle.log_read.specs.declared.version.Version.TheVariants as version
 use Rattle.log_read.specs.LogOf.{fault_of}
 use Rattle.log_read.specs.LogText.{resync_fields, resyncs_at}
 use Rattle.log_read.specs.Reading.{with_record}
-use Rattle.log_read.specs.Records.{Listing, place_of_host, resync_in, resync_with}
+use Rattle.log_read.specs.Records.{Listing, resync_in}
 use Rattle.log_read.proofs.Runs.{Runs, runs-cons, runs-none}
 use Rattle.log_read.proofs.WrittenRecords.{AreDistinct, bare, place-bare}
 
@@ -109,23 +106,23 @@ front-more [] n order = refl
 front-more (x ∷ xs) n order =
     let rest = front-more xs n (λ i j d before within. order (suc i) (suc j) d (omega arith) (omega (arith, within))) in
     elim (compare3 x.place n) [
-  | inl less ↦
-      let a = lt-ltb x.place n less in
-      let b = ne_eqb x.place n (λ same. absurd (omega (arith, same, less))) in
-      let c = lt-ltb x.place (suc n) (omega (arith, less)) in
-      rw (a, b, c) (ap (λ ys. x ∷ ys) rest)
-  | inr (inl same) ↦
-      let a = le-ltb x.place n (omega (arith, same)) in
-      let b = eq-eqb x.place n same in
-      let c = lt-ltb x.place (suc n) (omega (arith, same)) in
-      let none : resyncs_before xs n ≡ [] = filter-none (λ r. nat_lt r.place n) xs (λ k d within. let later = order 0 (suc k) d (omega arith) (omega (arith, within)) in le-ltb _ n (omega (arith, same, later))) in
-      rw (a, b, c, none) (ap (λ ys. x ∷ ys) (rw none at rest))
-  | inr (inr more) ↦
-      let a = le-ltb x.place n (omega (arith, more)) in
-      let b = ne_eqb x.place n (λ same. absurd (omega (arith, same, more))) in
-      let c = le-ltb x.place (suc n) (omega (arith, more)) in
-      rw (a, b, c) rest
-]
+      | inl less ↦
+          let a = lt-ltb x.place n less in
+          let b = ne_eqb x.place n (λ same. absurd (omega (arith, same, less))) in
+          let c = lt-ltb x.place (suc n) (omega (arith, less)) in
+          rw (a, b, c) (ap (λ ys. x ∷ ys) rest)
+      | inr (inl same) ↦
+          let a = le-ltb x.place n (omega (arith, same)) in
+          let b = eq-eqb x.place n same in
+          let c = lt-ltb x.place (suc n) (omega (arith, same)) in
+          let none : resyncs_before xs n ≡ [] = filter-none (λ r. nat_lt r.place n) xs (λ k d within. let later = order 0 (suc k) d (omega arith) (omega (arith, within)) in le-ltb _ n (omega (arith, same, later))) in
+          rw (a, b, c, none) (ap (λ ys. x ∷ ys) (rw none at rest))
+      | inr (inr more) ↦
+          let a = le-ltb x.place n (omega (arith, more)) in
+          let b = ne_eqb x.place n (λ same. absurd (omega (arith, same, more))) in
+          let c = le-ltb x.place (suc n) (omega (arith, more)) in
+          rw (a, b, c) rest
+    ]
 
 -- none is before place 0, and all are before the end
 pub before-none : (rs : List Resync) → resyncs_before rs 0 ≡ []

@@ -1,6 +1,6 @@
 -- The log of a file is valid: each record that has no fault keeps what was listed the beginning of a valid log.
-use Rattle.std.proofs.Common.{◌≡◌, subst, refl, arith, ℕ, ◌+◌, ◌≤◌, Bool, true, false, List, [], ◌∷◌, ◌++◌, append_assoc, length, Option, Some, None, Ok, Err, lit≤}
-use Rattle.std.specs.Prelude.{Result, if◌then◌else◌, nat_le, option_map, option_to_list, position}
+use Rattle.std.proofs.Common.{◌≡◌, subst, refl, arith, ℕ, ◌+◌, ◌≤◌, Bool, true, false, List, [], ◌∷◌, ◌++◌, append_assoc, length, Option, Some, None, Ok, lit≤}
+use Rattle.std.specs.Prelude.{if◌then◌else◌, nat_le, option_map, option_to_list, position}
 use Rattle.std.proofs.lemmas.Bool.Decides.{nat_tests}
 use Rattle.std.proofs.lemmas.List.{append-nil}
 use Rattle.std.proofs.lemmas.List.Elements.{All-nil}

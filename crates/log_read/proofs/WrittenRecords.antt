@@ -1,6 +1,6 @@
 -- The records of a log's text list its hosts and rows.
 use Rattle.std.proofs.Common.{◌≡◌, ◌∙◌, sym, ap, refl, arith, ℕ, zero, suc, ◌<◌, true, List, [], ◌∷◌, ◌++◌, length, get_or, map, Some, None, ◌≤ℤ◌}
-use Rattle.std.specs.Prelude.{All, AllPairs, bytes_eq}
+use Rattle.std.specs.Prelude.{AllPairs, bytes_eq}
 use Rattle.std.proofs.lemmas.Bool.{false_from_ne_true}
 use Rattle.std.proofs.lemmas.Int.{ints}
 use Rattle.std.proofs.lemmas.List.{get_or-map, length-map}

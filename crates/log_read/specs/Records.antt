@@ -1,6 +1,5 @@
 -- The records of a log file, each a list of fields, and what one lists.
 use Rattle.std.specs.Prelude.{ℕ, suc, ◌+◌, nat_le, List, [], ◌∷◌, ◌++◌, length, map, find, Option, Some, None, option_map, option_and_then, option_to_list, if◌then◌else◌, bytes_eq, codes, position}
-use Rattle.std.specs.Option.{option_map_or}
 use Rattle.std.specs.List.{filter_map}
 use Rattle.mt_model.specs.declared.log.Host.{Host}
 use Rattle.mt_model.specs.declared.log.Row.{Row}

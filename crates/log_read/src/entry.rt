@@ -167,9 +167,7 @@ pub fn resync_entry(
 fn has_latency(latencies: &[Latency], host: &[u8]) -> bool
     ensures { result ≡ is_delayed latencies.now host.now }
 {
-    latencies
-        .iter()
-        .any(|latency| latency.host.bytes() == host)
+    latencies.iter().any(|latency| latency.host.bytes() == host)
 }
 
 /// The latency of a latency record's fields, after hosts and latencies that stand before it.
