@@ -12,7 +12,7 @@ use Rattle.mt_model.specs.declared.limits.TheConstants.{MAX_LOCAL}
 use Rattle.mt_model.specs.declared.log.Act.TheVariants.{Set, Clear}
 use Rattle.mt_model.specs.declared.log.Host.{Host}
 use Rattle.mt_model.specs.declared.log.Row.{Row}
-use Rattle.mt_model.specs.Log.{AreRows, Logged, IsHost, IsRow, IsSent, IsWithin, SendSame, name_in, received_by, sent_by}
+use Rattle.mt_model.specs.Log.{AreRows, IsHost, IsRow, IsSent, IsWithin, SendSame, name_in, plain_log, received_by, sent_by}
 use Rattle.mt_model.specs.Name.{is_digit, is_letter, is_name, is_name_byte}
 use Rattle.demo_log.specs.DemoLog.{SeedsHaveLogs, demo_act, demo_host, demo_row, draw_for, log_of_seed, numbered}
 
@@ -113,6 +113,7 @@ host-valid k small = record {
   skew_high = omega (arith, ints);
   gap_low = omega (arith, ints);
   gap_high = omega (arith, ints);
+  delays = record { least_low = omega arith; least_high = omega arith; most_low = tt; most_high = tt };
 }
 
 module _ (seed : ℕ) where
@@ -154,12 +155,9 @@ seeds-have-logs seed = record {
   names = made-pairs demo_host 6 (λ g h. h.name ≡ g.name → ⊥) (λ i j order small same. omega (arith, numbered-one 104 j i (omega arith) (omega arith) same));
   hosts = made-each demo_host 6 IsHost host-valid;
   rows = rows-valid seed;
+  resyncs = record { each = λ k d within. absurd (omega (arith, within)); in_order = λ i j d order within. absurd (omega (arith, within)) };
   extras = λ k d within. absurd (omega (arith, within));
 }
 
--- hosts and rows without extra bounds
-abbrev pub logged-of : List Host → List Row → Logged
-logged-of hosts rows = record { hosts = hosts; rows = rows; extras = [] }
-
-pub built-log : (seed : ℕ) (hosts : List Host) (rows : List Row) → hosts ≡ map demo_host (range_with_len 0 6) → rows ≡ map (demo_row seed) (range_with_len 0 24) → logged-of hosts rows ≡ log_of_seed seed
+pub built-log : (seed : ℕ) (hosts : List Host) (rows : List Row) → hosts ≡ map demo_host (range_with_len 0 6) → rows ≡ map (demo_row seed) (range_with_len 0 24) → plain_log hosts rows ≡ log_of_seed seed
 built-log seed hosts rows same_hosts same_rows = rw (same_hosts, same_rows) refl

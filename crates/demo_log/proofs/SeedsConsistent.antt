@@ -1,6 +1,6 @@
 -- That the log of each seed admits its local times.
 use Rattle.std.proofs.Common.{◌≡◌, ◌∙◌, sym, ap, refl, ℕ, ◌+◌, ◌*◌, ◌/◌, ◌%◌, ◌<◌, ◌≤◌, true, false, List, map, length, get_or, Option, Some, None, pos, ◌+ℤ◌, ◌≤ℤ◌, arith}
-use Rattle.std.specs.Prelude.{bytes_eq, option_and_then, position, slice_get}
+use Rattle.std.specs.Prelude.{bytes_eq, option_and_then, option_map, position, slice_get}
 use Rattle.std.specs.List.{range_with_len}
 use Rattle.std.specs.Option.{option_map_or}
 use Rattle.std.proofs.lemmas.Int.{ints}
@@ -11,7 +11,7 @@ use Rattle.std.proofs.lemmas.Slice.Eq.{bytes_eq-Decides}
 use Rattle.mt_model.specs.declared.log.Host.{Host}
 use Rattle.mt_model.specs.declared.log.Row.{Row}
 use Rattle.mt_model.specs.Log.{received_by, sent_by}
-use Rattle.mt_model.specs.Timing.{gap_of, host_of, is_send_of, local_of, previous_row, received_in, send_of, skew_of, time_of}
+use Rattle.mt_model.specs.Timing.{gap_of, host_of, is_send_of, least_delay, local_of, most_delay, previous_row, received_in, send_of, skew_of, time_of}
 use Rattle.mt_model.proofs.PreviousRows.{is_last}
 use Rattle.demo_log.specs.DemoLog.{SeedsAreConsistent, demo_act, demo_host, demo_row, draw_for, local_times, log_of_seed}
 use Rattle.demo_log.proofs.SeedLogs.{numbered-one, received-act, sent-act}
@@ -54,6 +54,16 @@ module _ (seed : ℕ) where
       ap (λ h. option_map_or (λ (x : Host). x.gap) (slice_get (map demo_host (range_with_len 0 6)) h) (pos 0)) (host-is r small)
       ∙ ap (λ o. option_map_or (λ (x : Host). x.gap) o (pos 0)) (made-at demo_host 6 (r % 6) (omega arith))
 
+  delay-is : (r : ℕ) → r < 24 → least_delay (log_of_seed seed) r ≡ pos 1
+  delay-is r small =
+      ap (λ h. option_map_or (λ (x : Host). pos x.least) (slice_get (map demo_host (range_with_len 0 6)) h) (pos 1)) (host-is r small)
+      ∙ ap (λ o. option_map_or (λ (x : Host). pos x.least) o (pos 1)) (made-at demo_host 6 (r % 6) (omega arith))
+
+  unlimited : (r : ℕ) → r < 24 → most_delay (log_of_seed seed) r ≡ None
+  unlimited r small =
+      ap (λ h. option_and_then (λ (x : Host). option_map pos x.most) (slice_get (map demo_host (range_with_len 0 6)) h)) (host-is r small)
+      ∙ ap (λ o. option_and_then (λ (x : Host). option_map pos x.most) o) (made-at demo_host 6 (r % 6) (omega arith))
+
   time-is : (r : ℕ) → r < 24 → time_of (local_times seed) r ≡ pos (at r)
   time-is r small = get_or-map-range_with_len (λ k. pos (at k)) 0 24 r r (pos 0) small (omega arith)
 
@@ -84,10 +94,10 @@ module _ (seed : ℕ) where
       let rounds = numbered-one 109 (s / 6) (r / 6) (omega arith) (omega arith) (sym as_sent ∙ as_heard) in
       omega (arith, sender, receiver, rounds)
 
-  arrives : (s r : ℕ) → r < 24 → send_of (log_of_seed seed) r ≡ Some s → (time_of (local_times seed) s +ℤ pos 1) ≤ℤ time_of (local_times seed) r
+  arrives : (s r : ℕ) → r < 24 → send_of (log_of_seed seed) r ≡ Some s → (time_of (local_times seed) s +ℤ least_delay (log_of_seed seed) r) ≤ℤ time_of (local_times seed) r
   arrives s r small is =
       let order = sent-earlier s r small is in
-      rw (time-is s (omega (arith, order)), time-is r small) (later s r order)
+      rw (time-is s (omega (arith, order)), delay-is r small, time-is r small) (later s r order)
 
 pub seeds-consistent : SeedsAreConsistent
 seeds-consistent seed = record {
@@ -96,5 +106,6 @@ seeds-consistent seed = record {
   high = λ e small. rw (local-is seed e small, skew-is seed e small, time-is seed e small) (omega (arith, ints));
   rise = rises seed;
   message = arrives seed;
+  late = λ s r most small sent limited. let none = unlimited seed r small in absurd (cc);
   extra = λ k x is. absurd (cc);
 }

@@ -1,12 +1,13 @@
 -- The log of a seed: six hosts and 24 rows, whose local times are drawn.
-use Rattle.std.specs.Prelude.{ℕ, zero, suc, ◌+◌, ◌*◌, ◌^◌, ◌/◌, ◌%◌, ◌==◌, if◌then◌else◌, List, [], ◌++◌, map, codes, ℤ, pos}
+use Rattle.std.specs.Prelude.{ℕ, zero, suc, ◌+◌, ◌*◌, ◌^◌, ◌/◌, ◌%◌, ◌==◌, if◌then◌else◌, List, ◌++◌, map, codes, None, ℤ, pos}
 use Rattle.std.specs.List.{range_with_len}
 use Rattle.std.specs.Fmt.{decimal}
 use Rattle.mt_model.specs.declared.log.Act.{Act}
 use Rattle.mt_model.specs.declared.log.Act.TheVariants.{Set, Clear, Send, Recv, Note}
 use Rattle.mt_model.specs.declared.log.Host.{Host}
 use Rattle.mt_model.specs.declared.log.Row.{Row}
-use Rattle.mt_model.specs.Log.{Logged, IsLog}
+use Rattle.mt_model.specs.declared.limits.TheConstants.{MIN_DELAY}
+use Rattle.mt_model.specs.Log.{Logged, IsLog, plain_log}
 use Rattle.mt_model.specs.Timing.{Admissible}
 
 -- the state after this one: a linear congruence modulo 2^64
@@ -30,9 +31,9 @@ draw_for seed r = drawn (state_after (suc r) seed)
 abbrev pub numbered : List ℕ → ℕ → List ℕ
 numbered letter n = letter ++ decimal n
 
--- the hosts `h0`, `h1` and so on have skew 3 and gap 1
+-- the hosts `h0`, `h1` and so on have skew 3 and gap 1, and no latency
 abbrev pub demo_host : ℕ → Host
-demo_host k = record { name = numbered (codes "h") k; skew = pos 3; gap = pos 1 }
+demo_host k = record { name = numbered (codes "h") k; skew = pos 3; gap = pos 1; least = MIN_DELAY; most = None }
 
 -- a proposition is set in the even rounds and cleared in the odd ones
 abbrev pub switched : List ℕ → ℕ → Act
@@ -58,7 +59,7 @@ demo_row seed r = row_with r (draw_for seed r)
 
 -- the log of a seed
 abbrev pub log_of_seed : ℕ → Logged
-log_of_seed seed = record { hosts = map demo_host (range_with_len 0 6); rows = map (demo_row seed) (range_with_len 0 24); extras = [] }
+log_of_seed seed = plain_log (map demo_host (range_with_len 0 6)) (map (demo_row seed) (range_with_len 0 24))
 
 -- each seed has a valid log
 abbrev pub SeedsHaveLogs : Type 0

@@ -6,7 +6,7 @@ ghost use Rattle.std.specs.Fmt.{decimal};
 ghost use Rattle.mt_model.specs.Name.{is_name};
 ghost use Rattle.demo_log.specs.DemoLog.{demo_act as demo_act_of, demo_host as demo_host_of, demo_row as demo_row_of, drawn as drawn_at, log_of_seed, next_state as state_after_this, numbered as numbered_name, row_with, state_after, switched as switched_in};
 
-use mt_model::{Act, Host, HostId, HostList, Log, Name, Row, RowList};
+use mt_model::{Act, Host, HostId, HostList, Log, MIN_DELAY, Name, Row, RowList};
 use std::alloc::{AllocError, Global};
 
 /// The number of hosts, which take turns.
@@ -60,6 +60,8 @@ fn demo_host(alloc: Global, place: u32) -> Result<Host, AllocError>
         name: numbered(alloc, "h", place)?,
         skew: 3,
         gap: 1,
+        least: MIN_DELAY,
+        most: None,
     })
 }
 
