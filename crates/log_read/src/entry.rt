@@ -147,7 +147,7 @@ pub fn resync_entry(
     requires rows { rows ≤ MAX_ROWS }
     ensures entry { Enters result (resync_fault place hosts.now host.now skew.now gap.now) (resync_with hosts.now rows host.now skew.now gap.now) }
 {
-    let Some(host) = place_of(hosts, host) else {
+    let Some(number) = place_of(hosts, host) else {
         return Err(LogFault::UnknownHost { place });
     };
     let Some(skew) = unsigned_number(skew, MAX_WRITTEN_SKEW) else {
@@ -158,7 +158,7 @@ pub fn resync_entry(
     };
     Ok(Resync {
         place: rows as u32,
-        host: HostId::new(host as u32),
+        host: HostId::new(number as u32),
         skew,
         gap,
     })
