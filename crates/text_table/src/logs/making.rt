@@ -1,6 +1,6 @@
 //! How a log comes about:
 //!
-//! - `build`: of the hosts and the rows, which are none from then on.
+//! - `build`: of the hosts and the rows, which are none from then on. `build_with`: of these and the resyncs.
 //! - `read`: of the text and what stands here.
 //! - `records`: of the records, which are none from then on.
 //! - `extra`: the last log with an extra bound: an event, another one, and the most that the first may come after it.
@@ -9,7 +9,7 @@
 use crate::logs::parts::Parts;
 use crate::telling::{name_text, push_part, tell};
 use log_read::{LogFault, RecordList, read_log, read_records};
-use mt_model::{Act, Extra, Host, Log, Name, Row};
+use mt_model::{Act, Extra, Host, Log, MIN_DELAY, Name, Resync, Row};
 use std::alloc::Global;
 use table_case::{extra_of, number_of};
 
@@ -23,9 +23,27 @@ fn act_words(act: &Act) -> (&'static str, &Name) {
     }
 }
 
+// Adds the delays of a host, where they are others than those of a host without a latency.
+fn push_delays(line: &mut String, host: &Host) -> Option<()> {
+    match host.most {
+        Some(most) => write!(line, " {} {most}", host.least).ok(),
+        None if host.least == MIN_DELAY => Some(()),
+        None => write!(line, " {} inf", host.least).ok(),
+    }
+}
+
 fn push_host(line: &mut String, host: &Host) -> Option<()> {
     let name = name_text(&host.name)?;
-    push_part(line, format_args!("host {name} {} {}", host.skew, host.gap))
+    push_part(line, format_args!("host {name} {} {}", host.skew, host.gap))?;
+    push_delays(line, host)
+}
+
+fn push_resync(line: &mut String, resync: &Resync) -> Option<()> {
+    let (place, host) = (resync.place, resync.host.get());
+    push_part(
+        line,
+        format_args!("resync {place} {host} {} {}", resync.skew, resync.gap),
+    )
 }
 
 fn push_row(line: &mut String, row: &Row) -> Option<()> {
@@ -54,6 +72,13 @@ fn push_rows(line: &mut String, rows: &[Row]) -> Option<()> {
     Some(())
 }
 
+fn push_resyncs(line: &mut String, resyncs: &[Resync]) -> Option<()> {
+    for resync in resyncs {
+        push_resync(line, resync)?;
+    }
+    Some(())
+}
+
 fn push_extras(line: &mut String, extras: &[Extra]) -> Option<()> {
     for extra in extras {
         push_extra(line, extra)?;
@@ -61,11 +86,12 @@ fn push_extras(line: &mut String, extras: &[Extra]) -> Option<()> {
     Some(())
 }
 
-/// Adds a log: its hosts, its rows and its extra bounds.
+/// Adds a log: its hosts, its rows, its resyncs and its extra bounds.
 pub fn tell_log(alloc: Global, log: &Log, out: &mut Vec<u8>) -> Option<()> {
     let mut line = String::new(alloc);
     push_hosts(&mut line, log.hosts())?;
     push_rows(&mut line, log.rows())?;
+    push_resyncs(&mut line, log.resyncs())?;
     push_extras(&mut line, log.extras())?;
     tell(alloc, out, line)
 }
@@ -149,6 +175,7 @@ pub fn built(
 ) -> Option<Log> {
     match word {
         "build" => parts.build(alloc),
+        "build_with" => parts.build_with(alloc),
         "extra" => with_extra(log?, &extra_of(rest)?),
         "widen" => widened(log?, number_of(rest)?),
         _ => None,

@@ -1,31 +1,67 @@
 //! The parts of which logs are made:
 //!
-//! - `host`: a host by its name, skew and gap. `set`, `clear`, `send`, `recv`, `note`: a row by the place of its
-//!   host, its local time and a name.
+//! - `host`: a host by its name, skew and gap, and maybe its least and greatest delay. `set`, `clear`, `send`, `recv`,
+//!   `note`: a row by the place of its host, its local time and a name. `resync`: a resync by the rows before it, the
+//!   place of its host, its skew and gap.
 //! - `line`: a line of a text; `empty`: the text has no line.
 //! - `record`: a record by its fields, with `,` between two.
 
 use crate::telling::{decoded, name_of, push_decoded};
 use log_read::{Fields, RecordList};
-use mt_model::{Act, Host, HostId, HostList, Log, Row, RowList};
+use mt_model::{Act, Host, HostId, HostList, Log, Resync, ResyncList, Row, RowList};
 use std::alloc::Global;
 use std::mem::replace;
 use table_case::{number_of, split_word};
 
-/// Hosts and rows, a text, and records.
+/// Hosts, rows and resyncs, a text, and records.
 #[derive(Drop)]
 pub struct Parts {
     hosts: HostList,
     rows: RowList,
+    resyncs: ResyncList,
     text: Vec<u8>,
     records: RecordList,
 }
 
+// The least delay, which is 1 where there is no text.
+fn least_of(text: &str) -> Option<u64> {
+    if text.is_empty() {
+        Some(1)
+    } else {
+        number_of(text)
+    }
+}
+
+// The greatest delay, if any.
+fn most_of(text: &str) -> Option<Option<u64>> {
+    if text.is_empty() || text == "inf" {
+        Some(None)
+    } else {
+        Some(Some(number_of(text)?))
+    }
+}
+
 fn host_of(alloc: Global, text: &str) -> Option<Host> {
     let (name, rest) = split_word(text);
-    let (skew, gap) = split_word(rest);
+    let (skew, rest) = split_word(rest);
+    let (gap, delays) = split_word(rest);
+    let (least, most) = split_word(delays);
     Some(Host {
         name: name_of(alloc, name.as_bytes())?,
+        skew: number_of(skew)?,
+        gap: number_of(gap)?,
+        least: least_of(least)?,
+        most: most_of(most)?,
+    })
+}
+
+fn resync_of(text: &str) -> Option<Resync> {
+    let (place, rest) = split_word(text);
+    let (host, rest) = split_word(rest);
+    let (skew, gap) = split_word(rest);
+    Some(Resync {
+        place: number_of(place)?,
+        host: HostId::new(number_of(host)?),
         skew: number_of(skew)?,
         gap: number_of(gap)?,
     })
@@ -88,6 +124,7 @@ impl Parts {
         Parts {
             hosts: HostList::new(alloc),
             rows: RowList::new(alloc),
+            resyncs: ResyncList::new(alloc),
             text: Vec::new(alloc),
             records: RecordList::new(alloc),
         }
@@ -97,6 +134,7 @@ impl Parts {
     pub fn take(&mut self, alloc: Global, word: &str, rest: &str) -> Option<()> {
         match word {
             "host" => push_host(alloc, &mut self.hosts, rest),
+            "resync" => self.resyncs.push(resync_of(rest)?).ok(),
             "line" => push_text(&mut self.text, rest),
             "record" => push_record(alloc, &mut self.records, rest),
             "empty" => {
@@ -112,6 +150,14 @@ impl Parts {
         let hosts = replace(&mut self.hosts, HostList::new(alloc));
         let rows = replace(&mut self.rows, RowList::new(alloc));
         Log::build(hosts, rows)
+    }
+
+    /// The log of the hosts, the rows and the resyncs, which are none from then on.
+    pub fn build_with(&mut self, alloc: Global) -> Option<Log> {
+        let hosts = replace(&mut self.hosts, HostList::new(alloc));
+        let rows = replace(&mut self.rows, RowList::new(alloc));
+        let resyncs = replace(&mut self.resyncs, ResyncList::new(alloc));
+        Log::build_with(hosts, rows, resyncs)
     }
 
     /// The text and another one.

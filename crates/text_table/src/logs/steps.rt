@@ -28,6 +28,7 @@ pub fn step_of(text: &str) -> Option<Step> {
         "high" => Some(Step::High(number)),
         "rise" => Some(Step::Rise(number)),
         "message" => Some(Step::Message(number)),
+        "late" => Some(Step::Late(number)),
         "extra" => Some(Step::Extra(number)),
         _ => None,
     }
@@ -40,6 +41,7 @@ pub fn bound_of(step: Step) -> Option<Bound> {
         Step::High(e) => Some(Bound::High(EventId::new(e))),
         Step::Rise(f) => Some(Bound::Rise(EventId::new(f))),
         Step::Message(r) => Some(Bound::Message(EventId::new(r))),
+        Step::Late(r) => Some(Bound::Late(EventId::new(r))),
         Step::Extra(k) => Some(Bound::Extra(k)),
         Step::Order { .. } => None,
     }
