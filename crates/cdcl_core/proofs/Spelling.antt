@@ -81,6 +81,7 @@ module _ (log : Logged) (valid : IsLog log) where
   step_spelled (step.High e) x is = row_number e (passed (is_row log e) _ x is)
   step_spelled (step.Rise f) x is = row_number f (passed (is_row log f) _ x is)
   step_spelled (step.Message r) x is = let (s, sent) = mapped _ (send_of log r) x is in received_number r s sent
+  step_spelled (step.Late r) x is = let (s, sent) = chained _ (send_of log r) x is in received_number r s sent
   step_spelled (step.Extra k) x is =
       let (extra, there) = mapped _ (slice_get log.extras k) x is in
       let few = valid.few_extras in

@@ -6,7 +6,7 @@ use Rattle.std.proofs.lemmas.List.Elements.{All-nil, All-cons, All-head, All-tai
 use Rattle.std.proofs.Math.Seq.{take-length, take-suc}
 use Rattle.std.proofs.lemmas.List.{length-take-le}
 use Rattle.mt_model.specs.declared.step.Step.{Step}
-use Rattle.mt_model.specs.declared.step.Step.TheVariants.{Low, High, Rise, Message, Extra, Order}
+use Rattle.mt_model.specs.declared.step.Step.TheVariants.{Low, High, Rise, Message, Late, Extra, Order}
 use Rattle.mt_model.specs.Laws.{IsBound}
 use Rattle.mt_model.specs.Log.{Logged}
 use Rattle.mt_model.specs.Walks.{Conflict, Edge, HasEdges, IsClosedWalk, LeadsTo, edge_of, sum_of_bounds}
@@ -291,6 +291,7 @@ module _ (log : Logged) where
   bound_has (High e) x is = (tt, is)
   bound_has (Rise f) x is = (tt, is)
   bound_has (Message r) x is = (tt, is)
+  bound_has (Late r) x is = (tt, is)
   bound_has (Extra k) x is = (tt, is)
   bound_has (Order e f c) x is = absurd (cc)
 
@@ -299,6 +300,7 @@ module _ (log : Logged) where
   bound_same (High e) is = refl
   bound_same (Rise f) is = refl
   bound_same (Message r) is = refl
+  bound_same (Late r) is = refl
   bound_same (Extra k) is = refl
   bound_same (Order e f c) is = absurd is
 
@@ -307,6 +309,7 @@ module _ (log : Logged) where
   unbound_none (High e) not = absurd (not tt)
   unbound_none (Rise f) not = absurd (not tt)
   unbound_none (Message r) not = absurd (not tt)
+  unbound_none (Late r) not = absurd (not tt)
   unbound_none (Extra k) not = absurd (not tt)
   unbound_none (Order e f c) not = refl
 

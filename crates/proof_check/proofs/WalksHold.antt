@@ -6,7 +6,7 @@ use Rattle.std.proofs.lemmas.Int.{ints}
 use Rattle.std.proofs.lemmas.Bool.{cases_Bool}
 use Rattle.std.proofs.lemmas.Option.{cond_some}
 use Rattle.mt_model.specs.declared.step.Step.{Step}
-use Rattle.mt_model.specs.declared.step.Step.TheVariants.{Low, High, Rise, Message, Extra, Order}
+use Rattle.mt_model.specs.declared.step.Step.TheVariants.{Low, High, Rise, Message, Late, Extra, Order}
 use Rattle.mt_model.specs.Form.{Form}
 use Rattle.mt_model.specs.Log.{Logged}
 use Rattle.mt_model.specs.Timing.{Admissible, time_of}
@@ -57,6 +57,7 @@ module _ (log : Logged) (t : List ℤ) (trees : List Form) where
   step_holds ok (High e) x is fails = edge_holds log t ok (High e) x tt is
   step_holds ok (Rise e) x is fails = edge_holds log t ok (Rise e) x tt is
   step_holds ok (Message e) x is fails = edge_holds log t ok (Message e) x tt is
+  step_holds ok (Late e) x is fails = edge_holds log t ok (Late e) x tt is
   step_holds ok (Extra k) x is fails = edge_holds log t ok (Extra k) x tt is
   step_holds ok (Order e f c) x is fails =
       let parts = cond_some (is_order log e f c) _ x is in

@@ -66,6 +66,7 @@ fn bound_of(step: Step) -> Option<Bound>
         Step::High(e) => Some(Bound::High(EventId::new(e))),
         Step::Rise(f) => Some(Bound::Rise(EventId::new(f))),
         Step::Message(r) => Some(Bound::Message(EventId::new(r))),
+        Step::Late(r) => Some(Bound::Late(EventId::new(r))),
         Step::Extra(k) => Some(Bound::Extra(k)),
         Step::Order { .. } => None,
     }

@@ -23,5 +23,6 @@ read-alike (step.Low e) = refl
 read-alike (step.High e) = refl
 read-alike (step.Rise e) = refl
 read-alike (step.Message e) = refl
+read-alike (step.Late e) = refl
 read-alike (step.Extra k) = refl
 read-alike (step.Order e f c) = simp append_assoc

@@ -31,6 +31,7 @@ IsSpelledStep (step.Low e) = IsNumber e
 IsSpelledStep (step.High e) = IsNumber e
 IsSpelledStep (step.Rise e) = IsNumber e
 IsSpelledStep (step.Message e) = IsNumber e
+IsSpelledStep (step.Late e) = IsNumber e
 IsSpelledStep (step.Extra k) = IsNumber k
 IsSpelledStep (step.Order e f c) = IsOrder e f c
 

@@ -99,6 +99,9 @@ pub fn next_step(words: &[u8]) -> Option<(Step, &[u8])>
     } else if word == b"message".as_slice() {
         let (e, rest) = next_number(rest)?;
         Some((Step::Message(e), rest))
+    } else if word == b"late".as_slice() {
+        let (e, rest) = next_number(rest)?;
+        Some((Step::Late(e), rest))
     } else if word == b"extra".as_slice() {
         let (k, rest) = next_number(rest)?;
         Some((Step::Extra(k), rest))

@@ -55,7 +55,8 @@ fn is_spelled_step(step: Step) -> bool
     ensures { IsTrue result ↔ IsSpelledStep step }
 {
     match step {
-        Step::Low(_) | Step::High(_) | Step::Rise(_) | Step::Message(_) | Step::Extra(_) => true,
+        Step::Low(_) | Step::High(_) | Step::Rise(_) => true,
+        Step::Message(_) | Step::Late(_) | Step::Extra(_) => true,
         Step::Order { e, f, c } => is_order(e, f, c),
     }
 }

@@ -17,6 +17,7 @@ IsSpelledBound (step.Low e) = IsNumber e
 IsSpelledBound (step.High e) = IsNumber e
 IsSpelledBound (step.Rise e) = IsNumber e
 IsSpelledBound (step.Message e) = IsNumber e
+IsSpelledBound (step.Late e) = IsNumber e
 IsSpelledBound (step.Extra k) = IsNumber k
 IsSpelledBound (step.Order e f c) = ⊥
 

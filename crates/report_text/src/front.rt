@@ -67,6 +67,8 @@ fn bound_of(line: &[u8]) -> Option<Step>
         Some(Step::Rise(e))
     } else if let Some(e) = number_after(b"message ", line) {
         Some(Step::Message(e))
+    } else if let Some(e) = number_after(b"late ", line) {
+        Some(Step::Late(e))
     } else {
         let k = number_after(b"extra ", line)?;
         Some(Step::Extra(k))

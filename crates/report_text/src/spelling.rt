@@ -22,7 +22,8 @@ fn is_bound(step: Step) -> bool
     ensures { IsTrue result ↔ IsSpelledBound step }
 {
     match step {
-        Step::Low(_) | Step::High(_) | Step::Rise(_) | Step::Message(_) | Step::Extra(_) => true,
+        Step::Low(_) | Step::High(_) | Step::Rise(_) => true,
+        Step::Message(_) | Step::Late(_) | Step::Extra(_) => true,
         Step::Order { .. } => false,
     }
 }

@@ -1,5 +1,5 @@
 -- Each bound that is listed has an edge, and there are few of them.
-use Rattle.std.proofs.Common.{◌≡◌, refl, arith, ℕ, zero, suc, ◌+◌, ◌*◌, ◌<◌, ◌≤◌, List, [], ◌∷◌, ◌++◌, length, length-append, map, Bool, true, false, cond, Option, Some, None, All}
+use Rattle.std.proofs.Common.{◌≡◌, refl, arith, ℕ, zero, suc, ◌+◌, ◌*◌, ◌<◌, ◌≤◌, List, [], ◌∷◌, ◌++◌, length, length-append, map, Bool, true, false, cond, ◌&&◌, Option, Some, None, All, ℤ}
 use Rattle.std.specs.Prelude.{IsSome, is_some, option_map, slice_get}
 use Rattle.std.specs.List.{flat_map, range_with_len}
 use Rattle.std.proofs.lemmas.Bool.Decides.{nat_tests}
@@ -8,9 +8,9 @@ use Rattle.std.proofs.lemmas.List.Elements.{All-nil, All-cons, All-append}
 use Rattle.mt_model.specs.declared.bound.Bound.{Bound}
 use Rattle.mt_model.specs.declared.bound.Bound.TheVariants as bound
 use Rattle.mt_model.specs.declared.log.Extra.{Extra}
-use Rattle.mt_model.specs.Bounds.{bounds_at, bounds_of, step_of}
+use Rattle.mt_model.specs.Bounds.{bounds_at, bounds_of, is_limited, step_of}
 use Rattle.mt_model.specs.Log.{Logged}
-use Rattle.mt_model.specs.Timing.{previous_row, send_of}
+use Rattle.mt_model.specs.Timing.{most_delay, previous_row, send_of}
 use Rattle.mt_model.specs.Walks.{Edge, edge_of, is_row}
 
 All-flat_map-where : {X : Type 0} (P : X → Type 0) (f : ℕ → List X) (a n : ℕ) → ((e : ℕ) → e < a + n → All P (f e)) → All P (flat_map f (range_with_len a n))
@@ -47,12 +47,23 @@ module _ (log : Logged) where
       by None is = All-nil HasEdge
       by (Some s) is = All-cons HasEdge (bound.Message r) [] (rw is refl) (All-nil HasEdge)
 
+  late-has : (r : ℕ) → All HasEdge (cond (is_limited log r) (bound.Late r ∷ []) [])
+  late-has r = by (send_of log r) (most_delay log r) refl refl
+    where
+      by : (o : Option ℕ) (d : Option ℤ) → send_of log r ≡ o → most_delay log r ≡ d → All HasEdge (cond (is_some o && is_some d) (bound.Late r ∷ []) [])
+      by None None sent limited = All-nil HasEdge
+      by None (Some most) sent limited = All-nil HasEdge
+      by (Some s) None sent limited = All-nil HasEdge
+      by (Some s) (Some most) sent limited = All-cons HasEdge (bound.Late r) [] (rw (sent, limited) refl) (All-nil HasEdge)
+
   row-has : (e : ℕ) → e < length log.rows → All HasEdge (bounds_at log e)
   row-has e within =
-      All-append HasEdge (bound.Low e ∷ bound.High e ∷ [] ++ cond (is_some (previous_row log e)) (bound.Rise e ∷ []) []) (cond (is_some (send_of log e)) (bound.Message e ∷ []) [])
-      (All-append HasEdge (bound.Low e ∷ bound.High e ∷ []) (cond (is_some (previous_row log e)) (bound.Rise e ∷ []) [])
-      (All-cons HasEdge (bound.Low e) (bound.High e ∷ []) (rw (row_at e within) refl) (All-cons HasEdge (bound.High e) [] (rw (row_at e within) refl) (All-nil HasEdge)))
-      (rise-has e within)) (message-has e)
+      let rises = cond (is_some (previous_row log e)) (bound.Rise e ∷ []) [] in
+      let receives = cond (is_some (send_of log e)) (bound.Message e ∷ []) [] in
+      let clock = All-cons HasEdge (bound.Low e) (bound.High e ∷ []) (rw (row_at e within) refl) (All-cons HasEdge (bound.High e) [] (rw (row_at e within) refl) (All-nil HasEdge)) in
+      let rise = All-append HasEdge (bound.Low e ∷ bound.High e ∷ []) rises clock (rise-has e within) in
+      let message = All-append HasEdge (bound.Low e ∷ bound.High e ∷ [] ++ rises) receives rise (message-has e) in
+      All-append HasEdge (bound.Low e ∷ bound.High e ∷ [] ++ rises ++ receives) (cond (is_limited log e) (bound.Late e ∷ []) []) message (late-has e)
 
   extra-has : (k : ℕ) → k < length log.extras → HasEdge (bound.Extra k)
   extra-has k within = by (slice_get log.extras k) (slice_get-some log.extras k within)
@@ -67,20 +78,25 @@ module _ (log : Logged) where
       (All-flat_map-where HasEdge (bounds_at log) 0 (length log.rows) (λ e below. row-has e (omega arith)))
       (All-map-where HasEdge bound.Extra 0 (length log.extras) (λ k below. extra-has k (omega arith)))
 
-  -- a row has at most four bounds
-  row-few : (e : ℕ) → length (bounds_at log e) ≤ 4
-  row-few e = by (is_some (previous_row log e)) (is_some (send_of log e))
+  -- a row has at most five bounds
+  row-few : (e : ℕ) → length (bounds_at log e) ≤ 5
+  row-few e = by (is_some (previous_row log e)) (is_some (send_of log e)) (is_limited log e)
     where
-      by : (rises sends : Bool) → length (bound.Low e ∷ bound.High e ∷ [] ++ cond rises (bound.Rise e ∷ []) [] ++ cond sends (bound.Message e ∷ []) []) ≤ 4
-      by true true = omega arith
-      by true false = omega arith
-      by false true = omega arith
-      by false false = omega arith
+      by : (rises receives limited : Bool)
+          → length (bound.Low e ∷ bound.High e ∷ [] ++ cond rises (bound.Rise e ∷ []) [] ++ cond receives (bound.Message e ∷ []) [] ++ cond limited (bound.Late e ∷ []) []) ≤ 5
+      by true true true = omega arith
+      by true true false = omega arith
+      by true false true = omega arith
+      by true false false = omega arith
+      by false true true = omega arith
+      by false true false = omega arith
+      by false false true = omega arith
+      by false false false = omega arith
 
-  rows-few : (a n : ℕ) → length (flat_map (bounds_at log) (range_with_len a n)) ≤ 4 * n
+  rows-few : (a n : ℕ) → length (flat_map (bounds_at log) (range_with_len a n)) ≤ 5 * n
   rows-few a zero = omega arith
   rows-few a (suc n) = omega (arith, length-append (bounds_at log a) (flat_map (bounds_at log) (range_with_len (a + 1) n)), row-few a, rows-few (a + 1) n)
 
-  pub few-bounds : length (bounds_of log) ≤ 4 * length log.rows + length log.extras
+  pub few-bounds : length (bounds_of log) ≤ 5 * length log.rows + length log.extras
   few-bounds =
       omega (arith, length-append (flat_map (bounds_at log) (range_with_len 0 (length log.rows))) (map bound.Extra (range_with_len 0 (length log.extras))), rows-few 0 (length log.rows), length-map-range_with_len bound.Extra 0 (length log.extras))

@@ -30,12 +30,22 @@ module _ (log : Logged) (valid : IsLog log) where
       by None is = record { low = omega (arith, ints); high = omega (arith, ints) }
       by (Some r) is = is.local
 
-  skew-near : (e : ℕ) → skew_of log e ≤ℤ MAX_SKEW
-  skew-near e = by (slice_get log.hosts (host_of log e)) (slice_get-all IsHost log.hosts (host_of log e) valid.hosts)
+  declared-near : (e : ℕ) → declared_skew log e ≤ℤ MAX_SKEW
+  declared-near e = by (slice_get log.hosts (host_of log e)) (slice_get-all IsHost log.hosts (host_of log e) valid.hosts)
     where
       by : (o : Option Host) → IfSome o IsHost → option_map_or (λ h. h.skew) o (pos 0) ≤ℤ MAX_SKEW
       by None is = omega (arith, ints)
       by (Some h) is = is.skew_high
+
+  resync-near : (e : ℕ) → IfSome (resync_of log e) (λ r. r.skew ≤ℤ MAX_SKEW)
+  resync-near e = find-all (λ r. r.skew ≤ℤ MAX_SKEW) (applies_to log e) (reverse log.resyncs) (All-reverse (λ r. r.skew ≤ℤ MAX_SKEW) log.resyncs (All-weaker (IsResync (length log.hosts) (length log.rows)) (λ r. r.skew ≤ℤ MAX_SKEW) (λ r is. is.skew_high) log.resyncs (valid.resyncs).each))
+
+  skew-near : (e : ℕ) → skew_of log e ≤ℤ MAX_SKEW
+  skew-near e = by (resync_of log e) (resync-near e)
+    where
+      by : (o : Option Resync) → IfSome o (λ r. r.skew ≤ℤ MAX_SKEW) → option_map_or (λ r. r.skew) o (declared_skew log e) ≤ℤ MAX_SKEW
+      by None is = declared-near e
+      by (Some r) is = is
 
   pub admissible-near : (t : List ℤ) → Admissible log t → (i : ℕ) → i < length log.rows + 1 → IsWithin MAX_TIME (node_time t i)
   admissible-near t admissible zero within = record { low = omega (arith, ints); high = omega (arith, ints) }

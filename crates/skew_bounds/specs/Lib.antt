@@ -10,6 +10,7 @@ pub mod Table
 pub mod Tight
 pub use Rattle.mt_model.specs.Log
 pub use Rattle.mt_model.specs.Timing
+pub use Rattle.mt_model.specs.Spans
 pub use Rattle.mt_model.specs.Walks
 pub use Rattle.mt_model.specs.Bounds
 pub use Rattle.mt_model.specs.Laws

@@ -6,7 +6,7 @@ ghost use Rattle.skew_bounds.specs.Consistency.{Settles};
 ghost use Rattle.skew_bounds.specs.Edges.{AreEdges, bound_at};
 ghost use Rattle.skew_bounds.specs.System.{IsSystemOf};
 
-use crate::edges::edge_of;
+use crate::edges::edge_by;
 use crate::system::{BoundSystem, system_of};
 use crate::times::times_of;
 use mt_model::{Bound, Log, Step, Steps, Times, bounds_are_admissible};
@@ -29,9 +29,10 @@ pub fn edges_of(alloc: Global, log: &Log, bounds: &[Bound]) -> Result<EdgeList, 
     ensures edges { IfOk result (AreEdges log.now bounds.now) }
     ensures within { IfOk result (λ edges. All (IsEdge (length log.now.rows + 1)) edges) }
 {
+    let spans = log.spans(alloc)?;
     let mut edges = EdgeList::new(alloc);
     for bound in bounds {
-        match edge_of(log, *bound) {
+        match edge_by(log, spans.as_slice(), *bound) {
             Some(edge) => edges.push(edge)?,
             None => unreachable!(),
         }
@@ -48,6 +49,7 @@ pub fn step_of(bound: Bound) -> Step
         Bound::High(e) => Step::High(e.get()),
         Bound::Rise(f) => Step::Rise(f.get()),
         Bound::Message(r) => Step::Message(r.get()),
+        Bound::Late(r) => Step::Late(r.get()),
         Bound::Extra(k) => Step::Extra(k),
     }
 }

@@ -1,13 +1,14 @@
-ghost use Rattle.std.specs.Prelude.{◌≡◌, ◌+◌, ◌<◌, length, option_map, IfSome};
+ghost use Rattle.std.specs.Prelude.{◌≡◌, ◌+◌, ◌<◌, ◌≤◌, length, option_map, All, IfSome, MatchOption, Some};
 ghost use Rattle.mt_model.specs.Bounds.{step_of};
+ghost use Rattle.mt_model.specs.Spans.{IsSpan, spans_of};
 ghost use Rattle.mt_model.specs.Walks.{edge_of};
 ghost use Rattle.mt_model.specs.declared.limits.TheConstants.{MAX_ROWS};
-ghost use Rattle.mt_model.specs.declared.step.Step.TheVariants.{Low, High, Rise, Message, Extra};
+ghost use Rattle.mt_model.specs.declared.step.Step.TheVariants.{Low, High, Rise, Message, Late, Extra};
 ghost use Rattle.neg_cycle.specs.Systems.{IsEdge};
-ghost use Rattle.skew_bounds.specs.Edges.{edge_in};
+ghost use Rattle.skew_bounds.specs.Edges.{IsSpanAt, edge_in};
 
-use crate::rows::{gap_at, local_at, skew_at};
-use mt_model::{Bound, EventId, Log};
+use crate::rows::{known_span, local_at, span_at};
+use mt_model::{Bound, EventId, Log, Span};
 use neg_cycle::Edge;
 
 fn node_of(e: usize) -> u32
@@ -17,53 +18,44 @@ fn node_of(e: usize) -> u32
     e as u32 + 1
 }
 
-fn low(log: &Log, e: EventId) -> Option<Edge>
-    ensures edge { option_map edge_in result ≡ edge_of log.now (Low e) }
-    ensures within { IfSome result (IsEdge (length log.now.rows + 1)) }
+fn low(log: &Log, e: EventId, span: Span) -> Edge
+    requires { IsSpanAt log.now e span }
+    ensures edge { Some (edge_in result) ≡ edge_of log.now (Low e) }
+    ensures within { IsEdge (length log.now.rows + 1) result }
 {
     let e = e.get() as usize;
-    if e < log.rows().len() {
-        Some(Edge {
-            from: 0,
-            to: node_of(e),
-            bound: skew_at(log, e) - local_at(log, e),
-        })
-    } else {
-        None
+    Edge {
+        from: 0,
+        to: node_of(e),
+        bound: span.skew - local_at(log, e),
     }
 }
 
-fn high(log: &Log, e: EventId) -> Option<Edge>
-    ensures edge { option_map edge_in result ≡ edge_of log.now (High e) }
-    ensures within { IfSome result (IsEdge (length log.now.rows + 1)) }
+fn high(log: &Log, e: EventId, span: Span) -> Edge
+    requires { IsSpanAt log.now e span }
+    ensures edge { Some (edge_in result) ≡ edge_of log.now (High e) }
+    ensures within { IsEdge (length log.now.rows + 1) result }
 {
     let e = e.get() as usize;
-    if e < log.rows().len() {
-        Some(Edge {
-            from: node_of(e),
-            to: 0,
-            bound: local_at(log, e) + skew_at(log, e),
-        })
-    } else {
-        None
+    Edge {
+        from: node_of(e),
+        to: 0,
+        bound: local_at(log, e) + span.skew,
     }
 }
 
-fn rise(log: &Log, f: EventId) -> Option<Edge>
+fn rise(log: &Log, f: EventId, span: Span) -> Option<Edge>
+    requires { IsSpanAt log.now f span }
     ensures edge { option_map edge_in result ≡ edge_of log.now (Rise f) }
     ensures within { IfSome result (IsEdge (length log.now.rows + 1)) }
 {
     let f = f.get() as usize;
-    if f < log.rows().len() {
-        let e = log.row_before(f)?;
-        Some(Edge {
-            from: node_of(e),
-            to: node_of(f),
-            bound: -gap_at(log, f),
-        })
-    } else {
-        None
-    }
+    let e = log.row_before(f)?;
+    Some(Edge {
+        from: node_of(e),
+        to: node_of(f),
+        bound: -span.gap,
+    })
 }
 
 fn message(log: &Log, r: EventId) -> Option<Edge>
@@ -76,7 +68,25 @@ fn message(log: &Log, r: EventId) -> Option<Edge>
         Some(Edge {
             from: node_of(s),
             to: node_of(r),
-            bound: -1,
+            bound: -log.least_delay_at(r),
+        })
+    } else {
+        None
+    }
+}
+
+fn late(log: &Log, r: EventId) -> Option<Edge>
+    ensures edge { option_map edge_in result ≡ edge_of log.now (Late r) }
+    ensures within { IfSome result (IsEdge (length log.now.rows + 1)) }
+{
+    let r = r.get() as usize;
+    if r < log.rows().len() {
+        let s = log.send_for(r)?;
+        let most = log.most_delay_at(r)?;
+        Some(Edge {
+            from: node_of(r),
+            to: node_of(s),
+            bound: most,
         })
     } else {
         None
@@ -100,20 +110,39 @@ fn extra(log: &Log, k: usize) -> Option<Edge>
 /// The edge `x_from - x_to <= bound` of a bound, in the log's unit of time, and None exactly where the
 /// log has no such bound. Node 0 is the zero moment, and node e + 1 is row e. Takes no memory.
 ///
-/// - Low e: from 0 to e + 1, the skew of the row's host less the row's local time.
-/// - High e: from e + 1 to 0, the row's local time and the skew of its host.
-/// - Rise f: from e + 1 to f + 1, where e is the row before f on its host, the negated gap of the host.
-/// - Message r: from s + 1 to r + 1, where s is the send of what r receives, -1.
+/// - Low e: from 0 to e + 1, the row's skew less its local time.
+/// - High e: from e + 1 to 0, the row's local time and its skew.
+/// - Rise f: from e + 1 to f + 1, where e is the row before f on its host, the negated gap of row f.
+/// - Message r: from s + 1 to r + 1, where s is the send of what r receives, the negated least delay of r.
+/// - Late r: from r + 1 to s + 1, the greatest delay of r, where there is one.
 /// - Extra k, which says `t_e - t_f <= c`: from e + 1 to f + 1, c.
 pub fn edge_of(log: &Log, bound: Bound) -> Option<Edge>
     ensures edge { option_map edge_in result ≡ edge_of log.now (step_of bound) }
     ensures within { IfSome result (IsEdge (length log.now.rows + 1)) }
 {
     match bound {
-        Bound::Low(e) => low(log, e),
-        Bound::High(e) => high(log, e),
-        Bound::Rise(f) => rise(log, f),
+        Bound::Low(e) => Some(low(log, e, span_at(log, e)?)),
+        Bound::High(e) => Some(high(log, e, span_at(log, e)?)),
+        Bound::Rise(f) => rise(log, f, span_at(log, f)?),
         Bound::Message(r) => message(log, r),
+        Bound::Late(r) => late(log, r),
+        Bound::Extra(k) => extra(log, k as usize),
+    }
+}
+
+/// The same where the spans of the log's rows are known.
+pub fn edge_by(log: &Log, spans: &[Span], bound: Bound) -> Option<Edge>
+    requires spans { spans.now ≡ spans_of log.now }
+    requires ranges { All IsSpan spans.now }
+    ensures edge { option_map edge_in result ≡ edge_of log.now (step_of bound) }
+    ensures within { IfSome result (IsEdge (length log.now.rows + 1)) }
+{
+    match bound {
+        Bound::Low(e) => Some(low(log, e, known_span(log, spans, e)?)),
+        Bound::High(e) => Some(high(log, e, known_span(log, spans, e)?)),
+        Bound::Rise(f) => rise(log, f, known_span(log, spans, f)?),
+        Bound::Message(r) => message(log, r),
+        Bound::Late(r) => late(log, r),
         Bound::Extra(k) => extra(log, k as usize),
     }
 }

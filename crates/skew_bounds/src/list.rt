@@ -19,6 +19,9 @@ fn add_row(log: &Log, row: EventId, list: &mut BoundList) -> Result<(), AllocErr
     }
     if log.send_for(e).is_some() {
         list.push(Bound::Message(row))?;
+        if log.most_delay_at(e).is_some() {
+            list.push(Bound::Late(row))?;
+        }
     }
     Ok(())
 }
@@ -35,8 +38,8 @@ fn row_bounds(alloc: Global, log: &Log) -> Result<BoundList, AllocError>
 }
 
 /// The bounds of a log: for each row in order Low, High, Rise where it is not the first row of its
-/// host, and Message where it receives; then the extra bounds in order. That is at most four bounds a
-/// row, and one an extra.
+/// host, Message where it receives, and Late where it does and its host has a greatest delay; then the
+/// extra bounds in order. That is at most five bounds a row, and one an extra.
 pub fn bounds(alloc: Global, log: &Log) -> Result<BoundList, AllocError>
     ensures list { IfOk result (λ list. list ≡ bounds_of log.now) }
 {

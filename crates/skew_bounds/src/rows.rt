@@ -1,26 +1,11 @@
-ghost use Rattle.std.specs.Prelude.{◌≡◌, ◌<◌, length, slice_get, Some};
-ghost use Rattle.mt_model.specs.Log.{IsHost, IsWithin};
-ghost use Rattle.mt_model.specs.Timing.{gap_of, host_of, local_of, skew_of};
-ghost use Rattle.mt_model.specs.declared.limits.TheConstants.{MAX_GAP, MAX_LOCAL, MAX_SKEW};
+ghost use Rattle.std.specs.Prelude.{◌≡◌, ◌<◌, ◌≤◌, length, All, MatchOption};
+ghost use Rattle.mt_model.specs.Log.{IsWithin};
+ghost use Rattle.mt_model.specs.Spans.{IsSpan, spans_of};
+ghost use Rattle.mt_model.specs.Timing.{local_of};
+ghost use Rattle.mt_model.specs.declared.limits.TheConstants.{MAX_LOCAL};
+ghost use Rattle.skew_bounds.specs.Edges.{IsSpanAt};
 
-use mt_model::{Host, Log};
-
-fn host_at(log: &Log, e: usize) -> u32
-    requires { e < length log.now.rows }
-    ensures host { result ≡ host_of log.now e }
-    ensures within { result < length log.now.hosts }
-{
-    log.rows()[e].host.get()
-}
-
-// A row's host.
-fn host(log: &Log, e: usize) -> &Host
-    requires { e < length log.now.rows }
-    ensures found { slice_get log.now.hosts (host_of log.now e) ≡ Some result.now }
-    ensures valid { IsHost result.now }
-{
-    &log.hosts()[host_at(log, e) as usize]
-}
+use mt_model::{EventId, Log, Span};
 
 /// The local time of a row.
 pub fn local_at(log: &Log, e: usize) -> i128
@@ -31,20 +16,26 @@ pub fn local_at(log: &Log, e: usize) -> i128
     log.rows()[e].local
 }
 
-/// The skew of a row's host.
-pub fn skew_at(log: &Log, e: usize) -> i128
-    requires { e < length log.now.rows }
-    ensures skew { result ≡ skew_of log.now e }
-    ensures range { IsWithin MAX_SKEW result }
+/// The skew and the gap of a row, and None exactly where the log has no such row.
+pub fn span_at(log: &Log, e: EventId) -> Option<Span>
+    ensures { MatchOption result (length log.now.rows ≤ e) (IsSpanAt log.now e) }
 {
-    host(log, e).skew
+    let row = e.get() as usize;
+    if row < log.rows().len() {
+        Some(Span {
+            skew: log.skew_at(row),
+            gap: log.gap_at(row),
+        })
+    } else {
+        None
+    }
 }
 
-/// The gap of a row's host.
-pub fn gap_at(log: &Log, e: usize) -> i128
-    requires { e < length log.now.rows }
-    ensures gap { result ≡ gap_of log.now e }
-    ensures range { IsWithin MAX_GAP result }
+/// The same where those of all rows are known.
+pub fn known_span(log: &Log, spans: &[Span], e: EventId) -> Option<Span>
+    requires spans { spans.now ≡ spans_of log.now }
+    requires ranges { All IsSpan spans.now }
+    ensures { MatchOption result (length log.now.rows ≤ e) (IsSpanAt log.now e) }
 {
-    host(log, e).gap
+    spans.get(e.get() as usize).copied()
 }

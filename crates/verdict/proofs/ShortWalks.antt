@@ -13,7 +13,7 @@ use Rattle.std.proofs.lemmas.Option.{cond_some, get_or_from_slice_get, option_an
 use Rattle.mt_model.proofs.Conflicts.{guarded_some, mapped_some}
 use Rattle.mt_model.proofs.PreviousRows.{is_last}
 use Rattle.mt_model.specs.declared.step.Step.{Step}
-use Rattle.mt_model.specs.declared.step.Step.TheVariants.{Low, High, Rise, Message, Extra, Order}
+use Rattle.mt_model.specs.declared.step.Step.TheVariants.{Low, High, Rise, Message, Late, Extra, Order}
 use Rattle.mt_model.specs.Laws.{IsBound}
 use Rattle.mt_model.specs.Log.{IsLog, Logged, received_by}
 use Rattle.mt_model.specs.Timing.{is_send_of, previous_row, received_in, send_of}
@@ -57,6 +57,12 @@ module _ (log : Logged) (valid : IsLog log) where
       let parts = mapped_some _ _ _ is in
       let rows = message_rows log r parts.0 parts.1 in
       record { from = rw (← parts.2) (omega (arith, rows.send)); spelled = omega (arith, rows.receive, valid.few_rows) }
+  bound_inside (Late r) x bound is =
+      option_and_then_some _ (send_of log r) x is
+      (λ s sent limited.
+      let parts = mapped_some _ _ _ limited in
+      let rows = message_rows log r s sent in
+      record { from = rw (← parts.2) (omega (arith, rows.receive)); spelled = omega (arith, rows.receive, valid.few_rows) })
   bound_inside (Extra k) x bound is =
       let parts = mapped_some _ _ _ is in
       let within = slice_get_within log.extras k parts.0 parts.1 in
