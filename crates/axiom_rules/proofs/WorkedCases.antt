@@ -4,7 +4,7 @@ use Rattle.std.specs.Prelude.{Result}
 use Rattle.mt_model.specs.declared.log.Act.TheVariants as act
 use Rattle.mt_model.specs.declared.tree.Interval.{Interval}
 use Rattle.mt_model.specs.Form.{Form, True, Prop, Not, And, Until, Since}
-use Rattle.mt_model.specs.Log.{Logged}
+use Rattle.mt_model.specs.Log.{Logged, plain_log}
 use Rattle.axiom_rules.specs.declared.fault.RuleFault.{RuleFault}
 use Rattle.axiom_rules.specs.declared.fault.RuleFault.TheVariants.{NoRule, Range, Kind, Trivial}
 use Rattle.axiom_rules.specs.declared.literal.Atom.TheVariants.{Order, Node, First, Wit, Span, Gap}
@@ -18,11 +18,9 @@ use Rattle.formula_arena.specs.Nodes.{nodes_of}
 -- One host with an exact clock, and one row.
 
 abbrev single : Logged
-single = record {
-  hosts = record { name = codes "a"; skew = pos 0; gap = pos 0 } ∷ [];
-  rows = record { host = 0; local = pos 10; act = act.Note (codes "n") } ∷ [];
-  extras = [];
-}
+single =
+    plain_log (record { name = codes "a"; skew = pos 0; gap = pos 0; least = 1; most = None } ∷ [])
+    (record { host = 0; local = pos 10; act = act.Note (codes "n") } ∷ [])
 
 abbrev single_clause : ℕ → List ℕ → Result (List Literal) RuleFault
 single_clause number args = clause_of (sought_of single True false) (record { number = number; args = args })
@@ -65,11 +63,9 @@ no_event = refl
 -- proposition, 1 its negation, 2 an until, 3 a since, 4 `true`, 5 the conjunction of 3 and 4, 6 that of 2 and 5.
 
 abbrev three : Logged
-three = record {
-  hosts = record { name = codes "a"; skew = pos 0; gap = pos 0 } ∷ [];
-  rows = record { host = 0; local = pos 10; act = act.Set (codes "p") } ∷ record { host = 0; local = pos 11; act = act.Clear (codes "p") } ∷ record { host = 0; local = pos 12; act = act.Note (codes "p") } ∷ [];
-  extras = [];
-}
+three =
+    plain_log (record { name = codes "a"; skew = pos 0; gap = pos 0; least = 1; most = None } ∷ [])
+    (record { host = 0; local = pos 10; act = act.Set (codes "p") } ∷ record { host = 0; local = pos 11; act = act.Clear (codes "p") } ∷ record { host = 0; local = pos 12; act = act.Note (codes "p") } ∷ [])
 
 abbrev p : Form
 p = Prop (codes "a") (codes "p")

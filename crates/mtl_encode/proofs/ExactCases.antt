@@ -1,9 +1,9 @@
 -- Small cases of what satisfies the rules, worked out by hand.
-use Rattle.std.proofs.Common.{◌≡◌, refl, ℕ, Bool, true, false, not, List, [], ◌∷◌, codes, pos, arith}
+use Rattle.std.proofs.Common.{◌≡◌, refl, ℕ, Bool, true, false, not, List, [], ◌∷◌, None, codes, pos, arith}
 use Rattle.mt_model.specs.declared.log.Act.TheVariants as act
 use Rattle.mt_model.specs.declared.log.Row.{Row}
 use Rattle.mt_model.specs.Form.{True}
-use Rattle.mt_model.specs.Log.{Logged}
+use Rattle.mt_model.specs.Log.{Logged, plain_log}
 use Rattle.axiom_rules.specs.declared.literal.Atom.{Atom}
 use Rattle.axiom_rules.specs.declared.literal.Atom.TheVariants.{First, Node, Order}
 use Rattle.axiom_rules.specs.Literals.{no, same_atom, yes}
@@ -32,7 +32,7 @@ empty-false = refl
 -- One host with an exact clock, and notes.
 
 abbrev noted : List Row → Logged
-noted rows = record { hosts = record { name = codes "a"; skew = pos 0; gap = pos 0 } ∷ []; rows = rows; extras = [] }
+noted rows = plain_log (record { name = codes "a"; skew = pos 0; gap = pos 0; least = 1; most = None } ∷ []) rows
 
 abbrev note : ℕ → Row
 note local = record { host = 0; local = pos local; act = act.Note (codes "n") }

@@ -83,6 +83,6 @@ module _ (lines : List Line) where
   pub empty_where_found : (kept : List (List Literal)) (m : ℕ) (found : Option (List Literal)) → m ≤ length kept
       → ((s : Sought) → found ≡ clause_of_hint s lines (length kept + 1) (hint.Line m)) → (found ≡ Some []) ↔ IsEmptyAt lines m
   empty_where_found kept m found within is =
-      let none_sought : Sought = record { log = record { hosts = []; rows = []; extras = [] }; trees = []; root = 0; value = false } in
+      let none_sought : Sought = record { log = plain_log [] []; trees = []; root = 0; value = false } in
       let same : found ≡ option_map clause_of_line (line_at lines m) = rw (lt-ltb m (length kept + 1) (omega (arith, within))) at (is none_sought) in
       (λ empty. sym same ∙ empty, λ empty. same ∙ empty)

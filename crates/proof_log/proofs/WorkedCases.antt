@@ -7,7 +7,7 @@ use Rattle.std.proofs.lemmas.List.Elements.{All-nil, All-cons, All-from_recursio
 use Rattle.mt_model.specs.declared.log.Act.TheVariants as act
 use Rattle.mt_model.specs.declared.step.Step.TheVariants as step
 use Rattle.mt_model.specs.Form.{True}
-use Rattle.mt_model.specs.Log.{Logged}
+use Rattle.mt_model.specs.Log.{Logged, plain_log}
 use Rattle.mt_model.specs.Walks.{Edge}
 use Rattle.hint_refutation.specs.Hints.{Gives, IsFalseUnder, Refutes as HintsRefute}
 use Rattle.hint_refutation.proofs.Lists.{contains_cases, contains_first, contains_later, contains_none}
@@ -27,11 +27,9 @@ use Rattle.proof_log.specs.Spelled.{IsNumber, IsSpelled, IsSpelledHint, IsSpelle
 -- One host with an exact clock and one row, at 10; the formula is `true`, and no timing makes it false.
 
 abbrev pub single : Logged
-single = record {
-  hosts = record { name = codes "a"; skew = pos 0; gap = pos 0 } ∷ [];
-  rows = record { host = 0; local = pos 10; act = act.Note (codes "n") } ∷ [];
-  extras = [];
-}
+single =
+    plain_log (record { name = codes "a"; skew = pos 0; gap = pos 0; least = 1; most = None } ∷ [])
+    (record { host = 0; local = pos 10; act = act.Note (codes "n") } ∷ [])
 
 abbrev rule : ℕ → List ℕ → Hint
 rule number args = hint.Rule (record { number = number; args = args })

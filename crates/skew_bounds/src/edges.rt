@@ -141,8 +141,6 @@ pub fn edge_by(log: &Log, spans: &[Span], bound: Bound) -> Option<Edge>
         Bound::Low(e) => Some(low(log, e, known_span(log, spans, e)?)),
         Bound::High(e) => Some(high(log, e, known_span(log, spans, e)?)),
         Bound::Rise(f) => rise(log, f, known_span(log, spans, f)?),
-        Bound::Message(r) => message(log, r),
-        Bound::Late(r) => late(log, r),
-        Bound::Extra(k) => extra(log, k as usize),
+        Bound::Message(_) | Bound::Late(_) | Bound::Extra(_) => edge_of(log, bound),
     }
 }

@@ -3,7 +3,7 @@ use Rattle.std.proofs.Common.{◌≡◌, refl, ap, ℕ, ◌+◌, ◌<◌, ◌≤
 use Rattle.std.specs.List.{range_with_len}
 use Rattle.std.proofs.lemmas.Fmt.{decimal_digit}
 use Rattle.mt_model.specs.declared.log.Host.{Host}
-use Rattle.mt_model.specs.Log.{Logged}
+use Rattle.mt_model.specs.Log.{Logged, plain_log}
 use Rattle.mt_model.specs.State.{unknown_host}
 use Rattle.formula_arena.specs.Nodes.{nodes_of}
 use Rattle.formula_arena.specs.declared.arena.TheConstants.{MAX_NODES}
@@ -14,7 +14,7 @@ use Rattle.demo_log.specs.DemoLog.{demo_host, demo_row, log_of_seed}
 
 -- a host whose name has these digits
 abbrev called : List ℕ → Host
-called digits = record { name = 104 ∷ digits; skew = pos 3; gap = pos 1 }
+called digits = record { name = 104 ∷ digits; skew = pos 3; gap = pos 1; least = 1; most = None }
 
 demo-host-is : (k : ℕ) → k < 10 → demo_host k ≡ called ((48 + k) ∷ [])
 demo-host-is k small = ap called (decimal_digit k small)
@@ -28,7 +28,7 @@ hosts-are =
     (same-cons (demo-host-is 3 (omega arith)) (same-cons (demo-host-is 4 (omega arith)) (same-cons (demo-host-is 5 (omega arith)) refl)))))
 
 abbrev with-hosts : ℕ → List Host → Logged
-with-hosts seed hosts = record { hosts = hosts; rows = map (demo_row seed) (range_with_len 0 24); extras = [] }
+with-hosts seed hosts = plain_log hosts (map (demo_row seed) (range_with_len 0 24))
 
 pub demo-known : (seed : ℕ) → unknown_host (log_of_seed seed) demo_formula ≡ None
 demo-known seed = ap (λ hosts. unknown_host (with-hosts seed hosts) demo_formula) hosts-are
