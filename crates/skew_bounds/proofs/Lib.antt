@@ -1,6 +1,7 @@
 pub mod BoundCounts
 pub mod Columns
 pub mod EdgeLists
+pub mod KnownSpans
 pub mod Entries
 pub mod Near
 pub mod Reached

@@ -5,12 +5,12 @@ use Rattle.std.specs.Option.{option_map_or}
 use Rattle.std.proofs.lemmas.Int.{ints}
 use Rattle.std.proofs.lemmas.List.{get_or_default}
 use Rattle.std.proofs.lemmas.List.Elements.{All-nil, All-cons, All-head, All-tail}
-use Rattle.mt_model.specs.declared.log.Host.{Host}
 use Rattle.mt_model.specs.declared.log.Row.{Row}
 use Rattle.mt_model.specs.declared.limits.TheConstants.{MAX_LOCAL, MAX_SKEW, MAX_TIME}
-use Rattle.mt_model.specs.Log.{IsHost, IsLog, IsRow, IsWithin, Logged}
-use Rattle.mt_model.specs.Timing.{Admissible, host_of, local_of, skew_of}
+use Rattle.mt_model.specs.Log.{IsLog, IsRow, IsWithin, Logged}
+use Rattle.mt_model.specs.Timing.{Admissible, local_of, skew_of}
 use Rattle.mt_model.specs.Walks.{node_time}
+use Rattle.mt_model.proofs.Resyncs.{span-within}
 
 slice_get-all : {X : Type 0} (P : X → Type 0) (xs : List X) (k : ℕ) → All P xs → IfSome (slice_get xs k) P
 slice_get-all P [] k all = tt
@@ -30,22 +30,8 @@ module _ (log : Logged) (valid : IsLog log) where
       by None is = record { low = omega (arith, ints); high = omega (arith, ints) }
       by (Some r) is = is.local
 
-  declared-near : (e : ℕ) → declared_skew log e ≤ℤ MAX_SKEW
-  declared-near e = by (slice_get log.hosts (host_of log e)) (slice_get-all IsHost log.hosts (host_of log e) valid.hosts)
-    where
-      by : (o : Option Host) → IfSome o IsHost → option_map_or (λ h. h.skew) o (pos 0) ≤ℤ MAX_SKEW
-      by None is = omega (arith, ints)
-      by (Some h) is = is.skew_high
-
-  resync-near : (e : ℕ) → IfSome (resync_of log e) (λ r. r.skew ≤ℤ MAX_SKEW)
-  resync-near e = find-all (λ r. r.skew ≤ℤ MAX_SKEW) (applies_to log e) (reverse log.resyncs) (All-reverse (λ r. r.skew ≤ℤ MAX_SKEW) log.resyncs (All-weaker (IsResync (length log.hosts) (length log.rows)) (λ r. r.skew ≤ℤ MAX_SKEW) (λ r is. is.skew_high) log.resyncs (valid.resyncs).each))
-
   skew-near : (e : ℕ) → skew_of log e ≤ℤ MAX_SKEW
-  skew-near e = by (resync_of log e) (resync-near e)
-    where
-      by : (o : Option Resync) → IfSome o (λ r. r.skew ≤ℤ MAX_SKEW) → option_map_or (λ r. r.skew) o (declared_skew log e) ≤ℤ MAX_SKEW
-      by None is = declared-near e
-      by (Some r) is = is
+  skew-near e = (span-within log valid e).skew.high
 
   pub admissible-near : (t : List ℤ) → Admissible log t → (i : ℕ) → i < length log.rows + 1 → IsWithin MAX_TIME (node_time t i)
   admissible-near t admissible zero within = record { low = omega (arith, ints); high = omega (arith, ints) }

@@ -1,8 +1,7 @@
-ghost use Rattle.std.specs.Prelude.{◌≡◌, ◌+◌, ◌<◌, ◌≤◌, length, option_map, All, IfSome, MatchOption, Some};
+ghost use Rattle.std.specs.Prelude.{◌≡◌, ◌+◌, ◌<◌, length, option_map, IfSome, Some};
 ghost use Rattle.mt_model.specs.Bounds.{step_of};
-ghost use Rattle.mt_model.specs.Spans.{IsSpan, spans_of};
+ghost use Rattle.mt_model.specs.Spans.{spans_of};
 ghost use Rattle.mt_model.specs.Walks.{edge_of};
-ghost use Rattle.mt_model.specs.declared.limits.TheConstants.{MAX_ROWS};
 ghost use Rattle.mt_model.specs.declared.step.Step.TheVariants.{Low, High, Rise, Message, Late, Extra};
 ghost use Rattle.neg_cycle.specs.Systems.{IsEdge};
 ghost use Rattle.skew_bounds.specs.Edges.{IsSpanAt, edge_in};
@@ -11,10 +10,12 @@ use crate::rows::{known_span, local_at, span_at};
 use mt_model::{Bound, EventId, Log, Span};
 use neg_cycle::Edge;
 
-fn node_of(e: usize) -> u32
-    requires { e < MAX_ROWS }
+fn node_of(log: &Log, e: usize) -> u32
+    requires { e < length log.now.rows }
     ensures { result ≡ e + 1 }
 {
+    // How many rows a log has at most is known with its rows.
+    let _ = log.rows();
     e as u32 + 1
 }
 
@@ -26,7 +27,7 @@ fn low(log: &Log, e: EventId, span: Span) -> Edge
     let e = e.get() as usize;
     Edge {
         from: 0,
-        to: node_of(e),
+        to: node_of(log, e),
         bound: span.skew - local_at(log, e),
     }
 }
@@ -38,7 +39,7 @@ fn high(log: &Log, e: EventId, span: Span) -> Edge
 {
     let e = e.get() as usize;
     Edge {
-        from: node_of(e),
+        from: node_of(log, e),
         to: 0,
         bound: local_at(log, e) + span.skew,
     }
@@ -52,8 +53,8 @@ fn rise(log: &Log, f: EventId, span: Span) -> Option<Edge>
     let f = f.get() as usize;
     let e = log.row_before(f)?;
     Some(Edge {
-        from: node_of(e),
-        to: node_of(f),
+        from: node_of(log, e),
+        to: node_of(log, f),
         bound: -span.gap,
     })
 }
@@ -66,8 +67,8 @@ fn message(log: &Log, r: EventId) -> Option<Edge>
     if r < log.rows().len() {
         let s = log.send_for(r)?;
         Some(Edge {
-            from: node_of(s),
-            to: node_of(r),
+            from: node_of(log, s),
+            to: node_of(log, r),
             bound: -log.least_delay_at(r),
         })
     } else {
@@ -84,8 +85,8 @@ fn late(log: &Log, r: EventId) -> Option<Edge>
         let s = log.send_for(r)?;
         let most = log.most_delay_at(r)?;
         Some(Edge {
-            from: node_of(r),
-            to: node_of(s),
+            from: node_of(log, r),
+            to: node_of(log, s),
             bound: most,
         })
     } else {
@@ -132,8 +133,7 @@ pub fn edge_of(log: &Log, bound: Bound) -> Option<Edge>
 
 /// The same where the spans of the log's rows are known.
 pub fn edge_by(log: &Log, spans: &[Span], bound: Bound) -> Option<Edge>
-    requires spans { spans.now ≡ spans_of log.now }
-    requires ranges { All IsSpan spans.now }
+    requires { spans.now ≡ spans_of log.now }
     ensures edge { option_map edge_in result ≡ edge_of log.now (step_of bound) }
     ensures within { IfSome result (IsEdge (length log.now.rows + 1)) }
 {

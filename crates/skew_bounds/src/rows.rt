@@ -1,6 +1,6 @@
-ghost use Rattle.std.specs.Prelude.{◌≡◌, ◌<◌, ◌≤◌, length, All, MatchOption};
+ghost use Rattle.std.specs.Prelude.{◌≡◌, ◌<◌, ◌≤◌, length, MatchOption};
 ghost use Rattle.mt_model.specs.Log.{IsWithin};
-ghost use Rattle.mt_model.specs.Spans.{IsSpan, spans_of};
+ghost use Rattle.mt_model.specs.Spans.{spans_of};
 ghost use Rattle.mt_model.specs.Timing.{local_of};
 ghost use Rattle.mt_model.specs.declared.limits.TheConstants.{MAX_LOCAL};
 ghost use Rattle.skew_bounds.specs.Edges.{IsSpanAt};
@@ -33,9 +33,13 @@ pub fn span_at(log: &Log, e: EventId) -> Option<Span>
 
 /// The same where those of all rows are known.
 pub fn known_span(log: &Log, spans: &[Span], e: EventId) -> Option<Span>
-    requires spans { spans.now ≡ spans_of log.now }
-    requires ranges { All IsSpan spans.now }
+    requires { spans.now ≡ spans_of log.now }
     ensures { MatchOption result (length log.now.rows ≤ e) (IsSpanAt log.now e) }
 {
-    spans.get(e.get() as usize).copied()
+    let row = e.get() as usize;
+    if row < log.rows().len() {
+        Some(spans[row])
+    } else {
+        None
+    }
 }
