@@ -6,6 +6,7 @@ use Rattle.std.specs.List.{filter_map}
 use Rattle.std.proofs.lemmas.Bool.{false_from_ne_true, lt-ltb}
 use Rattle.std.proofs.lemmas.List.{length-map, length-take-le, map_more, take_more}
 use Rattle.std.proofs.lemmas.List.Elements.{Contains-append_left, Contains-push, Contains-push_cases, filter_map-append}
+use Rattle.mt_model.specs.Log.{plain_log}
 use Rattle.axiom_rules.specs.declared.literal.Literal.{Literal}
 use Rattle.axiom_rules.specs.contracts.literal.LiteralOrd.TheImpl.{cmp-value as literal_cmp}
 use Rattle.axiom_rules.specs.contracts.literal.LiteralOrd.TheImpl.Laws.{total-law}
