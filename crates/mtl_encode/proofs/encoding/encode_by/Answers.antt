@@ -1,4 +1,5 @@
-use Rattle.std.proofs.Common.{◌+◌, ap, length, inl}
+use Rattle.std.proofs.Common.{◌+◌, ap, arith, length, inl}
+use Rattle.std.proofs.lemmas.Result.{IfOk-from_err}
 use Rattle.axiom_rules.specs.Sought.{sought_of}
 use Rattle.mtl_encode.proofs.EncodeLemmas.{all-listed, few-atoms, fits-of, lists-of, room-first, room-of}
 use Rattle.mtl_encode.proofs.ModelLemmas.{model-exact}
@@ -37,3 +38,15 @@ returns-clause-exact c = λ f nodes last values numbers model. model-exact c.rul
     (lists-of c.in_ok-sought.sought (sought_of c.args.log.now f c.args.value) (out_by c.args.tight.now) c.in_ok-ordered.ordered.rules (c.in_ok-sought.ensures.formula f nodes last)
     (all-listed c.in_ok-sought.sought (out_by c.args.tight.now c.in_ok-sought.sought) c.new-clauses.result c.add_all.new.self c.in_ok-ordered.ordered.rules c.new-clauses.ensures.rules c.in_ok-add_all.ensures c.in_ok-ordered.ensures.rules))
     c.len.ensures.once model
+
+pub returns-in_err-ordered-clause-fits : goal.returns-in_err-ordered-clause-fits
+returns-in_err-ordered-clause-fits c = IfOk-from_err _ _ c.from_residual-in_err-ordered.ensures.0
+
+pub returns-in_err-ordered-clause-kept : goal.returns-in_err-ordered-clause-kept
+returns-in_err-ordered-clause-kept c = IfOk-from_err _ _ c.from_residual-in_err-ordered.ensures.0
+
+pub returns-in_err-ordered-clause-exact : goal.returns-in_err-ordered-clause-exact
+returns-in_err-ordered-clause-exact c = IfOk-from_err _ _ c.from_residual-in_err-ordered.ensures.0
+
+pub overflow_add-result : goal.overflow_add-result
+overflow_add-result c = let few = rw (← c.rows.ensures.same) at c.rows.ensures.valid.few_rows in omega (arith, few)
