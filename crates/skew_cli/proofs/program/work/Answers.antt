@@ -1,7 +1,16 @@
 use Rattle.skew_cli.proofs.program.work.Goals as goal
 
+pub returns-in-Replay-clause-outcome : goal.returns-in-Replay-clause-outcome
+returns-in-Replay-clause-outcome g c = rw c.in-Replay.is c.replay.ensures.outcome
+
+pub returns-in-Check-clause-outcome : goal.returns-in-Check-clause-outcome
+returns-in-Check-clause-outcome g c = rw c.in-Check.is c.check.ensures.outcome
+
 pub returns-in-Check-clause-possible : goal.returns-in-Check-clause-possible
 returns-in-Check-clause-possible g c = rw c.in-Check.is c.check.ensures.possible
+
+pub returns-in-Audit-clause-outcome : goal.returns-in-Audit-clause-outcome
+returns-in-Audit-clause-outcome g c = rw c.in-Audit.is c.audit.ensures.outcome
 
 pub returns-in-Audit-clause-possible : goal.returns-in-Audit-clause-possible
 returns-in-Audit-clause-possible g c = rw c.in-Audit.is c.audit.ensures.possible
