@@ -52,15 +52,6 @@ longer_with_subtrees trees (Always I f) = longer_one trees f (Always I f) (longe
 longer_with_subtrees trees (Once I f) = longer_one trees f (Once I f) (longer_with_subtrees trees f)
 longer_with_subtrees trees (Historically I f) = longer_one trees f (Historically I f) (longer_with_subtrees trees f)
 
-pub longer_after : (trees : List Form) (f h : Form) → length trees ≤ length (with_tree (with_subtrees trees f) h)
-longer_after trees f h = longer_one trees f h (longer_with_subtrees trees f)
-
-pub longer_twice : (trees : List Form) (f g : Form) → length trees ≤ length (with_tree (with_tree trees f) g)
-longer_twice trees f g = omega (arith, longer_with_tree trees f, longer_with_tree (with_tree trees f) g)
-
-pub longer_after-twice : (trees : List Form) (f g h : Form) → length trees ≤ length (with_tree (with_tree (with_subtrees trees f) g) h)
-longer_after-twice trees f g h = omega (arith, longer_with_subtrees trees f, longer_twice (with_subtrees trees f) g h)
-
 -- the trees with each of a list in turn
 abbrev grown : List Form → List Form → List Form
 grown trees [] = trees

@@ -9,4 +9,5 @@ mod TableLemmas
 mod Tables
 mod Steps
 mod Grown
+mod Walked
 pub mod NodeCounts

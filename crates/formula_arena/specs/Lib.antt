@@ -8,3 +8,4 @@ pub mod Table
 pub mod Growth
 pub mod Directions
 pub mod Operators
+pub mod Walks

@@ -1,16 +1,17 @@
-ghost use Rattle.std.specs.Prelude.{◌≡◌, ◌<◌, ◌≤◌, ◌+◌, [], ◌∷◌, ◌++◌, length, slice_get, Contains, false, IfOk, OnOk, OnErr, IfSome, IfNone, IsOk, Some, Err};
-ghost use Rattle.mt_model.specs.Form.{Implies, Not, Or, Prop, True, form_of};
+ghost use Rattle.std.specs.Prelude.{◌≡◌, ◌<◌, ◌≤◌, ◌+◌, [], ◌∷◌, ◌++◌, drop, length, slice_get, Contains, false, IfOk, OnOk, OnErr, IfSome, IfNone, IsOk, Some, Err};
+ghost use Rattle.mt_model.specs.Form.{Prop, form_of};
 ghost use Rattle.formula_arena.specs.Cores.{core_of};
 ghost use Rattle.indexmap.specs.IndexMap.{keys};
 ghost use Rattle.indexmap.specs.IndexSet.{spare};
 ghost use Rattle.formula_arena.specs.Nodes.{Extends, has_form, IsArena, IsAt, nodes_of, propositions_in, tree_at, with_nodes_of};
-ghost use Rattle.formula_arena.specs.Operators.{form_over};
 ghost use Rattle.formula_arena.specs.Shapes.{IsNode};
 ghost use Rattle.formula_arena.specs.Table.{IsOver, tree_of_proposition, tree_over};
 ghost use Rattle.formula_arena.specs.Growth.{IsGrown, with_subtrees, with_tree};
+ghost use Rattle.formula_arena.specs.Walks.{AreHeld, IsMade, IsTaken, Join, Negation, operands, step_in, steps_in, tree_by, waiting_in};
 
 use crate::ArenaFault;
 use crate::node::{Core, Operator, Proposition};
+use crate::walk::{Task, let_wait, pop_waiting, push_tasks};
 use indexmap::{IndexMap, IndexSet};
 use mt_model::{Formula, Name, NodeId, PropId, Tree};
 use std::alloc::{AllocError, Global};
@@ -143,16 +144,6 @@ impl Arena {
         Ok(id)
     }
 
-    // The node of a negated operator over nodes that are there.
-    fn add_not(&mut self, node: Core) -> Result<NodeId, ArenaFault>
-        requires { IsOver 0 (length self.old) node }
-        ensures { let f = tree_over [] self.old node in
-            IsGrown self.old (with_tree (with_tree self.old f) (Not f)) (Not f) result self.new }
-    {
-        let id = self.add(node)?;
-        self.add(Core::Not(id))
-    }
-
     // The node of a proposition.
     fn add_prop(&mut self, host: &Name, name: &Name) -> Result<NodeId, ArenaFault>
         ensures { let f = Prop host.now name.now in IsGrown self.old (with_tree self.old f) f result self.new }
@@ -182,90 +173,100 @@ impl Arena {
     }
 
     // The node of a tree's core. Its subtrees are added in the order in which the walk finishes them.
-    #[cycle(walk)]
     fn walk(&mut self, tree: &Tree) -> Result<NodeId, ArenaFault>
         ensures { let f = core_of (form_of tree.now) in IsGrown self.old (with_subtrees self.old f) f result self.new }
     {
-        match tree {
-            Tree::True => self.add(Core::True),
-            Tree::False => self.add_not(Core::True),
-            Tree::Prop { host, name } => self.add_prop(host, name),
-            Tree::Not(f) => self.walk_not(f),
-            Tree::And(f, g) => self.walk_both(Operator::And, f, g),
-            Tree::Or(f, g) => self.walk_or(f, g),
-            Tree::Implies(f, g) => self.walk_implies(f, g),
-            Tree::Until(interval, f, g) => self.walk_both(Operator::Until(*interval), f, g),
-            Tree::Since(interval, f, g) => self.walk_both(Operator::Since(*interval), f, g),
-            Tree::Eventually(interval, f) => self.walk_some(Operator::Until(*interval), f),
-            Tree::Once(interval, f) => self.walk_some(Operator::Since(*interval), f),
-            Tree::Always(interval, f) => self.walk_each(Operator::Until(*interval), f),
-            Tree::Historically(interval, f) => self.walk_each(Operator::Since(*interval), f),
+        let mut tasks = Vec::new(self.alloc);
+        let mut waiting = Vec::new(self.alloc);
+        self.walk_in(tree, &mut tasks, &mut waiting)
+    }
+
+    // The same in two lists, which are empty.
+    fn walk_in<'a>(
+        &mut self,
+        tree: &'a Tree,
+        tasks: &mut Vec<Task<'a>>,
+        waiting: &mut Vec<NodeId>,
+    ) -> Result<NodeId, ArenaFault>
+        requires no_task { tasks.old.items ≡ [] }
+        requires none_waits { waiting.old.items ≡ [] }
+        ensures { let f = core_of (form_of tree.now) in IsGrown self.old (with_subtrees self.old f) f result self.new }
+    {
+        tasks.extend_from_slice(&[Task::Tree(tree)])?;
+        while let Some(task) = tasks.pop() {
+            self.take(task, tasks, waiting)?;
+        }
+        Ok(pop_waiting(waiting))
+    }
+
+    // Does the next task.
+    fn take<'a>(
+        &mut self,
+        task: Task<'a>,
+        tasks: &mut Vec<Task<'a>>,
+        waiting: &mut Vec<NodeId>,
+    ) -> Result<(), ArenaFault>
+        requires held { AreHeld self.old waiting.old.items }
+        requires operands { operands (step_in task) ≤ length waiting.old.items }
+        ensures { IsTaken (step_in task.entry ∷ steps_in tasks.old.items) self.old (waiting_in self.old waiting.old.items) result (steps_in tasks.new.items) self.new waiting.new.items }
+    {
+        match task {
+            Task::Tree(tree) => {
+                push_tasks(tasks, tree)?;
+                Ok(())
+            }
+            Task::True => self.make(Core::True, waiting),
+            Task::Prop(host, name) => self.make_prop(host, name, waiting),
+            Task::Not => self.make_not(waiting),
+            Task::Over(operator) => self.make_over(operator, waiting),
         }
     }
 
-    // The node of a negation.
-    #[cycle(walk)]
-    fn walk_not(&mut self, tree: &Tree) -> Result<NodeId, ArenaFault>
-        ensures { let f = Not (core_of (form_of tree.now)) in IsGrown self.old (with_subtrees self.old f) f result self.new }
+    // Adds the node of an operator over nodes that are there, and lets it wait.
+    fn make(&mut self, node: Core, waiting: &mut Vec<NodeId>) -> Result<(), ArenaFault>
+        requires over { IsOver 0 (length self.old) node }
+        requires held { AreHeld self.old waiting.old.items }
+        ensures { IsMade self.old (tree_over [] self.old node) (waiting_in self.old waiting.old.items) result self.new waiting.new.items }
     {
-        let f = self.walk(tree)?;
-        self.add(Core::Not(f))
+        let id = self.add(node)?;
+        let_wait(waiting, id)?;
+        Ok(())
     }
 
-    // The node of an operator that is its own core.
-    #[cycle(walk)]
-    fn walk_both(
+    // Adds the node of a proposition, and lets it wait.
+    fn make_prop(
         &mut self,
-        operator: Operator,
-        left: &Tree,
-        right: &Tree,
-    ) -> Result<NodeId, ArenaFault>
-        ensures { let f = core_of (form_of left.now) in let g = core_of (form_of right.now) in let h = form_over operator f g in
-            IsGrown self.old (with_tree (with_subtrees (with_subtrees self.old f) g) h) h result self.new }
+        host: &Name,
+        name: &Name,
+        waiting: &mut Vec<NodeId>,
+    ) -> Result<(), ArenaFault>
+        requires { AreHeld self.old waiting.old.items }
+        ensures { IsMade self.old (Prop host.now name.now) (waiting_in self.old waiting.old.items) result self.new waiting.new.items }
     {
-        let f = self.walk(left)?;
-        let g = self.walk(right)?;
-        self.add(operator.over(f, g))
+        let id = self.add_prop(host, name)?;
+        let_wait(waiting, id)?;
+        Ok(())
     }
 
-    #[cycle(walk)]
-    fn walk_or(&mut self, left: &Tree, right: &Tree) -> Result<NodeId, ArenaFault>
-        ensures { let f = core_of (Or (form_of left.now) (form_of right.now)) in IsGrown self.old (with_subtrees self.old f) f result self.new }
+    // Adds the negation of the last node that waits, and lets it wait in its place.
+    fn make_not(&mut self, waiting: &mut Vec<NodeId>) -> Result<(), ArenaFault>
+        requires held { AreHeld self.old waiting.old.items }
+        requires operand { 0 < length waiting.old.items }
+        ensures { let w = waiting_in self.old waiting.old.items in IsMade self.old (tree_by Negation w) (drop 1 w) result self.new waiting.new.items }
     {
-        let not_f = self.walk_not(left)?;
-        let not_g = self.walk_not(right)?;
-        self.add_not(Core::And(not_f, not_g))
+        let f = pop_waiting(waiting);
+        self.make(Core::Not(f), waiting)
     }
 
-    #[cycle(walk)]
-    fn walk_implies(&mut self, left: &Tree, right: &Tree) -> Result<NodeId, ArenaFault>
-        ensures { let f = core_of (Implies (form_of left.now) (form_of right.now)) in IsGrown self.old (with_subtrees self.old f) f result self.new }
+    // Adds an operator over the last two nodes that wait, and lets it wait in their place.
+    fn make_over(&mut self, operator: Operator, waiting: &mut Vec<NodeId>) -> Result<(), ArenaFault>
+        requires held { AreHeld self.old waiting.old.items }
+        requires operands { 1 < length waiting.old.items }
+        ensures { let w = waiting_in self.old waiting.old.items in IsMade self.old (tree_by (Join operator) w) (drop 2 w) result self.new waiting.new.items }
     {
-        let f = self.walk(left)?;
-        let not_g = self.walk_not(right)?;
-        self.add_not(Core::And(f, not_g))
-    }
-
-    // The node of an operator whose left side is `true`.
-    #[cycle(walk)]
-    fn walk_some(&mut self, operator: Operator, tree: &Tree) -> Result<NodeId, ArenaFault>
-        ensures { let f = core_of (form_of tree.now) in let h = form_over operator True f in
-            IsGrown self.old (with_tree (with_subtrees (with_tree self.old True) f) h) h result self.new }
-    {
-        let truth = self.add(Core::True)?;
-        let f = self.walk(tree)?;
-        self.add(operator.over(truth, f))
-    }
-
-    // The node of an operator that is nowhere false: of its negation, with the negation on its right side.
-    #[cycle(walk)]
-    fn walk_each(&mut self, operator: Operator, tree: &Tree) -> Result<NodeId, ArenaFault>
-        ensures { let f = Not (core_of (form_of tree.now)) in let h = form_over operator True f in
-            IsGrown self.old (with_tree (with_tree (with_subtrees (with_tree self.old True) f) h) (Not h)) (Not h) result self.new }
-    {
-        let truth = self.add(Core::True)?;
-        let not_f = self.walk_not(tree)?;
-        self.add_not(operator.over(truth, not_f))
+        let g = pop_waiting(waiting);
+        let f = pop_waiting(waiting);
+        self.make(operator.over(f, g), waiting)
     }
 }
 

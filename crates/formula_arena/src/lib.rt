@@ -6,6 +6,7 @@ mod direction;
 mod fault;
 mod laws;
 mod node;
+mod walk;
 
 pub use arena::{Arena, MAX_NODES};
 pub use direction::Direction;
