@@ -87,11 +87,12 @@ abbrev pub Leads : List Step → List Form → List Form → List Form → Form 
 Leads [] trees waiting grown f = (trees ≡ grown) × (waiting ≡ f ∷ [])
 Leads (step ∷ steps) trees waiting grown f = (operands step ≤ length waiting) × Leads steps (trees_after_step step trees waiting) (waiting_after step waiting) grown f
 
--- no step has more work than this: two for each tree that it adds, and one where it adds but one
+-- the work of a step: two for each subtree of a whole tree, and else one
 abbrev pub work_of : Step → ℕ
 work_of (Whole f) = 2 * length (subtrees_of f)
 work_of step = 1
 
+-- the work of steps, which each step makes less
 abbrev pub work : List Step → ℕ
 work [] = 0
 work (step ∷ steps) = work_of step + work steps
