@@ -8,5 +8,6 @@ pub mod Sections
 pub mod Reports
 pub mod Stages
 pub mod Unambiguous
+pub mod CutShort
 pub mod Spellings
 pub mod Walks

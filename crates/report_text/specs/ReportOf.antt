@@ -1,5 +1,5 @@
 -- The report that bytes are, or the first line with which no report begins.
-use Rattle.std.specs.Prelude.{◌≡◌, ◌⊎◌, ℕ, ◌+◌, List, [], ◌++◌, All, Result, Ok, Err, MatchResult, false, count_by}
+use Rattle.std.specs.Prelude.{◌≡◌, ◌⊎◌, ℕ, ◌+◌, ◌≤◌, List, [], ◌++◌, length, All, Result, Ok, Err, MatchResult, false, count_by}
 use Rattle.memchr.specs.Find.{is_byte}
 use Rattle.proof_log.specs.LinesText.{newline}
 use Rattle.report_text.specs.declared.report.Report.{Report}
@@ -60,3 +60,15 @@ ReportOf bytes (Err fault.Memory) = ⊥
 -- a call answered what the bytes are, or want of memory
 abbrev pub Answers : List ℕ → Result Report ReportFault → Type 0
 Answers bytes result = MatchResult result (λ r. ReportOf bytes (Ok r)) (λ f. (f ≡ fault.Memory) ⊎ ReportOf bytes (Err f))
+
+-- the bytes are the text of a report that ends too early: they are this text without its last bytes, one at least
+pub record IsCutShort (bytes : List ℕ) : Type 0 where
+  pub report : Report
+  pub spelled : IsSpelled report
+  pub lost : List ℕ
+  pub some : 1 ≤ length lost
+  pub text : report_text report ≡ bytes ++ lost
+
+-- a call answered that the line after the bytes' last newline is faulty, or want of memory
+abbrev pub IsFaultyAtEnd : List ℕ → Result Report ReportFault → Type 0
+IsFaultyAtEnd bytes result = MatchResult result (λ r. ⊥) (λ f. (f ≡ fault.Memory) ⊎ (f ≡ fault.Syntax (lines_in bytes + 1)))

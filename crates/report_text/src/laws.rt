@@ -1,4 +1,4 @@
-ghost use Rattle.report_text.specs.Laws.{BytesAreUnambiguous, TextsReadBack, TextsTellApart};
+ghost use Rattle.report_text.specs.Laws.{BytesAreUnambiguous, CutTextsAreFaulty, TextsReadBack, TextsTellApart};
 
 /// Bytes are at most one report, or have at most one first faulty line.
 pub fn bytes_are_unambiguous()
@@ -13,4 +13,9 @@ pub fn texts_read_back()
 /// Two reports that have a spelling are equal where their texts are.
 pub fn texts_tell_apart()
     ensures { TextsTellApart }
+{}
+
+/// A report's text that ends too early is faulty at the line after its last newline.
+pub fn cut_texts_are_faulty()
+    ensures { CutTextsAreFaulty }
 {}

@@ -13,7 +13,7 @@ mod spelling;
 mod stop;
 
 pub use fault::ReportFault;
-pub use laws::{bytes_are_unambiguous, texts_read_back, texts_tell_apart};
+pub use laws::{bytes_are_unambiguous, cut_texts_are_faulty, texts_read_back, texts_tell_apart};
 pub use printer::print_report;
 pub use reader::read_report;
 pub use report::{Report, Section};

@@ -2,7 +2,7 @@
 
 ghost use Rattle.std.specs.Prelude.{◌≡◌, ◌<◌, ◌≤◌, ◌+◌, ◌-◌, ◌^◌, length, take, false, MatchResult};
 ghost use Rattle.report_text.specs.Parts.{IsFront};
-ghost use Rattle.report_text.specs.ReportOf.{Answers, IsReport, lines_in};
+ghost use Rattle.report_text.specs.ReportOf.{Answers, IsCutShort, IsFaultyAtEnd, IsReport, lines_in};
 ghost use Rattle.report_text.specs.ReportText.{body_text, entries_text, marked_text, report_text, section_text};
 ghost use Rattle.report_text.specs.Spelled.{IsSpelled, IsSpelledSection};
 ghost use Rattle.report_text.specs.Stops.{AreEntries, AreVerdicts, AreVerdictsRead, IsBody, IsMarked, IsOfKind, IsOn, IsSectionText, Stopped};
@@ -140,6 +140,8 @@ fn fault_at(bytes: &[u8], left: usize) -> ReportFault
 pub fn read_report(alloc: Global, bytes: &[u8]) -> Result<Report, ReportFault>
     requires { length bytes.now < 2 ^ 31 }
     ensures answer { Answers bytes.now result }
+    // Each proper prefix of a report's text.
+    ensures cut { IsCutShort bytes.now → IsFaultyAtEnd bytes.now result }
 {
     match read_front(alloc, bytes) {
         Ok((report, rest)) => {
