@@ -6,9 +6,9 @@
 //! - `?`: words of `check`. Only those lines of the report are told that don't depend on which timings and
 //!   which lines were found, and then what `audit` answers for the report and the same words.
 //! - `!`: words of `check`, of whose report the section for false is told.
-//! - `<`: words. Each call on the files fails in turn, first with one byte a call, and then with whole files. How
-//!   many calls there are is told, each of which must be answered as a failed read with nothing written, and the
-//!   status where none fails.
+//! - `<`: words. Each call on the files fails in turn, first with one byte a call, and then with 65,536. How many
+//!   calls there are is told, each of which must be answered as a failed read with nothing written, and the status
+//!   where a later call would fail, which must be the answer of sound devices.
 //! - `^`: words. Writing fails after each number of bytes: because there is no more room, because a call fails after
 //!   calls of one byte, and because one fails after a call of all these bytes. How many bytes there are is told, whose
 //!   beginning must be written each time, and the status where there is room for all.
@@ -29,6 +29,9 @@ use table_case::{Table, number_of, push_line, push_marked, text_of};
 /// The most bytes of an answer.
 const LIMIT: usize = 1_048_576;
 
+/// The bytes of one call on sound devices.
+const PIECE: usize = 65_536;
+
 // How many bytes go in one call, how many the sink takes in all, and which call on the files and which of the sink
 // fails, where 0 is none.
 #[derive(Clone, Copy)]
@@ -40,7 +43,7 @@ struct Devices {
 }
 
 const SOUND: Devices = Devices {
-    piece: LIMIT,
+    piece: PIECE,
     room: LIMIT,
     bad_read: 0,
     bad_write: 0,
@@ -168,7 +171,7 @@ fn copied(alloc: Global, files: &Files) -> Option<Files> {
     Some(copies)
 }
 
-// Adds how many calls on the files there are, each of which fails in turn, and the status where none does.
+// Adds how many calls on the files there are, each of which fails in turn, and the status where a later one would.
 fn push_failed_reads(
     alloc: Global,
     piece: usize,
@@ -176,6 +179,7 @@ fn push_failed_reads(
     files: &Files,
     out: &mut Vec<u8>,
 ) -> Option<()> {
+    let (sound, whole) = ran(alloc, words, copied(alloc, files)?, SOUND)?;
     for calls in 0..LIMIT as u64 {
         let devices = Devices {
             piece,
@@ -183,9 +187,12 @@ fn push_failed_reads(
             ..SOUND
         };
         let (status, text) = ran(alloc, words, copied(alloc, files)?, devices)?;
-        if status != Status::ReadFailed || !text.is_empty() {
+        if status == sound && text == whole {
             let line = format!(in alloc; "reads {calls} status {}", status.code()).ok()?;
             return push_line(out, line.as_bytes());
+        }
+        if status != Status::ReadFailed || !text.is_empty() {
+            return None;
         }
     }
     None
@@ -317,7 +324,7 @@ fn push_answer(alloc: Global, case: Case, out: &mut Vec<u8>) -> Option<()> {
         }
         Telling::FailedReads => {
             push_failed_reads(alloc, 1, &words, &files, out)?;
-            push_failed_reads(alloc, LIMIT, &words, &files, out)
+            push_failed_reads(alloc, PIECE, &words, &files, out)
         }
         Telling::FailedWrites => push_failed_writes(alloc, &words, &files, out),
     }
