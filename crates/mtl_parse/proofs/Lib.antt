@@ -16,6 +16,9 @@ pub mod Valid
 pub mod Parsing
 pub mod Intervals
 pub mod PlacesAfter
-mod PrintedTokens
+pub mod PrintedTokens
 mod PrintedPieces
 mod PrintedFormulas
+mod TokenLexemes
+pub mod BlanksAndTokens
+pub mod NoMemory

@@ -52,17 +52,17 @@ both true b h = (refl, h)
 both false b h = cc
 
 -- a run that is cut off by what stands behind it
-run : (test : ℕ → Bool) (bytes rest : List ℕ) → list_all test bytes ≡ true → begins_with test rest ≡ false → take_while test (bytes ++ rest) ≡ bytes
+pub run : (test : ℕ → Bool) (bytes rest : List ℕ) → list_all test bytes ≡ true → begins_with test rest ≡ false → take_while test (bytes ++ rest) ≡ bytes
 run test [] [] passes cut = refl
 run test [] (c ∷ cs) passes cut = take_while-cons test c cs ∙ rw cut refl
 run test (b ∷ bs) rest passes cut =
     let first : test b ≡ true = (both (test b) (list_all test bs) passes).0 in
     take_while-cons test b (bs ++ rest) ∙ rw first (ap (λ cs. b ∷ cs) (run test bs rest (both (test b) (list_all test bs) passes).1 cut))
 
-letter_no_blank : (b : ℕ) → is_letter b ≡ true → is_blank b ≡ false
+pub letter_no_blank : (b : ℕ) → is_letter b ≡ true → is_blank b ≡ false
 letter_no_blank b h = grind (arith, nat_tests)
 
-digit_no_blank : (b : ℕ) → is_digit b ≡ true → is_blank b ≡ false
+pub digit_no_blank : (b : ℕ) → is_digit b ≡ true → is_blank b ≡ false
 digit_no_blank b h = grind (arith, nat_tests)
 
 digit_no_letter : (b : ℕ) → is_digit b ≡ true → is_letter b ≡ false
@@ -76,16 +76,16 @@ cuts_number : (rest : List ℕ) → begins_with is_name_byte rest ≡ false → 
 cuts_number [] cut = refl
 cuts_number (b ∷ bs) cut = digit_in_word b cut
 
-name_passes : (b : ℕ) (bs : List ℕ) → is_letter b ≡ true → list_all is_name_byte bs ≡ true → list_all is_name_byte (b ∷ bs) ≡ true
+pub name_passes : (b : ℕ) (bs : List ℕ) → is_letter b ≡ true → list_all is_name_byte bs ≡ true → list_all is_name_byte (b ∷ bs) ≡ true
 name_passes b bs letter passes = rw (letter, passes) refl
 
-word_here : (b : ℕ) (bs : List ℕ) → is_letter b ≡ true → lexeme_at b bs ≡ word_lexeme (take_while is_name_byte (b ∷ bs))
+pub word_here : (b : ℕ) (bs : List ℕ) → is_letter b ≡ true → lexeme_at b bs ≡ word_lexeme (take_while is_name_byte (b ∷ bs))
 word_here b bs letter = rw letter refl
 
-whole_word : (b : ℕ) (bs : List ℕ) → nat_le (length (b ∷ bs)) MAX_NAME_LENGTH ≡ true → word_lexeme (b ∷ bs) ≡ Found (Word (b ∷ bs)) (length bs)
+pub whole_word : (b : ℕ) (bs : List ℕ) → nat_le (length (b ∷ bs)) MAX_NAME_LENGTH ≡ true → word_lexeme (b ∷ bs) ≡ Found (Word (b ∷ bs)) (length bs)
 whole_word b bs short = rw short (ap (Found (Word (b ∷ bs))) (let less : length (b ∷ bs) - 1 ≡ length bs = omega arith in less))
 
-name_parts : (letter passes short : Bool) → (letter && passes && short) ≡ true → (letter ≡ true) × (passes ≡ true) × (short ≡ true)
+pub name_parts : (letter passes short : Bool) → (letter && passes && short) ≡ true → (letter ≡ true) × (passes ≡ true) × (short ≡ true)
 name_parts true true short h = (refl, refl, h)
 name_parts true false short h = cc
 name_parts false passes short h = cc
@@ -98,7 +98,7 @@ scans-word {rest} (b ∷ bs) name cut s =
     let whole = run is_name_byte (b ∷ bs) rest (name_passes b bs parts.0 parts.1) cut in
     scans-token b bs (Word (b ∷ bs)) (letter_no_blank b parts.0) (word_here b (bs ++ rest) parts.0 ∙ ap word_lexeme whole ∙ whole_word b bs parts.2) s
 
-digits_model : IsNumeralModel (λ ds. list_all is_digit ds ≡ true) (digits_value 10)
+pub digits_model : IsNumeralModel (λ ds. list_all is_digit ds ≡ true) (digits_value 10)
 digits_model = numerals_by_value (λ ds. list_all is_digit ds ≡ true) (search rules)
 
 not_zero_first : (ds : List ℕ) → 48 < get_or ds 0 0 → has_leading_zero ds ≡ false
@@ -106,14 +106,14 @@ not_zero_first [] first = refl
 not_zero_first (b ∷ []) first = refl
 not_zero_first (b ∷ c ∷ bs) first = grind (arith, nat_tests)
 
-no_leading_zero : (n : ℕ) → n < 2 ^ 64 → has_leading_zero (decimal n) ≡ false
+pub no_leading_zero : (n : ℕ) → n < 2 ^ 64 → has_leading_zero (decimal n) ≡ false
 no_leading_zero zero small = rw (decimal_digit 0 (omega arith)) refl
 no_leading_zero (suc n) small = not_zero_first (decimal (suc n)) (first_decimal (suc n) (omega arith) small)
 
-number_here : (b : ℕ) (bs : List ℕ) → is_digit b ≡ true → lexeme_at b bs ≡ number_lexeme (take_while is_digit (b ∷ bs))
+pub number_here : (b : ℕ) (bs : List ℕ) → is_digit b ≡ true → lexeme_at b bs ≡ number_lexeme (take_while is_digit (b ∷ bs))
 number_here b bs digit = let other : is_letter b ≡ false = digit_no_letter b digit in rw (other, digit) refl
 
-whole_number : (n b : ℕ) (bs : List ℕ) → has_leading_zero (b ∷ bs) ≡ false → digits_value 10 (b ∷ bs) ≡ n → nat_le n MAX_DISTANCE ≡ true → number_lexeme (b ∷ bs) ≡ Found (Number n) (length bs)
+pub whole_number : (n b : ℕ) (bs : List ℕ) → has_leading_zero (b ∷ bs) ≡ false → digits_value 10 (b ∷ bs) ≡ n → nat_le n MAX_DISTANCE ≡ true → number_lexeme (b ∷ bs) ≡ Found (Number n) (length bs)
 whole_number n b bs plain value within = rw (value, plain, within) (ap (Found (Number n)) (let less : length (b ∷ bs) - 1 ≡ length bs = omega arith in less))
 
 -- a run of digits is a number

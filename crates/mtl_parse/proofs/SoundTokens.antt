@@ -13,7 +13,7 @@ use Rattle.mtl_parse.specs.Machine.{is_sound}
 use Rattle.mtl_parse.proofs.Digits.{run_passes}
 
 -- a token that was found is sound
-abbrev SoundIfFound : Lexeme → Type 0
+abbrev pub SoundIfFound : Lexeme → Type 0
 SoundIfFound (Found t more) = is_sound t ≡ true
 SoundIfFound NoToken = Unit {0}
 SoundIfFound BadNumber = Unit {0}
@@ -66,7 +66,7 @@ arrow_sound (b ∷ bs) = by (b == 62)
     by true = refl
     by false = tt
 
-lexeme_sound : (b : ℕ) (bs : List ℕ) → SoundIfFound (lexeme_at b bs)
+pub lexeme_sound : (b : ℕ) (bs : List ℕ) → SoundIfFound (lexeme_at b bs)
 lexeme_sound b bs = by (is_letter b) (is_digit b) (b == 45) refl
   where
     by : (letter digit arrow : Bool) → is_letter b ≡ letter → SoundIfFound (if letter then word_lexeme (take_while is_name_byte (b ∷ bs)) else if digit then number_lexeme (take_while is_digit (b ∷ bs)) else if arrow then arrow_lexeme bs else sign_lexeme b)

@@ -1,7 +1,8 @@
 -- Laws of the grammar and of readings.
-use Rattle.std.specs.Prelude.{◌≡◌, ℕ, List, map, Result}
+use Rattle.std.specs.Prelude.{◌≡◌, ℕ, List, map, Result, Err}
 use Rattle.mt_model.specs.Form.{Form, propositions_of}
 use Rattle.mtl_parse.specs.declared.fault.FormulaFault.{FormulaFault}
+use Rattle.mtl_parse.specs.declared.fault.FormulaFault.TheVariants as fault
 use Rattle.mtl_parse.specs.Tokens.{Placed, Token, Word}
 use Rattle.mtl_parse.specs.Grammar.{Implication, Reads}
 use Rattle.mtl_parse.specs.FormulaOf.{FormulaOf, tokens_in}
@@ -22,3 +23,7 @@ TextsAreUnambiguous = (text : List ℕ) (r s : Result Form FormulaFault) → For
 -- in a formula's tokens the ones that a dot follows are the hosts of its propositions, in order
 abbrev pub HostsStandBeforeDots : Type 0
 HostsStandBeforeDots = (ps : List Placed) (f : Form) → Reads Implication (tokens_in ps) f → tokens_in (before_dots ps) ≡ map (λ p. Word p.host) (propositions_of f)
+
+-- want of memory is no fault of a text
+abbrev pub NoTextLacksMemory : Type 0
+NoTextLacksMemory = (text : List ℕ) → FormulaOf text (Err fault.Memory) → ⊥

@@ -4,6 +4,7 @@ pub mod Faults
 pub mod FormulaOf
 pub mod FormulaText
 pub mod Places
+pub mod TokenTexts
 pub mod Laws
 pub mod Machine
 pub mod States

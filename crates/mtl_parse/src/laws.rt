@@ -1,4 +1,5 @@
-ghost use Rattle.mtl_parse.specs.Laws.{HostsStandBeforeDots, TextsAreUnambiguous, TextsHaveReadings, TokensAreUnambiguous};
+ghost use Rattle.mtl_parse.specs.Laws.{HostsStandBeforeDots, NoTextLacksMemory, TextsAreUnambiguous, TextsHaveReadings, TokensAreUnambiguous};
+ghost use Rattle.mtl_parse.specs.TokenTexts.{TextsAreBlanksAndTokens};
 
 /// A law: each text is a formula, or has a fault.
 pub fn texts_have_readings()
@@ -18,4 +19,14 @@ pub fn tokens_are_unambiguous()
 /// A law: in a formula's tokens the ones that a dot follows are the hosts of its propositions, in order.
 pub fn hosts_stand_before_dots()
     ensures { HostsStandBeforeDots }
+{}
+
+/// A law: the tokens of a text are those of which it is made, with blanks between them, each as long as it can be.
+pub fn texts_are_blanks_and_tokens()
+    ensures { TextsAreBlanksAndTokens }
+{}
+
+/// A law: want of memory is no fault of a text.
+pub fn no_text_lacks_memory()
+    ensures { NoTextLacksMemory }
 {}
