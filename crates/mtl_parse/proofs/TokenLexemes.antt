@@ -169,6 +169,74 @@ stands b bs = by (is_letter b) (is_digit b) (b == 45) refl refl refl
 pub found-stands : (b : ℕ) (bs : List ℕ) (t : Token) (more : ℕ) → lexeme_at b bs ≡ Found t more → StandsAt b bs t more
 found-stands b bs t more is = subst (StandsIfFound b bs) is (stands b bs)
 
+-- only a digit begins a number out of form, and it begins nothing else that is no token
+abbrev IsOfKind : ℕ → Lexeme → Type 0
+IsOfKind b (Found t more) = Unit {0}
+IsOfKind b NoToken = is_digit b ≡ false
+IsOfKind b BadNumber = is_digit b ≡ true
+
+letter_no_digit : (b : ℕ) → is_letter b ≡ true → is_digit b ≡ false
+letter_no_digit b letter = grind (arith, nat_tests)
+
+word_kind : (b : ℕ) (bytes : List ℕ) → is_letter b ≡ true → IsOfKind b (word_lexeme bytes)
+word_kind b bytes letter = by (nat_le (length bytes) MAX_NAME_LENGTH)
+  where
+    by : (v : Bool) → IsOfKind b (if v then Found (Word bytes) (length bytes - 1) else NoToken)
+    by true = tt
+    by false = letter_no_digit b letter
+
+number_kind : (b : ℕ) (bytes : List ℕ) → is_digit b ≡ true → IsOfKind b (number_lexeme bytes)
+number_kind b bytes digit = by (not (has_leading_zero bytes) && nat_le (digits_value 10 bytes) MAX_DISTANCE)
+  where
+    by : (v : Bool) → IsOfKind b (if v then Found (Number (digits_value 10 bytes)) (length bytes - 1) else BadNumber)
+    by true = tt
+    by false = digit
+
+arrow_kind : (b : ℕ) (bs : List ℕ) → is_digit b ≡ false → IsOfKind b (arrow_lexeme bs)
+arrow_kind b [] other = other
+arrow_kind b (c ∷ cs) other = by (c == 62)
+  where
+    by : (v : Bool) → IsOfKind b (if v then Found Arrow 1 else NoToken)
+    by true = tt
+    by false = other
+
+either : (b : ℕ) (t : Token) (l : Lexeme) (v : Bool) → IsOfKind b l → IsOfKind b (if v then Found t 0 else l)
+either b t l true later = tt
+either b t l false later = later
+
+sign_kind : (b : ℕ) → is_digit b ≡ false → IsOfKind b (sign_lexeme b)
+sign_kind b other =
+    either b Open _ (b == 40) (
+    either b Close _ (b == 41) (
+    either b OpenBracket _ (b == 91) (
+    either b CloseBracket _ (b == 93) (
+    either b Comma _ (b == 44) (
+    either b Dot _ (b == 46) (
+    either b Bang _ (b == 33) (
+    either b Ampersand _ (b == 38) (
+    either b Bar _ (b == 124) (
+    either b (InfixLetter U) _ (b == 85) (
+    either b (InfixLetter S) _ (b == 83) (
+    either b (PrefixLetter F) _ (b == 70) (
+    either b (PrefixLetter G) _ (b == 71) (
+    either b (PrefixLetter O) _ (b == 79) (
+    either b (PrefixLetter H) _ (b == 72) (other)))))))))))))))
+
+kind : (b : ℕ) (bs : List ℕ) → IsOfKind b (lexeme_at b bs)
+kind b bs = by (is_letter b) (is_digit b) (b == 45) refl refl
+  where
+    by : (letter digit arrow : Bool) → is_letter b ≡ letter → is_digit b ≡ digit → IsOfKind b (if letter then word_lexeme (take_while is_name_byte (b ∷ bs)) else if digit then number_lexeme (take_while is_digit (b ∷ bs)) else if arrow then arrow_lexeme bs else sign_lexeme b)
+    by true digit arrow l d = word_kind b (take_while is_name_byte (b ∷ bs)) l
+    by false true arrow l d = number_kind b (take_while is_digit (b ∷ bs)) d
+    by false false true l d = arrow_kind b bs d
+    by false false false l d = sign_kind b d
+
+pub no-digit : (b : ℕ) (bs : List ℕ) → lexeme_at b bs ≡ NoToken → is_digit b ≡ false
+no-digit b bs is = subst (IsOfKind b) is (kind b bs)
+
+pub bad-digit : (b : ℕ) (bs : List ℕ) → lexeme_at b bs ≡ BadNumber → is_digit b ≡ true
+bad-digit b bs is = subst (IsOfKind b) is (kind b bs)
+
 -- the first byte of a token's text, those after it, and that the token is found there
 pub record IsFound (t : Token) (after : List ℕ) : Type 0 where
   pub first : ℕ

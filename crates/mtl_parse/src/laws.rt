@@ -1,5 +1,5 @@
 ghost use Rattle.mtl_parse.specs.Laws.{HostsStandBeforeDots, NoTextLacksMemory, TextsAreUnambiguous, TextsHaveReadings, TokensAreUnambiguous};
-ghost use Rattle.mtl_parse.specs.TokenTexts.{TextsAreBlanksAndTokens};
+ghost use Rattle.mtl_parse.specs.TokenTexts.{OtherTextsHaveFaults, TextsAreBlanksAndTokens};
 
 /// A law: each text is a formula, or has a fault.
 pub fn texts_have_readings()
@@ -24,6 +24,12 @@ pub fn hosts_stand_before_dots()
 /// A law: the tokens of a text are those of which it is made, with blanks between them, each as long as it can be.
 pub fn texts_are_blanks_and_tokens()
     ensures { TextsAreBlanksAndTokens }
+{}
+
+/// A law: any other text has blanks and tokens before its first byte that is no blank and begins no token, and this
+/// byte is its fault.
+pub fn other_texts_have_faults()
+    ensures { OtherTextsHaveFaults }
 {}
 
 /// A law: want of memory is no fault of a text.

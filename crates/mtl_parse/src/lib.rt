@@ -16,8 +16,9 @@ mod tokens;
 pub use fault::FormulaFault;
 pub use formula_text::parse_formula;
 pub use laws::{
-    hosts_stand_before_dots, no_text_lacks_memory, texts_are_blanks_and_tokens,
-    texts_are_unambiguous, texts_have_readings, tokens_are_unambiguous,
+    hosts_stand_before_dots, no_text_lacks_memory, other_texts_have_faults,
+    texts_are_blanks_and_tokens, texts_are_unambiguous, texts_have_readings,
+    tokens_are_unambiguous,
 };
 pub use place::place_of;
 pub use printer::{print_formula, printed_formulas_read_back};
