@@ -7,6 +7,7 @@ use Rattle.mtl_parse.specs.declared.fault.FormulaFault.TheVariants as fault
 use Rattle.mtl_parse.specs.Tokens.{Token, Placed, Lexeme, Found, NoToken, BadNumber, is_blank, lexeme_at, then_tokens, tokens_from, tokens_of, with_token}
 use Rattle.mtl_parse.specs.Machine.{is_sound}
 use Rattle.mtl_parse.specs.TokenTexts.{AreBlanksAndTokens, BeginsNoToken, HasFault, OtherTextsHaveFaults, TextsAreBlanksAndTokens, fault_at, nothing, blank, token, is_longest, token_text}
+use Rattle.mtl_parse.proofs.PrintedTokens.{passed}
 use Rattle.mtl_parse.proofs.Scanning.{prepended}
 use Rattle.mtl_parse.proofs.SoundTokens.{SoundIfFound, lexeme_sound}
 use Rattle.mtl_parse.proofs.TokenLexemes.{bad-digit, found-stands, no-digit, stands-found}
@@ -89,11 +90,6 @@ scan : (text : List ℕ) → IsScan (length text) 0 text (tokens_of text)
 scan text = scan_from text 0 0 0 (length text) (omega arith) (omega arith) (omega arith)
 
 -- that of which the bytes are made is found
-
--- the bytes that belong to a token are passed over
-passed : (inner rest : List ℕ) (place next : ℕ) → next ≡ place + length inner → tokens_from (length inner) place (inner ++ rest) ≡ tokens_from 0 next rest
-passed [] rest place next at = let same : place ≡ next = omega arith in ap (λ n. tokens_from 0 n rest) same
-passed (b ∷ bs) rest place next at = passed bs rest (place + 1) next (omega arith)
 
 found_at : (place next b : ℕ) (inner after : List ℕ) (t : Token) (r : Result (List Placed) FormulaFault) → is_blank b ≡ false → lexeme_at b (inner ++ after) ≡ Found t (length inner) → next ≡ place + 1 + length inner → tokens_from 0 next after ≡ r
     → tokens_from 0 place (b ∷ inner ++ after) ≡ with_token (record { token = t; byte = place }) r

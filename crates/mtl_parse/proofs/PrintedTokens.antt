@@ -32,9 +32,9 @@ with_first p (Ok ps) ts h = cc
 with_first p (Err f) ts h = absurd (cc)
 
 -- the bytes that belong to a token are passed over
-passed : (inner rest : List ℕ) (place : ℕ) → (next : ℕ) × (tokens_from (length inner) place (inner ++ rest) ≡ tokens_from 0 next rest)
-passed [] rest place = (place, refl)
-passed (b ∷ bs) rest place = passed bs rest (place + 1)
+pub passed : (inner rest : List ℕ) (place next : ℕ) → next ≡ place + length inner → tokens_from (length inner) place (inner ++ rest) ≡ tokens_from 0 next rest
+passed [] rest place next at = let same : place ≡ next = omega arith in ap (λ n. tokens_from 0 n rest) same
+passed (b ∷ bs) rest place next at = passed bs rest (place + 1) next (omega arith)
 
 pub scans-blank : {rest : List ℕ} {ts : List Token} (b : ℕ) → is_blank b ≡ true → Scans rest ts → Scans (b ∷ rest) ts
 scans-blank b blank s = record { at = λ place. rw blank (s.at (place + 1)) }
@@ -44,7 +44,7 @@ pub scans-token : {rest : List ℕ} {ts : List Token} (b : ℕ) (inner : List �
 scans-token {rest} {ts} b inner t solid lexeme s = record {
   at = λ place. rw (solid, lexeme) (
       with_first (record { token = t; byte = place }) (tokens_from (length inner) (place + 1) (inner ++ rest)) ts (
-      ap without_places (passed inner rest (place + 1)).1 ∙ s.at (passed inner rest (place + 1)).0));
+      ap without_places (passed inner rest (place + 1) (place + 1 + length inner) refl) ∙ s.at (place + 1 + length inner)));
 }
 
 pub both : (a b : Bool) → (a && b) ≡ true → (a ≡ true) × (b ≡ true)
