@@ -1,10 +1,11 @@
 -- A command of the code as the command that it is.
-use Rattle.std.specs.Prelude.{◌≤◌, List, ◌++◌, map, option_and_then, string_bytes}
+use Rattle.std.specs.Prelude.{◌≤◌, List, [], ◌∷◌, ◌++◌, codes, map, option_and_then, string_bytes}
 use Rattle.skew_words.specs.declared.limits.TheConstants.{MAX_CONFLICTS}
 use Rattle.skew_words.specs.declared.call.Call.{Call}
 use Rattle.skew_words.specs.declared.call.Call.TheVariants as call
 use Rattle.skew_words.specs.declared.given.Given.{Given as GivenWords}
 use Rattle.skew_words.specs.declared.operands.Operands.{Operands}
+use Rattle.skew_words.specs.declared.operands.Operands.TheVariants as operands
 use Rattle.skew_words.specs.Words.{Audit, Check, Command, Demo, Given, Order, Replay, Times, Word, conflicts_of}
 
 -- the command that a call is
@@ -18,7 +19,8 @@ command_in (call.Demo seed) = Demo seed
 
 -- the operands, as words
 abbrev pub words_in : Operands → List Word
-words_in o = map string_bytes (o.front.now ++ o.before.now ++ o.after.now)
+words_in operands.Input = codes "-" ∷ []
+words_in (operands.Words front before after) = map string_bytes (front.now ++ before.now ++ after.now)
 
 -- what is given, as words and the number that the option writes
 abbrev pub given_in : GivenWords → Given
@@ -26,9 +28,6 @@ given_in g = record { operands = words_in g.operands; conflicts = option_and_the
 
 -- where the call has a number of conflicts, it is from 1 to 1,000,000
 abbrev pub HasFewConflicts : Call → Type 0
-HasFewConflicts (call.Times log) = Unit {0}
-HasFewConflicts (call.Replay formula log times) = Unit {0}
-HasFewConflicts (call.Order log) = Unit {0}
 HasFewConflicts (call.Check conflicts formula log) = (1 ≤ conflicts) × (conflicts ≤ MAX_CONFLICTS)
 HasFewConflicts (call.Audit conflicts formula log report) = (1 ≤ conflicts) × (conflicts ≤ MAX_CONFLICTS)
-HasFewConflicts (call.Demo seed) = Unit {0}
+HasFewConflicts called = Unit {0}

@@ -1,36 +1,34 @@
 -- What words say, and the normal list of it.
-use Rattle.std.specs.Prelude.{◌≡◌, ℕ, List, [], ◌∷◌, ◌++◌, Option, Some, None, IsSome, codes, option_map}
+use Rattle.std.specs.Prelude.{◌≡◌, ℕ, Bool, true, false, List, [], ◌∷◌, ◌++◌, Option, Some, None, IsSome, codes, option_map, option_and_then, if◌then◌else◌}
 use Rattle.skew_words.specs.declared.limits.TheConstants.{DEFAULT_CONFLICTS}
 use Rattle.skew_words.specs.declared.call.Call.{Call}
+use Rattle.skew_words.specs.declared.table.Verb.{Verb}
 use Rattle.skew_words.specs.declared.words.Spoken.{Spoken}
-use Rattle.skew_words.specs.declared.words.Spoken.TheVariants as spoken
-use Rattle.skew_words.specs.declared.words.Verb.{Verb}
-use Rattle.skew_words.specs.declared.words.Verb.TheVariants as verb
-use Rattle.skew_words.specs.Called.{command_in}
-use Rattle.skew_words.specs.Words.{Audit, Check, Command, Demo, Order, Replay, Times, Word, conflicts_of, seed_of}
+use Rattle.skew_words.specs.Called.{command_in, words_in}
+use Rattle.skew_words.specs.Table.{are_operands, row_of}
+use Rattle.skew_words.specs.Words.{Command, Word, command_from, conflicts_of}
 
 -- the first word of what is spoken
 abbrev pub verb_of : Spoken → Verb
-verb_of (spoken.Times log) = verb.Times
-verb_of (spoken.Replay formula log times) = verb.Replay
-verb_of (spoken.Order log) = verb.Order
-verb_of (spoken.Check conflicts formula log) = verb.Check
-verb_of (spoken.Audit conflicts formula log report) = verb.Audit
-verb_of (spoken.Demo seed) = verb.Demo
+verb_of s = s.verb
 
--- the number of conflicts that the option writes, or else the default
-abbrev pub conflicts_said : Option Word → Option ℕ
-conflicts_said None = Some DEFAULT_CONFLICTS
-conflicts_said (Some text) = conflicts_of text
+-- the option as it is spoken, where it is given
+abbrev pub option_of : Spoken → Option Word
+option_of s = option_map (λ text. text.now) s.conflicts
 
--- the command that is spoken, where its numbers are numbers in their range
+-- the number of conflicts that the option writes, where the option is taken, or else the default
+abbrev pub conflicts_said : Bool → Option Word → Option ℕ
+conflicts_said taken None = Some DEFAULT_CONFLICTS
+conflicts_said true (Some text) = conflicts_of text
+conflicts_said false (Some text) = None
+
+-- the command that a first word makes of an option, where it is given, and as many operands as its row has
+abbrev pub command_given : Verb → Option Word → List Word → Option Command
+command_given v conflicts operands = option_and_then (λ n. command_from v n operands) (conflicts_said (row_of v).takes_conflicts conflicts)
+
+-- the command that is spoken, where the operands are those of its row
 abbrev pub command_said : Spoken → Option Command
-command_said (spoken.Times log) = Some (Times log.now)
-command_said (spoken.Replay formula log times) = Some (Replay formula.now log.now times.now)
-command_said (spoken.Order log) = Some (Order log.now)
-command_said (spoken.Check conflicts formula log) = option_map (λ n. Check n formula.now log.now) (conflicts_said (option_map (λ text. text.now) conflicts))
-command_said (spoken.Audit conflicts formula log report) = option_map (λ n. Audit n formula.now log.now report.now) (conflicts_said (option_map (λ text. text.now) conflicts))
-command_said (spoken.Demo seed) = option_map Demo (seed_of seed.now)
+command_said s = if are_operands (row_of s.verb).operands (words_in s.operands) then command_given s.verb (option_of s) (words_in s.operands) else None
 
 -- the option in one word, where it is given
 abbrev pub option_words : Option Word → List Word
@@ -43,12 +41,7 @@ normal_list conflicts operands = codes "skewcheck" ∷ option_words conflicts ++
 
 -- the normal list of what is spoken
 abbrev pub normal_words : Spoken → List Word
-normal_words (spoken.Times log) = normal_list None (log.now ∷ [])
-normal_words (spoken.Replay formula log times) = normal_list None (formula.now ∷ log.now ∷ times.now ∷ [])
-normal_words (spoken.Order log) = normal_list None (log.now ∷ [])
-normal_words (spoken.Check conflicts formula log) = normal_list (option_map (λ text. text.now) conflicts) (formula.now ∷ log.now ∷ [])
-normal_words (spoken.Audit conflicts formula log report) = normal_list (option_map (λ text. text.now) conflicts) (formula.now ∷ log.now ∷ report.now ∷ [])
-normal_words (spoken.Demo seed) = normal_list None (seed.now ∷ [])
+normal_words s = normal_list (option_of s) (words_in s.operands)
 
 -- the list is the normal list of a command with this first word
 abbrev pub IsNormal : Verb → List Word → Type 0

@@ -1,13 +1,13 @@
 -- Which lists of words are commands.
-use Rattle.std.specs.Prelude.{ℕ, ◌==◌, ◌&&◌, nat_le, Bool, false, List, [], ◌∷◌, ◌++◌, Option, Some, None, option_map, option_and_then, unwrap_or, if◌then◌else◌, bytes_eq, codes, length, take, drop}
+use Rattle.std.specs.Prelude.{ℕ, ◌+◌, ◌==◌, ◌&&◌, nat_le, Bool, false, List, [], ◌∷◌, ◌++◌, Option, Some, None, option_map, option_and_then, unwrap_or, if◌then◌else◌, bytes_eq, codes, length, take, drop}
 use Rattle.std.specs.Str.Parse.{digits_value}
-use Rattle.decimal.specs.Numbers.{is_number}
+use Rattle.decimal.specs.Numbers.{is_number, number_below}
 use Rattle.skew_words.specs.declared.limits.TheConstants.{DEFAULT_CONFLICTS, MAX_CONFLICTS}
 use Rattle.demo_log.specs.declared.limits.TheConstants.{MAX_SEED}
-
--- a word of the command line, as its bytes
-abbrev pub Word : Type 0
-Word = List ℕ
+use Rattle.skew_words.specs.declared.table.Verb.{Verb}
+use Rattle.skew_words.specs.declared.table.Verb.TheVariants as verb
+use Rattle.skew_words.specs.Table.{are_operands, row_of, verb_named}
+pub use Rattle.skew_words.specs.Table.{Word}
 
 -- a command with the names of its files; `check` and `audit` have a number of conflicts too, and `demo` has a seed and no file
 pub data Command : Type 0 where
@@ -78,66 +78,37 @@ given_of (word ∷ words) =
     else if is_option word then given_by word words
     else option_map (with_front (word ∷ [])) (given_of words)
 
--- a name of a file: a word that is not empty
-abbrev pub file_name : Word → Option Word
-file_name [] = None
-file_name (b ∷ bs) = Some (b ∷ bs)
-
--- `times` has one operand, the name of a log
-abbrev pub times_command : List Word → Option Command
-times_command (log ∷ []) = option_map Times (file_name log)
-times_command _ = None
-
--- `replay` has three, the names of a formula, a log and a file of times
-abbrev pub replay_command : List Word → Option Command
-replay_command (formula ∷ log ∷ times ∷ []) = option_and_then (λ f. option_and_then (λ l. option_map (λ t. Replay f l t) (file_name times)) (file_name log)) (file_name formula)
-replay_command _ = None
-
--- `order` has one operand, the name of a log
-abbrev pub order_command : List Word → Option Command
-order_command (log ∷ []) = option_map Order (file_name log)
-order_command _ = None
-
--- `check` has two, the names of a formula and a log
-abbrev pub check_command : ℕ → List Word → Option Command
-check_command n (formula ∷ log ∷ []) = option_and_then (λ f. option_map (λ l. Check n f l) (file_name log)) (file_name formula)
-check_command n _ = None
-
--- `audit` has three, the names of a formula, a log and a report
-abbrev pub audit_command : ℕ → List Word → Option Command
-audit_command n (formula ∷ log ∷ report ∷ []) = option_and_then (λ f. option_and_then (λ l. option_map (λ r. Audit n f l r) (file_name report)) (file_name log)) (file_name formula)
-audit_command n _ = None
-
 -- the seed of the demo: a number from 0 to 18,446,744,073,709,551,615
 abbrev pub seed_of : Word → Option ℕ
-seed_of word = if is_number word && nat_le (digits_value 10 word) MAX_SEED then Some (digits_value 10 word) else None
-
--- `demo` has one operand, the seed
-abbrev pub demo_command : List Word → Option Command
-demo_command (seed ∷ []) = option_map Demo (seed_of seed)
-demo_command _ = None
+seed_of word = number_below (MAX_SEED + 1) word
 
 -- the number of conflicts that is given, or else 200,000
 abbrev pub conflicts_in : Given → ℕ
 conflicts_in g = unwrap_or g.conflicts DEFAULT_CONFLICTS
 
--- the command of a first word and its operands, where it takes no option
-abbrev pub command_with : Word → List Word → Option Command
-command_with first operands =
-    if bytes_eq first (codes "times") then times_command operands
-    else if bytes_eq first (codes "replay") then replay_command operands
-    else if bytes_eq first (codes "order") then order_command operands
-    else if bytes_eq first (codes "demo") then demo_command operands
-    else None
+-- the command that a first word makes of a number of conflicts and as many operands as its row has
+abbrev pub command_from : Verb → ℕ → List Word → Option Command
+command_from verb.Times n (log ∷ []) = Some (Times log)
+command_from verb.Replay n (formula ∷ log ∷ times ∷ []) = Some (Replay formula log times)
+command_from verb.Order n (log ∷ []) = Some (Order log)
+command_from verb.Check n (formula ∷ log ∷ []) = Some (Check n formula log)
+command_from verb.Audit n (formula ∷ log ∷ report ∷ []) = Some (Audit n formula log report)
+command_from verb.Demo n (seed ∷ []) = option_map Demo (seed_of seed)
+command_from v n operands = None
+
+-- the same where the operands are those of the row, and otherwise none
+abbrev pub command_with : Verb → ℕ → List Word → Option Command
+command_with v n operands = if are_operands (row_of v).operands operands then command_from v n operands else None
+
+-- what the words after a first word give: the option is for those alone whose row takes it
+abbrev pub given_to : Verb → List Word → Option Given
+given_to v words = if (row_of v).takes_conflicts then given_of words else option_map plain (operands_of words)
 
 -- the command of a first word and the words after it
-abbrev pub command_after : Word → List Word → Option Command
-command_after first words =
-    if bytes_eq first (codes "check") then option_and_then (λ g. check_command (conflicts_in g) g.operands) (given_of words)
-    else if bytes_eq first (codes "audit") then option_and_then (λ g. audit_command (conflicts_in g) g.operands) (given_of words)
-    else option_and_then (command_with first) (operands_of words)
+abbrev pub command_after : Verb → List Word → Option Command
+command_after v words = option_and_then (λ g. command_with v (conflicts_in g) g.operands) (given_to v words)
 
 -- the command that words are; no word at all is `times -`
 abbrev pub command_of : List Word → Option Command
 command_of [] = Some (Times (codes "-"))
-command_of (first ∷ words) = command_after first words
+command_of (first ∷ words) = option_and_then (λ v. command_after v words) (verb_named first)

@@ -1,11 +1,14 @@
-//! The words of a command that takes the option `--conflicts`.
+//! The words after the first word of a command.
 
 ghost use Rattle.std.specs.Prelude.{◌≡◌, ℕ, IfSome, IsSome, MatchOption, None, Some, codes, map, option_map, string_bytes};
 ghost use Rattle.skew_words.specs.Called.{given_in};
-ghost use Rattle.skew_words.specs.Words.{after, conflicts_of, given_by, given_of, operands_of, option_value, plain, with_front};
+ghost use Rattle.skew_words.specs.NormalWords.{conflicts_said};
+ghost use Rattle.skew_words.specs.Table.{row_of};
+ghost use Rattle.skew_words.specs.Words.{after, conflicts_in, conflicts_of, given_by, given_of, given_to, operands_of, option_value, plain, with_front};
 
 use crate::numbers::conflicts;
 use crate::operands::{Operands, is_dashed, is_mark};
+use crate::table::Verb;
 
 /// The operands of a command, and the number of conflicts as the option writes it, where it is given.
 #[derive(Clone, Copy)]
@@ -69,20 +72,38 @@ impl<'a> Given<'a> {
         })
     }
 
-    /// What the words give, and None exactly where they give nothing.
-    pub fn among(words: &'a [String]) -> Option<Given<'a>>
+    // What the words give to a command that takes the option.
+    fn among(words: &'a [String]) -> Option<Given<'a>>
         ensures given { option_map given_in result ≡ given_of (map string_bytes words.now) }
         ensures number { IfSome result (λ g. IfSome g.conflicts (λ text. IsSome (conflicts_of text.now))) }
     {
         match split_at_option(words) {
             Some((front, option, rest)) => Given::around(front, option, rest),
-            None => {
-                let operands = Operands::among(&[], words)?;
-                Some(Given {
-                    operands,
-                    conflicts: None,
-                })
-            }
+            None => Given::plain(words),
+        }
+    }
+
+    // What they give to a command that takes none.
+    fn plain(words: &'a [String]) -> Option<Given<'a>>
+        ensures given { option_map given_in result ≡ option_map plain (operands_of (map string_bytes words.now)) }
+        ensures none { IfSome result (λ g. g.conflicts ≡ None) }
+    {
+        let operands = Operands::among(&[], words)?;
+        Some(Given {
+            operands,
+            conflicts: None,
+        })
+    }
+
+    /// What the words after a first word give, and None exactly where they give nothing.
+    pub fn to(verb: Verb, words: &'a [String]) -> Option<Given<'a>>
+        ensures given { option_map given_in result ≡ given_to verb (map string_bytes words.now) }
+        ensures number { IfSome result (λ g. conflicts_said (row_of verb).takes_conflicts (option_map (λ text. text.now) g.conflicts) ≡ Some (conflicts_in (given_in g))) }
+    {
+        if verb.row().takes_conflicts {
+            Given::among(words)
+        } else {
+            Given::plain(words)
         }
     }
 }

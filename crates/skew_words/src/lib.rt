@@ -8,9 +8,11 @@ mod matches;
 mod normal;
 mod numbers;
 mod operands;
+mod table;
 mod words;
 
 pub use call::Call;
 pub use limits::{DEFAULT_CONFLICTS, MAX_CONFLICTS, limits_are_numbers};
 pub use matches::call_of;
-pub use words::{Spoken, Verb, spoken_of};
+pub use table::Verb;
+pub use words::{Spoken, spoken_of};

@@ -1,22 +1,23 @@
 //! The normal list of a command, read with `clap`.
 
-ghost use Rattle.std.specs.Prelude.{◌≡◌, ◌≤◌, [], ◌∷◌, IfOk, IfSome, codes, fold, map, option_map, string_bytes, false};
-ghost use Rattle.clap.specs.Words.{app_of, first_value, found_of, rule_of, with_rule};
+ghost use Rattle.std.specs.Prelude.{◌≡◌, ◌≤◌, IfOk, IfSome, codes, fold, map, option_map, string_bytes, true, false};
+ghost use Rattle.clap.specs.Words.{app_of, first_value, found_of, new_app, rule_of, with_rule};
 ghost use Rattle.skew_words.specs.Called.{HasFewConflicts, command_in};
 ghost use Rattle.skew_words.specs.NormalWords.{Calls, IsNormal, command_said, conflicts_said};
-ghost use Rattle.skew_words.specs.Matched.{GivesSpoken, app_for, app_with, command_matched, conflicts_rule, operand_rule};
+ghost use Rattle.skew_words.specs.Matched.{GivesSpoken, app_for, command_matched, conflicts_rule, operand_rule, option_rules};
+ghost use Rattle.skew_words.specs.Table.{name_of};
 ghost use Rattle.skew_words.specs.declared.limits.TheConstants.{MAX_CONFLICTS};
 
 use crate::call::Call;
 use crate::limits::DEFAULT_CONFLICTS;
 use crate::numbers::{conflicts, seed};
-use crate::words::Verb;
+use crate::table::{Operand, Row, Verb};
 use clap::error::ErrorKind;
 use clap::{Arg, ArgAction, ArgMatches, Command};
 use std::alloc::{AllocError, Global};
 
 // A required positional value of this name.
-fn operand<'a>(alloc: Global, name: &'a str) -> Arg<'a>
+fn positional<'a>(alloc: Global, name: &'a str) -> Arg<'a>
     ensures rule { rule_of result ≡ operand_rule name.now }
     ensures local { result.global ≡ false }
 {
@@ -33,60 +34,29 @@ fn conflicts_option<'a>(alloc: Global) -> Arg<'a>
         .action(ArgAction::Set)
 }
 
-// A command of one operand.
-fn of_operand<'a>(
-    alloc: Global,
-    name: &'a str,
-    operand_name: &'a str,
-) -> Result<Command<'a>, AllocError>
-    ensures { IfOk result (λ command. app_of command ≡ app_with name.now (operand_rule operand_name.now ∷ [])) }
+// A command without operands.
+fn bare_command<'a>(alloc: Global, row: Row) -> Result<Command<'a>, AllocError>
+    ensures { IfOk result (λ command. app_of command ≡ fold with_rule (new_app row.word.now) (option_rules row.takes_conflicts)) }
 {
-    Command::new(alloc, name).arg(operand(alloc, operand_name))
-}
-
-// A command of a formula and a log.
-fn of_question<'a>(command: Command<'a>, alloc: Global) -> Result<Command<'a>, AllocError>
-    ensures { IfOk result (λ asked. app_of asked ≡ fold with_rule (app_of command.entry) (operand_rule (codes "formula") ∷ operand_rule (codes "log") ∷ [])) }
-{
-    command
-        .arg(operand(alloc, "formula"))?
-        .arg(operand(alloc, "log"))
-}
-
-// A command of a formula and a log that takes the option.
-fn of_conflicts<'a>(alloc: Global, name: &'a str) -> Result<Command<'a>, AllocError>
-    ensures { IfOk result (λ command. app_of command ≡ app_with name.now (conflicts_rule ∷ operand_rule (codes "formula") ∷ operand_rule (codes "log") ∷ [])) }
-{
-    of_question(
-        Command::new(alloc, name).arg(conflicts_option(alloc))?,
-        alloc,
-    )
-}
-
-fn replay_command<'a>(alloc: Global) -> Result<Command<'a>, AllocError>
-    ensures { IfOk result (λ command. app_of command ≡ app_for Verb.Replay) }
-{
-    of_question(Command::new(alloc, "replay"), alloc)?.arg(operand(alloc, "times"))
-}
-
-fn audit_command<'a>(alloc: Global) -> Result<Command<'a>, AllocError>
-    ensures { IfOk result (λ command. app_of command ≡ app_for Verb.Audit) }
-{
-    of_conflicts(alloc, "audit")?.arg(operand(alloc, "report"))
+    let command = Command::new(alloc, row.word);
+    if row.takes_conflicts {
+        command.arg(conflicts_option(alloc))
+    } else {
+        Ok(command)
+    }
 }
 
 // What `clap` is to read after a command word.
 fn command<'a>(alloc: Global, verb: Verb) -> Result<Command<'a>, AllocError>
     ensures { IfOk result (λ command. app_of command ≡ app_for verb) }
 {
-    match verb {
-        Verb::Times => of_operand(alloc, "times", "log"),
-        Verb::Replay => replay_command(alloc),
-        Verb::Order => of_operand(alloc, "order", "log"),
-        Verb::Check => of_conflicts(alloc, "check"),
-        Verb::Audit => audit_command(alloc),
-        Verb::Demo => of_operand(alloc, "demo", "seed"),
+    let row = verb.row();
+    let mut command = bare_command(alloc, row)?;
+    for operand in row.operands {
+        let name: &'a str = operand.name();
+        command = command.arg(positional(alloc, name))?;
     }
+    Ok(command)
 }
 
 // The matches of the normal list of a command: reading it fails for want of memory alone.
@@ -107,36 +77,16 @@ fn matches_in<'a>(
     }
 }
 
-fn times_call<'a>(matches: &ArgMatches<'a>) -> Option<Call<'a>>
-    ensures { option_map command_in result ≡ command_matched Verb.Times (first_value (found_of matches.now)) }
+// The value of an operand.
+fn value<'a>(matches: &ArgMatches<'a>, operand: Operand) -> Option<&'a str>
+    ensures { option_map (λ text. text.now) result ≡ first_value (found_of matches.now) (name_of operand) }
 {
-    let log = matches.get_str("log")?;
-    Some(Call::Times { log })
-}
-
-fn replay_call<'a>(matches: &ArgMatches<'a>) -> Option<Call<'a>>
-    ensures { option_map command_in result ≡ command_matched Verb.Replay (first_value (found_of matches.now)) }
-{
-    let formula = matches.get_str("formula")?;
-    let log = matches.get_str("log")?;
-    let times = matches.get_str("times")?;
-    Some(Call::Replay {
-        formula,
-        log,
-        times,
-    })
-}
-
-fn order_call<'a>(matches: &ArgMatches<'a>) -> Option<Call<'a>>
-    ensures { option_map command_in result ≡ command_matched Verb.Order (first_value (found_of matches.now)) }
-{
-    let log = matches.get_str("log")?;
-    Some(Call::Order { log })
+    matches.get_str(operand.name())
 }
 
 // The number of conflicts that the option gives, or else the default.
 fn conflicts_matched(matches: &ArgMatches<'_>) -> Option<u32>
-    ensures number { result ≡ conflicts_said (first_value (found_of matches.now) (codes "conflicts")) }
+    ensures number { result ≡ conflicts_said true (first_value (found_of matches.now) (codes "conflicts")) }
     ensures range { IfSome result (λ n. (1 ≤ n) × (n ≤ MAX_CONFLICTS)) }
 {
     match matches.get_str("conflicts") {
@@ -145,55 +95,37 @@ fn conflicts_matched(matches: &ArgMatches<'_>) -> Option<u32>
     }
 }
 
-fn check_call<'a>(matches: &ArgMatches<'a>) -> Option<Call<'a>>
-    ensures command { option_map command_in result ≡ command_matched Verb.Check (first_value (found_of matches.now)) }
-    ensures conflicts { IfSome result HasFewConflicts }
-{
-    let formula = matches.get_str("formula")?;
-    let log = matches.get_str("log")?;
-    let conflicts = conflicts_matched(matches)?;
-    Some(Call::Check {
-        conflicts,
-        formula,
-        log,
-    })
-}
-
-fn audit_call<'a>(matches: &ArgMatches<'a>) -> Option<Call<'a>>
-    ensures command { option_map command_in result ≡ command_matched Verb.Audit (first_value (found_of matches.now)) }
-    ensures conflicts { IfSome result HasFewConflicts }
-{
-    let formula = matches.get_str("formula")?;
-    let log = matches.get_str("log")?;
-    let report = matches.get_str("report")?;
-    let conflicts = conflicts_matched(matches)?;
-    Some(Call::Audit {
-        conflicts,
-        formula,
-        log,
-        report,
-    })
-}
-
-fn demo_call<'a>(matches: &ArgMatches<'a>) -> Option<Call<'a>>
-    ensures { option_map command_in result ≡ command_matched Verb.Demo (first_value (found_of matches.now)) }
-{
-    let seed = seed(matches.get_str("seed")?)?;
-    Some(Call::Demo { seed })
-}
-
 // The command that matches give.
 fn call_in<'a>(verb: Verb, matches: &ArgMatches<'a>) -> Option<Call<'a>>
     ensures command { option_map command_in result ≡ command_matched verb (first_value (found_of matches.now)) }
     ensures conflicts { IfSome result HasFewConflicts }
 {
     match verb {
-        Verb::Times => times_call(matches),
-        Verb::Replay => replay_call(matches),
-        Verb::Order => order_call(matches),
-        Verb::Check => check_call(matches),
-        Verb::Audit => audit_call(matches),
-        Verb::Demo => demo_call(matches),
+        Verb::Times => Some(Call::Times {
+            log: value(matches, Operand::Log)?,
+        }),
+        Verb::Replay => Some(Call::Replay {
+            formula: value(matches, Operand::Formula)?,
+            log: value(matches, Operand::Log)?,
+            times: value(matches, Operand::Times)?,
+        }),
+        Verb::Order => Some(Call::Order {
+            log: value(matches, Operand::Log)?,
+        }),
+        Verb::Check => Some(Call::Check {
+            conflicts: conflicts_matched(matches)?,
+            formula: value(matches, Operand::Formula)?,
+            log: value(matches, Operand::Log)?,
+        }),
+        Verb::Audit => Some(Call::Audit {
+            conflicts: conflicts_matched(matches)?,
+            formula: value(matches, Operand::Formula)?,
+            log: value(matches, Operand::Log)?,
+            report: value(matches, Operand::Report)?,
+        }),
+        Verb::Demo => Some(Call::Demo {
+            seed: seed(value(matches, Operand::Seed)?)?,
+        }),
     }
 }
 

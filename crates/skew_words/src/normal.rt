@@ -22,46 +22,15 @@ fn before_operands(alloc: Global, conflicts: Option<&str>) -> Result<Vec<String>
     Ok(list)
 }
 
-// The normal list of these operands.
-fn listed(
-    alloc: Global,
-    conflicts: Option<&str>,
-    operands: &[&str],
-) -> Result<Vec<String>, AllocError>
-    ensures { IfOk result (λ list. map string_bytes list.items ≡ normal_list (option_map (λ text. text.now) conflicts.entry) (map (λ text. text.now) operands.now)) }
-{
-    let mut list = before_operands(alloc, conflicts)?;
-    for operand in operands {
-        list.push(String::from_str(alloc, operand)?)?;
-    }
-    Ok(list)
-}
-
 impl Spoken<'_> {
     /// Its normal list.
     pub fn normal_list(&self, alloc: Global) -> Result<Vec<String>, AllocError>
         ensures { IfOk result (λ list. map string_bytes list.items ≡ normal_words self.now) }
     {
-        match *self {
-            Spoken::Times { log } => listed(alloc, None, &[log]),
-            Spoken::Replay {
-                formula,
-                log,
-                times,
-            } => listed(alloc, None, &[formula, log, times]),
-            Spoken::Order { log } => listed(alloc, None, &[log]),
-            Spoken::Check {
-                conflicts,
-                formula,
-                log,
-            } => listed(alloc, conflicts, &[formula, log]),
-            Spoken::Audit {
-                conflicts,
-                formula,
-                log,
-                report,
-            } => listed(alloc, conflicts, &[formula, log, report]),
-            Spoken::Demo { seed } => listed(alloc, None, &[seed]),
+        let mut list = before_operands(alloc, self.conflicts)?;
+        for place in 0..self.operands.count() {
+            list.push(String::from_str(alloc, self.operands.word(place))?)?;
         }
+        Ok(list)
     }
 }

@@ -1,15 +1,20 @@
-ghost use Rattle.std.specs.Prelude.{◌≡◌, ◌<◌, ◌++◌, [], length, map, codes, bytes_eq, option_copied, option_map, slice_index_or, string_bytes};
-ghost use Rattle.skew_words.specs.Words.{file_name, is_option, operands_of};
+ghost use Rattle.std.specs.Prelude.{◌≡◌, ◌<◌, ◌++◌, [], length, map, codes, bytes_eq, option_map, slice_index_or, string_bytes};
+ghost use Rattle.skew_words.specs.Words.{is_option, operands_of};
 
-/// The operands of a command, in order, where the words lie.
+/// The operands of a command, in order.
 #[derive(Clone, Copy)]
-pub struct Operands<'a> {
-    /// The words before the option, if it is given.
-    front: &'a [String],
-    /// The words after that and before the first `--`.
-    before: &'a [String],
-    /// The words after it.
-    after: &'a [String],
+pub enum Operands<'a> {
+    /// `-` alone, which names the standard input.
+    Input,
+    /// Words, where they lie.
+    Words {
+        /// The words before the option, if it is given.
+        front: &'a [String],
+        /// The words after that and before the first `--`.
+        before: &'a [String],
+        /// The words after it.
+        after: &'a [String],
+    },
 }
 
 /// Whether a word is an option: it begins with `-` and is not `-` alone.
@@ -22,21 +27,31 @@ pub fn is_dashed(word: &String) -> bool
     }
 }
 
-fn names_file(word: &String) -> Option<&str>
-    ensures { option_copied result ≡ file_name (string_bytes word.now) }
-{
-    if word.as_str().is_empty() {
-        None
-    } else {
-        Some(word.as_str())
-    }
-}
-
 /// Whether a word is `--`, after which each word is an operand.
 pub fn is_mark(word: &String) -> bool
     ensures { result ≡ bytes_eq (string_bytes word.now) (codes "--") }
 {
     word.as_str() == "--"
+}
+
+// The word at a place of three lists, one after another.
+fn word_in<'a>(
+    front: &'a [String],
+    before: &'a [String],
+    after: &'a [String],
+    place: usize,
+) -> &'a str
+    requires { place < length (front.now ++ before.now ++ after.now) }
+    ensures { result.now ≡ slice_index_or (map string_bytes (front.now ++ before.now ++ after.now)) place [] }
+{
+    let middle = front.len() + before.len();
+    if place < front.len() {
+        front[place].as_str()
+    } else if place < middle {
+        before[place - front.len()].as_str()
+    } else {
+        after[place - middle].as_str()
+    }
 }
 
 impl<'a> Operands<'a> {
@@ -49,7 +64,7 @@ impl<'a> Operands<'a> {
     {
         for (i, word) in words.iter().enumerate() {
             if is_mark(word) {
-                return Some(Operands {
+                return Some(Operands::Words {
                     front,
                     before: &words[..i],
                     after: &words[i + 1..],
@@ -59,7 +74,7 @@ impl<'a> Operands<'a> {
                 return None;
             }
         }
-        Some(Operands {
+        Some(Operands::Words {
             front,
             before: words,
             after: &[],
@@ -70,21 +85,28 @@ impl<'a> Operands<'a> {
     pub fn count(&self) -> usize
         ensures count { result ≡ length (words_in self.now) }
     {
-        self.front.len() + self.before.len() + self.after.len()
+        match self {
+            Operands::Input => 1,
+            Operands::Words {
+                front,
+                before,
+                after,
+            } => front.len() + before.len() + after.len(),
+        }
     }
 
-    /// The name of a file that the operand at a place is, unless it is empty.
-    pub fn name(&self, place: usize) -> Option<&'a str>
+    /// The operand at a place.
+    pub fn word(&self, place: usize) -> &'a str
         requires { place < length (words_in self.now) }
-        ensures name { option_copied result ≡ file_name (slice_index_or (words_in self.now) place []) }
+        ensures word { result.now ≡ slice_index_or (words_in self.now) place [] }
     {
-        let middle = self.front.len() + self.before.len();
-        if place < self.front.len() {
-            names_file(&self.front[place])
-        } else if place < middle {
-            names_file(&self.before[place - self.front.len()])
-        } else {
-            names_file(&self.after[place - middle])
+        match self {
+            Operands::Input => "-",
+            Operands::Words {
+                front,
+                before,
+                after,
+            } => word_in(front, before, after, place),
         }
     }
 }

@@ -10,6 +10,4 @@ prove-unreachable-requires c =
     true≢false (sym same ∙ c.if-prove.true)
 
 pub returns-in-Ok : goal.returns-in-Ok
-returns-in-Ok c =
-    let taken = normal-taken c.args.verb _ _ c.in_ok-command.ensures c.requires in
-    normal-found c.args.verb _ _ c.in_ok-command.ensures c.in-Ok.matches taken c.in-Ok.ensures.matches
+returns-in-Ok c = normal-found c.args.verb _ _ c.in_ok-command.ensures c.requires c.in-Ok.matches c.in-Ok.ensures.matches

@@ -1,0 +1,153 @@
+//! The table of commands: the first word of each, its operands in order, and whether it takes the option `--conflicts`.
+
+ghost use Rattle.std.specs.Prelude.{◌≡◌};
+ghost use Rattle.skew_words.specs.Table.{is_of_kind, kind_of, name_of, row_of, verb_named};
+
+use decimal::number;
+use demo_log::MAX_SEED;
+
+/// The first word of a command.
+#[derive(Clone, Copy)]
+pub enum Verb {
+    Times,
+    Replay,
+    Order,
+    Check,
+    Audit,
+    Demo,
+}
+
+const VERBS: [Verb; 6] = [
+    Verb::Times,
+    Verb::Replay,
+    Verb::Order,
+    Verb::Check,
+    Verb::Audit,
+    Verb::Demo,
+];
+
+/// An operand of a command.
+#[derive(Clone, Copy)]
+pub enum Operand {
+    Formula,
+    Log,
+    Times,
+    Report,
+    Seed,
+}
+
+/// What a word has to be as an operand.
+#[derive(Clone, Copy)]
+pub enum Kind {
+    /// The name of a file: a word that is not empty.
+    File,
+    /// A number below a limit.
+    Number { below: u128 },
+}
+
+/// A row of the table.
+#[derive(Clone, Copy)]
+pub struct Row {
+    pub word: &'static str,
+    pub operands: &'static [Operand],
+    pub takes_conflicts: bool,
+}
+
+impl Kind {
+    // Whether a word is of the kind.
+    fn admits(self, word: &str) -> bool
+        ensures { result ≡ is_of_kind self word.now }
+    {
+        match self {
+            Kind::File => !word.is_empty(),
+            Kind::Number { below } => number(word.as_bytes(), below).is_some(),
+        }
+    }
+}
+
+impl Operand {
+    /// Its name, by which `clap` finds its value.
+    pub fn name(self) -> &'static str
+        ensures { result.now ≡ name_of self }
+    {
+        match self {
+            Operand::Formula => "formula",
+            Operand::Log => "log",
+            Operand::Times => "times",
+            Operand::Report => "report",
+            Operand::Seed => "seed",
+        }
+    }
+
+    fn kind(self) -> Kind
+        ensures { result ≡ kind_of self }
+    {
+        match self {
+            Operand::Formula | Operand::Log | Operand::Times | Operand::Report => Kind::File,
+            Operand::Seed => Kind::Number {
+                below: MAX_SEED as u128 + 1,
+            },
+        }
+    }
+
+    /// Whether a word can be the operand.
+    pub fn admits(self, word: &str) -> bool
+        ensures { result ≡ is_of_kind (kind_of self) word.now }
+    {
+        self.kind().admits(word)
+    }
+}
+
+impl Verb {
+    /// Its row.
+    pub fn row(self) -> Row
+        ensures word { result.word.now ≡ (row_of self).word }
+        ensures operands { result.operands.now ≡ (row_of self).operands }
+        ensures conflicts { result.takes_conflicts ≡ (row_of self).takes_conflicts }
+    {
+        match self {
+            Verb::Times => Row {
+                word: "times",
+                operands: &[Operand::Log],
+                takes_conflicts: false,
+            },
+            Verb::Replay => Row {
+                word: "replay",
+                operands: &[Operand::Formula, Operand::Log, Operand::Times],
+                takes_conflicts: false,
+            },
+            Verb::Order => Row {
+                word: "order",
+                operands: &[Operand::Log],
+                takes_conflicts: false,
+            },
+            Verb::Check => Row {
+                word: "check",
+                operands: &[Operand::Formula, Operand::Log],
+                takes_conflicts: true,
+            },
+            Verb::Audit => Row {
+                word: "audit",
+                operands: &[Operand::Formula, Operand::Log, Operand::Report],
+                takes_conflicts: true,
+            },
+            Verb::Demo => Row {
+                word: "demo",
+                operands: &[Operand::Seed],
+                takes_conflicts: false,
+            },
+        }
+    }
+
+    /// The first word that a word is, if it is one.
+    pub fn named(word: &str) -> Option<Verb>
+        ensures { result ≡ verb_named word.now }
+    {
+        for verb in VERBS {
+            if verb.row().word == word {
+                return Some(verb);
+            }
+        }
+        None
+    }
+}
