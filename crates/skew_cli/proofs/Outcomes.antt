@@ -1,14 +1,15 @@
 -- From what was due to what words and files give.
-use Rattle.std.proofs.Common.{◌≡◌, ◌⊎◌, refl, inl, inr, List, ℕ, Some, None, codes, subst}
+use Rattle.std.proofs.Common.{◌≡◌, ◌∙◌, ◌++◌, ◌⊎◌, ap, sym, refl, inl, inr, List, ℕ, Some, None, codes, subst}
 use Rattle.mt_port.specs.Port.{Files}
 use Rattle.skew_answers.specs.declared.status.Status.{Status}
 use Rattle.skew_answers.specs.declared.status.Status.TheVariants as status
-use Rattle.skew_answers.specs.Statuses.{IsAnswer}
+use Rattle.skew_answers.specs.Statuses.{IsAnswer, IsRefusal}
 use Rattle.skew_answers.specs.Texts.{line}
 use Rattle.skew_words.specs.Words.{Audit, Check, Command, Demo, Order, Replay, Times, Word, command_of}
 use Rattle.skew_commands.specs.declared.limits.TheConstants.{LOG_LIMIT, TIMES_LIMIT}
 use Rattle.skew_commands.specs.declared.refusal.Named.TheVariants as named
 use Rattle.skew_commands.specs.Reads.{Agree}
+use Rattle.skew_commands.specs.Refusals.{IsRefusalOf}
 use Rattle.skew_commands.specs.OrderOutcome.{OrderOfLog, OrderOutcome}
 use Rattle.skew_commands.specs.ReplayOutcome.{ReplayOfLog, ReplayOfTimes, ReplayOutcome}
 use Rattle.skew_commands.specs.Tests.{OnLog, OnTimes}
@@ -78,3 +79,11 @@ Outcome-words words files none = rw none (refl, refl)
 
 pub IsPossible-words : (words : List Word) → command_of words ≡ None → IsPossible words (line (codes "refused words")) status.Words
 IsPossible-words words none = rw none (refl, refl)
+
+-- what is refused is written, since writing did not fail
+pub refused-written : (text old now : List ℕ) (due s : Status) → (s ≡ due) ⊎ (s ≡ status.WriteFailed) → Ends (λ b t. (b ≡ text) × (t ≡ due)) old now s → IsAnswer due → (IsRefusal due → IsRefusalOf due text) → IsRefusal s
+    → (line : List ℕ) × IsRefusalOf s line × (now ≡ old ++ line)
+refused-written text old now due s (inl is) ends answer told refused =
+    let a = ends.answer (subst IsAnswer (sym is) answer) in
+    (text, subst (λ z. IsRefusalOf z text) (sym is) (told (subst IsRefusal is refused)), a.1 ∙ ap (λ w. old ++ w) a.2.0)
+refused-written text old now due s (inr is) ends answer told refused = absurd (subst IsRefusal is refused)

@@ -20,27 +20,54 @@ use Rattle.skew_cli.specs.DemoOutcome.{DemoOutcome}
 abbrev pub Says : List ℕ → Status → List ℕ → Status → Type 0
 Says text due out s = (out ≡ line text) × (s ≡ due)
 
+-- what is due for a command: its outcome where files are held, what it can give of some files under some names, and whether the
+-- files that it comes to read are held
+pub record Due : Type 1 where
+  pub outcome : Files → List ℕ → Status → Type 0
+  pub possible : List ℕ → Status → Type 0
+  pub holds : Files → Type 0
+
+-- of a command that reads no file
+abbrev pub due_of_nothing : (List ℕ → Status → Type 0) → Due
+due_of_nothing Given = record { outcome = λ files. Given; possible = Given; holds = λ files. Unit {0} }
+
+-- of one that reads a log
+abbrev pub due_of_log : (Files → Word → List ℕ → Status → Type 0) → Word → Due
+due_of_log Given log = record { outcome = λ files. Given files log; possible = OfSomeLog Given; holds = λ files. IsSome (file_of files log) }
+
+-- of one that reads a formula and a log
+abbrev pub due_of_question : (Files → Word → Word → List ℕ → Status → Type 0) → Word → Word → Due
+due_of_question Given formula log = record { outcome = λ files. Given files formula log; possible = OfSomeQuestion Given; holds = λ files. HoldsQuestion files formula log NoThird }
+
+-- of one that reads a third file after these
+abbrev pub due_of_third : (Files → Word → Word → Word → List ℕ → Status → Type 0) → Word → Word → Word → Due
+due_of_third Given formula log third =
+    record { outcome = λ files. Given files formula log third; possible = OfSomeThird Given; holds = λ files. HoldsQuestion files formula log (HoldsThird files third) }
+
+-- what is due for each command
+abbrev pub due_for : Command → Due
+due_for (Times log) = due_of_log TimesOutcome log
+due_for (Replay formula log times) = due_of_third ReplayOutcome formula log times
+due_for (Order log) = due_of_log OrderOutcome log
+due_for (Check conflicts formula log) = due_of_question (λ files. CheckOutcome files conflicts) formula log
+due_for (Audit conflicts formula log report) = due_of_third (λ files. AuditOutcome files conflicts) formula log report
+due_for (Demo seed) = due_of_nothing (DemoOutcome seed)
+
 -- what a command gives, where the files that it comes to read are held
 abbrev pub CommandOutcome : Command → Files → List ℕ → Status → Type 0
-CommandOutcome (Times log) files = TimesOutcome files log
-CommandOutcome (Replay formula log times) files = ReplayOutcome files formula log times
-CommandOutcome (Order log) files = OrderOutcome files log
-CommandOutcome (Check conflicts formula log) files = CheckOutcome files conflicts formula log
-CommandOutcome (Audit conflicts formula log report) files = AuditOutcome files conflicts formula log report
-CommandOutcome (Demo seed) files = DemoOutcome seed
+CommandOutcome command = (due_for command).outcome
+
+-- bytes and a status that a command gives of some files, under some names
+abbrev pub IsPossibleOf : Command → List ℕ → Status → Type 0
+IsPossibleOf command = (due_for command).possible
+
+-- the files that a command comes to read are held
+abbrev pub HoldsFiles : Files → Command → Type 0
+HoldsFiles files command = (due_for command).holds files
 
 -- what words give: the command's outcome, and a refusal where they are no command
 abbrev pub Outcome : List Word → Files → List ℕ → Status → Type 0
 Outcome words files out s = MatchOption (command_of words) (Says (codes "refused words") status.Words out s) (λ command. CommandOutcome command files out s)
-
--- bytes and a status that a command gives of some files, under some names
-abbrev pub IsPossibleOf : Command → List ℕ → Status → Type 0
-IsPossibleOf (Times log) = OfSomeLog TimesOutcome
-IsPossibleOf (Replay formula log times) = OfSomeThird ReplayOutcome
-IsPossibleOf (Order log) = OfSomeLog OrderOutcome
-IsPossibleOf (Check conflicts formula log) = OfSomeQuestion (λ files. CheckOutcome files conflicts)
-IsPossibleOf (Audit conflicts formula log report) = OfSomeThird (λ files. AuditOutcome files conflicts)
-IsPossibleOf (Demo seed) = DemoOutcome seed
 
 -- bytes and a status that words can give: of their command, and the refusal where they are no command
 abbrev pub IsPossible : List Word → List ℕ → Status → Type 0
@@ -53,15 +80,6 @@ HasPossible words s = (out : List ℕ) × IsPossible words out s
 -- the status is that of what words give, with some bytes
 abbrev pub HasOutcome : List Word → Files → Status → Type 0
 HasOutcome words files s = (out : List ℕ) × Outcome words files out s
-
--- the files that a command comes to read are held
-abbrev pub HoldsFiles : Files → Command → Type 0
-HoldsFiles files (Times log) = IsSome (file_of files log)
-HoldsFiles files (Replay formula log times) = HoldsQuestion files formula log (HoldsThird files times)
-HoldsFiles files (Order log) = IsSome (file_of files log)
-HoldsFiles files (Check conflicts formula log) = HoldsQuestion files formula log NoThird
-HoldsFiles files (Audit conflicts formula log report) = HoldsQuestion files formula log (HoldsThird files report)
-HoldsFiles files (Demo seed) = Unit {0}
 
 -- the files that the command of words comes to read are held
 abbrev pub HoldsNamed : List Word → Files → Type 0

@@ -3,7 +3,7 @@ use Rattle.std.specs.Prelude.{codes, map, string_bytes}
 use Rattle.skew_answers.specs.declared.status.Status.TheVariants as status
 use Rattle.skew_answers.specs.Texts.{line}
 use Rattle.skew_words.specs.Called.{command_in}
-use Rattle.skew_cli.proofs.Outcomes.{Ends-weaker, HasOutcome-answer, HasPossible-answer, IsPossible-command, IsPossible-words, Outcome-command, Outcome-words}
+use Rattle.skew_cli.proofs.Outcomes.{Ends-weaker, HasOutcome-answer, HasPossible-answer, IsPossible-command, IsPossible-words, Outcome-command, Outcome-words, refused-written}
 use Rattle.skew_cli.proofs.program.run.Goals as goal
 
 pub call_of-requires : goal.call_of-requires
@@ -43,6 +43,12 @@ returns-in-Ok-reply-clause-possible_status g c = λ answer.
     let reply = c.in-Ok-reply.reply in
     let possible = IsPossible-command (map string_bytes c.args.words.now.items) (command_in c.in-Ok-call_of.call) reply.text.items reply.status command c.in-Ok-reply.ensures.possible in
     HasPossible-answer (map string_bytes c.args.words.now.items) reply.text.items reply.status c.finish-in-Ok-reply.result c.finish-in-Ok-reply.ensures.status answer possible
+
+pub returns-in-Ok-reply-clause-refused : goal.returns-in-Ok-reply-clause-refused
+returns-in-Ok-reply-clause-refused g c = λ told refused.
+    let reply = c.in-Ok-reply.reply in
+    refused-written reply.text.items _ _ reply.status c.finish-in-Ok-reply.result c.finish-in-Ok-reply.ensures.status (rw c.deref-in-Ok-reply.ensures.value at (c.finish-in-Ok-reply.ensures.ends told)) c.in-Ok-reply.ensures.answer
+    c.in-Ok-reply.ensures.refused refused
 
 pub returns-in_default-clause-status : goal.returns-in_default-clause-status
 returns-in_default-clause-status g c = λ tells answer files agree.
