@@ -1,0 +1,5 @@
+mod Marks
+mod Looks
+mod Marking
+mod Copying
+mod Kept
