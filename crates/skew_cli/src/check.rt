@@ -7,7 +7,7 @@ ghost use Rattle.report_text.specs.ReportText.{report_text};
 ghost use Rattle.report_text.specs.Spelled.{IsSpelled};
 ghost use Rattle.verdict.specs.Claims.{Claims};
 ghost use Rattle.verdict.specs.Faults.{IsJudged};
-ghost use Rattle.verdict.specs.Right.{IsRight, is_witness};
+ghost use Rattle.verdict.specs.Right.{CyclesOnce, IsRight, is_witness};
 ghost use Rattle.skew_words.specs.declared.limits.TheConstants.{MAX_CONFLICTS};
 ghost use Rattle.skew_answers.specs.Statuses.{IsVerdict};
 ghost use Rattle.skew_cli.specs.CheckOutcome.{CheckOfLog, CheckOutcome, IsReportStatus, IsVerdictsStatus, IsWitnessed};
@@ -81,6 +81,7 @@ pub fn report_on(
     requires known { unknown_host log.now (form_of formula.now) ≡ None }
     ensures right { IfOk result (IsRight log.now (form_of formula.now) conflicts) }
     ensures claims { IfOk result (Claims log.now (form_of formula.now)) }
+    ensures once { IfOk result (CyclesOnce log.now) }
     ensures judged { OnOk result (IsJudged log.now (form_of formula.now)) }
     ensures read { IsErrOf result Stop.ReadFailed → ⊥ }
     ensures refused { RefusesFor result (TellsLarge (form_of formula.now) log.now) }

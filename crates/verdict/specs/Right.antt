@@ -4,6 +4,7 @@ use Rattle.mt_model.specs.Form.{Form}
 use Rattle.mt_model.specs.Log.{Logged}
 use Rattle.mt_model.specs.Timing.{Admissible}
 use Rattle.mt_model.specs.Truth.{truth}
+use Rattle.skew_bounds.specs.Consistency.{VisitsOnce}
 use Rattle.skew_bounds.specs.Tight.{IsConsistent}
 use Rattle.axiom_rules.specs.declared.rule.Rule.{Rule}
 use Rattle.proof_log.specs.declared.line.Line.{Line}
@@ -68,3 +69,8 @@ pub record IsRight (log : Logged) (f : Form) (conflicts : ℕ) (r : Report) : Ty
   pub spelled : IsSpelled r
   pub events : events_of r ≡ length log.rows
   pub says : SaysRight log f conflicts r
+
+-- no two steps of the negative cycle that a report shows, if it shows one, begin at one moment
+abbrev pub CyclesOnce : Logged → Report → Type 0
+CyclesOnce log (report.Inconsistent events steps) = VisitsOnce log steps
+CyclesOnce log (report.Verdicts events on_true on_false) = Unit {0}

@@ -10,7 +10,7 @@ ghost use Rattle.report_text.specs.Spelled.{IsSpelledSection};
 ghost use Rattle.verdict.specs.Claims.{Claims};
 ghost use Rattle.verdict.specs.Faults.{IsFault, IsJudged};
 ghost use Rattle.verdict.specs.Given.{AreNodesOf};
-ghost use Rattle.verdict.specs.Right.{IsRight, IsRightSection};
+ghost use Rattle.verdict.specs.Right.{CyclesOnce, IsRight, IsRightSection};
 
 use crate::VerdictFault;
 use crate::given::{Given, Nodes, Settled, prepare, truth_in};
@@ -94,6 +94,7 @@ fn verdicts(
     requires tight { IsTight log.now tight.now }
     requires admissible { Admissible log.now times }
     ensures right { IfOk result (IsRight log.now (form_of f.now) budget) }
+    ensures once { IfOk result (CyclesOnce log.now) }
 {
     let value = value_in(alloc, log, f, nodes, times.as_slice())?;
     let other = searched(alloc, log, f, nodes, system, tight, !value, budget)?;
@@ -115,7 +116,7 @@ fn verdicts(
 }
 
 /// A report of the values that a formula can have, over all timings that a log admits: a negative cycle where it
-/// admits none, and else for each value a timing in which the formula has it, lines that refute it, or, of one value
+/// admits none, which comes to no moment twice, and else for each value a timing in which the formula has it, lines that refute it, or, of one value
 /// alone, lines with as many fresh clauses learnt as the budget. The budget is from 1 to 1,000,000, for each value.
 ///
 /// The faults other than want of memory come exactly where the formula isn't judged of the log, and say why: a host
@@ -125,6 +126,7 @@ pub fn decide(alloc: Global, log: &Log, f: &Formula, budget: u32) -> Result<Repo
     requires most { budget ≤ 1000000 }
     ensures right { IfOk result (IsRight log.now (form_of f.now) budget) }
     ensures claims { IfOk result (Claims log.now (form_of f.now)) }
+    ensures once { IfOk result (CyclesOnce log.now) }
     ensures judged { OnOk result (IsJudged log.now (form_of f.now)) }
     ensures fault { IfErr result (IsFault log.now (form_of f.now)) }
 {

@@ -24,7 +24,7 @@ returns-clause-outcome c =
     let f = form_of q.formula in
     let reply = c.in_ok-report_reply.field-0 in
     let checked : Checked c.args.conflicts f q.log reply.text.items reply.status =
-    record { report = c.in_ok-report.report; right = c.in_ok-report.ensures.right; claims = c.in_ok-report.ensures.claims; written = c.in_ok-report_reply.ensures.text; status = c.in_ok-report_reply.ensures.status } in
+    record { report = c.in_ok-report.report; right = c.in_ok-report.ensures.right; claims = c.in_ok-report.ensures.claims; once = c.in_ok-report.ensures.once; written = c.in_ok-report_reply.ensures.text; status = c.in_ok-report_reply.ensures.status } in
     let judged = c.in_ok-report.ensures.judged in
     hosts-known q.text.items f q.log (OnNodes f (OnSize f q.log (Checked c.args.conflicts f q.log))) reply.text.items reply.status c.in_ok-known_hosts.ensures.known
     (nodes-few f (OnSize f q.log (Checked c.args.conflicts f q.log)) reply.text.items reply.status judged.nodes.few
