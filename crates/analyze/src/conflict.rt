@@ -13,7 +13,7 @@ use crate::places::level_at;
 use crate::resolve::resolve;
 use clause_db::{ClauseRef, Db, Lit};
 use mt_list::ListOf;
-use propagate::Trail;
+use propagate::{Trail, trails_are_in_order};
 use std::alloc::{AllocError, Global};
 
 /// Literals in order.
@@ -59,7 +59,7 @@ pub fn learn(
     ensures below { IfOk result (λ r. IsUnitBelow trail.now r.lits) }
     ensures two_above { IfOk result (λ r. (m : ℕ) → m < r.jump → HasTwoAbove trail.now.entries m (clause_at db.now conflict)) }
 {
-    let _ = trail.level();
+    trails_are_in_order(trail);
     let work = resolve(alloc, trail, db, conflict)?;
     let lits = deny(alloc, trail, &work.aside)?;
     let jump = jump(trail, &work.aside);
@@ -86,7 +86,7 @@ pub fn refute(
     ensures used { IfOk result (λ v. HintsAreUsed db.now [] v.items) }
     ensures last { IfOk result (λ v. EndsIn conflict v.items) }
 {
-    let _ = trail.level();
+    trails_are_in_order(trail);
     let work = resolve(alloc, trail, db, conflict)?;
     Ok(in_order(work.hints))
 }

@@ -13,7 +13,7 @@ use axiom_rules::AtomTable;
 use clause_db::ClauseRef;
 use mt_model::BoundList;
 use proof_log::Lines;
-use propagate::Links;
+use propagate::{Links, trails_are_in_order};
 use std::alloc::{AllocError, Global};
 
 /// What order literals and bounds say of the nodes: the bounds of the log, the atoms by their variables, the
@@ -90,8 +90,7 @@ impl SearchState {
         let held = edges.saturating_sub(base);
         self.linked.cut(self.trail.len(), held);
         self.strategy.cut(self.trail.len());
-        // With the level it is known that no variable is assigned twice.
-        let _ = self.trail.level();
+        trails_are_in_order(&self.trail);
         Ok(())
     }
 

@@ -11,7 +11,7 @@ use crate::state::SearchState;
 use clause_db::{ClauseRef, Lit};
 use difference_graph::Push;
 use mt_model::Bits;
-use propagate::Reached;
+use propagate::{Reached, trails_are_in_order};
 use std::alloc::{AllocError, Global};
 
 /// What keeps a descent from going on.
@@ -44,8 +44,7 @@ impl SearchState {
             let reached = self
                 .trail
                 .propagate(&self.derived.db, &self.theory.links, &mut self.graph)?;
-            // With the level it is known that no variable is assigned twice.
-            let _ = self.trail.level();
+            trails_are_in_order(&self.trail);
             match reached {
                 Reached::Quiet => {}
                 Reached::ClauseConflict(clause) => {

@@ -24,7 +24,7 @@ use difference_graph::graphs_are_solved;
 use formula_arena::{cores_are_cores, nodes_are_subtrees};
 use mtl_encode::Problem;
 use neg_cycle::Edge;
-use propagate::{Trail, new_trail_is_in_step};
+use propagate::{Trail, new_trail_is_in_step, trails_are_in_order};
 use std::alloc::{AllocError, Global};
 
 /// A model of the problem, lines that refute it with fewer clauses learnt than the budget, or lines that
@@ -83,8 +83,7 @@ impl SearchState {
         let vars = theory.atoms.len();
         let graph = graph_of(alloc, theory.nodes, edges, vars)?;
         let trail = Trail::new(alloc, vars)?;
-        // With the level it is known that no variable is assigned twice.
-        let _ = trail.level();
+        trails_are_in_order(&trail);
         let strategy = Strategy::new(alloc, &derived, &theory.links, vars, theory.nodes)?;
         let linked = LinkedLits::new(alloc);
         Ok(SearchState {

@@ -3,8 +3,8 @@ use Rattle.std.proofs.Common.{◌≡◌, List, [], Option, length, arith}
 use Rattle.neg_cycle.specs.declared.system.Edge.{Edge}
 use Rattle.difference_graph.specs.Graphs.{Constraints}
 use Rattle.clause_db.specs.declared.lit.Lit.{Lit}
-use Rattle.propagate.specs.declared.moves.Reached.{Reached}
-use Rattle.propagate.specs.declared.moves.Reached.TheVariants as reached
+use Rattle.propagate.specs.declared.propagation.Reached.{Reached}
+use Rattle.propagate.specs.declared.propagation.Reached.TheVariants as reached
 use Rattle.propagate.specs.Clauses.{HasReasons}
 use Rattle.propagate.specs.Closed.{Closed, ClosedAt}
 use Rattle.propagate.specs.Laws.{StepHoldsMarks}

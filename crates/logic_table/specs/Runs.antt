@@ -3,7 +3,7 @@ use Rattle.std.specs.Prelude.{◌≤◌, List, [], Option, length}
 use Rattle.neg_cycle.specs.declared.system.Edge.{Edge}
 use Rattle.difference_graph.specs.Graphs.{Constraints}
 use Rattle.clause_db.specs.declared.lit.Lit.{Lit}
-use Rattle.propagate.specs.declared.moves.Reached.{Reached}
+use Rattle.propagate.specs.declared.propagation.Reached.{Reached}
 use Rattle.propagate.specs.Clauses.{HasReasons}
 use Rattle.propagate.specs.Closed.{Closed, ClosedAt}
 use Rattle.propagate.specs.Reach.{IfClause, IfQuiet, IsConflict}

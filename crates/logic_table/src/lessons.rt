@@ -9,7 +9,7 @@ use crate::clauses::{push_lits, push_places};
 use crate::writing::push_items;
 use analyze::{learn, refute};
 use clause_db::{ClauseRef, Db};
-use propagate::Trail;
+use propagate::{Trail, trails_are_in_order};
 use std::alloc::Global;
 
 // Adds the clause that a conflict teaches, the level to go back to, and the hints.
@@ -25,7 +25,7 @@ fn push_learned(
     requires conflict { IsConflict trail.now db.now conflict }
     requires level { 0 < length trail.now.levels }
 {
-    let _ = trail.len();
+    trails_are_in_order(trail);
     let learned = learn(alloc, trail, db, conflict).ok()?;
     push_lits(alloc, "learned", learned.lits.as_slice(), out)?;
     push_items(alloc, "jump", &[learned.jump], out)?;

@@ -11,7 +11,7 @@ use difference_graph::{Graph, Push};
 use neg_cycle::{Edge, MAX_NODES, is_system};
 use propagate::{
     Links, Reached, Trail, new_trail_is_in_step, room_for_all_is_room, set_links_are_linked,
-    step_holds_marks,
+    step_holds_marks, trails_are_in_order,
 };
 use std::alloc::Global;
 
@@ -115,11 +115,11 @@ impl Run {
     {
         room_for_all_is_room();
         step_holds_marks();
-        let _ = self.trail.len();
+        trails_are_in_order(&self.trail);
         let Ok(reached) = self.trail.propagate(db, &self.links, &mut self.graph) else {
             return None;
         };
-        let _ = self.trail.len();
+        trails_are_in_order(&self.trail);
         Some(reached)
     }
 
@@ -133,14 +133,14 @@ impl Run {
     {
         room_for_all_is_room();
         step_holds_marks();
-        let _ = self.trail.len();
+        trails_are_in_order(&self.trail);
         let None = self.trail.value(lit.var()) else {
             return None;
         };
         match self.trail.decide(lit, &self.links, &mut self.graph) {
             Push::Kept => self.propagate(db),
             Push::Cycle => {
-                let _ = self.trail.len();
+                trails_are_in_order(&self.trail);
                 Some(Reached::TheoryConflict(lit))
             }
         }

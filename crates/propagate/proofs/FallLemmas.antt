@@ -12,7 +12,7 @@ use Rattle.propagate.specs.Watching.{AreWatchedOf}
 use Rattle.propagate.specs.Trails.{Assigned, entry_at, IsTrail}
 use Rattle.propagate.specs.Watched.{AreGuarded, AreWatched, IsGuarded, IsTrueAt, IsTrueUpTo}
 use Rattle.propagate.specs.Best.{AreBest, AreHighest, AreHighestFrom, AreLastToFall, AreLastToFallFrom, IsBest, IsHighest, IsLastToFall}
-use Rattle.propagate.specs.Visits.{IsMet, IsNextFalse}
+use Rattle.propagate.specs.Visits.{IsAssignedIfUnit, IsNextFalse}
 use Rattle.propagate.proofs.PlaceLemmas.{at_up_to, not_both, up_to_held, up_to_level}
 use Rattle.propagate.proofs.WatchedLemmas.{known_at, some_is, up_to_longer}
 use Rattle.propagate.proofs.GuardLemmas.{next_false}
@@ -50,7 +50,7 @@ pub none_last : (t : Assigned) (db : List (List Lit)) → AreLastToFallFrom (len
 none_last t db c p from is = let within = known_at t.watching.watches c p is in absurd (omega (arith, within, from))
 
 -- the literal beside which the best one is watched anew, in place of one that is false, isn't false since a lower level
-pub last_beside : (t s : Assigned) (clause : List Lit) (f o best : Lit) → IsTrail t → IsTrail s → IsNextFalse t f → IsMet t s o best → Contains clause best → IsLastToFall s.entries (length s.levels) clause o f
+pub last_beside : (t s : Assigned) (clause : List Lit) (f o best : Lit) → IsTrail t → IsTrail s → IsNextFalse t f → IsAssignedIfUnit t s o best → Contains clause best → IsLastToFall s.entries (length s.levels) clause o f
     → IsLastToFall s.entries (length s.levels) clause o best
 last_beside t s clause f o best before trail next (inl (open_here, same)) has was m below at =
     absurd (elim (All-contains (λ (x : Lit). (Some f ≡ Some x) ⊎ IsTrueUpTo s.entries m (negation x)) clause best (was m below at) has) [
@@ -60,15 +60,15 @@ last_beside t s clause f o best before trail next (inl (open_here, same)) has wa
 last_beside t s clause f o best before trail next (inr (made, guarded)) has was m below at = absurd (not_both s o trail made (up_to_held s.entries m (negation o) (at_up_to s.entries (negation o) m m (omega arith) at)))
 
 -- the watched literals of a clause, of which f is one, with the best one in its place
-pub last_moved : (t s : Assigned) (db : List (List Lit)) (n c : ℕ) (f o best : Lit) → IsTrail t → IsTrail s → IsNextFalse t f → IsMet t s o best → AreWatchedOf s.watching c f o → n ≤ c
+pub last_moved : (t s : Assigned) (db : List (List Lit)) (n c : ℕ) (f o best : Lit) → IsTrail t → IsTrail s → IsNextFalse t f → IsAssignedIfUnit t s o best → AreWatchedOf s.watching c f o → n ≤ c
     → IsLastToFall s.entries (length s.levels) (clause_at db c) best o → Contains (clause_at db c) best → AreLastToFallFrom n s db → AreLastToFall s.entries (length s.levels) (clause_at db c) (record { first = best; second = o })
-last_moved t s db n c f o best before trail next met (p, is, both) from last has was =
+last_moved t s db n c f o best before trail next assigned (p, is, both) from last has was =
     let old = was c p from is in
     let that : IsLastToFall s.entries (length s.levels) (clause_at db c) o f = elim both [
       | inl at ↦ let r = old.second in rw (at.0, at.1) at r
       | inr at ↦ let r = old.first in rw (at.0, at.1) at r
     ] in
-    record { first = last; second = last_beside t s (clause_at db c) f o best before trail next met has that }
+    record { first = last; second = last_beside t s (clause_at db c) f o best before trail next assigned has that }
 
 -- where all is taken, no literal of a clause became false at a higher level than one that is watched
 module _ (t : Assigned) (clause : List Lit) (trail : IsTrail t) where

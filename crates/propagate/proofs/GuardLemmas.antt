@@ -16,7 +16,7 @@ use Rattle.propagate.specs.Trails.{Assigned, entry_at, literals, up_to, IsTrail,
 use Rattle.propagate.specs.Watched.{AreGuarded, AreTwoOf, AreWatched, IsGuarded, IsTrueUpTo}
 use Rattle.propagate.specs.Closed.{Closed}
 use Rattle.propagate.specs.Best.{AreBest, AreFalseUpTo, IsBest}
-use Rattle.propagate.specs.Visits.{IsMet, IsNextFalse}
+use Rattle.propagate.specs.Visits.{IsAssignedIfUnit, IsNextFalse}
 use Rattle.propagate.proofs.TrailLemmas.{new_entry}
 use Rattle.propagate.proofs.ClauseLemmas.{literal_at, literal_held, unassigned_not_held}
 use Rattle.propagate.proofs.PlaceLemmas.{negations_same, not_both, same_literal, up_to_held, up_to_here, up_to_there}
@@ -131,7 +131,7 @@ best_leaves es clause l best k has is_best within is = record {
 pub two_best : (es : List Entry) (clause : List Lit) (p : Watch) → AreBest es clause p → AreTwoOf clause p
 two_best es clause p best = record { differ = λ same. best.second.differs (ap (λ x. Some x) same); has_first = best.first.has; has_second = best.second.has }
 
-pub guards_best : (t s : Assigned) (clause : List Lit) (p : Watch) (n : ℕ) → IsTrail s → n ≤ length s.entries → IsMet t s p.first p.second → AreBest t.entries clause p → AreGuarded s.entries n p
+pub guards_best : (t s : Assigned) (clause : List Lit) (p : Watch) (n : ℕ) → IsTrail s → n ≤ length s.entries → IsAssignedIfUnit t s p.first p.second → AreBest t.entries clause p → AreGuarded s.entries n p
 guards_best t s clause p n trail le (inl (open_here, same)) best =
     let first_open : Contains (literals t.entries) (negation p.first) → ⊥ = λ first_false.
     let at = literal_at t.entries (negation p.first) first_false in

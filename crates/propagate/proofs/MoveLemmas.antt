@@ -18,7 +18,7 @@ use Rattle.propagate.specs.Trails.{Assigned, no_entry, entry_at, IsTrail, HasEnt
 use Rattle.propagate.specs.Watched.{AreGuarded, AreTwoOf, AreWatched, IsTrueUpTo}
 use Rattle.propagate.specs.Reach.{IsAtWork, IsGrown, IsProgress}
 use Rattle.propagate.specs.Best.{AreLastToFall, AreLastToFallFrom, IsBest}
-use Rattle.propagate.specs.Visits.{HasMoved, IsAmong, IsMet, IsMoved, IsNextFalse, IsRewatched, IsUnmoved, IsVisited, place_after}
+use Rattle.propagate.specs.Visits.{HasMoved, IsAmong, IsAssignedIfUnit, IsMoved, IsNextFalse, IsRewatched, IsUnmoved, IsVisited, place_after}
 use Rattle.propagate.proofs.ClauseLemmas.{literal_held}
 use Rattle.propagate.proofs.PlaceLemmas.{held_at, same_literal}
 use Rattle.propagate.proofs.WatchingLemmas.{cases_lit}
@@ -104,7 +104,7 @@ module _ (t : Assigned) (f o best : Lit) (c place : ℕ) (trail : IsTrail t) (in
 
 -- the visit of a clause that watches the literal and another one
 module _ (db : List (List Lit)) (links : List (Option (Edge × Edge))) (t : Assigned) (g : Constraints) (s : Assigned) (h : Constraints) (u : Assigned) (c place : ℕ) (f o best : Lit) (work : IsAtWork db links t g) (next : IsNextFalse t f)
-    (here : IsWatcherAt t.watching f place c) (both : AreWatchedOf t.watching c f o) (is_best : IsBest t.entries (clause_at db c) (Some o) best) (progress : IsProgress db links t g s h) (unmoved : IsUnmoved t s) (met_here : IsMet t s o best)
+    (here : IsWatcherAt t.watching f place c) (both : AreWatchedOf t.watching c f o) (is_best : IsBest t.entries (clause_at db c) (Some o) best) (progress : IsProgress db links t g s h) (unmoved : IsUnmoved t s) (assigned_here : IsAssignedIfUnit t s o best)
     (is : u ≡ rewatched s u.watching s.taken) (trail : IsTrail u) (anew : IsRewatched s.watching u.watching c (record { first = best; second = o })) where
   abbrev q : Watch
   q = record { first = best; second = o }
@@ -113,12 +113,12 @@ module _ (db : List (List Lit)) (links : List (Option (Edge × Edge))) (t : Assi
   two = record { differ = λ same. is_best.differs (ap (λ x. Some x) (sym same)); has_first = is_best.has; has_second = other_in t db c f o work.trail work.watched next both }
 
   guards : AreGuarded s.entries (t.taken + 1) q
-  guards = guards_moved t s db c f o best work.trail progress.work.trail work.watched next both progress.grown unmoved met_here
+  guards = guards_moved t s db c f o best work.trail progress.work.trail work.watched next both progress.grown unmoved assigned_here
 
   last : (k : ℕ) → k ≤ c → AreLastToFallFrom k s db → AreLastToFall s.entries (length s.levels) (clause_at db c) q
   last k from was =
       let is_last = last_grown t s progress.grown (clause_at db c) best o (last_best t.entries (length t.levels) (clause_at db c) best o is_best) in
-      last_moved t s db k c f o best work.trail progress.work.trail next met_here (subst (λ (w : Watching). AreWatchedOf w c f o) (sym unmoved.watching) both) from is_last is_best.has was
+      last_moved t s db k c f o best work.trail progress.work.trail next assigned_here (subst (λ (w : Watching). AreWatchedOf w c f o) (sym unmoved.watching) both) from is_last is_best.has was
 
   pub best_progress : IsProgress db links t g u h
   best_progress = progress_again db links t s u g h c q is trail anew two (guards_fewer s.entries (t.taken + 1) s.taken q (let same = unmoved.taken in omega (arith, same)) guards) last progress
@@ -131,7 +131,7 @@ module _ (db : List (List Lit)) (links : List (Option (Edge × Edge))) (t : Assi
 
   pub best_visited : (v : Visit) → HasMoved s u f q c place v → IsVisited t u f c place (place_after v place)
   best_visited visit.Stayed (same, sooner) =
-      let since = since_before t s db c f o best work.trail progress.work.trail work.watched next both progress.grown unmoved met_here sooner in
+      let since = since_before t s db c f o best work.trail progress.work.trail work.watched next both progress.grown unmoved assigned_here sooner in
       let stay = guards_stay s db c f o progress.work.trail progress.work.watched next_s both_s since in
       visited_stay t u f c place (ap (λ (x : Assigned). x.taken) same ∙ unmoved.taken) (ap (λ (x : Assigned). x.watching) same ∙ unmoved.watching) here
       (subst (λ (x : Assigned). (p : Watch) → watch_at x.watching c ≡ Some p → AreGuarded x.entries (t.taken + 1) p) (sym same) (rw unmoved.taken at stay))
@@ -178,5 +178,5 @@ progress_next db links a t s g h f place old left end is trail =
           | inl kept ↦ kept
           | inr among ↦ let le = among.1 in let within = among.2 in absurd (omega (arith, le, within, end))
         ];
-        met = old.work.watched.met;
+        satisfied = old.work.watched.satisfied;
       }

@@ -23,8 +23,8 @@ use Rattle.propagate.specs.Watched.{AreWatched}
 use Rattle.propagate.specs.Best.{AreLastToFall, AreLastToFallFrom, IsLastToFall}
 use Rattle.propagate.specs.Steps.{InStep, IsInStep, IsRefused, HasRoomFor, LacksLast}
 use Rattle.propagate.specs.Reach.{HasStopped, IfClause, IfQuiet, IfTheory, IsAtWork, IsConflict, IsGrown, IsExtended, IsLast, IsProgress, IsReached, IsStopped, IsToldAs, UnlessQuiet, UnlessTheory}
-use Rattle.propagate.specs.declared.moves.Reached.{Reached}
-use Rattle.propagate.specs.declared.moves.Reached.TheVariants as reached
+use Rattle.propagate.specs.declared.propagation.Reached.{Reached}
+use Rattle.propagate.specs.declared.propagation.Reached.TheVariants as reached
 use Rattle.propagate.specs.declared.stop.Stop.{Stop}
 use Rattle.propagate.specs.declared.stop.Stop.TheVariants as stop
 use Rattle.propagate.proofs.TrailLemmas.{cases_push, new_entry, trail_followed}

@@ -7,7 +7,7 @@ use Rattle.clause_db.specs.declared.lit.Lit.{Lit}
 use Rattle.propagate.specs.declared.entry.Entry.{Entry}
 use Rattle.propagate.specs.declared.entry.Level.{Level}
 use Rattle.propagate.specs.declared.watch.Watch.{Watch}
-use Rattle.propagate.specs.Watching.{Watching, AreListed, IsListed, IsUnwatched, list_in, with_list, lists_at, meeting, unwatched, watch_at, watchers_of, watching}
+use Rattle.propagate.specs.Watching.{Watching, AreListed, IsListed, IsUnwatched, list_in, with_list, lists_at, satisfying, unwatched, watch_at, watchers_of, watching}
 use Rattle.propagate.specs.Stored.{IsStored}
 use Rattle.propagate.proofs.UnwatchedLemmas.{unwatched_longer, unwatched_set}
 use Rattle.propagate.proofs.WatchingLemmas.{all_listed_more, all_listed_less, all_listed_up, all_listed_set}
@@ -17,8 +17,8 @@ either (Ok x) p q = inl p
 either (Err y) p q = inr q
 
 module _ (xs : List Entry) (places : List (Option ℕ)) (ls : List Level) (w : Watching) (n ec lc : ℕ) (stored : IsStored xs places ls w n ec lc) where
-  pub stored_watching : (v : Watching) → length v.watchers ≡ length w.watchers → v.met ≤ length (unwatched v.watches) → AreListed v → IsStored xs places ls v n ec lc
-  stored_watching v count met listed = record {
+  pub stored_watching : (v : Watching) → length v.watchers ≡ length w.watchers → v.satisfied ≤ length (unwatched v.watches) → AreListed v → IsStored xs places ls v n ec lc
+  stored_watching v count satisfied listed = record {
     trail = record {
       below = stored.trail.below;
       once = stored.trail.once;
@@ -26,7 +26,7 @@ module _ (xs : List Entry) (places : List (Option ℕ)) (ls : List Level) (w : W
       taken = stored.trail.taken;
       lists = count ∙ stored.trail.lists;
       listed = listed;
-      met = met;
+      satisfied = satisfied;
     };
     table = stored.table;
     few = stored.few;
@@ -43,7 +43,7 @@ module _ (xs : List Entry) (places : List (Option ℕ)) (ls : List Level) (w : W
       taken = most;
       lists = stored.trail.lists;
       listed = stored.trail.listed;
-      met = stored.trail.met;
+      satisfied = stored.trail.satisfied;
     };
     table = stored.table;
     few = stored.few;
@@ -58,37 +58,37 @@ module _ (xs : List Entry) (places : List (Option ℕ)) (ls : List Level) (w : W
       get_or_read w.watchers i now (omega (arith, at, below, lists)) is ([], []) ∙ ap (λ (v : ℕ). lists_at w.watchers v) at
 
   pub stored_added : (i : ℕ) (l : Lit) (c : ℕ) (b : Bool) (now new : List ℕ × List ℕ) → l.var < length places → i ≡ l.var → b ≡ l.positive → now ≡ get_or w.watchers i now
-      → (new ≡ with_list now b (list_in now b ++ c ∷ [])) ⊎ (new ≡ now) → IsStored xs places ls (record { watches = w.watches; watchers = set w.watchers i new; met = w.met }) n ec lc
+      → (new ≡ with_list now b (list_in now b ++ c ∷ [])) ⊎ (new ≡ now) → IsStored xs places ls (record { watches = w.watches; watchers = set w.watchers i new; satisfied = w.satisfied }) n ec lc
   stored_added i l c b now new below at sense is put =
       let lists = stored.trail.lists in
       let within : l.var < length w.watchers = omega (arith, below, lists) in
       let read = read_lists i l now below at is in
-      stored_watching (record { watches = w.watches; watchers = set w.watchers i new; met = w.met }) (length-set w.watchers i new) stored.trail.met (elim put [
+      stored_watching (record { watches = w.watches; watchers = set w.watchers i new; satisfied = w.satisfied }) (length-set w.watchers i new) stored.trail.satisfied (elim put [
         | inl more ↦ rw (at, more, sense, read) (all_listed_more w l c within stored.trail.listed)
         | inr same ↦ rw (at, same, read, set-get_or w.watchers l.var ([], [])) stored.trail.listed
       ])
 
   pub stored_dropped : (i : ℕ) (l : Lit) (k : ℕ) (b : Bool) (now new : List ℕ × List ℕ) → l.var < length places → i ≡ l.var → b ≡ l.positive → now ≡ get_or w.watchers i now
       → new ≡ with_list now b (swap_remove (list_in now b) k 0) → k < length (watchers_of w l) → IsUnwatched w (get_or (watchers_of w l) k 0) l
-      → IsStored xs places ls (record { watches = w.watches; watchers = set w.watchers i new; met = w.met }) n ec lc
+      → IsStored xs places ls (record { watches = w.watches; watchers = set w.watchers i new; satisfied = w.satisfied }) n ec lc
   stored_dropped i l k b now new below at sense is less here unwatched =
       let lists = stored.trail.lists in
       let within : l.var < length w.watchers = omega (arith, below, lists) in
       let read = read_lists i l now below at is in
-      stored_watching (record { watches = w.watches; watchers = set w.watchers i new; met = w.met }) (length-set w.watchers i new) stored.trail.met (rw (at, less, sense, read) (all_listed_less w l k within here unwatched stored.trail.listed))
+      stored_watching (record { watches = w.watches; watchers = set w.watchers i new; satisfied = w.satisfied }) (length-set w.watchers i new) stored.trail.satisfied (rw (at, less, sense, read) (all_listed_less w l k within here unwatched stored.trail.listed))
 
   pub stored_up : (r : Option Watch) (watches : List (Option Watch)) → watches ≡ w.watches ++ r ∷ [] → ((p : Watch) → r ≡ Some p → IsListed w (length w.watches) p)
-      → IsStored xs places ls (record { watches = watches; watchers = w.watchers; met = w.met }) n ec lc
-  stored_up r watches is new = rw is (stored_watching (watching w (w.watches ++ r ∷ [])) refl (let met = stored.trail.met in omega (arith, met, unwatched_longer w.watches r)) (all_listed_up w r new stored.trail.listed))
+      → IsStored xs places ls (record { watches = watches; watchers = w.watchers; satisfied = w.satisfied }) n ec lc
+  stored_up r watches is new = rw is (stored_watching (watching w (w.watches ++ r ∷ [])) refl (let satisfied = stored.trail.satisfied in omega (arith, satisfied, unwatched_longer w.watches r)) (all_listed_up w r new stored.trail.listed))
 
   pub stored_taken_up : (r : Option Watch) (watches : List (Option Watch)) → (watches ≡ w.watches ++ r ∷ []) ⊎ (watches ≡ w.watches) → ((p : Watch) → r ≡ Some p → IsListed w (length w.watches) p)
-      → IsStored xs places ls (record { watches = watches; watchers = w.watchers; met = w.met }) n ec lc
+      → IsStored xs places ls (record { watches = watches; watchers = w.watchers; satisfied = w.satisfied }) n ec lc
   stored_taken_up r watches (inl more) new = stored_up r watches more new
   stored_taken_up r watches (inr same) new = rw same stored
 
-  pub stored_set : (c : ℕ) (q : Watch) (watches : List (Option Watch)) → watches ≡ set w.watches c (Some q) → c < length w.watches → IsSome (watch_at w c) → IsListed w c q → IsStored xs places ls (record { watches = watches; watchers = w.watchers; met = w.met }) n ec lc
-  stored_set c q watches is within some new = rw is (stored_watching (watching w (set w.watches c (Some q))) refl (let met = stored.trail.met in omega (arith, met, ap length (unwatched_set w.watches c c q refl some))) (all_listed_set w c q within new stored.trail.listed))
+  pub stored_set : (c : ℕ) (q : Watch) (watches : List (Option Watch)) → watches ≡ set w.watches c (Some q) → c < length w.watches → IsSome (watch_at w c) → IsListed w c q → IsStored xs places ls (record { watches = watches; watchers = w.watchers; satisfied = w.satisfied }) n ec lc
+  stored_set c q watches is within some new = rw is (stored_watching (watching w (set w.watches c (Some q))) refl (let satisfied = stored.trail.satisfied in omega (arith, satisfied, ap length (unwatched_set w.watches c c q refl some))) (all_listed_set w c q within new stored.trail.listed))
 
-  -- one clause more that counts as met
-  pub stored_met : (k : ℕ) → k ≤ length (unwatched w.watches) → IsStored xs places ls (meeting w k) n ec lc
-  stored_met k most = stored_watching (meeting w k) refl most (λ c p is. let here = stored.trail.listed c p is in record { first = here.first; second = here.second })
+  -- one clause more that counts as satisfied
+  pub stored_satisfied : (k : ℕ) → k ≤ length (unwatched w.watches) → IsStored xs places ls (satisfying w k) n ec lc
+  stored_satisfied k most = stored_watching (satisfying w k) refl most (λ c p is. let here = stored.trail.listed c p is in record { first = here.first; second = here.second })

@@ -110,7 +110,7 @@ trail_followed t lit c old below free =
       taken = let most = old.taken in omega (arith, most, length_push t.entries e);
       lists = old.lists;
       listed = old.listed;
-      met = old.met;
+      satisfied = old.satisfied;
     }
 
 pub trail_decided : (t : Assigned) (lit : Lit) (mark : ℕ) → IsTrail t → lit.var < t.vars → IsUnassigned t.entries lit.var → IsTrail (decided t lit mark)
@@ -123,7 +123,7 @@ trail_decided t lit mark old below free =
       taken = let most = old.taken in omega (arith, most, length_push t.entries e);
       lists = old.lists;
       listed = old.listed;
-      met = old.met;
+      satisfied = old.satisfied;
     }
 
 -- a later level begins later
@@ -296,7 +296,7 @@ trail_cut t m op old = record {
   taken = let within = old.levels.within m op in omega (arith, within, length-take-le (start_of t.levels m) t.entries (omega (arith, within)));
   lists = old.lists;
   listed = old.listed;
-  met = old.met;
+  satisfied = old.satisfied;
 }
 
 pub cut_is_at : (t : Assigned) (m : ℕ) → m < length t.levels → IsTrail t → cut_at m t ≡ cut_to m t

@@ -1,4 +1,4 @@
--- What is done with a clause that is taken up or visited.
+-- What is done with a clause that is attached or visited.
 use Rattle.std.proofs.Common.{◌≡◌, ◌≢◌, ◌∙◌, ap, sym, subst, refl, ℕ, ◌+◌, ◌<◌, ◌≤◌, ◌⊎◌, inl, inr, List, [], ◌∷◌, ◌++◌, length, get_or, arith, Option, Some, None, Result, Ok, Err, get_or-set_same, get_or-set_other, set, length-set}
 use Rattle.std.specs.Prelude.{IsSome, OnOk}
 use Rattle.std.specs.List.{All, Any, Contains, swap_remove}
@@ -14,19 +14,19 @@ use Rattle.clause_db.specs.Literals.{negation}
 use Rattle.clause_db.specs.Clauses.{clause_at}
 use Rattle.propagate.specs.declared.watch.Watch.{Watch}
 use Rattle.propagate.specs.declared.stop.Stop.{Stop}
-use Rattle.propagate.specs.Watching.{Watching, unwatched, AreWatchedOf, IsListed, IsUnwatched, IsWatcherAt, listing, lists_at, meeting, watch_at, with_list, watchers_of, watching}
+use Rattle.propagate.specs.Watching.{Watching, unwatched, AreWatchedOf, IsListed, IsUnwatched, IsWatcherAt, listing, lists_at, satisfying, watch_at, with_list, watchers_of, watching}
 use Rattle.propagate.specs.Trails.{Assigned, entry_at, literals, up_to, IsTrail, rewatched}
 use Rattle.propagate.specs.Watched.{AreAllWatched, AreGuarded, AreTwoOf, AreWatched, IsTrueAt, IsTrueUpTo}
 use Rattle.propagate.specs.Clauses.{AreSettled}
 use Rattle.propagate.specs.Closed.{Closed}
 use Rattle.propagate.specs.Reach.{IsGrown, IsProgress, IsReached}
 use Rattle.propagate.specs.Best.{AreBest, AreFalseUpTo, AreLastToFall, AreLastToFallFrom, IsBest}
-use Rattle.propagate.specs.Visits.{AreShortMet, IsAmong, IsMet, IsMetIfShort, IsMoved, IsNextFalse, IsRewatched, IsUnmoved, IsVisited}
+use Rattle.propagate.specs.Visits.{AreShortSatisfied, IsAmong, IsAssignedIfUnit, IsSatisfiedIfShort, IsMoved, IsNextFalse, IsRewatched, IsUnmoved, IsVisited}
 use Rattle.propagate.proofs.ClauseLemmas.{literal_at, literal_held}
 use Rattle.propagate.proofs.PlaceLemmas.{cases_contains, same_literal, up_to_held, up_to_here, up_to_top}
 use Rattle.propagate.proofs.UnwatchedLemmas.{unwatched_has, unwatched_none, unwatched_below, unwatched_set}
 use Rattle.propagate.proofs.WatchingLemmas.{cases_taken_up, listed_elsewhere, listed_here, listed_more, listed_new, removed_left, removed_length}
-use Rattle.propagate.proofs.WatchedLemmas.{guard_fewer, some_is, watched_again, watched_lists, watched_met, watched_up}
+use Rattle.propagate.proofs.WatchedLemmas.{guard_fewer, some_is, watched_again, watched_lists, watched_satisfied, watched_up}
 use Rattle.propagate.proofs.GuardLemmas.{guard_beside, guard_next, guard_open, guard_true, guards_best, other_apart, rule_of_other, two_best}
 use Rattle.propagate.proofs.FallLemmas.{both_last_best}
 use Rattle.propagate.proofs.ReachLemmas.{both_last_grown, grown_entry, progress_rewatched}
@@ -49,8 +49,8 @@ leaves_false set clause l leaves held = All-weaker (λ (x : Lit). (x ≡ l) ⊎ 
 -- where the best literal is false, and the one beside it was made true
 module _ (db : List (List Lit)) (links : List (Option (Edge × Edge))) (t : Assigned) (g : Constraints) (s : Assigned) (h : Constraints) (clause : List Lit) (l best : Lit) (n : ℕ) (is_best : IsBest t.entries clause (Some l) best)
     (at : IsTrueAt t.entries (negation best) n) where
-  met : IsProgress db links t g s h → Contains (literals s.entries) l → ((m : ℕ) → AreFalseUpTo t.entries m clause (Some l) → IsTrueUpTo s.entries m l) → IsMet t s l best
-  met progress made since = inr (
+  assigned : IsProgress db links t g s h → Contains (literals s.entries) l → ((m : ℕ) → AreFalseUpTo t.entries m clause (Some l) → IsTrueUpTo s.entries m l) → IsAssignedIfUnit t s l best
+  assigned progress made since = inr (
     made,
     λ j less is.
         let longer = progress.grown.longer in
@@ -60,9 +60,9 @@ module _ (db : List (List Lit)) (links : List (Option (Edge × Edge))) (t : Assi
         rw (same, kept) (since (entry_at t.entries at.0).level (is_best.last at.0 at.1 at.2)),
   )
 
-  pub met_if_ok : {T : Type 0} (r : Result T Stop) → IsReached db links t g r s h → OnOk r (Contains (literals s.entries) l) → OnOk r ((m : ℕ) → AreFalseUpTo t.entries m clause (Some l) → IsTrueUpTo s.entries m l) → OnOk r (IsMet t s l best)
-  met_if_ok (Ok x) progress made since = met progress made since
-  met_if_ok (Err k) stopped made since = tt
+  pub assigned_if_ok : {T : Type 0} (r : Result T Stop) → IsReached db links t g r s h → OnOk r (Contains (literals s.entries) l) → OnOk r ((m : ℕ) → AreFalseUpTo t.entries m clause (Some l) → IsTrueUpTo s.entries m l) → OnOk r (IsAssignedIfUnit t s l best)
+  assigned_if_ok (Ok x) progress made since = assigned progress made since
+  assigned_if_ok (Err k) stopped made since = tt
 
 -- two different literals make two
 two_apart : (clause : List Lit) (k l : Lit) → Contains clause k → Contains clause l → length clause < 2 → k ≡ l
@@ -71,51 +71,51 @@ two_apart clause k l (i, in_i, is_i) (j, in_j, is_j) short =
     let second : j ≡ 0 = omega (arith, in_j, short) in
     sym is_i ∙ ap (λ n. get_or clause n k) first ∙ get_or_default clause 0 k l (omega (arith, in_i)) ∙ ap (λ n. get_or clause n l) (sym second) ∙ is_j
 
--- above level 0 the clauses of fewer than two literals are met
-pub short_met : (t : Assigned) (db : List (List Lit)) → IsTrail t → Closed t db → 0 < length t.levels → AreShortMet t db
-short_met t db trail closed op c held short = met_so (closed 0 op c [] held) where
+-- above level 0 the clauses of fewer than two literals are satisfied
+pub short_satisfied : (t : Assigned) (db : List (List Lit)) → IsTrail t → Closed t db → 0 < length t.levels → AreShortSatisfied t db
+short_satisfied t db trail closed op c held short = met_so (closed 0 op c [] held) where
   met_so : IsSettled negation (literals (up_to 0 t.entries)) (clause_at db c) → Any (Contains (literals t.entries)) (clause_at db c)
   met_so (inl (k, x, within, is, here)) = (k, x, within, is, up_to_held t.entries 0 x (up_to_here t.entries t.levels 0 op trail.levels x here))
   met_so (inr two) = absurd (two.differ (two_apart (clause_at db c) two.one two.other two.has_one two.has_other short))
 
--- where those of which no two literals are watched count as met, all short ones are
-pub all_short_met : (t : Assigned) (db : List (List Lit)) → AreWatched t db → length db ≤ length t.watching.watches → length (unwatched t.watching.watches) ≤ t.watching.met → AreShortMet t db
-all_short_met t db watched known all c held short = by_watch (watch_at t.watching c) refl where
+-- where those of which no two literals are watched count as satisfied, all short ones are
+pub all_short_satisfied : (t : Assigned) (db : List (List Lit)) → AreWatched t db → length db ≤ length t.watching.watches → length (unwatched t.watching.watches) ≤ t.watching.satisfied → AreShortSatisfied t db
+all_short_satisfied t db watched known all c held short = by_watch (watch_at t.watching c) refl where
   by_watch : (r : Option Watch) → watch_at t.watching c ≡ r → Any (Contains (literals t.entries)) (clause_at db c)
   by_watch None none =
       let at = unwatched_has t.watching.watches c (omega (arith, held, known)) none in
       let within = at.1 in
-      let since = watched.met at.0 (omega (arith, within, all)) within in
+      let since = watched.satisfied at.0 (omega (arith, within, all)) within in
       let any = rw at.2 at since in
       (any.0, any.1, any.2, any.3, up_to_held t.entries 0 any.1 any.4)
   by_watch (Some p) is = let two = watched.two c p is in absurd (two.differ (two_apart (clause_at db c) p.first p.second two.has_first two.has_second short))
 
--- at level 0 a short clause that was met counts as such
-pub progress_met : (db : List (List Lit)) (links : List (Option (Edge × Edge))) (a t s : Assigned) (g h : Constraints) (c : ℕ) → IsProgress db links a g t h → length t.levels ≡ 0 → t.watching.met < length (unwatched t.watching.watches)
-    → get_or (unwatched t.watching.watches) t.watching.met 0 ≡ c → IsMetIfShort t (clause_at db c) → s ≡ rewatched t (meeting t.watching (t.watching.met + 1)) t.taken → IsTrail s → IsProgress db links a g s h
-progress_met db links a t s g h c old lowest more here met is trail =
-    let w = meeting t.watching (t.watching.met + 1) in
-    let below = unwatched_below t.watching.watches t.watching.met more in
-    let short = old.work.watched.short (get_or (unwatched t.watching.watches) t.watching.met 0) below (unwatched_none t.watching.watches t.watching.met more) in
-    let any = met (rw here at short) in
+-- at level 0 a short clause that was satisfied counts as such
+pub progress_satisfied : (db : List (List Lit)) (links : List (Option (Edge × Edge))) (a t s : Assigned) (g h : Constraints) (c : ℕ) → IsProgress db links a g t h → length t.levels ≡ 0 → t.watching.satisfied < length (unwatched t.watching.watches)
+    → get_or (unwatched t.watching.watches) t.watching.satisfied 0 ≡ c → IsSatisfiedIfShort t (clause_at db c) → s ≡ rewatched t (satisfying t.watching (t.watching.satisfied + 1)) t.taken → IsTrail s → IsProgress db links a g s h
+progress_satisfied db links a t s g h c old lowest more here satisfied is trail =
+    let w = satisfying t.watching (t.watching.satisfied + 1) in
+    let below = unwatched_below t.watching.watches t.watching.satisfied more in
+    let short = old.work.watched.short (get_or (unwatched t.watching.watches) t.watching.satisfied 0) below (unwatched_none t.watching.watches t.watching.satisfied more) in
+    let any = satisfied (rw here at short) in
     let since : Any (IsTrueUpTo t.entries 0) (clause_at db c) = (any.0, any.1, any.2, any.3, up_to_top t any.1 0 old.work.trail (omega (arith, lowest)) any.4) in
-    subst (λ (x : Assigned). IsProgress db links a g x h) (sym is) (progress_rewatched t db w t.taken links a g h (subst IsTrail is trail) (watched_met t db (rw here since) old.work.watched) (omega arith) (λ k was. was) old)
+    subst (λ (x : Assigned). IsProgress db links a g x h) (sym is) (progress_rewatched t db w t.taken links a g h (subst IsTrail is trail) (watched_satisfied t db (rw here since) old.work.watched) (omega arith) (λ k was. was) old)
 
-pub met_grown : (t s : Assigned) (clause : List Lit) → IsGrown t s → IsMetIfShort t clause → IsMetIfShort s clause
-met_grown t s clause grown was short = let any = was short in (any.0, any.1, any.2, any.3, held_grown t s any.1 grown any.4)
+pub satisfied_grown : (t s : Assigned) (clause : List Lit) → IsGrown t s → IsSatisfiedIfShort t clause → IsSatisfiedIfShort s clause
+satisfied_grown t s clause grown was short = let any = was short in (any.0, any.1, any.2, any.3, held_grown t s any.1 grown any.4)
 
-pub short_grown : (t s : Assigned) (db : List (List Lit)) → IsGrown t s → AreShortMet t db → AreShortMet s db
-short_grown t s db grown was c held = met_grown t s (clause_at db c) grown (was c held)
+pub short_grown : (t s : Assigned) (db : List (List Lit)) → IsGrown t s → AreShortSatisfied t db → AreShortSatisfied s db
+short_grown t s db grown was c held = satisfied_grown t s (clause_at db c) grown (was c held)
 
--- where all clauses are taken up, those of two literals or more are watched
+-- where all clauses are attached, those of two literals or more are watched
 pub all_watched : (t : Assigned) (db : List (List Lit)) → AreWatched t db → length db ≤ length t.watching.watches → AreAllWatched t db
 all_watched t db watched known c held long = by_watch (watch_at t.watching c) refl where
   by_watch : (r : Option Watch) → watch_at t.watching c ≡ r → IsSome (watch_at t.watching c)
   by_watch None none = let short = watched.short c (omega (arith, held, known)) none in absurd (omega (arith, short, long))
   by_watch (Some p) is = rw is refl
 
--- where all is taken, and all clauses are taken up, each is settled
-pub all_settled : (t : Assigned) (db : List (List Lit)) → AreWatched t db → t.taken ≡ length t.entries → length db ≤ length t.watching.watches → AreShortMet t db → AreSettled t.entries db
+-- where all is taken, and all clauses are attached, each is settled
+pub all_settled : (t : Assigned) (db : List (List Lit)) → AreWatched t db → t.taken ≡ length t.entries → length db ≤ length t.watching.watches → AreShortSatisfied t db → AreSettled t.entries db
 all_settled t db watched taken known short = All-from_get_or (IsSettled negation (literals t.entries)) db [] (λ c held. settled c held (watch_at t.watching c) refl) where
   settled : (c : ℕ) → c < length db → (r : Option Watch) → watch_at t.watching c ≡ r → IsSettled negation (literals t.entries) (clause_at db c)
   settled c held None is = inl (short c held (watched.short c (omega (arith, held, known)) is))
@@ -139,32 +139,32 @@ all_settled t db watched taken known short = All-from_get_or (IsSettled negation
       ]
 
 -- the lists of watchers change
-pub progress_lists : (db : List (List Lit)) (links : List (Option (Edge × Edge))) (a t s : Assigned) (g h : Constraints) → s ≡ rewatched t s.watching t.taken → s.watching.watches ≡ t.watching.watches → s.watching.met ≡ t.watching.met → IsTrail s → IsProgress db links a g t h
+pub progress_lists : (db : List (List Lit)) (links : List (Option (Edge × Edge))) (a t s : Assigned) (g h : Constraints) → s ≡ rewatched t s.watching t.taken → s.watching.watches ≡ t.watching.watches → s.watching.satisfied ≡ t.watching.satisfied → IsTrail s → IsProgress db links a g t h
     → IsProgress db links a g s h
-progress_lists db links a t s g h is same met trail old =
+progress_lists db links a t s g h is same satisfied trail old =
     let v = s.watching in
-    subst (λ (x : Assigned). IsProgress db links a g x h) (sym is) (progress_rewatched t db v t.taken links a g h (subst IsTrail is trail) (watched_lists t db v same met old.work.watched) (omega (arith, ap length same)) (λ k was c p from here. was c p from (rw same at here)) old)
+    subst (λ (x : Assigned). IsProgress db links a g x h) (sym is) (progress_rewatched t db v t.taken links a g h (subst IsTrail is trail) (watched_lists t db v same satisfied old.work.watched) (omega (arith, ap length same)) (λ k was c p from here. was c p from (rw same at here)) old)
 
--- one more clause is taken up
-pub progress_up : (db : List (List Lit)) (links : List (Option (Edge × Edge))) (a t s : Assigned) (g h : Constraints) (r : Option Watch) → s ≡ rewatched t s.watching t.taken → s.watching.watches ≡ t.watching.watches ++ r ∷ [] → s.watching.met ≡ t.watching.met → IsTrail s
+-- one more clause is attached
+pub progress_up : (db : List (List Lit)) (links : List (Option (Edge × Edge))) (a t s : Assigned) (g h : Constraints) (r : Option Watch) → s ≡ rewatched t s.watching t.taken → s.watching.watches ≡ t.watching.watches ++ r ∷ [] → s.watching.satisfied ≡ t.watching.satisfied → IsTrail s
     → length t.watching.watches < length db → (r ≡ None → length (clause_at db (length t.watching.watches)) < 2)
     → ((p : Watch) → r ≡ Some p → AreTwoOf (clause_at db (length t.watching.watches)) p × AreGuarded t.entries t.taken p)
     → ((p : Watch) → r ≡ Some p → AreLastToFall t.entries (length t.levels) (clause_at db (length t.watching.watches)) p) → IsProgress db links a g t h → IsProgress db links a g s h
-progress_up db links a t s g h r is added met trail more none some last old =
+progress_up db links a t s g h r is added satisfied trail more none some last old =
     let v = s.watching in
     subst (λ (x : Assigned). IsProgress db links a g x h) (sym is)
-    (progress_rewatched t db v t.taken links a g h (subst IsTrail is trail) (watched_up t db v r added met old.work.trail.met more none some old.work.watched) (omega (arith, ap length added, length_push t.watching.watches r)) kept old) where
+    (progress_rewatched t db v t.taken links a g h (subst IsTrail is trail) (watched_up t db v r added satisfied old.work.trail.satisfied more none some old.work.watched) (omega (arith, ap length added, length_push t.watching.watches r)) kept old) where
       kept : (k : ℕ) → AreLastToFallFrom k t db → AreLastToFallFrom k (rewatched t s.watching t.taken) db
       kept k was c p from here = elim (cases_taken_up t.watching.watches r c p (rw added at here)) [ inl before ↦ was c p from before | inr new ↦ rw new.0 (last p new.1) ]
 
 -- one more clause whose best two literals are watched
-pub progress_two : (db : List (List Lit)) (links : List (Option (Edge × Edge))) (a t s : Assigned) (g h : Constraints) (c : ℕ) (p : Watch) → IsProgress db links a g t h → IsUnmoved a t → IsMet a t p.first p.second → AreBest a.entries (clause_at db c) p
-    → s ≡ rewatched t s.watching t.taken → s.watching.watches ≡ t.watching.watches ++ Some p ∷ [] → s.watching.met ≡ t.watching.met → IsTrail s → c ≡ length a.watching.watches → c < length db → IsProgress db links a g s h
-progress_two db links a t s g h c p old unmoved met_here best is added met trail at held =
+pub progress_two : (db : List (List Lit)) (links : List (Option (Edge × Edge))) (a t s : Assigned) (g h : Constraints) (c : ℕ) (p : Watch) → IsProgress db links a g t h → IsUnmoved a t → IsAssignedIfUnit a t p.first p.second → AreBest a.entries (clause_at db c) p
+    → s ≡ rewatched t s.watching t.taken → s.watching.watches ≡ t.watching.watches ++ Some p ∷ [] → s.watching.satisfied ≡ t.watching.satisfied → IsTrail s → c ≡ length a.watching.watches → c < length db → IsProgress db links a g s h
+progress_two db links a t s g h c p old unmoved assigned_here best is added satisfied trail at held =
     let here : c ≡ length t.watching.watches = at ∙ ap (λ (w : Watching). length w.watches) (sym unmoved.watching) in
-    let guards = guards_best a t (clause_at db c) p t.taken old.work.trail old.work.trail.taken met_here best in
+    let guards = guards_best a t (clause_at db c) p t.taken old.work.trail old.work.trail.taken assigned_here best in
     let last = both_last_grown a t old.grown (clause_at db c) p (both_last_best a.entries (length a.levels) (clause_at db c) p best) in
-    progress_up db links a t s g h (Some p) is added met trail (omega (arith, held, here)) (λ none. absurd (some_none none)) (λ q same. let this : p ≡ q = some_is same in rw (← this, ← here) (two_best a.entries (clause_at db c) p best, guards)) (λ q same. let this : p ≡ q = some_is same in rw (← this, ← here) last) old where
+    progress_up db links a t s g h (Some p) is added satisfied trail (omega (arith, held, here)) (λ none. absurd (some_none none)) (λ q same. let this : p ≡ q = some_is same in rw (← this, ← here) (two_best a.entries (clause_at db c) p best, guards)) (λ q same. let this : p ≡ q = some_is same in rw (← this, ← here) last) old where
       some_none : {x : Watch} → Some x ≡ None → ⊥
       some_none e = cc
 
@@ -209,13 +209,13 @@ guards_elsewhere t db f c trail watched next unwatched p is =
 
 -- the best literal beside the other one may be watched in place of it
 module _ (t s : Assigned) (db : List (List Lit)) (c : ℕ) (f o best : Lit) (before : IsTrail t) (trail : IsTrail s) (watched : AreWatched t db) (next : IsNextFalse t f) (both : AreWatchedOf t.watching c f o) (grown : IsGrown t s)
-    (unmoved : IsUnmoved t s) (met_here : IsMet t s o best) where
+    (unmoved : IsUnmoved t s) (assigned_here : IsAssignedIfUnit t s o best) where
   few : t.taken + 1 ≤ length s.entries
   few = let more = next.more in let longer = grown.longer in omega (arith, more, longer)
 
   pub guards_moved : AreGuarded s.entries (t.taken + 1) (record { first = best; second = o })
-  guards_moved = so met_here where
-    so : IsMet t s o best → AreGuarded s.entries (t.taken + 1) (record { first = best; second = o })
+  guards_moved = so assigned_here where
+    so : IsAssignedIfUnit t s o best → AreGuarded s.entries (t.taken + 1) (record { first = best; second = o })
     so (inl (open_here, same)) =
         let more = next.more in
         subst (λ (x : Assigned). AreGuarded x.entries (t.taken + 1) (record { first = best; second = o })) (sym same) (record {
@@ -229,8 +229,8 @@ module _ (t s : Assigned) (db : List (List Lit)) (c : ℕ) (f o best : Lit) (bef
 
   -- where that one was false before, the other one is true since then
   pub since_before : IsTrueUpTo s.entries (entry_at s.entries s.taken).level (negation best) → IsTrueUpTo s.entries (entry_at s.entries s.taken).level o
-  since_before sooner = so met_here where
-    so : IsMet t s o best → IsTrueUpTo s.entries (entry_at s.entries s.taken).level o
+  since_before sooner = so assigned_here where
+    so : IsAssignedIfUnit t s o best → IsTrueUpTo s.entries (entry_at s.entries s.taken).level o
     so (inl (open_here, same)) = absurd (open_here (subst (λ (x : Assigned). Contains (literals x.entries) (negation best)) same (up_to_held s.entries _ (negation best) sooner)))
     so (inr (made, guarded)) =
         let since = guarded sooner.0 sooner.1 sooner.2 in
@@ -308,7 +308,7 @@ module _ (w v u x : Watching) (l : Lit) (p : Watch) (c place : ℕ) (within : l.
       others = λ d other. ap (λ xs. get_or xs d None) end_watches ∙ get_or-set_other w.watches c d (Some p) None other;
       here = inr (ap (λ xs. get_or xs c None) end_watches ∙ get_or-set_same w.watches c (Some p) None known);
       short = ap unwatched end_watches ∙ unwatched_set w.watches c c p refl some;
-      met = ap (λ (y : Watching). y.met) less ∙ ap (λ (y : Watching). y.met) anew ∙ ap (λ (y : Watching). y.met) added;
+      satisfied = ap (λ (y : Watching). y.satisfied) less ∙ ap (λ (y : Watching). y.satisfied) anew ∙ ap (λ (y : Watching). y.satisfied) added;
     }
 
     list_now : watchers_of x l ≡ swap_remove (watchers_of w l) place 0
@@ -329,11 +329,11 @@ module _ (w v u x : Watching) (l : Lit) (p : Watch) (c place : ℕ) (within : l.
           (to.0, to.2 le, to.1, to.3 ∙ at)
 
 -- where nothing but perhaps the lists changed
-pub lists_anew : (w v : Watching) (c : ℕ) (p : Watch) → v.watches ≡ w.watches → v.met ≡ w.met → IsRewatched w v c p
-lists_anew w v c p same met = record {
+pub lists_anew : (w v : Watching) (c : ℕ) (p : Watch) → v.watches ≡ w.watches → v.satisfied ≡ w.satisfied → IsRewatched w v c p
+lists_anew w v c p same satisfied = record {
   count = ap length same;
   others = λ d other. ap (λ xs. get_or xs d None) same;
   here = inl (ap (λ xs. get_or xs c None) same);
   short = ap unwatched same;
-  met = met;
+  satisfied = satisfied;
 }

@@ -8,7 +8,7 @@ use Rattle.clause_db.specs.Clauses.{clause_at}
 use Rattle.propagate.specs.declared.entry.Entry.{Entry}
 use Rattle.propagate.specs.declared.entry.Level.{Level}
 use Rattle.propagate.specs.declared.watch.Watch.{Watch}
-use Rattle.propagate.specs.Watching.{Watching, meeting, unwatched, watch_at}
+use Rattle.propagate.specs.Watching.{Watching, satisfying, unwatched, watch_at}
 use Rattle.propagate.specs.Trails.{Assigned, no_entry, entry_at, start_of, IsTrail, rewatched}
 use Rattle.propagate.specs.Watched.{AreTwoOf, AreGuarded, AreWatched, IsGuarded, IsTrueUpTo}
 use Rattle.propagate.specs.Visits.{IsRewatched}
@@ -34,8 +34,8 @@ pub guards_fewer : (es : List Entry) (m n : ℕ) (p : Watch) → n ≤ m → Are
 guards_fewer es m n p le old = record { first = guard_fewer es m n p.first p.second le old.first; second = guard_fewer es m n p.second p.first le old.second }
 
 -- a literal that is true since level 0, among other entries
-met_more : (xs ys : List Entry) (clause : List Lit) → ((l : Lit) → IsTrueUpTo xs 0 l → IsTrueUpTo ys 0 l) → Any (IsTrueUpTo xs 0) clause → Any (IsTrueUpTo ys 0) clause
-met_more xs ys clause more any = (any.0, any.1, any.2, any.3, more any.1 any.4)
+satisfied_more : (xs ys : List Entry) (clause : List Lit) → ((l : Lit) → IsTrueUpTo xs 0 l → IsTrueUpTo ys 0 l) → Any (IsTrueUpTo xs 0) clause → Any (IsTrueUpTo ys 0) clause
+satisfied_more xs ys clause more any = (any.0, any.1, any.2, any.3, more any.1 any.4)
 
 -- trails that grow
 module _ (xs ys : List Entry) (longer : length xs ≤ length ys) (same : (k : ℕ) → k < length xs → entry_at ys k ≡ entry_at xs k) where
@@ -57,7 +57,7 @@ watched_longer t db ys ls le longer same old = record {
   two = old.two;
   short = old.short;
   rule = λ c p is. guards_longer t.entries ys longer same t.taken p le (old.rule c p is);
-  met = λ k less within. met_more t.entries ys _ (up_to_longer t.entries ys longer same 0) (old.met k less within);
+  satisfied = λ k less within. satisfied_more t.entries ys _ (up_to_longer t.entries ys longer same 0) (old.satisfied k less within);
 }
 
 pub watched_push : (t : Assigned) (db : List (List Lit)) (e : Entry) (ls : List Level) → IsTrail t → AreWatched t db
@@ -72,7 +72,7 @@ watched_cut t db m op trail old = record {
   two = old.two;
   short = old.short;
   rule = λ c p is. let was = old.rule c p is in record { first = guard p.first p.second was.first; second = guard p.second p.first was.second };
-  met = λ k less within. met_more t.entries (take (start_of t.levels m) t.entries) _ lowest (old.met k less within);
+  satisfied = λ k less within. satisfied_more t.entries (take (start_of t.levels m) t.entries) _ lowest (old.satisfied k less within);
 } where
   lowest : (l : Lit) → IsTrueUpTo t.entries 0 l → IsTrueUpTo (take (start_of t.levels m) t.entries) 0 l
   lowest l (j, within, is, level) =
@@ -108,29 +108,29 @@ watched_added t db clause old = record {
   two = λ c p is. rw (get_or_append_left db (clause ∷ []) [] c (held c (known_at t.watching.watches c p is))) (old.two c p is);
   short = λ c within is. rw (get_or_append_left db (clause ∷ []) [] c (held c within)) (old.short c within is);
   rule = old.rule;
-  met = λ k less within.
+  satisfied = λ k less within.
       let c = get_or (unwatched t.watching.watches) k 0 in
-      rw (get_or_append_left db (clause ∷ []) [] c (held c (unwatched_below t.watching.watches k within))) (old.met k less within);
+      rw (get_or_append_left db (clause ∷ []) [] c (held c (unwatched_below t.watching.watches k within))) (old.satisfied k less within);
 } where
   held : (c : ℕ) → c < length t.watching.watches → c < length db
   held c within = let known = old.known in omega (arith, within, known)
 
 -- fewer literals that count as taken
 pub watched_taken : (t : Assigned) (db : List (List Lit)) (n : ℕ) → n ≤ t.taken → AreWatched t db → AreWatched (rewatched t t.watching n) db
-watched_taken t db n le old = record { known = old.known; two = old.two; short = old.short; rule = λ c p is. guards_fewer t.entries t.taken n p le (old.rule c p is); met = old.met }
+watched_taken t db n le old = record { known = old.known; two = old.two; short = old.short; rule = λ c p is. guards_fewer t.entries t.taken n p le (old.rule c p is); satisfied = old.satisfied }
 
 -- other watchers of the same literals
-pub watched_lists : (t : Assigned) (db : List (List Lit)) (v : Watching) → v.watches ≡ t.watching.watches → v.met ≡ t.watching.met → AreWatched t db → AreWatched (rewatched t v t.taken) db
+pub watched_lists : (t : Assigned) (db : List (List Lit)) (v : Watching) → v.watches ≡ t.watching.watches → v.satisfied ≡ t.watching.satisfied → AreWatched t db → AreWatched (rewatched t v t.taken) db
 watched_lists t db v same count old = record {
   known = rw same old.known;
   two = λ c p is. old.two c p (rw same at is);
   short = λ c within is. old.short c (rw same at within) (rw same at is);
   rule = λ c p is. old.rule c p (rw same at is);
-  met = λ k less within. rw same (old.met k (rw count at less) (rw same at within));
+  satisfied = λ k less within. rw same (old.satisfied k (rw count at less) (rw same at within));
 }
 
 -- one more clause
-pub watched_up : (t : Assigned) (db : List (List Lit)) (v : Watching) (r : Option Watch) → v.watches ≡ t.watching.watches ++ r ∷ [] → v.met ≡ t.watching.met → t.watching.met ≤ length (unwatched t.watching.watches) → length t.watching.watches < length db
+pub watched_up : (t : Assigned) (db : List (List Lit)) (v : Watching) (r : Option Watch) → v.watches ≡ t.watching.watches ++ r ∷ [] → v.satisfied ≡ t.watching.satisfied → t.watching.satisfied ≤ length (unwatched t.watching.watches) → length t.watching.watches < length db
     → (r ≡ None → length (clause_at db (length t.watching.watches)) < 2) → ((p : Watch) → r ≡ Some p → AreTwoOf (clause_at db (length t.watching.watches)) p × AreGuarded t.entries t.taken p)
     → AreWatched t db → AreWatched (rewatched t v t.taken) db
 watched_up t db v r added count few more none some old = record {
@@ -147,10 +147,10 @@ watched_up t db v r added count few more none some old = record {
     | inl was ↦ old.rule c p was
     | inr new ↦ (some p new.1).1
   ];
-  met = λ k less within.
-      let before : k < t.watching.met = rw count at less in
+  satisfied = λ k less within.
+      let before : k < t.watching.satisfied = rw count at less in
       let stays : k < length (unwatched t.watching.watches) = omega (arith, before, few) in
-      rw (added, unwatched_stays t.watching.watches r k stays) (old.met k before stays);
+      rw (added, unwatched_stays t.watching.watches r k stays) (old.satisfied k before stays);
 }
 
 -- a clause that is watched anew
@@ -167,7 +167,7 @@ watched_again t db v c q anew both guards old = record {
     | inr other ↦ old.short d (rw anew.count at within) (sym (anew.others d other) ∙ is)
   ];
   rule = λ d p is. elim (cases d p is) [ inl was ↦ old.rule d p was | inr new ↦ rw (← new.1) guards ];
-  met = λ k less within. rw anew.short (old.met k (rw anew.met at less) (rw anew.short at within));
+  satisfied = λ k less within. rw anew.short (old.satisfied k (rw anew.satisfied at less) (rw anew.short at within));
 } where
   cases : (d : ℕ) (p : Watch) → watch_at v d ≡ Some p → (watch_at t.watching d ≡ Some p) ⊎ ((d ≡ c) × (q ≡ p))
   cases d p is = elim (cases_eq d c) [
@@ -178,16 +178,16 @@ watched_again t db v c q anew both guards old = record {
     | inr other ↦ inl (sym (anew.others d other) ∙ is)
   ]
 
--- one clause more that counts as met
-pub watched_met : (t : Assigned) (db : List (List Lit)) → Any (IsTrueUpTo t.entries 0) (clause_at db (get_or (unwatched t.watching.watches) t.watching.met 0)) → AreWatched t db
-    → AreWatched (rewatched t (meeting t.watching (t.watching.met + 1)) t.taken) db
-watched_met t db next old = record {
+-- one clause more that counts as satisfied
+pub watched_satisfied : (t : Assigned) (db : List (List Lit)) → Any (IsTrueUpTo t.entries 0) (clause_at db (get_or (unwatched t.watching.watches) t.watching.satisfied 0)) → AreWatched t db
+    → AreWatched (rewatched t (satisfying t.watching (t.watching.satisfied + 1)) t.taken) db
+watched_satisfied t db next old = record {
   known = old.known;
   two = old.two;
   short = old.short;
   rule = old.rule;
-  met = λ k less within. elim (cases_lt k t.watching.met) [
-    | inl before ↦ old.met k before within
-    | inr le ↦ let here : k ≡ t.watching.met = omega (arith, less, le) in rw here next
+  satisfied = λ k less within. elim (cases_lt k t.watching.satisfied) [
+    | inl before ↦ old.satisfied k before within
+    | inr le ↦ let here : k ≡ t.watching.satisfied = omega (arith, less, le) in rw here next
   ];
 }

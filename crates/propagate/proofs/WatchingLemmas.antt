@@ -121,7 +121,7 @@ all_listed_less w l i within here unwatched old d p is =
         | inr other ↦ rw (listed_elsewhere w l (swap_remove (watchers_of w l) i 0) within m other) has
       ]
 
--- one more clause that is taken up
+-- one more clause that is attached
 pub cases_taken_up : (xs : List (Option Watch)) (r : Option Watch) (c : ℕ) (p : Watch) → get_or (xs ++ r ∷ []) c None ≡ Some p → (get_or xs c None ≡ Some p) ⊎ ((c ≡ length xs) × (r ≡ Some p))
 cases_taken_up [] r zero p is = inr (refl, is)
 cases_taken_up [] r (suc c) p is = absurd (none_some is)

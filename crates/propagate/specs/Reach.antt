@@ -6,8 +6,8 @@ use Rattle.neg_cycle.specs.declared.system.Edge.{Edge}
 use Rattle.difference_graph.specs.Graphs.{Constraints, HasSameLimits}
 use Rattle.clause_db.specs.declared.lit.Lit.{Lit}
 use Rattle.clause_db.specs.Clauses.{clause_at}
-use Rattle.propagate.specs.declared.moves.Reached.{Reached}
-use Rattle.propagate.specs.declared.moves.Reached.TheVariants as reached
+use Rattle.propagate.specs.declared.propagation.Reached.{Reached}
+use Rattle.propagate.specs.declared.propagation.Reached.TheVariants as reached
 use Rattle.propagate.specs.declared.stop.Stop.{Stop}
 use Rattle.propagate.specs.declared.stop.Stop.TheVariants as stop
 use Rattle.propagate.specs.Trails.{Assigned, IsTrail, entry_at}

@@ -6,7 +6,7 @@ use Rattle.propagate.specs.declared.entry.Level.{Level}
 use Rattle.propagate.specs.Watching.{Watching, AreListed, unwatched}
 
 -- a trail over variables below a number: its literals with what is kept for each, its levels above 0, the lowest first, what
--- is watched, and how many of the literals, from the first on, propagation has taken
+-- is watched, and how many of the literals, from the first on, are taken: these are propagated, and the next one is the head
 pub record Assigned : Type 0 where
   pub vars : ℕ
   pub entries : List Entry
@@ -64,7 +64,7 @@ pub record AreLevels (entries : List Entry) (levels : List Level) : Type 0 where
 
 -- variables are in range, none is assigned twice, the levels lie as they should, no more literals are taken than there are,
 -- each variable has its watchers, each clause stands among those of its watched literals, and of the clauses without these no
--- more count as met than there are
+-- more count as satisfied than there are
 pub record IsTrail (t : Assigned) : Type 0 where
   pub below : All (λ e. e.lit.var < t.vars) t.entries
   pub once : AllPairs (λ d e. d.lit.var ≢ e.lit.var) t.entries
@@ -72,7 +72,7 @@ pub record IsTrail (t : Assigned) : Type 0 where
   pub taken : t.taken ≤ length t.entries
   pub lists : length t.watching.watchers ≡ t.vars
   pub listed : AreListed t.watching
-  pub met : t.watching.met ≤ length (unwatched t.watching.watches)
+  pub satisfied : t.watching.satisfied ≤ length (unwatched t.watching.watches)
 
 -- the trail with one more literal of the present level, which follows from a clause
 abbrev pub followed : Assigned → Lit → ℕ → Assigned

@@ -1,4 +1,4 @@
--- What is done with a clause that is taken up or visited.
+-- What is done with a clause that is attached or visited.
 use Rattle.std.specs.Prelude.{◌≡◌, ◌≢◌, ◌⊎◌, ℕ, ◌+◌, ◌<◌, ◌≤◌, List, length, Some, Any, Contains, slice_index_or}
 use Rattle.clause_db.specs.declared.lit.Lit.{Lit}
 use Rattle.clause_db.specs.Literals.{negation}
@@ -11,17 +11,17 @@ use Rattle.propagate.specs.Trails.{Assigned, entry_at, literals}
 use Rattle.propagate.specs.Watched.{AreGuarded, IsGuarded, IsTrueUpTo}
 
 -- if the clause has fewer than two literals, it has a true one
-abbrev pub IsMetIfShort : Assigned → List Lit → Type 0
-IsMetIfShort t clause = length clause < 2 → Any (Contains (literals t.entries)) clause
+abbrev pub IsSatisfiedIfShort : Assigned → List Lit → Type 0
+IsSatisfiedIfShort t clause = length clause < 2 → Any (Contains (literals t.entries)) clause
 
 -- each clause of fewer than two literals has a true one
-abbrev pub AreShortMet : Assigned → List (List Lit) → Type 0
-AreShortMet t db = (c : ℕ) → c < length db → IsMetIfShort t (clause_at db c)
+abbrev pub AreShortSatisfied : Assigned → List (List Lit) → Type 0
+AreShortSatisfied t db = (c : ℕ) → c < length db → IsSatisfiedIfShort t (clause_at db c)
 
 -- the best literal of a clause beside another one isn't false, and nothing was done; or that one is true, since a level not
 -- above that at which the best one became false
-abbrev pub IsMet : Assigned → Assigned → Lit → Lit → Type 0
-IsMet old new l best = ((Contains (literals old.entries) (negation best) → ⊥) × (new ≡ old)) ⊎ (Contains (literals new.entries) l × IsGuarded new.entries (length new.entries) best l)
+abbrev pub IsAssignedIfUnit : Assigned → Assigned → Lit → Lit → Type 0
+IsAssignedIfUnit old new l best = ((Contains (literals old.entries) (negation best) → ⊥) × (new ≡ old)) ⊎ (Contains (literals new.entries) l × IsGuarded new.entries (length new.entries) best l)
 
 -- what is watched stayed, and so did the number of literals that are taken
 pub record IsUnmoved (old new : Assigned) : Type 0 where
@@ -43,7 +43,7 @@ pub record IsRewatched (old new : Watching) (c : ℕ) (p : Watch) : Type 0 where
   pub others : (d : ℕ) → d ≢ c → watch_at new d ≡ watch_at old d
   pub here : (watch_at new c ≡ watch_at old c) ⊎ (watch_at new c ≡ Some p)
   pub short : unwatched new.watches ≡ unwatched old.watches
-  pub met : new.met ≡ old.met
+  pub satisfied : new.satisfied ≡ old.satisfied
 
 -- the clause is watched at these two literals, and left the watchers of the literal, whose others remain from its place on
 pub record IsMoved (old new : Watching) (l : Lit) (p : Watch) (c place : ℕ) : Type 0 where

@@ -1,14 +1,14 @@
--- Watched literals: two of each clause that was taken up, after Moskewicz, Madigan, Zhao, Zhang and Malik (2001).
+-- Watched literals: two of each clause that was attached, after Moskewicz, Madigan, Zhao, Zhang and Malik (2001).
 use Rattle.std.specs.Prelude.{◌≡◌, ◌≢◌, ◌⊎◌, ℕ, ◌+◌, ◌<◌, List, [], ◌∷◌, length, set, Bool, true, false, Option, Some, None, Contains, slice_index_or}
 use Rattle.clause_db.specs.declared.lit.Lit.{Lit}
 use Rattle.propagate.specs.declared.watch.Watch.{Watch}
 
--- what is watched: the two literals of each clause that was taken up, if it has two, and for each variable the clauses that
--- watch its positive and its negative literal; and how many of the clauses without two, from the first on, count as met
+-- what is watched: the two literals of each clause that was attached, if it has two, and for each variable the clauses that
+-- watch its positive and its negative literal; and how many of the clauses without two, from the first on, count as satisfied
 pub record Watching : Type 0 where
   pub watches : List (Option Watch)
   pub watchers : List (List ℕ × List ℕ)
-  pub met : ℕ
+  pub satisfied : ℕ
 
 -- the two watched literals of a clause, if it has any
 abbrev pub watch_at : Watching → ℕ → Option Watch
@@ -42,15 +42,15 @@ watchers_of w l = list_in (lists_at w.watchers l.var) l.positive
 
 -- the same with these watchers of a literal
 abbrev pub listing : Watching → Lit → List ℕ → Watching
-listing w l cs = record { watches = w.watches; watchers = set w.watchers l.var (with_list (lists_at w.watchers l.var) l.positive cs); met = w.met }
+listing w l cs = record { watches = w.watches; watchers = set w.watchers l.var (with_list (lists_at w.watchers l.var) l.positive cs); satisfied = w.satisfied }
 
 -- the same with these two literals of each clause
 abbrev pub watching : Watching → List (Option Watch) → Watching
-watching w watches = record { watches = watches; watchers = w.watchers; met = w.met }
+watching w watches = record { watches = watches; watchers = w.watchers; satisfied = w.satisfied }
 
--- the same where so many clauses count as met
-abbrev pub meeting : Watching → ℕ → Watching
-meeting w met = record { watches = w.watches; watchers = w.watchers; met = met }
+-- the same where so many clauses count as satisfied
+abbrev pub satisfying : Watching → ℕ → Watching
+satisfying w satisfied = record { watches = w.watches; watchers = w.watchers; satisfied = satisfied }
 
 -- the clause stands at the place among the watchers of the literal
 pub record IsWatcherAt (w : Watching) (l : Lit) (place c : ℕ) : Type 0 where

@@ -6,6 +6,7 @@ ghost use Rattle.propagate.specs.Trails.{IsTrail, literals};
 ghost use Rattle.propagate.specs.Best.{AreBest, AreFalseWithin, IsBest};
 
 use crate::Trail;
+use crate::trail::trails_are_in_order;
 use crate::watch::Watch;
 use clause_db::Lit;
 
@@ -121,8 +122,7 @@ fn may_be_watched(trail: &Trail, lit: Lit, beside: Option<Lit>) -> bool
     ensures open { result ≡ true → (beside ≢ Some lit) × (Contains (literals trail.now.entries) (negation lit) → ⊥) }
     ensures closed { result ≡ false → (beside ≡ Some lit) ⊎ Contains (literals trail.now.entries) (negation lit) }
 {
-    // With the number it is known that no variable is assigned twice.
-    let _ = trail.len();
+    trails_are_in_order(trail);
     if beside == Some(lit) {
         return false;
     }
@@ -139,8 +139,7 @@ fn last_beside(trail: &Trail, clause: &[Lit], beside: Option<Lit>) -> Option<Lit
     ensures best { IfSome result (IsBest trail.now.entries clause.now beside) }
     ensures none { IsNone result → All (λ x. beside ≡ Some x) clause.now }
 {
-    // With the number it is known that no variable is assigned twice.
-    let _ = trail.len();
+    trails_are_in_order(trail);
     let mut last: Option<Falsified> = None;
     for lit in clause {
         if beside != Some(*lit) {

@@ -1,16 +1,18 @@
 //! The trail of assigned literals, and unit propagation that keeps a difference graph in step with it.
 #![tactic(auto)]
 
+mod attach;
 mod best;
 mod entry;
 mod laws;
+mod levels;
 mod links;
-mod meet;
-mod moves;
+mod propagation;
 mod room;
 mod stop;
-mod take_up;
+mod stored;
 mod trail;
+mod unit;
 mod visit;
 mod watch;
 mod watches;
@@ -20,5 +22,5 @@ pub use laws::{
     step_holds_marks,
 };
 pub use links::Links;
-pub use moves::Reached;
-pub use trail::Trail;
+pub use propagation::Reached;
+pub use trail::{Trail, trails_are_in_order};

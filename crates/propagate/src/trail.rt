@@ -3,7 +3,7 @@
 ghost use Rattle.std.specs.Prelude.{◌≡◌, ◌↔◌, ℕ, ◌+◌, ◌^◌, ◌<◌, ◌≤◌, [], ◌∷◌, ◌++◌, length, min, take, set, Some, IfOk, OnOk, OnErr, IfSome, IsNone, IsSome, IsTrue, Contains, slice_index_or, vec_capacity};
 ghost use Rattle.std.specs.List.{swap_remove};
 ghost use Rattle.clause_db.specs.Literals.{negation};
-ghost use Rattle.propagate.specs.Watching.{IsListed, IsUnwatched, IsWatcherAt, listing, meeting, unwatched, watch_at, watchers_of, watching};
+ghost use Rattle.propagate.specs.Watching.{IsListed, IsUnwatched, IsWatcherAt, listing, satisfying, unwatched, watch_at, watchers_of, watching};
 ghost use Rattle.propagate.specs.Trails.{HasEntry, IsAssigned, IsTrail, IsUnassigned, IsUntaken, cut_to, decided, entry_at, followed, literals, mark_of, rewatched, start_of};
 ghost use Rattle.propagate.specs.Watched.{IsTrueAt, IsTrueUpTo};
 ghost use Rattle.propagate.specs.Clauses.{IsTruth};
@@ -11,6 +11,7 @@ ghost use Rattle.propagate.specs.Stored.{AreValues, IsTable};
 
 use crate::entry::{Entry, Level};
 use crate::room::push_within;
+use crate::stored::{forget, lesser, no_watchers, present_start};
 use crate::watch::{Watch, Watchers};
 use crate::watches::Watches;
 use clause_db::{ClauseRef, Lit, Var};
@@ -28,10 +29,11 @@ pub struct Trail {
     levels: Vec<Level>,
     watches: Watches,
     watchers: Vec<Watchers>,
-    // How many of the clauses of which no two literals are watched, from the first on, count as met: these have a literal that is
+    // How many of the clauses of which no two literals are watched, from the first on, count as satisfied: these have a literal that is
     // true since level 0, and needn't be looked at again.
-    met: usize,
-    taken: u32,
+    satisfied: usize,
+    // The place of the first literal on the trail that is not yet propagated.
+    head: u32,
 }
 
 impl Model for Trail {
@@ -42,13 +44,13 @@ impl Model for Trail {
 
     ghost Value = { Assigned };
 
-    ghost view = { λ t. record { vars = length t.places.items; entries = t.entries.items; levels = t.levels.items; watching = record { watches = t.watches; watchers = t.watchers.items; met = t.met }; taken = t.taken } };
+    ghost view = { λ t. record { vars = length t.places.items; entries = t.entries.items; levels = t.levels.items; watching = record { watches = t.watches; watchers = t.watchers.items; satisfied = t.satisfied }; taken = t.head } };
 
-    ghost invariant = { λ t. IsKept t.entries.items t.places.items t.values.items t.levels.items (record { watches = t.watches; watchers = t.watchers.items; met = t.met }) t.taken (vec_capacity t.entries) (vec_capacity t.levels) };
+    ghost invariant = { λ t. IsKept t.entries.items t.places.items t.values.items t.levels.items (record { watches = t.watches; watchers = t.watchers.items; satisfied = t.satisfied }) t.head (vec_capacity t.entries) (vec_capacity t.levels) };
 }
 
 impl Trail {
-    /// A trail at level 0 over so many variables, with no literal assigned and no clause taken up. It
+    /// A trail at level 0 over so many variables, with no literal assigned and no clause attached. It
     /// has memory for all that `decide` and `back_to` do.
     pub fn new(alloc: Global, vars: u32) -> Result<Trail, AllocError>
         ensures vars { IfOk result (λ t. t.vars ≡ vars) }
@@ -64,8 +66,8 @@ impl Trail {
             levels: Vec::with_capacity(alloc, vars as usize)?,
             watches: Watches::new(alloc),
             watchers: no_watchers(alloc, vars)?,
-            met: 0,
-            taken: 0,
+            satisfied: 0,
+            head: 0,
         })
     }
 
@@ -193,7 +195,7 @@ impl Trail {
         self.levels[level as usize].mark
     }
 
-    // Takes all levels above this one off.
+    // Removes all levels above this one.
     pub(crate) fn cut(&mut self, level: u32)
         requires within { level < length self.old.levels }
         ensures trail { self.new ≡ cut_to level self.old }
@@ -208,7 +210,7 @@ impl Trail {
             start as usize,
         );
         self.levels.truncate(level as usize);
-        self.taken = lesser(self.taken, start);
+        self.head = lesser(self.head, start);
     }
 
     // The level at which a literal became false, and None where it isn't.
@@ -217,8 +219,7 @@ impl Trail {
         ensures open { IsNone result → Contains (literals self.now.entries) (negation lit) → ⊥ }
         ensures level { IfSome result (IsTrueAt self.now.entries (negation lit)) }
     {
-        // With the number it is known that no variable is assigned twice.
-        let _ = self.len();
+        trails_are_in_order(self);
         match self.truth(lit) {
             Some(false) => Some(self.level_of(lit.var())),
             Some(true) => None,
@@ -231,8 +232,7 @@ impl Trail {
         requires in_range { lit.var < self.now.vars }
         ensures since { IsTrue result ↔ IsTrueUpTo self.now.entries level lit }
     {
-        // With the number it is known that no variable is assigned twice.
-        let _ = self.len();
+        trails_are_in_order(self);
         match self.truth(lit) {
             Some(true) => self.reached_by(lit, level),
             Some(false) => false,
@@ -251,14 +251,14 @@ impl Trail {
         self.level_of(lit.var()) <= level
     }
 
-    // How many clauses were taken up.
+    // How many clauses were attached.
     pub(crate) fn known(&self) -> usize
         ensures known { result ≡ length self.now.watching.watches }
     {
         self.watches.len()
     }
 
-    // The watched literals of a clause, if it was taken up and has two.
+    // The watched literals of a clause, if it was attached and has two.
     pub(crate) fn watch(&self, clause: ClauseRef) -> Option<Watch>
         ensures watch { result ≡ watch_at self.now.watching clause }
     {
@@ -270,23 +270,23 @@ impl Trail {
         self.watches.cursor(clause)
     }
 
-    // The first clause of which no two literals are watched and that doesn't count as met, and None behind the last.
-    pub(crate) fn unmet(&self) -> Option<ClauseRef>
-        ensures some { IfSome result (λ c. (self.now.watching.met < length (unwatched self.now.watching.watches)) × (slice_index_or (unwatched self.now.watching.watches) self.now.watching.met 0 ≡ c)) }
-        ensures none { IsNone result → length (unwatched self.now.watching.watches) ≤ self.now.watching.met }
-        ensures few { IfSome result (λ _. self.now.watching.met + 1 < 2 ^ 64) }
+    // The first clause of which no two literals are watched and that doesn't count as satisfied, and None behind the last.
+    pub(crate) fn next_short(&self) -> Option<ClauseRef>
+        ensures some { IfSome result (λ c. (self.now.watching.satisfied < length (unwatched self.now.watching.watches)) × (slice_index_or (unwatched self.now.watching.watches) self.now.watching.satisfied 0 ≡ c)) }
+        ensures none { IsNone result → length (unwatched self.now.watching.watches) ≤ self.now.watching.satisfied }
+        ensures few { IfSome result (λ _. self.now.watching.satisfied + 1 < 2 ^ 64) }
     {
-        self.watches.unwatched(self.met)
+        self.watches.unwatched(self.satisfied)
     }
 
-    // Counts that clause as met too.
-    pub(crate) fn count_met(&mut self)
-        requires more { self.old.watching.met < length (unwatched self.old.watching.watches) }
-        requires few { self.old.watching.met + 1 < 2 ^ 64 }
-        ensures trail { self.new ≡ rewatched self.old (meeting self.old.watching (self.old.watching.met + 1)) self.old.taken }
+    // Counts that clause as satisfied too.
+    pub(crate) fn count_satisfied(&mut self)
+        requires more { self.old.watching.satisfied < length (unwatched self.old.watching.watches) }
+        requires few { self.old.watching.satisfied + 1 < 2 ^ 64 }
+        ensures trail { self.new ≡ rewatched self.old (satisfying self.old.watching (self.old.watching.satisfied + 1)) self.old.taken }
         ensures after { IsTrail self.new }
     {
-        self.met += 1;
+        self.satisfied += 1;
     }
 
     // The clause at a place among the watchers of a literal, and None behind the last.
@@ -310,7 +310,7 @@ impl Trail {
         self.watchers[lit.var().get() as usize].push(lit.positive(), clause)
     }
 
-    // Takes the clause at a place off the watchers of a literal that it no longer watches.
+    // Removes the clause at a place from the watchers of a literal that it no longer watches.
     pub(crate) fn drop_watcher(&mut self, lit: Lit, place: usize)
         requires in_range { lit.var < self.old.vars }
         requires within { place < length (watchers_of self.old.watching lit) }
@@ -322,8 +322,8 @@ impl Trail {
         self.watchers[lit.var().get() as usize].remove(lit.positive(), place);
     }
 
-    // Takes a clause up that has no two literals, or stands among the watchers of two.
-    pub(crate) fn take_up(
+    // Attaches a clause that has no two literals, or stands among the watchers of two.
+    pub(crate) fn attach(
         &mut self,
         clause: ClauseRef,
         watch: Option<Watch>,
@@ -350,31 +350,31 @@ impl Trail {
         self.watches.set(clause, watch, cursor);
     }
 
-    // How many literals were taken, from the first on.
-    pub(crate) fn taken(&self) -> u32
-        ensures taken { result ≡ self.now.taken }
+    // The place of the next literal to propagate: those before it are taken.
+    pub(crate) fn head(&self) -> u32
+        ensures head { result ≡ self.now.taken }
     {
-        self.taken
+        self.head
     }
 
-    // Takes the next literal.
-    pub(crate) fn take_next(&mut self)
+    // Moves the head behind the literal that was propagated.
+    pub(crate) fn advance(&mut self)
         requires more { self.old.taken < length self.old.entries }
         ensures trail { self.new ≡ rewatched self.old self.old.watching (self.old.taken + 1) }
         ensures after { IsTrail self.new }
     {
-        self.taken += 1;
+        self.head += 1;
     }
 
-    // Counts no literal of the present level as taken.
-    pub(crate) fn untake(&mut self)
+    // Moves the head back before the literals of the present level.
+    pub(crate) fn rewind(&mut self)
         ensures trail { self.new ≡ rewatched self.old self.old.watching self.new.taken }
         ensures untaken { IsUntaken self.new }
         ensures fewer { self.new.taken ≤ self.old.taken }
         ensures before { IsTrail self.old }
         ensures after { IsTrail self.new }
     {
-        self.taken = lesser(self.taken, present_start(&self.levels));
+        self.head = lesser(self.head, present_start(&self.levels));
     }
 
     // The entry of a variable.
@@ -389,56 +389,9 @@ impl Trail {
     }
 }
 
-// The lesser of two counts.
-fn lesser(a: u32, b: u32) -> u32
-    ensures lesser { result ≡ min a b }
+/// The variables on a trail are in range, none is assigned twice, and the levels lie in order.
+pub fn trails_are_in_order(trail: &Trail)
+    ensures trail { IsTrail trail.now }
 {
-    a.min(b)
-}
-
-// Where the literals of the present level begin.
-fn present_start(levels: &[Level]) -> u32
-    ensures lowest { length levels.now ≡ 0 → result ≡ 0 }
-    ensures above { (j : ℕ) → length levels.now ≡ j + 1 → result ≡ start_of levels.now j }
-{
-    match levels.last() {
-        None => 0,
-        Some(level) => level.start,
-    }
-}
-
-// As many variables, whose literals no clause watches.
-fn no_watchers(alloc: Global, vars: u32) -> Result<Vec<Watchers>, AllocError>
-    ensures count { IfOk result (λ watchers. length watchers.items ≡ vars) }
-{
-    let mut watchers = Vec::with_capacity(alloc, vars as usize)?;
-    for _var in 0..vars {
-        watchers.push(Watchers::new(alloc))?;
-    }
-    Ok(watchers)
-}
-
-// Takes the entries from a place on off a trail, and their places and values off its tables.
-fn forget(
-    entries: &mut Vec<Entry>,
-    places: &mut Vec<Option<u32>>,
-    values: &mut Vec<Option<bool>>,
-    start: usize,
-)
-    requires table { IsTable entries.old.items places.old.items }
-    requires values { AreValues entries.old.items places.old.items values.old.items }
-    requires within { start ≤ length entries.old.items }
-    ensures entries { entries.new.items ≡ take start entries.old.items }
-    ensures capacity { vec_capacity entries.new ≡ vec_capacity entries.old }
-    ensures table { IsTable entries.new.items places.new.items }
-    ensures values { AreValues entries.new.items places.new.items values.new.items }
-    ensures count { length places.new.items ≡ length places.old.items }
-{
-    'entries: while entries.len() > start {
-        if let Some(entry) = entries.pop() {
-            let at = entry.lit.var().get() as usize;
-            places[at] = None;
-            values[at] = None;
-        }
-    }
+    let _ = &trail.entries;
 }

@@ -22,7 +22,7 @@ pub enum Visit {
 }
 
 impl Trail {
-    // Takes the next literal: visits the clauses that watch its negation.
+    // Propagates the literal at the head: visits the clauses that watch its negation.
     pub(crate) fn visit_watchers(
         &mut self,
         db: &Db,
@@ -34,7 +34,7 @@ impl Trail {
         ensures reached { IsReached db.now links.now self.old graph.old result self.new graph.new }
         ensures next { OnOk result (self.new.taken ≡ self.old.taken + 1) }
     {
-        let lit = self.lit(self.taken()).negated();
+        let lit = self.lit(self.head()).negated();
         let mut place = 0;
         'watchers: while let Some(clause) = self.watcher(lit, place) {
             match self.visit(clause, lit, place, db, links, graph)? {
@@ -42,7 +42,7 @@ impl Trail {
                 Visit::Moved => {}
             }
         }
-        self.take_next();
+        self.advance();
         Ok(())
     }
 
@@ -115,7 +115,7 @@ impl Trail {
         match best_after(self, db.lits(clause), other, lit, self.cursor(clause)) {
             None => unreachable!(),
             Some(best) => {
-                self.meet_beside(best.lit, other, clause, db, links, graph)?;
+                self.assign_if_unit(best.lit, other, clause, db, links, graph)?;
                 Ok(self.move_watch(clause, lit, best, other, place)?)
             }
         }

@@ -68,7 +68,7 @@ impl Watchers {
         Ok(())
     }
 
-    /// Takes the clause at a place off those of a literal, and moves the last one there.
+    /// Removes the clause at a place from those of a literal, and moves the last one there.
     pub fn remove(&mut self, positive: bool, place: usize)
         requires in_range { place < length (list_in self.old positive) }
         ensures removed { self.new ≡ with_list self.old positive (swap_remove (list_in self.old positive) place 0) }

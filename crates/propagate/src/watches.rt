@@ -1,4 +1,4 @@
-//! The watched literals of all clauses that were taken up.
+//! The watched literals of all clauses that were attached.
 
 ghost use Rattle.std.specs.Prelude.{◌≡◌, ◌+◌, ◌^◌, ◌<◌, ◌≤◌, [], ◌∷◌, ◌++◌, length, set, None, Some, IfSome, IsSome, IsNone, OnOk, OnErr, slice_index_or};
 ghost use Rattle.propagate.specs.Watching.{unwatched};
@@ -9,7 +9,7 @@ use clause_db::ClauseRef;
 use std::alloc::{AllocError, Global};
 use std::marker::Model;
 
-/// The two watched literals of each clause that was taken up, which contracts see as a list of two literals or of nothing for
+/// The two watched literals of each clause that was attached, which contracts see as a list of two literals or of nothing for
 /// each clause.
 #[derive(Drop)]
 pub struct Watches {

@@ -6,7 +6,7 @@ pub returns : goal.returns
 returns c =
     let t = c.args.trail.now in
     let db = c.args.db.now in
-    let trail = c.level.ensures.trail in
+    let trail = c.trails_are_in_order.ensures.trail in
     let aside = c.in_ok-work.work.aside.items in
     let from_first = reverse c.in_ok-work.work.hints.items in
     let w = c.in_ok-work.ensures.work in

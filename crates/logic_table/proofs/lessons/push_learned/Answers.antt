@@ -8,5 +8,5 @@ pub learn-requires-clause-here : goal.learn-requires-clause-here
 learn-requires-clause-here c =
     let t = c.args.trail.now in
     let some = c.requires.level in
-    here_of_settled t c.len.ensures.trail (clause_at c.args.db.now c.args.conflict) some c.requires.conflict.falsified
+    here_of_settled t c.trails_are_in_order.ensures.trail (clause_at c.args.db.now c.args.conflict) some c.requires.conflict.falsified
     (c.requires.closed (length t.levels - 1) (omega (arith, some)) c.args.conflict [] c.requires.conflict.held)

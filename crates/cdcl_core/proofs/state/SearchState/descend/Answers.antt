@@ -29,7 +29,7 @@ returns-in-ClauseConflict c = record {
       let in_step = rw c.in-ClauseConflict.is at c.in_ok-reached.ensures.in_step in
       let conflict = rw c.in-ClauseConflict.is at c.in_ok-reached.ensures.clause_conflict in
       search_false p s n (c.decisions.invariant.search p n old) c.propagate.new.self c.propagate.new.graph s.strategy c.propagate.ensures.grown.vars c.propagate.ensures.edges.limits c.propagate.ensures.grown.kept c.propagate.ensures.grown.longer c.in-ClauseConflict.clause
-      c.level.ensures.trail c.propagate.ensures.closed in_step conflict;
+      c.trails_are_in_order.ensures.trail c.propagate.ensures.closed in_step conflict;
 }
 
 pub returns-in-TheoryConflict : goal.returns-in-TheoryConflict
@@ -39,7 +39,7 @@ returns-in-TheoryConflict c = record {
       let theory = rw c.in-TheoryConflict.is at c.in_ok-reached.ensures.theory_conflict in
       let lacks = rw c.in-TheoryConflict.is at c.in_ok-reached.ensures.lacks_last in
       search_refused p s n (c.decisions.invariant.search p n old) c.propagate.new.self c.propagate.new.graph s.strategy c.propagate.ensures.grown.vars c.propagate.ensures.edges.limits c.propagate.ensures.grown.kept c.propagate.ensures.grown.longer c.in-TheoryConflict.lit
-      c.level.ensures.trail c.propagate.ensures.closed theory.0 theory.1 lacks;
+      c.trails_are_in_order.ensures.trail c.propagate.ensures.closed theory.0 theory.1 lacks;
 }
 
 pub next-requires : goal.next-requires
@@ -47,7 +47,7 @@ next-requires c =
     let s = c.decisions.self in
     let w = c.decisions.invariant.under_way in
     let in_step = rw c.in-Quiet.is at c.in_ok-reached.ensures.in_step in
-    let quiet = search_grown w.problem s w.conflicts w.search c.propagate.new.self c.propagate.new.graph s.strategy c.propagate.ensures.grown.vars c.propagate.ensures.edges.limits c.propagate.ensures.grown.kept c.propagate.ensures.grown.longer c.level.ensures.trail c.propagate.ensures.closed in_step in
+    let quiet = search_grown w.problem s w.conflicts w.search c.propagate.new.self c.propagate.new.graph s.strategy c.propagate.ensures.grown.vars c.propagate.ensures.edges.limits c.propagate.ensures.grown.kept c.propagate.ensures.grown.longer c.trails_are_in_order.ensures.trail c.propagate.ensures.closed in_step in
     let running = search_running w.problem (moved s c.propagate.new.self c.propagate.new.graph s.strategy) w.conflicts quiet in
     record {
       running = rw c.len-vars.ensures.atoms running;
@@ -62,7 +62,7 @@ returns-in-Done c = record {
       let s = c.decisions.self in
       let search = c.decisions.invariant.search p n old in
       let in_step = rw c.in-Quiet.is at c.in_ok-reached.ensures.in_step in (
-        search_grown p s n search c.propagate.new.self c.propagate.new.graph c.next.new.strategy c.propagate.ensures.grown.vars c.propagate.ensures.edges.limits c.propagate.ensures.grown.kept c.propagate.ensures.grown.longer c.level.ensures.trail c.propagate.ensures.closed in_step,
+        search_grown p s n search c.propagate.new.self c.propagate.new.graph c.next.new.strategy c.propagate.ensures.grown.vars c.propagate.ensures.edges.limits c.propagate.ensures.grown.kept c.propagate.ensures.grown.longer c.trails_are_in_order.ensures.trail c.propagate.ensures.closed in_step,
         rw search.search_for.theory_of.atoms at (rw c.in-Done.is at c.in_ok-values.ensures.done),
       );
 }
@@ -73,7 +73,7 @@ decide-requires-clause-room c =
     let w = c.decisions.invariant.under_way in
     let next = rw c.in-Decide.is at c.in_ok-values.ensures.decides in
     let in_step = rw c.in-Quiet.is at c.in_ok-reached.ensures.in_step in
-    let quiet = search_grown w.problem s w.conflicts w.search c.propagate.new.self c.propagate.new.graph s.strategy c.propagate.ensures.grown.vars c.propagate.ensures.edges.limits c.propagate.ensures.grown.kept c.propagate.ensures.grown.longer c.level.ensures.trail c.propagate.ensures.closed in_step in
+    let quiet = search_grown w.problem s w.conflicts w.search c.propagate.new.self c.propagate.new.graph s.strategy c.propagate.ensures.grown.vars c.propagate.ensures.edges.limits c.propagate.ensures.grown.kept c.propagate.ensures.grown.longer c.trails_are_in_order.ensures.trail c.propagate.ensures.closed in_step in
     let running = search_running w.problem (moved s c.propagate.new.self c.propagate.new.graph s.strategy) w.conflicts quiet in
     running_next (length s.theory.atoms) s.derived.db s.theory.links c.propagate.new.self c.propagate.new.graph running c.in-Decide.lit.var (rw c.len-vars.ensures.atoms at next.within) next.unassigned
 
@@ -87,7 +87,7 @@ decisions-smaller c =
     let running = search_running w.problem s w.conflicts w.search in
     let same = grown.vars ∙ running.vars in
     let low : c.in-Decide.lit.var < u.vars = let within = next.within in omega (arith, within, same, c.len-vars.ensures.atoms) in
-    let fewer = decided_fewer u c.in-Decide.lit (length c.propagate.new.graph.edges) c.level.ensures.trail low next.unassigned in
+    let fewer = decided_fewer u c.in-Decide.lit (length c.propagate.new.graph.edges) c.trails_are_in_order.ensures.trail low next.unassigned in
     let vars = ap (λ (x : Assigned). x.vars) c.decide.ensures.trail in
     let entries = ap (λ (x : Assigned). length x.entries) c.decide.ensures.trail in
     omega (arith, fewer.0, fewer.1, vars, entries, grown.vars, grown.longer)
@@ -105,12 +105,12 @@ decisions-preserved c =
     let running = search_running w.problem s w.conflicts w.search in
     let same = c.propagate.ensures.grown.vars ∙ running.vars in
     let low : lit.var < u.vars = let within = next.within in omega (arith, within, same, c.len-vars.ensures.atoms) in
-    let trail : IsTrail c.decide.new.self = rw c.decide.ensures.trail (trail_decided u lit mark c.level.ensures.trail low next.unassigned) in
+    let trail : IsTrail c.decide.new.self = rw c.decide.ensures.trail (trail_decided u lit mark c.trails_are_in_order.ensures.trail low next.unassigned) in
     let in_step = rw c.in-Quiet.is at c.in_ok-reached.ensures.in_step in
     let closed_at = rw c.in-Quiet.is at c.in_ok-reached.ensures.closed_at in
     let longer : length u.entries ≤ length c.decide.new.self.entries = rw c.decide.ensures.trail (decided_longer u lit mark) in
     let keeps = λ (p : Problem) (n : ℕ) (search : IsSearch p s n).
-    search_decided p (moved s u h y) n (search_grown p s n search u h y c.propagate.ensures.grown.vars c.propagate.ensures.edges.limits c.propagate.ensures.grown.kept c.propagate.ensures.grown.longer c.level.ensures.trail c.propagate.ensures.closed in_step) c.decide.new.self c.decide.new.graph y
+    search_decided p (moved s u h y) n (search_grown p s n search u h y c.propagate.ensures.grown.vars c.propagate.ensures.edges.limits c.propagate.ensures.grown.kept c.propagate.ensures.grown.longer c.trails_are_in_order.ensures.trail c.propagate.ensures.closed in_step) c.decide.new.self c.decide.new.graph y
     (ap (λ (x : Assigned). x.vars) c.decide.ensures.trail) c.decide.ensures.limits (rw c.decide.ensures.trail (decided_kept u lit mark)) longer trail c.decide.ensures.closed closed_at c.in-Kept.ensures.in_step in
     record {
       under_way = record { problem = w.problem; conflicts = w.conflicts; few = w.few; search = keeps w.problem w.conflicts w.search };
@@ -135,12 +135,12 @@ returns-in-Cycle c = record {
       let running = search_running p s n search in
       let same = c.propagate.ensures.grown.vars ∙ running.vars in
       let low : lit.var < u.vars = let within = next.within in omega (arith, within, same, c.len-vars.ensures.atoms) in
-      let trail : IsTrail c.decide.new.self = rw c.decide.ensures.trail (trail_decided u lit mark c.level.ensures.trail low next.unassigned) in
+      let trail : IsTrail c.decide.new.self = rw c.decide.ensures.trail (trail_decided u lit mark c.trails_are_in_order.ensures.trail low next.unassigned) in
       let last : IsLast c.decide.new.self lit = rw c.decide.ensures.trail (last_decided u lit mark) in
       let in_step = rw c.in-Quiet.is at c.in_ok-reached.ensures.in_step in
       let closed_at = rw c.in-Quiet.is at c.in_ok-reached.ensures.closed_at in
       let longer : length u.entries ≤ length c.decide.new.self.entries = rw c.decide.ensures.trail (decided_longer u lit mark) in
-      let quiet = search_grown p s n search u h y c.propagate.ensures.grown.vars c.propagate.ensures.edges.limits c.propagate.ensures.grown.kept c.propagate.ensures.grown.longer c.level.ensures.trail c.propagate.ensures.closed in_step in
+      let quiet = search_grown p s n search u h y c.propagate.ensures.grown.vars c.propagate.ensures.edges.limits c.propagate.ensures.grown.kept c.propagate.ensures.grown.longer c.trails_are_in_order.ensures.trail c.propagate.ensures.closed in_step in
       search_refused p (moved s u h y) n quiet c.decide.new.self c.decide.new.graph y (ap (λ (x : Assigned). x.vars) c.decide.ensures.trail) c.decide.ensures.limits (rw c.decide.ensures.trail (decided_kept u lit mark)) longer lit trail
       (λ closed. c.decide.ensures.closed s.derived.db closed closed_at) last c.in-Cycle.ensures.refused (λ b step. c.in-Cycle.ensures.lacks_last s.derived.db b step);
 }

@@ -74,7 +74,7 @@ returns c = record {
       let run : IsRun c.add.new.self.db s.theory.links p.edges c.back_to.new.self c.back_to.new.graph =
       rw (c.in_ok-add.ensures.clause, c.as_slice-lits.ensures.items)
       (back_run s.derived.db s.trail s.graph c.args.conflict c.in_ok-learned.learned.lits c.in_ok-learned.learned.jump c.level_after.result c.back_to.new.self c.back_to.new.graph c.requires.level c.level_after.ensures
-      c.in_ok-learned.ensures.asserting c.in_ok-learned.ensures.jump c.in_ok-learned.ensures.variables c.in_ok-learned.ensures.two_above c.level.ensures.trail
+      c.in_ok-learned.ensures.asserting c.in_ok-learned.ensures.jump c.in_ok-learned.ensures.variables c.in_ok-learned.ensures.two_above c.trails_are_in_order.ensures.trail
       c.back_to.ensures.in_step c.back_to.ensures.after_refusal c.back_to.ensures.closed s.theory.links p.edges mid.conflicted) in
       let entries : c.back_to.new.self.entries ≡ up_to c.level_after.result s.trail.entries = ap (λ (x : Assigned). x.entries) c.back_to.ensures.trail in
       let front : c.back_to.new.self.entries ≡ take (length c.back_to.new.self.entries) s.trail.entries = rw entries (up_to_front s.trail c.level_after.result mid.conflicted.trail) in

@@ -4,7 +4,7 @@ use Rattle.logic_table.proofs.runs.Run.propagate.Goals as goal
 
 pub propagate-requires-clause-room : goal.propagate-requires-clause-room
 propagate-requires-clause-room c =
-    c.room_for_all_is_room.ensures.law.each c.args.self.now.trail c.args.db.now c.args.self.now.links [] c.args.self.now.graph c.len.ensures.trail c.requires.ready.step
+    c.room_for_all_is_room.ensures.law.each c.args.self.now.trail c.args.db.now c.args.self.now.links [] c.args.self.now.graph c.trails_are_in_order.ensures.trail c.requires.ready.step
     (let room = c.requires.ready.room in omega (arith, room))
 
 pub returns-clause-halted : goal.returns-clause-halted

@@ -16,13 +16,13 @@ returns-in-Ok-clause-highest c =
 pub returns-in-Err : goal.returns-in-Err
 returns-in-Err c =
     let t = c.args.self.now in
-    let s = c.untake.new.self in
+    let s = c.rewind.new.self in
     let db = c.args.db.now in
     let links = c.args.links.now in
     let g = c.args.graph.now in
     let h = c.settle.new.graph in
     let r = c.told.result in
-    let stopped = stop_untaken c.settle.new.self s db links t g h c.untake.ensures.trail c.untake.ensures.fewer c.untake.ensures.after c.in-Err.stop c.in-Err.ensures.reached in
+    let stopped = stop_untaken c.settle.new.self s db links t g h c.rewind.ensures.trail c.rewind.ensures.fewer c.rewind.ensures.after c.in-Err.stop c.in-Err.ensures.reached in
     let is = told db links t g s h r c.in-Err.stop c.told.ensures.told c.told.ensures.memory stopped in
     let grown = told_grown db links t g s h r is in
     record {
@@ -41,6 +41,6 @@ returns-in-Err c =
       every = told_not_quiet db links t g s h r _ is;
       highest = told_not_quiet db links t g s h r _ is;
       taken = told_not_quiet db links t g s h r _ is;
-      untaken = unless_quiet r _ c.untake.ensures.untaken;
-      untaken_at_want = on_err r _ c.untake.ensures.untaken;
+      untaken = unless_quiet r _ c.rewind.ensures.untaken;
+      untaken_at_want = on_err r _ c.rewind.ensures.untaken;
     }

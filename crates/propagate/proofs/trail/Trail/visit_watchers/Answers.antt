@@ -13,7 +13,7 @@ pub watchers-init : goal.watchers-init
 watchers-init c =
     let t = c.args.self.now in
     let work = c.requires.work in
-    let same = c.negated-lit.ensures.other ∙ ap negation c.lit.ensures.literal ∙ ap (λ k. negation (entry_at t.entries k).lit) c.taken.ensures.taken in
+    let same = c.negated-lit.ensures.other ∙ ap negation c.lit.ensures.literal ∙ ap (λ k. negation (entry_at t.entries k).lit) c.head.ensures.head in
     let next : IsNextFalse t c.negated-lit.result = record { more = c.requires.more; is = sym (undone (entry_at t.entries t.taken).lit) ∙ ap negation (sym same) } in
     record {
       progress = progress_none t c.args.db.now c.args.links.now c.args.graph.now work;
@@ -59,5 +59,5 @@ watchers-preserved c =
 
 pub returns-clause-reached : goal.returns-clause-reached
 returns-clause-reached c =
-    progress_next c.args.db.now c.args.links.now c.args.self.now c.watchers.self c.take_next.new.self c.args.graph.now c.watchers.graph c.negated-lit.result c.watchers.place c.watchers.invariant.progress c.watchers.invariant.left
-    (c.in_default.ensures.none (search rules)) c.take_next.ensures.trail c.take_next.ensures.after
+    progress_next c.args.db.now c.args.links.now c.args.self.now c.watchers.self c.advance.new.self c.args.graph.now c.watchers.graph c.negated-lit.result c.watchers.place c.watchers.invariant.progress c.watchers.invariant.left
+    (c.in_default.ensures.none (search rules)) c.advance.ensures.trail c.advance.ensures.after

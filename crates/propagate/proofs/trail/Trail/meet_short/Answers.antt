@@ -1,6 +1,0 @@
-use Rattle.std.proofs.Common.{arith}
-use Rattle.propagate.proofs.VisitLemmas.{short_met}
-use Rattle.propagate.proofs.trail.Trail.meet_short.Goals as goal
-
-pub returns-then-level-gt0-clause-short : goal.returns-then-level-gt0-clause-short
-returns-then-level-gt0-clause-short c = short_met c.args.self.now c.args.db.now c.requires.work.trail c.requires.work.closed (omega (arith, c.if-level-gt0.true, c.level.ensures.level))
