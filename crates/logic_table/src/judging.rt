@@ -124,7 +124,7 @@ fn judged_spending(check: Check, learnt: usize, budget: usize) -> Outcome {
 pub fn judged(alloc: Global, log: &Log, f: &Formula, asked: Asked, found: &Found) -> Option<Outcome>
     requires hosts { unknown_host log.now (form_of f.now) ≡ None }
 {
-    let Asked { value, budget } = asked;
+    let Asked { value, budget, .. } = asked;
     match found {
         Found::Model { potentials, .. } => {
             judged_model(alloc, log, f, value, potentials.as_slice())

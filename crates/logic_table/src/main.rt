@@ -27,7 +27,8 @@
 //! - in `[searches]` `?`: a name. The problem is searched. It is told `inconsistent` for a log that admits no timing,
 //!   where nothing is searched. Otherwise it is `model` for a timing that the log admits and in which the formula
 //!   has the value, `refuted` for right lines that refute the value with fewer clauses learnt than the budget,
-//!   `spent` and the budget for right lines with as many, and else `wrong:` and what is wrong.
+//!   `spent` and the budget for right lines with as many, and else `wrong:` and what is wrong. `!`: the same of the
+//!   problem whose atoms stand in the opposite order, so that values can't be read off a timing in one pass.
 //! - in `[verdicts]` `?`: how many conflicts `decide` may spend, how many `audit` allows for, and a formula. It is
 //!   told what the report says of true and of false, or `inconsistent`; and then `accepted`, or the part of the
 //!   report and the line at which it is refused.
@@ -56,6 +57,7 @@
 //! Headings, the lines that begin cases, and questions are written again.
 #![tactic(auto)]
 
+mod atom_order;
 mod case;
 mod checking;
 mod clauses;

@@ -4,6 +4,7 @@ ghost use Rattle.std.specs.Prelude.{◌≡◌, ◌≤◌, None};
 ghost use Rattle.mt_model.specs.Form.{form_of};
 ghost use Rattle.mt_model.specs.State.{unknown_host};
 
+use crate::atom_order::AtomOrder;
 use crate::case::LogicCase;
 use crate::judging::judged;
 use crate::outcome::{Outcome, push_outcome};
@@ -43,12 +44,13 @@ fn outcome_over(alloc: Global, log: &Log, f: &Formula, asked: Asked) -> Option<O
 }
 
 // What is said of a case, if its texts are a log and a formula over its hosts, and its budget is in range.
-fn outcome_of(alloc: Global, case: &LogicCase) -> Option<Outcome> {
+fn outcome_of(alloc: Global, case: &LogicCase, order: AtomOrder) -> Option<Outcome> {
     let log = case.log(alloc)?;
     let f = case.formula(alloc)?;
     let asked = Asked {
         value: case.value(),
         budget: case.budget(),
+        order,
     };
     outcome_over(alloc, &log, &f, asked)
 }
@@ -61,10 +63,12 @@ pub fn take(
     text: &[u8],
     out: &mut Vec<u8>,
 ) -> Option<()> {
-    if mark != b'?' {
-        return case.take(alloc, mark, text, out);
-    }
+    let order = match mark {
+        b'?' => AtomOrder::PartsFirst,
+        b'!' => AtomOrder::PartsLast,
+        _ => return case.take(alloc, mark, text, out),
+    };
     push_marked(out, mark, text)?;
-    let outcome = outcome_of(alloc, case)?;
+    let outcome = outcome_of(alloc, case, order)?;
     push_outcome(alloc, outcome, out)
 }

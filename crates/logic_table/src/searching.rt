@@ -8,6 +8,7 @@ ghost use Rattle.skew_bounds.specs.System.{IsSystemOf};
 ghost use Rattle.skew_bounds.specs.Tight.{IsTight};
 ghost use Rattle.mtl_encode.specs.Size.{IsSmall};
 
+use crate::atom_order::{AtomOrder, ordered};
 use cdcl_core::{Found, search};
 use formula_arena::Arena;
 use mt_model::{Formula, Log, NodeId, bounds_are_admissible};
@@ -15,11 +16,12 @@ use mtl_encode::{MAX_SIZE, encode_by, size_of, sizes_are_unique};
 use skew_bounds::{BoundSystem, Tight, system_of, tight_by};
 use std::alloc::{AllocError, Global};
 
-/// What is searched for: a value, with so many conflicts at most.
+/// What is searched for: a value, with so many conflicts at most, over the atoms in this order.
 #[derive(Clone, Copy)]
 pub struct Asked {
     pub value: bool,
     pub budget: u32,
+    pub order: AtomOrder,
 }
 
 // What a search finds of the nodes of a formula, of which the root is the last.
@@ -47,7 +49,8 @@ fn searched_nodes(
     // What a log and a formula are, their parts are known with.
     let _ = log.rows();
     let _ = f.tree();
-    let problem = encode_by(alloc, log, arena, root, asked.value, system, tight)?;
+    let encoded = encode_by(alloc, log, arena, root, asked.value, system, tight)?;
+    let problem = ordered(alloc, encoded, asked.order)?;
     search(alloc, problem, asked.budget)
 }
 

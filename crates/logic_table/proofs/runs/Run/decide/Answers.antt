@@ -26,7 +26,7 @@ returns-in-Cycle-clause-halted c =
     record {
       reasons = lacks.step.reasons;
       closed = c.decide.ensures.closed c.args.db.now c.requires.ready.closed c.requires.closed;
-      marks = c.step_holds_marks.ensures.law.lacks_last c.decide.new.self c.args.db.now c.args.self.now.links [] c.decide.new.graph c.len-in-Cycle.ensures.trail lacks;
+      marks = c.step_holds_marks.ensures.law.lacks_last c.decide.new.self c.args.db.now c.args.self.now.links [] c.decide.new.graph c.trails_are_in_order-in-Cycle.ensures.trail lacks;
       ready = tt;
       settled = tt;
       conflict = tt;
