@@ -14,6 +14,7 @@ import derivations
 import formats
 import freshness
 import invent
+import logs
 import spend
 from derivations import Learn, LineHint, Literal
 from instances import instances
@@ -63,7 +64,7 @@ def check(holds, *about):
 def check_by_hand():
     """The cases by hand."""
     for log, formula, text, conflicts, wanted in BY_HAND:
-        problem = derivations.problem_of(formats.read_log(log), formats.read_formula(formula), False)
+        problem = derivations.problem_of(logs.read_log(log), formats.read_formula(formula), False)
         rules = freshness.rules_of(problem)
         found = freshness.complaint(problem, rules, derivations.read_lines(text), conflicts)
         check(found == wanted, text, found, wanted)

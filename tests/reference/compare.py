@@ -22,8 +22,11 @@ sys.dont_write_bytecode = True  # leaves no compiled files beside the sources
 import cases
 import check_cases
 import generate
+import generate_logs
 import invent_reports
 import judge
+import second_cases
+from tables import add_second
 
 PATIENCE = 60  # seconds that one run of the program may take
 
@@ -139,6 +142,12 @@ def is_kind(case, only):
     return only is None or kind == only
 
 
+def fixed_cases():
+    """The fixed cases, those on logs of version 2 among them where there may be such logs."""
+    second = second_cases.fixed_cases() if generate_logs.second_share else []
+    return [*cases.fixed_cases(), *check_cases.fixed_cases(), *second]
+
+
 def random_case(draw, only=None):
     """A case of some command, or of the only one that is wanted."""
     kinds = list(SHARES)
@@ -151,7 +160,7 @@ def compare_all(program, count, seed, only):
     draw = random.Random(seed)
     with tempfile.TemporaryDirectory() as folder:
         comparison = Comparison(program, folder, seed)
-        for case in [*cases.fixed_cases(), *check_cases.fixed_cases()]:
+        for case in fixed_cases():
             title = f"fixed case, {case.title}"
             if is_kind(case, only) and not comparison.is_right(title, case, by_hand=True):
                 return False
@@ -171,12 +180,14 @@ def read_arguments():
     parser.add_argument("--cases", type=int, default=3000, help="number of random cases")
     parser.add_argument("--seed", type=int, default=1)
     parser.add_argument("--only", choices=list(KINDS), help="take cases of one kind alone")
+    add_second(parser)
     return parser.parse_args()
 
 
 def main():
     """Compares, and ends with 0 where there is no difference and with 1 where there is one."""
     arguments = read_arguments()
+    generate_logs.second_share = arguments.second
     program = os.path.abspath(arguments.program)
     if not compare_all(program, arguments.cases, arguments.seed, arguments.only):
         sys.exit(1)

@@ -19,7 +19,7 @@ import derivation_cases
 import derivations
 import edits
 import invent
-from tables import answer_lines, print_table, read_arguments
+from tables import answer_lines, print_table, read_log_arguments
 
 SECTION = "derivations"  # of the tables
 TABLE_MOST = 250_000  # bytes of one table, well below what the program takes
@@ -119,7 +119,7 @@ def print_difference(question, answer):
 
 def main():
     """Compares, and ends with 0 where there is no difference and with 1 where there is one."""
-    arguments = read_arguments("compare logic_table with the second checker", 4000, "random derivations")
+    arguments = read_log_arguments("compare logic_table with the second checker", 4000, "random derivations")
     program = os.path.abspath(arguments.program)
     questions = [*fixed_questions(), *random_questions(arguments.seed, arguments.cases)]
     count = compare_all(program, questions)

@@ -23,8 +23,9 @@ import derivations
 import formats
 import freshness
 import invent
+import logs
 import reports
-from tables import read_arguments
+from tables import read_log_arguments
 
 CONFLICTS = (1, 2, 3)
 PATIENCE = 60  # seconds that one run may take
@@ -49,7 +50,7 @@ def unknown_sections(report):
 
 def complaint(formula_text, log_text, output, conflicts):
     """What is wrong with the report of check, or nothing; and how many values it leaves unknown."""
-    log, formula = formats.read_log(log_text), formats.read_formula(formula_text)
+    log, formula = logs.read_log(log_text), formats.read_formula(formula_text)
     report = reports.read_report(output)
     if isinstance(report, derivations.SyntaxFault):
         return f"no report: {output[:80]!r}", 0
@@ -64,7 +65,7 @@ def complaint(formula_text, log_text, output, conflicts):
 
 def main():
     """Compares, and ends with 0 where there is no difference and with 1 where there is one."""
-    arguments = read_arguments("compare what check leaves unknown", 1000, "checks")
+    arguments = read_log_arguments("compare what check leaves unknown", 1000, "checks")
     program = os.path.abspath(arguments.program)
     count = Counter()
     for number in range(arguments.cases):

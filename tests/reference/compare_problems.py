@@ -26,8 +26,8 @@ import needless
 import reference
 from compare_derivations import head_of
 from derivations import Literal, Problem
-from generate import chance
-from tables import answer_lines, print_table, read_arguments
+from generate_logs import chance
+from tables import answer_lines, print_table, read_log_arguments
 
 SECTION = "problems"  # of the tables
 PROBLEMS_A_TABLE = 20
@@ -373,7 +373,7 @@ def print_difference(question, found):
 
 def main():
     """Compares, and ends with 0 where there is no difference and with 1 where there is one."""
-    arguments = read_arguments("compare logic_table with a plain listing", 400, "problems")
+    arguments = read_log_arguments("compare logic_table with a plain listing", 400, "problems")
     program = os.path.abspath(arguments.program)
     count = compare_all(program, questions(arguments.seed, arguments.cases))
     if count is None:

@@ -24,8 +24,8 @@ import invent
 import meanings
 from compare_derivations import head_of
 from compare_problems import answers_of
-from generate import chance
-from tables import print_table, read_arguments
+from generate_logs import chance
+from tables import print_table, read_log_arguments
 
 SECTION = "searches"  # of the tables
 SEARCHES_A_TABLE = 20
@@ -102,7 +102,7 @@ def print_difference(question, answer):
 
 def main():
     """Compares, and ends with 0 where there is no difference and with 1 where there is one."""
-    arguments = read_arguments("compare logic_table with all timings", 400, "searches")
+    arguments = read_log_arguments("compare logic_table with all timings", 400, "searches")
     program = os.path.abspath(arguments.program)
     count = compare_all(program, questions(arguments.seed, arguments.cases))
     if count is None:

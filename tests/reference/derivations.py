@@ -22,8 +22,10 @@ from typing import NamedTuple, Union
 sys.dont_write_bytecode = True  # leaves no compiled files beside the sources
 
 import formats
+import logs
 import reference
-from formats import Log, number, signed_number
+from formats import number, signed_number
+from logs import Log
 
 NUMBER_GREATEST = 2**32 - 1
 BOUND_GREATEST = 10**21
@@ -43,6 +45,7 @@ class Literal(NamedTuple):
     ("span", k, i, j)   the left side of tree k is true on the whole way from i to j
     ("wit", k, i, j)    event j makes tree k, an until or since, true at event i
     ("gap", k, i, m)    event m ends the way from i on which the left side of tree k is true
+    ("same", e, x)      t_e = t_x; e is below x
     """
 
     atom: tuple
@@ -103,6 +106,11 @@ def gap(k, i, m):
     return Literal(("gap", k, i, m), True)
 
 
+def same(e, x) -> Part:
+    """That the events e and x are at one instant. Of one event alone this is always so."""
+    return e == x or Literal(("same", min(e, x), max(e, x)), True)
+
+
 # Lines
 
 
@@ -135,17 +143,18 @@ class SyntaxFault(NamedTuple):
     line: int
 
 
-# The arguments of each rule: k is a node, e x i j m are events, s is a change row.
+# The arguments of each rule: k is a node, e x i j m are events, s is a change row, u is a pulse row.
 RULE_ARGUMENTS = {
     1: "ke", 2: "kes", 3: "ke", 4: "ke", 5: "ke", 6: "ke", 7: "ke", 8: "ke",
     9: "ex", 10: "e", 11: "", 12: "kij", 13: "kij", 14: "kij", 15: "kij", 16: "kij",
     17: "ki", 18: "kij", 19: "kijm", 20: "kij", 21: "kijm", 22: "kim", 23: "kim", 24: "e",
-    28: "kij",
+    **({25: "ex", 26: "ex", 27: "keu"} if logs.PULSES else {}), 28: "kij",
 }
 
 # The literals that are written with a sign, each with the count of its numbers.
 SIGNED_ATOMS = {b"node": 2, b"first": 1, b"wit": 3, b"span": 3, b"gap": 3}
-LOG_STEPS = (b"low", b"high", b"rise", b"message", b"extra")
+SIGNED_ATOMS |= {b"same": 2} if logs.PULSES else {}
+LOG_STEPS = (b"low", b"high", b"rise", b"message", b"late", b"extra")
 
 
 class NotInGrammar(Exception):
@@ -241,6 +250,8 @@ def read_literal(words):
     if sign not in (b"+", b"-") or kind not in SIGNED_ATOMS:
         raise NotInGrammar
     atom = (kind.decode(), *words.numbers(SIGNED_ATOMS[kind]))
+    if kind == b"same" and atom[1] >= atom[2]:
+        raise NotInGrammar
     return Literal(atom, sign == b"+")
 
 
@@ -327,7 +338,7 @@ class RuleFault(Enum):
 
 # The kinds of node of which each rule asks one.
 RULE_KINDS = {
-    **dict.fromkeys((1, 2), ("prop",)),
+    **dict.fromkeys((1, 2, 27), ("prop",)),
     3: ("true",),
     **dict.fromkeys((4, 5), ("not",)),
     **dict.fromkeys((6, 7, 8), ("and",)),
@@ -358,23 +369,31 @@ def argument_fault(problem, rule):
     given = dict(zip(RULE_ARGUMENTS[rule.number], rule.arguments))
     for letter, value in given.items():
         there = problem.nodes if letter == "k" else problem.log.rows
-        if letter != "s" and value >= len(there):
+        if letter not in "su" and value >= len(there):
             return RuleFault.RANGE
     if rule.number in RULE_KINDS and problem.nodes[given["k"]][0] not in RULE_KINDS[rule.number]:
         return RuleFault.KIND
     if rule.number == 28 and problem.nodes[problem.nodes[given["k"]][2]][0] != "true":
         return RuleFault.KIND
+    if rule.number == 26 and given["e"] >= given["x"]:
+        return RuleFault.KIND
     if rule.number == 2 and given["s"] >= len(change_rows(problem, given["k"])):
         return RuleFault.RANGE
+    if rule.number == 27 and given["u"] >= len(pulse_rows(problem, given["k"])):
+        return RuleFault.RANGE
     if rule.number == 13 and problem.nodes[given["k"]][1][1] is None:
+        return RuleFault.NO_RULE
+    if rule.number in (25, 26) and not any(is_pulse(problem, given[letter]) for letter in "ex"):
         return RuleFault.NO_RULE
     return None
 
 
 def rule_parts(problem, rule):
     """What the rule lists, in its order. Its arguments are without fault."""
-    if rule.number in (1, 2):
+    if rule.number in (1, 2, 27):
         return proposition_parts(problem, rule.number, *rule.arguments)
+    if rule.number in (25, 26):
+        return instant_parts(rule.number, *rule.arguments)
     if rule.number in range(3, 9):
         return connective_parts(problem, rule.number, *rule.arguments)
     if rule.number in (9, 10, 11, 24):
@@ -390,24 +409,45 @@ def rule_parts(problem, rule):
 
 def change_rows(problem, k):
     """The rows that set or clear the proposition of node k, in log order."""
+    return [*rows_of(problem, k, (b"set", b"clear"))]
+
+
+def pulse_rows(problem, k):
+    """The rows at whose instant the proposition of node k is true, whatever it is besides, in log order."""
+    return [*rows_of(problem, k, (b"pulse",))]
+
+
+def rows_of(problem, k, acts):
+    """The rows of some acts on the proposition of node k, in log order."""
     _, host, name = problem.nodes[k]
-    return [
-        event
-        for event, row in enumerate(problem.log.rows)
-        if row.act in (b"set", b"clear")
-        and problem.log.hosts[row.host].name == host
-        and row.name == name
-    ]
+    for event, row in enumerate(problem.log.rows):
+        if row.act in acts and problem.log.hosts[row.host].name == host and row.name == name:
+            yield event
 
 
-def proposition_parts(problem, rule, k, e, s=0):
-    """Rules 1 and 2: what a proposition is at e, by its change rows."""
-    rows = change_rows(problem, k)
+def is_pulse(problem, event):
+    """Whether an event is a pulse row."""
+    return problem.log.rows[event].act == b"pulse"
+
+
+def proposition_parts(problem, rule, k, e, place=0):
+    """Rules 1, 2 and 27: what a proposition is at e, by its change rows and pulse rows."""
+    rows, pulses = change_rows(problem, k), [same(row, e) for row in pulse_rows(problem, k)]
     if rule == 1:
-        return [negation(node(k, e)), *[le(row, e) for row in rows[:1]]]
-    next_rows = rows[s + 1 : s + 2]
-    state = node(k, e) if problem.log.rows[rows[s]].act == b"set" else negation(node(k, e))
-    return [negation(le(rows[s], e)), *[le(row, e) for row in next_rows], state]
+        return [negation(node(k, e)), *[le(row, e) for row in rows[:1]], *pulses]
+    if rule == 27:
+        return [negation(pulses[place]), node(k, e)]
+    before_next = [negation(le(rows[place], e)), *[le(row, e) for row in rows[place + 1 : place + 2]]]
+    if problem.log.rows[rows[place]].act == b"set":
+        return [*before_next, node(k, e)]
+    return [*before_next, negation(node(k, e)), *pulses]
+
+
+def instant_parts(rule, e, x):
+    """Rules 25 and 26: events are at one instant where neither is later than the other."""
+    if rule == 25:
+        return [negation(same(e, x)), le(e, x)]
+    return [same(e, x), negation(le(e, x)), negation(le(x, e))]
 
 
 def connective_parts(problem, rule, k, e):
@@ -557,7 +597,7 @@ def in_range(problem, literal):
     kind, *numbers = literal.atom
     if kind == "order":
         events = numbers[:2]
-    elif kind == "first":
+    elif kind in ("first", "same"):
         events = numbers
     else:
         k, *events = numbers
@@ -639,8 +679,8 @@ def read_inputs(formula_name, log_name):
     formula = formats.read_formula(read_file(formula_name))
     if isinstance(formula, formats.FormulaFault):
         sys.exit(f"the formula has {formula}")
-    log = formats.read_log(read_file(log_name))
-    if isinstance(log, formats.LogFault):
+    log = logs.read_log(read_file(log_name))
+    if isinstance(log, logs.LogFault):
         sys.exit(f"the log has {log}")
     if formats.unknown_host(formula, log) is not None:
         sys.exit("a host of the formula isn't in the log")

@@ -1,9 +1,9 @@
 """How far apart two rows of a log may be, over all its admissible timings.
 
-The differences of two rows' times range from a least to a greatest number. Rises and messages go forward only, and
-nothing else ties a row to another one but that both are tied to the zero moment. So the most that one row may be
-above another is told by the ways from the one to the other along rises and messages, and by the latest time of the
-one and the earliest of the other.
+The differences of two rows' times range from a least to a greatest number. Rises, messages and the greatest latencies
+tie a row to another one, and else both are tied to the zero moment. So the most that one row may be above another is
+told by the ways from the one to the other along these bounds, and by the latest time of the one and the earliest of
+the other.
 """
 
 import sys
@@ -32,13 +32,12 @@ class Differences(NamedTuple):
 
 def differences_of(log):
     """The differences of a log, or None where no timing is admissible."""
-    steps = steps_between(log)
-    order = last_ones_first(steps)
-    if order is None:
+    ways = ways_between(log)
+    if ways is None:
         return None
-    ways = ways_between(steps, order)
-    lows = [row.local - log.hosts[row.host].skew for row in log.rows]
-    highs = [row.local + log.hosts[row.host].skew for row in log.rows]
+    skews = [reference.skew_of(log, event) for event in range(len(log.rows))]
+    lows = [row.local - skew for row, skew in zip(log.rows, skews)]
+    highs = [row.local + skew for row, skew in zip(log.rows, skews)]
     latest = [min(way + high for way, high in zip(ways_on, highs)) for ways_on in ways]
     earliest = [max(low - ways_on[f] for low, ways_on in zip(lows, ways)) for f in range(len(ways))]
     if any(first > last for first, last in zip(earliest, latest)):
@@ -49,38 +48,23 @@ def differences_of(log):
     ])
 
 
-def steps_between(log):
-    """For each row the rows that rises and messages go to from it, each with the bound of that step."""
-    found = [[] for _ in log.rows]
-    for bound in reference.bounds(log):
-        if bound.start is not None and bound.end is not None:
-            found[bound.start].append((bound.end, bound.most))
-    return found
+def ways_between(log):
+    """For two rows the least sum of a way of steps from the first to the second; None where a circle's is negative.
 
-
-def last_ones_first(steps):
-    """The rows in an order in which each stands after those that steps go to from it; None if there is a circle."""
-    waiting = [len(after) for after in steps]
-    before = [[] for _ in steps]
-    for start, after in enumerate(steps):
-        for end, _ in after:
-            before[end].append(start)
-    order = [row for row, count in enumerate(waiting) if count == 0]
-    for row in order:
-        for start in before[row]:
-            waiting[start] -= 1
-            if waiting[start] == 0:
-                order.append(start)
-    return order if len(order) == len(steps) else None
-
-
-def ways_between(steps, order):
-    """For two rows the least sum of a way of steps from the first to the second, as far as there is one."""
-    ways = [None] * len(steps)
-    for row in order:
-        sums = [NO_WAY] * len(steps)
-        sums[row] = 0
-        for end, most in steps[row]:
-            sums = [min(known, most + way) for known, way in zip(sums, ways[end])]
-        ways[row] = sums
+    The steps are the bounds between rows. They are taken from the last one on, since most of them go to later rows,
+    and again until no way gets shorter.
+    """
+    steps = [bound for bound in reference.bounds(log) if None not in (bound.start, bound.end)]
+    rows = range(len(log.rows))
+    ways = [[0 if start == end else NO_WAY for end in rows] for start in rows]
+    is_settled = False
+    while not is_settled:
+        is_settled = True
+        for step in reversed(steps):
+            known = ways[step.start]
+            shorter = [min(way, step.most + on) for way, on in zip(known, ways[step.end])]
+            if shorter[step.start] < 0:
+                return None
+            if shorter != known:
+                ways[step.start], is_settled = shorter, False
     return ways

@@ -5,9 +5,12 @@ right. Which is the case isn't known here.
 """
 
 import derivations
+import generate_logs
+import logs
 from derivations import Cycle, Learn, LineHint, Literal, Rule, Step, negation, order
-from generate import chance
+from generate_logs import chance
 
+SAME = ("same",) if logs.PULSES else ()
 LIMITS = (2**32 - 1, 2**32, 2**31, 2**64, 10**21, 10**21 + 1, 10**21 - 1, 10**22, 255, 256)
 
 
@@ -58,9 +61,11 @@ def some_order(draw, problem):
 
 def some_literal(draw, problem):
     """A literal by chance."""
-    kind = draw.choice(("order", "node", "node", "first", "wit", "span", "gap"))
+    kind = draw.choice(("order", "node", "node", "first", "wit", "span", "gap", *SAME))
     if kind == "order":
         return order(*some_order(draw, problem))
+    if kind == "same":
+        return some_same(draw, problem)
     if kind == "first":
         atom = (kind, some_event(draw, problem))
     else:
@@ -69,9 +74,16 @@ def some_literal(draw, problem):
     return Literal(atom, chance(draw, 0.5))
 
 
+def some_same(draw, problem):
+    """A literal by chance on whether two events are at one instant, the smaller one first."""
+    e = some_event(draw, problem)
+    return Literal(("same", e, e + draw.choice((1, 1, 2, 3))), chance(draw, 0.5))
+
+
 def some_rule(draw, problem):
     """A rule by chance, seldom with a number that no rule has."""
-    rule = draw.choice((*range(1, 25), *range(1, 25), 0, 25, 255))
+    rules = tuple(derivations.RULE_ARGUMENTS)
+    rule = draw.choice((*rules, *rules, 0, 25, 29, 255))
     letters = derivations.RULE_ARGUMENTS.get(rule, "")
     draws = {"k": some_node}
     return Rule(rule, tuple(draws.get(letter, some_event)(draw, problem) for letter in letters))
@@ -84,9 +96,14 @@ def some_hint(draw, problem, count):
     return some_rule(draw, problem)
 
 
+def log_steps():
+    """The kinds of steps that are bounds of a log, without late where no log is of version 2."""
+    return [kind for kind in derivations.LOG_STEPS if kind != b"late" or generate_logs.second_share]
+
+
 def some_step(draw, problem):
     """A step by chance."""
-    kind = draw.choice((*derivations.LOG_STEPS, b"order"))
+    kind = draw.choice((*log_steps(), b"order"))
     if kind == b"order":
         return Step(kind, some_order(draw, problem))
     return Step(kind, (some_event(draw, problem),))
@@ -259,7 +276,7 @@ def change_step(draw, problem, lines):
         numbers = (max(0, numbers[0] + draw.choice((-1, 1, 2**32 - 1))), *numbers[1:])
         steps[place] = Step(kind, numbers)
     else:
-        steps[place] = Step(draw.choice(derivations.LOG_STEPS), numbers)
+        steps[place] = Step(draw.choice(log_steps()), numbers)
 
 
 def edit_lines(draw, problem, lines):
@@ -376,6 +393,8 @@ def change_count(draw, words):
 def change_word(draw, words):
     """Puts another word in the place of one."""
     others = b"cycle learn low high rise message extra order line rule node first wit span gap"
+    others += b" late" if generate_logs.second_share else b""
+    others += b" +same -same" if logs.PULSES else b""
     signed = b"+node -node +first -first +wit -wit +span -span +gap -gap +order Learn CYCLE"
     words[draw.randrange(len(words))] = draw.choice((others + b" " + signed).split())
 

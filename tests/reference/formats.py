@@ -1,29 +1,24 @@
-"""A slow, plain reading of the texts that skewcheck takes: logs, formulas and times files.
+"""A slow, plain reading of formulas and times files, and of the numbers and names of all texts.
 
 Nothing here is made to be fast. Each function does one thing in the most
 direct way. The module shares no code with the program, so that the two can be
-compared.
+compared. Logs are read by logs.py.
 """
 
 import re
 import sys
-from typing import NamedTuple, Optional
+from typing import NamedTuple
 
 sys.setrecursionlimit(max(sys.getrecursionlimit(), 20_000))
 
 FORMULA_LIMIT = 65_536
-LOG_LIMIT = 1_048_576
 TIMES_LIMIT = 65_536
 REPORT_LIMIT = 1_073_741_824
-HOST_LIMIT = 64
-ROW_LIMIT = 1_024
 NODE_LIMIT = 512
 SIZE_LIMIT = 4_194_304
 HEIGHT_LIMIT = 200
 NAME_LIMIT = 32
 
-SKEW_GREATEST = 10**18
-LOCAL_GREATEST = 4 * 10**18
 INTERVAL_GREATEST = 10**18
 TIME_GREATEST = 10**19
 
@@ -52,170 +47,6 @@ def signed_number(text, greatest):
 def is_name(text):
     """Whether the bytes are a name: a small letter, then letters, digits, underscores."""
     return len(text) <= NAME_LIMIT and bool(re.fullmatch(rb"[a-z][a-z0-9_]*", text))
-
-
-# The log
-
-
-class Host(NamedTuple):
-    name: bytes
-    skew: int
-    gap: int
-
-
-class Row(NamedTuple):
-    host: int  # the number of its host
-    local: int
-    act: bytes  # set, clear, send, recv or note
-    name: bytes
-
-
-class Log(NamedTuple):
-    hosts: list
-    rows: list
-
-
-class LogFault(NamedTuple):
-    number: int
-    record: Optional[int]  # None where the fault lies in no record
-
-
-HEADER = [b"kind", b"host", b"time", b"name"]
-EVENT_KINDS = (b"set", b"clear", b"send", b"recv", b"note")
-KEPT_WORDS = (b"true", b"false", b"inf")
-LINE_ENDS = b"\r\n"
-
-
-def csv_records(data):
-    """The records of a comma-separated text, each a list of its fields.
-
-    A quote opens a quoted field only as the first byte of the field. In it two
-    quotes stand for one, and a single quote closes it; what then follows up to
-    the comma or the line's end is added as it is. Commas and line ends inside
-    quotes are plain bytes. Empty lines give no record. At the end of the text
-    an open record is complete, whether quotes are closed or not.
-    """
-    if data.startswith(b"\xef\xbb\xbf"):
-        data = data[3:]
-    records, record, field = [], [], bytearray()
-    place = "line start"
-    for byte in data:
-        if place == "line start":
-            if byte in LINE_ENDS:
-                continue
-            place = "field start"
-        if place == "field start" and byte == ord('"'):
-            place = "quoted"
-        elif place == "quoted" and byte == ord('"'):
-            place = "after quote"
-        elif place == "quoted":
-            field.append(byte)
-        elif place == "after quote" and byte == ord('"'):
-            field.append(byte)
-            place = "quoted"
-        elif byte == ord(","):
-            record.append(bytes(field))
-            field.clear()
-            place = "field start"
-        elif byte in LINE_ENDS:
-            record.append(bytes(field))
-            field.clear()
-            records.append(record)
-            record = []
-            place = "line start"
-        else:
-            field.append(byte)
-            place = "unquoted"
-    if place != "line start":
-        record.append(bytes(field))
-        records.append(record)
-    return records
-
-
-def read_log(data):
-    """The log that the bytes spell, or its LogFault."""
-    records = csv_records(data)
-    if not records or records[0] != HEADER:
-        return LogFault(1, 1)
-    log = Log([], [])
-    record_of_row = []
-    for place, record in enumerate(records[1:], start=2):
-        fault = record_fault(log, record)
-        if fault:
-            return LogFault(fault, place)
-        add_record(log, record)
-        if record[0] != b"host":
-            record_of_row.append(place)
-    for row, place in zip(log.rows, record_of_row):
-        if row.act == b"recv" and row.name not in sent_names(log):
-            return LogFault(10, place)
-    return log if log.rows else LogFault(11, None)
-
-
-def record_fault(log, record):
-    """The number of the first test that a record fails after the log so far, or 0."""
-    if len(record) != 4:
-        return 2
-    if record[0] != b"host" and record[0] not in EVENT_KINDS:
-        return 3
-    if record[0] == b"host":
-        return host_fault(log, record)
-    return event_fault(log, record)
-
-
-def host_fault(log, record):
-    """The number of the first test that a host record fails, or 0."""
-    _, name, skew, gap = record
-    if not is_name(name) or name in KEPT_WORDS:
-        return 4
-    if host_number(log, name) is not None:
-        return 5
-    if len(log.hosts) >= HOST_LIMIT:
-        return 12
-    if number(skew, SKEW_GREATEST) is None or number(gap, SKEW_GREATEST) is None:
-        return 7
-    return 0
-
-
-def event_fault(log, record):
-    """The number of the first test that an event record fails, or 0."""
-    kind, host, local, name = record
-    if host_number(log, host) is None:
-        return 6
-    if signed_number(local, LOCAL_GREATEST) is None:
-        return 7
-    if not is_name(name):
-        return 8
-    if kind == b"send" and name in sent_names(log):
-        return 9
-    if len(log.rows) >= ROW_LIMIT:
-        return 13
-    return 0
-
-
-def add_record(log, record):
-    """Adds the host or the row of a record without fault."""
-    kind, second, third, fourth = record
-    if kind == b"host":
-        skew = number(third, SKEW_GREATEST)
-        gap = number(fourth, SKEW_GREATEST)
-        log.hosts.append(Host(second, skew, gap))
-    else:
-        local = signed_number(third, LOCAL_GREATEST)
-        log.rows.append(Row(host_number(log, second), local, kind, fourth))
-
-
-def host_number(log, name):
-    """The number of the host with that name, or None."""
-    for place, host in enumerate(log.hosts):
-        if host.name == name:
-            return place
-    return None
-
-
-def sent_names(log):
-    """The messages that the rows of the log send."""
-    return [row.name for row in log.rows if row.act == b"send"]
 
 
 # The formula
@@ -458,8 +289,9 @@ def propositions(tree):
 
 def unknown_host(tree, log):
     """The byte of the first host word that the log doesn't have, or None."""
+    known = {host.name for host in log.hosts}
     for leaf in propositions(tree):
-        if host_number(log, leaf.host) is None:
+        if leaf.host not in known:
             return leaf.byte
     return None
 

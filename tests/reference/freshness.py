@@ -28,6 +28,7 @@ sys.dont_write_bytecode = True  # leaves no compiled files beside the sources
 
 import derivations
 import formats
+import logs
 from derivations import Learn, Rule, negation
 from instances import instances
 from needless import kept
@@ -138,8 +139,8 @@ def main(words):
     if len(words) != 5 or words[2] not in ("true", "false") or not words[3].isdecimal():
         sys.exit("usage: freshness.py FORMULA LOG VALUE CONFLICTS DERIVATION")
     formula = formats.read_formula(derivations.read_file(words[0]))
-    log = formats.read_log(derivations.read_file(words[1]))
-    if isinstance(formula, formats.FormulaFault) or isinstance(log, formats.LogFault):
+    log = logs.read_log(derivations.read_file(words[1]))
+    if isinstance(formula, formats.FormulaFault) or isinstance(log, logs.LogFault):
         sys.exit("the formula or the log has a fault")
     if formats.unknown_host(formula, log) is not None:
         sys.exit("a host of the formula isn't in the log")

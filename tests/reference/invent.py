@@ -11,11 +11,13 @@ from typing import NamedTuple, Optional
 import derivations
 import formats
 import generate
+import generate_logs
+import logs
 import reference
 from derivations import Cycle, Learn, LineHint, Literal, Rule, Step, negation
-from formats import Host, Log, Row
-from generate import chance
+from generate_logs import chance
 from instances import Clause, instances
+from logs import Log, Row
 
 ROWS_MOST = 5
 NODES_MOST = 8
@@ -33,20 +35,27 @@ class Case(NamedTuple):
 
 def small_log(draw):
     """A log of one to five rows with small bounds, seldom without an admissible timing."""
-    log = generate.some_log(draw)
-    hosts = [Host(host.name, draw.choice((0, 0, 1, 1, 2)), host.gap % 3) for host in log.hosts]
+    log = generate_logs.some_log(draw)
+    hosts = [small_clock(draw, host) for host in log.hosts]
     count = draw.choice((1, 2, 2, 3, 3, 3, 4, 4, ROWS_MOST))
     rows = [without_message(draw, row) for row in log.rows[:count]]
     if len(rows) > 1 and chance(draw, 0.4):
         send, receive = draw.sample(range(len(rows)), 2)
         rows[send] = Row(rows[send].host, rows[send].local, b"send", b"m")
         rows[receive] = Row(rows[receive].host, rows[receive].local, b"recv", b"m")
-    return Log(hosts, drawn_near(draw, rows))
+    resyncs = [small_clock(draw, resync) for resync in log.resyncs]
+    resyncs = [resync._replace(place=min(resync.place, len(rows))) for resync in resyncs]
+    return Log(hosts, drawn_near(draw, rows), resyncs)
+
+
+def small_clock(draw, clock):
+    """The host or the resync, with a small skew and gap."""
+    return clock._replace(skew=draw.choice((0, 0, 1, 1, 2)), gap=clock.gap % 3)
 
 
 def without_message(draw, row):
     """The row, made a change of a proposition where it is a message, and mostly where a note."""
-    if row.act in (b"set", b"clear") or row.act == b"note" and chance(draw, 0.4):
+    if row.act in (b"set", b"clear", b"pulse") or row.act == b"note" and chance(draw, 0.4):
         return row
     return Row(row.host, row.local, draw.choice((b"set", b"clear")), draw.choice((b"p", b"q")))
 
@@ -74,14 +83,10 @@ def small_tree(draw, log):
 def some_problem(draw):
     """The texts of a log and a formula, and the problem to give it a value."""
     log = small_log(draw)
-    hosts = [b"host,%s,%d,%d" % host for host in log.hosts]
-    rows = [b"%s,%s,%d,%s" % (row.act, log.hosts[row.host].name, row.local, row.name)
-            for row in log.rows]
-    log_text = b"\n".join([b",".join(formats.HEADER), *hosts, *rows, b""])
     formula_text = b" ".join(generate.tokens_of(draw, small_tree(draw, log)))
     value = chance(draw, 0.5)
     problem = derivations.problem_of(log, formats.read_formula(formula_text), value)
-    return log_text, formula_text, problem
+    return logs.log_text(log), formula_text, problem
 
 
 # Right derivations

@@ -10,15 +10,18 @@ import derivations
 import edits
 import formats
 import generate
+import generate_logs
 import invent
 import judge
+import logs
 import meanings
 import program
 import reports
 from derivations import Cycle, Step
-from formats import Host
-from generate import Case, chance
+from generate import Case
+from generate_logs import chance
 from invent import Satisfied, Search, Spent
+from logs import Host
 from reports import Inconsistent, Refuted, SyntaxFault, Unknown, Verdicts, Witness
 
 SHARE_OPEN = 0.4  # of the questions, at least, have both values in timings of their log
@@ -30,7 +33,7 @@ SECTIONS = ("on_true", "on_false")
 
 
 class Question(NamedTuple):
-    log: formats.Log
+    log: logs.Log
     formula_text: bytes
 
     def formula(self):
@@ -55,9 +58,9 @@ def small_question(draw):
     """A log of a few rows with small skews, and a formula with a few operators."""
     log = invent.small_log(draw)
     if chance(draw, 0.1):
-        log = log._replace(hosts=[Host(name, 0, gap + 3) for name, _, gap in log.hosts])
+        log = log._replace(hosts=[host._replace(skew=0, gap=host.gap + 3) for host in log.hosts])
     if chance(draw, 0.15):
-        unused = [name for name in generate.HOST_NAMES if formats.host_number(log, name) is None]
+        unused = [name for name in generate_logs.HOST_NAMES if logs.host_number(log, name) is None]
         log.hosts.append(Host(draw.choice(unused), draw.randint(0, 3), draw.randint(0, 3)))
     tree = invent.small_tree(draw, log)
     if chance(draw, 0.4):
@@ -67,14 +70,14 @@ def small_question(draw):
 
 def wide_question(draw):
     """A log with some more rows and greater skews, and a formula with some more operators."""
-    log = generate.some_log(draw)
+    log = generate_logs.some_log(draw)
     tree = generate.some_tree(draw, log, draw.choice((1, 2, 3, 4, 5, 6)))
     return Question(log, generate.formula_text(draw, generate.tokens_of(draw, tree)))
 
 
 def small_files(draw, question):
     """The files of a question, seldom with a fault."""
-    files = {"f": question.formula_text, "l": generate.log_file(draw, question.log, 0.04)}
+    files = {"f": question.formula_text, "l": generate_logs.log_file(draw, question.log, 0.04)}
     if chance(draw, 0.04):
         files["f"] = generate.formula_file(draw, question.log)
     return files

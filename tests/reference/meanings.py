@@ -23,8 +23,8 @@ def values(log, formula):
 def values_where_few(log, formula):
     """The values of a formula, or None where the log may have too many timings to go through."""
     windows = 1
-    for row in log.rows:
-        windows *= 2 * log.hosts[row.host].skew + 1
+    for event in range(len(log.rows)):
+        windows *= 2 * reference.skew_of(log, event) + 1
     return values(log, formula) if windows <= WINDOWS_MOST else None
 
 
@@ -38,7 +38,7 @@ def admissible_timings(log):
             yield times
             return
         row = log.rows[len(times)]
-        skew = log.hosts[row.host].skew
+        skew = reference.skew_of(log, len(times))
         for time in range(row.local - skew, row.local + skew + 1):
             following = [*times, time]
             ready = [
@@ -118,6 +118,9 @@ class World:
             return times[e] - times[f] <= bound
         if kind == "first":
             return times[numbers[0]] == min(times)
+        if kind == "same":
+            e, x = numbers
+            return times[e] == times[x]
         if kind == "node":
             return self.truths[numbers[0]][self.place(numbers[1])]
         k, i, j = numbers

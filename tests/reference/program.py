@@ -12,9 +12,6 @@ import reports
 from formats import (
     FORMULA_LIMIT,
     FormulaFault,
-    LOG_LIMIT,
-    Log,
-    LogFault,
     NODE_LIMIT,
     REPORT_LIMIT,
     SIZE_LIMIT,
@@ -23,10 +20,10 @@ from formats import (
     Tree,
     core_nodes,
     read_formula,
-    read_log,
     read_times,
     unknown_host,
 )
+from logs import LOG_LIMIT, Log, LogFault, read_log
 from size import size_of
 
 # The commands of the program, each with its number of operands: files, or a seed.

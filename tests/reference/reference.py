@@ -1,7 +1,7 @@
 """The meaning of logs, formulas and timings, in the most direct way.
 
 Truth is found by recursion over positions, and happened-before is a
-transitive closure. The texts are read by formats.py.
+transitive closure. The texts are read by logs.py and formats.py.
 """
 
 from typing import NamedTuple, Optional
@@ -23,14 +23,37 @@ def bounds(log):
     """The bounds of a log in their order."""
     found = []
     for event, row in enumerate(log.rows):
-        host = log.hosts[row.host]
-        found.append(Bound(b"low", event, None, event, host.skew - row.local))
-        found.append(Bound(b"high", event, event, None, row.local + host.skew))
+        skew, gap = skew_of(log, event), gap_of(log, event)
+        found.append(Bound(b"low", event, None, event, skew - row.local))
+        found.append(Bound(b"high", event, event, None, row.local + skew))
         previous = row_before(log, event)
         if previous is not None:
-            found.append(Bound(b"rise", event, previous, event, -host.gap))
+            found.append(Bound(b"rise", event, previous, event, -gap))
         if row.act == b"recv":
-            found.append(Bound(b"message", event, send_of(log, event), event, -1))
+            host, send = log.hosts[row.host], send_of(log, event)
+            found.append(Bound(b"message", event, send, event, -host.least))
+            if host.most is not None:
+                found.append(Bound(b"late", event, event, send, host.most))
+    return found
+
+
+def skew_of(log, event):
+    """By how much the local time of a row may be off."""
+    return clock_of(log, event).skew
+
+
+def gap_of(log, event):
+    """How long after the row before it on its host a row comes at least."""
+    return clock_of(log, event).gap
+
+
+def clock_of(log, event):
+    """What tells the skew and the gap of a row: the last resync of its host before it, or the host."""
+    number = log.rows[event].host
+    found = log.hosts[number]
+    for resync in log.resyncs:
+        if resync.host == number and resync.place <= event:
+            found = resync
     return found
 
 
@@ -64,17 +87,23 @@ def first_broken(log, times):
 
 
 def admissible(log, times):
-    """Whether the times keep skews, gaps and messages, row by row."""
+    """Whether the times keep skews, gaps and latencies, row by row."""
     for event, row in enumerate(log.rows):
-        host = log.hosts[row.host]
-        if abs(times[event] - row.local) > host.skew:
+        if abs(times[event] - row.local) > skew_of(log, event):
             return False
         previous = row_before(log, event)
-        if previous is not None and times[event] < times[previous] + host.gap:
+        if previous is not None and times[event] - times[previous] < gap_of(log, event):
             return False
-        if row.act == b"recv" and times[event] < times[send_of(log, event)] + 1:
+        if row.act == b"recv" and not keeps_latency(log, times, event):
             return False
     return True
+
+
+def keeps_latency(log, times, event):
+    """Whether the message that a row receives takes as long as messages to its host take."""
+    host = log.hosts[log.rows[event].host]
+    took = times[event] - times[send_of(log, event)]
+    return host.least <= took and (host.most is None or took <= host.most)
 
 
 # Truth
@@ -86,10 +115,12 @@ def positions(times):
 
 
 def state(log, times, instant, host, name):
-    """Whether a proposition of a host is set at an instant."""
+    """Whether a proposition of a host is true at an instant: by a pulse there, or by its last change."""
     value = False
     for row, time in zip(log.rows, times):
         if log.hosts[row.host].name == host and row.name == name and time <= instant:
+            if row.act == b"pulse" and time == instant:
+                return True
             if row.act in (b"set", b"clear"):
                 value = row.act == b"set"
     return value

@@ -21,10 +21,13 @@ import differences
 import edits
 import formats
 import generate
+import generate_logs
 import invent
 import judge
+import logs
 import meanings
 import reference
+import second_cases
 from instances import instances
 
 
@@ -36,7 +39,7 @@ def check(right, *what):
 
 def check_fixed_cases():
     """The answers written out by hand are right by the judge, and no others of a few."""
-    for case in cases.fixed_cases():
+    for case in [*cases.fixed_cases(), *second_cases.fixed_cases()]:
         for output in case.outputs:
             found = judge.complaint(case.words, case.files, output, case.status)
             check(not found, case, output, found)
@@ -212,7 +215,7 @@ def check_trees(draw, formulas):
         found = plain(formats.read_formula(" ".join(tokens).encode()))
         check(trees_by_spans(tokens) == [found], tokens, found)
     for _ in range(1500):
-        log = generate.some_log(draw)
+        log = generate_logs.some_log(draw)
         tree = generate.some_tree(draw, log, draw.randint(0, 6))
         tokens = generate.tokens_of(draw, tree)
         found = plain(formats.read_formula(generate.formula_text(draw, tokens)))
@@ -289,7 +292,7 @@ def check_truth(draw):
     """Truth and node counts against the core of the formula."""
     values = []
     for _ in range(3000):
-        log = generate.some_log(draw)
+        log = generate_logs.some_log(draw)
         planned_tree = generate.some_tree(draw, log, draw.randint(0, 5))
         text = generate.formula_text(draw, generate.tokens_of(draw, planned_tree))
         tree = formats.read_formula(text)
@@ -314,7 +317,42 @@ def check_records(draw):
         data = b"".join(draw.choices(pieces, k=draw.randint(0, 14)))
         lines = io.StringIO(data.decode(), newline="")
         wanted = [[field.encode() for field in record] for record in csv.reader(lines) if record]
-        check(formats.csv_records(data) == wanted, data, wanted)
+        check(logs.csv_records(data) == wanted, data, wanted)
+
+
+def check_log_texts(draw):
+    """The text of a log reads back as the log, is of version 1 where it can be, and no spelling changes it."""
+    seconds = 0
+    for _ in range(3000):
+        log = generate_logs.some_log(draw)
+        if not messages_fit(log):
+            continue
+        text = logs.log_text(log)
+        check(logs.read_log(text) == log, log, text)
+        records = generate_logs.records_of(draw, log)
+        found = logs.read_log(generate_logs.log_text(draw, records))
+        if records[0] == logs.HEADER and text[:8] == b"skewlog2":
+            check(found.number == 3, records)
+        else:
+            check(same_by_names(found, log), log, records)
+        first = b"kind" + text.removeprefix(b"skewlog2").removeprefix(b"kind")
+        check((logs.read_log(first) == log) == (first == text), text)
+        seconds += first != text
+    print(f"{seconds} logs of version 2")
+
+
+def same_by_names(first, second):
+    """Whether two logs say the same, whatever the order of their hosts."""
+    return by_names(first) == by_names(second)
+
+
+def by_names(log):
+    """The hosts of a log by name, and its rows and resyncs with the names of their hosts."""
+    rows, resyncs = [
+        [item._replace(host=log.hosts[item.host].name) for item in items]
+        for items in (log.rows, log.resyncs)
+    ]
+    return sorted(log.hosts), rows, resyncs
 
 
 def cycle_of_bounds(log):
@@ -344,7 +382,7 @@ def cycle_of_bounds(log):
 
 def messages_fit(log):
     """Whether each message is sent once at most, and sent if it is received."""
-    sent = formats.sent_names(log)
+    sent = logs.sent_names(log)
     received = [row.name for row in log.rows if row.act == b"recv"]
     return len(set(sent)) == len(sent) and set(received) <= set(sent)
 
@@ -353,7 +391,7 @@ def check_times(draw):
     """Timings and shut-out logs: one of the two is always there, and the judge knows it."""
     shut = 0
     for _ in range(600):
-        log = generate.some_log(draw)
+        log = generate_logs.some_log(draw)
         if not messages_fit(log):
             continue
         near = generate.near_times(draw, log)
@@ -400,7 +438,7 @@ def check_order(draw):
     """Happened-before against a search backwards."""
     cyclic = 0
     for _ in range(2000):
-        log = generate.wild_log(draw)
+        log = generate_logs.wild_log(draw)
         if not messages_fit(log):
             continue
         for event, before in enumerate(reference.earlier(log)):
@@ -413,7 +451,7 @@ def check_order(draw):
 def problem_of(case):
     """The problem of a fixed derivation or rule."""
     formula = formats.read_formula(case.formula)
-    return derivations.problem_of(formats.read_log(case.log), formula, case.value)
+    return derivations.problem_of(logs.read_log(case.log), formula, case.value)
 
 
 def clause_text(clause):
@@ -427,7 +465,7 @@ def clause_text(clause):
 def check_fixed_derivations():
     """The second checker gives the answers and clauses that are written out by hand."""
     count = 0
-    for case in derivation_cases.fixed_cases():
+    for case in [*derivation_cases.fixed_cases(), *second_cases.fixed_derivations()]:
         found = derivations.answer(problem_of(case), case.lines)
         check(found == case.answer, case, found)
         count += 1
@@ -519,12 +557,14 @@ def main():
     parser = argparse.ArgumentParser(description="check the reference against other ways")
     parser.add_argument("--seed", type=int, default=1)
     draw = random.Random(parser.parse_args().seed)
+    generate_logs.second_share = 0.5
     check_fixed_cases()
     check_fixed_derivations()
     check_derivations(draw)
     check_trees(draw, check_places())
     check_truth(draw)
     check_records(draw)
+    check_log_texts(draw)
     check_times(draw)
     check_order(draw)
     print("all checks hold")

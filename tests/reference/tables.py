@@ -3,6 +3,8 @@
 import argparse
 import subprocess
 
+import generate_logs
+
 PATIENCE = 120  # seconds that one run of the program may take
 
 
@@ -29,10 +31,30 @@ def print_table(section, lines):
     print(")", flush=True)
 
 
-def read_arguments(description, cases, what):
-    """The program and the options of the command line; cases is the default number of what is named."""
+def arguments_of(description, cases, what):
+    """What reads the program and the options; cases is the default number of what is named."""
     parser = argparse.ArgumentParser(description=description)
     parser.add_argument("program")
     parser.add_argument("--cases", type=int, default=cases, help=f"number of {what}")
     parser.add_argument("--seed", type=int, default=1)
-    return parser.parse_args()
+    return parser
+
+
+def read_arguments(description, cases, what):
+    """The program and the options of the command line, of a comparison without logs."""
+    return arguments_of(description, cases, what).parse_args()
+
+
+def read_log_arguments(description, cases, what):
+    """The same of a comparison over logs, which has an option more: the share of logs that may be of version 2."""
+    parser = arguments_of(description, cases, what)
+    add_second(parser)
+    arguments = parser.parse_args()
+    generate_logs.second_share = arguments.second
+    return arguments
+
+
+def add_second(parser):
+    """Adds the option on logs of version 2."""
+    share = generate_logs.second_share
+    parser.add_argument("--second", type=float, default=share, help="share of logs that may be of version 2")

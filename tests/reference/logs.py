@@ -1,0 +1,290 @@
+"""A slow, plain reading of log files of both versions, and the one text of a log.
+
+A file of version 2 has a header of its own and may hold further kinds of
+records: a resync, which gives a host another skew and gap from there on, a
+latency, which says how long the messages to a host take, and a pulse. The log
+that is read doesn't tell which version its file was of.
+"""
+
+from typing import NamedTuple, Optional
+
+from formats import is_name, number, signed_number
+
+LOG_LIMIT = 1_048_576
+HOST_LIMIT = 64
+ROW_LIMIT = 1_024
+
+SKEW_GREATEST = 10**18
+LATENCY_GREATEST = 10**18
+LOCAL_GREATEST = 4 * 10**18
+
+# Whether a log of version 2 may hold pulses. Where not, their kind is refused as one that there isn't.
+PULSES = False
+
+
+# Logs
+
+
+class Host(NamedTuple):
+    name: bytes
+    skew: int
+    gap: int
+    least: int = 1  # what a message to the host takes at least
+    most: Optional[int] = None  # and at most; None where it may take any time
+
+
+class Row(NamedTuple):
+    host: int  # the number of its host
+    local: int
+    act: bytes  # set, clear, send, recv, note or pulse
+    name: bytes
+
+
+class Resync(NamedTuple):
+    """From here on a host has another skew and gap."""
+
+    place: int  # the number of rows before it
+    host: int
+    skew: int
+    gap: int
+
+
+class Log(NamedTuple):
+    hosts: list
+    rows: list
+    resyncs: list = ()
+
+
+class LogFault(NamedTuple):
+    number: int
+    record: Optional[int]  # None where the fault lies in no record
+
+
+def host_number(log, name):
+    """The number of the host with that name, or None."""
+    for place, host in enumerate(log.hosts):
+        if host.name == name:
+            return place
+    return None
+
+
+def sent_names(log):
+    """The messages that the rows of the log send."""
+    return [row.name for row in log.rows if row.act == b"send"]
+
+
+# Records
+
+HEADER = [b"kind", b"host", b"time", b"name"]
+SECOND_HEADER = [b"skewlog2", b"host", b"time", b"name"]
+
+EVENT_KINDS = (b"set", b"clear", b"send", b"recv", b"note", *((b"pulse",) if PULSES else ()))
+FIRST_KINDS = (b"host", b"set", b"clear", b"send", b"recv", b"note")
+SECOND_KINDS = (b"host", b"resync", b"latency", *EVENT_KINDS)
+KEPT_WORDS = (b"true", b"false", b"inf")
+LINE_ENDS = b"\r\n"
+
+
+def csv_records(data):
+    """The records of a comma-separated text, each a list of its fields.
+
+    A quote opens a quoted field only as the first byte of the field. In it two
+    quotes stand for one, and a single quote closes it; what then follows up to
+    the comma or the line's end is added as it is. Commas and line ends inside
+    quotes are plain bytes. Empty lines give no record. At the end of the text
+    an open record is complete, whether quotes are closed or not.
+    """
+    if data.startswith(b"\xef\xbb\xbf"):
+        data = data[3:]
+    records, record, field = [], [], bytearray()
+    place = "line start"
+    for byte in data:
+        if place == "line start":
+            if byte in LINE_ENDS:
+                continue
+            place = "field start"
+        if place == "field start" and byte == ord('"'):
+            place = "quoted"
+        elif place == "quoted" and byte == ord('"'):
+            place = "after quote"
+        elif place == "quoted":
+            field.append(byte)
+        elif place == "after quote" and byte == ord('"'):
+            field.append(byte)
+            place = "quoted"
+        elif byte == ord(","):
+            record.append(bytes(field))
+            field.clear()
+            place = "field start"
+        elif byte in LINE_ENDS:
+            record.append(bytes(field))
+            field.clear()
+            records.append(record)
+            record = []
+            place = "line start"
+        else:
+            field.append(byte)
+            place = "unquoted"
+    if place != "line start":
+        record.append(bytes(field))
+        records.append(record)
+    return records
+
+
+# Logs from records
+
+
+def read_log(data):
+    """The log that the bytes spell, or its LogFault."""
+    records = csv_records(data)
+    if not records or records[0] not in (HEADER, SECOND_HEADER):
+        return LogFault(1, 1)
+    log = Log([], [], [])
+    record_of_row = []
+    for place, record in enumerate(records[1:], start=2):
+        fault = record_fault(log, records, place)
+        if fault:
+            return LogFault(fault, place)
+        add_record(log, record)
+        if record[0] in EVENT_KINDS:
+            record_of_row.append(place)
+    for row, place in zip(log.rows, record_of_row):
+        if row.act == b"recv" and row.name not in sent_names(log):
+            return LogFault(10, place)
+    return log if log.rows else LogFault(11, None)
+
+
+def record_fault(log, records, place):
+    """The number of the first test that the record of a place fails, or 0; the log is that of the records before."""
+    record = records[place - 1]
+    if len(record) != 4:
+        return 2
+    if record[0] not in (FIRST_KINDS if records[0] == HEADER else SECOND_KINDS):
+        return 3
+    if record[0] == b"host":
+        return host_fault(log, record)
+    if record[0] == b"resync":
+        return resync_fault(log, record)
+    if record[0] == b"latency":
+        return latency_fault(log, records[1 : place - 1], record)
+    return event_fault(log, record)
+
+
+def host_fault(log, record):
+    """The number of the first test that a host record fails, or 0."""
+    _, name, skew, gap = record
+    if not is_name(name) or name in KEPT_WORDS:
+        return 4
+    if host_number(log, name) is not None:
+        return 5
+    if len(log.hosts) >= HOST_LIMIT:
+        return 12
+    if number(skew, SKEW_GREATEST) is None or number(gap, SKEW_GREATEST) is None:
+        return 7
+    return 0
+
+
+def resync_fault(log, record):
+    """The number of the first test that a resync record fails, or 0."""
+    _, host, skew, gap = record
+    if host_number(log, host) is None:
+        return 6
+    if number(skew, SKEW_GREATEST) is None or number(gap, SKEW_GREATEST) is None:
+        return 7
+    return 0
+
+
+def latency_fault(log, before, record):
+    """The number of the first test that a latency record fails after the records before it, or 0."""
+    _, host, least, most = record
+    if host_number(log, host) is None:
+        return 6
+    if any(other[:2] == [b"latency", host] for other in before):
+        return 15
+    if not number(least, LATENCY_GREATEST):
+        return 7  # it isn't a number, or it is 0
+    if most == b"inf":
+        return 0
+    if number(most, LATENCY_GREATEST) is None:
+        return 7
+    return 16 if int(most) < int(least) else 0
+
+
+def event_fault(log, record):
+    """The number of the first test that an event record fails, or 0."""
+    kind, host, local, name = record
+    if host_number(log, host) is None:
+        return 6
+    if signed_number(local, LOCAL_GREATEST) is None:
+        return 7
+    if not is_name(name):
+        return 8
+    if kind == b"send" and name in sent_names(log):
+        return 9
+    if len(log.rows) >= ROW_LIMIT:
+        return 13
+    return 0
+
+
+def add_record(log, record):
+    """Adds what a record without fault says to the log of the records before it."""
+    kind, second, third, fourth = record
+    host = host_number(log, second)
+    if kind == b"host":
+        log.hosts.append(Host(second, int(third), int(fourth)))
+    elif kind == b"resync":
+        log.resyncs.append(Resync(len(log.rows), host, int(third), int(fourth)))
+    elif kind == b"latency":
+        most = None if fourth == b"inf" else int(fourth)
+        log.hosts[host] = log.hosts[host]._replace(least=int(third), most=most)
+    else:
+        log.rows.append(Row(host, int(third), kind, fourth))
+
+
+# The text of a log
+
+
+def log_text(log):
+    """The one text of a log: that of version 1 where it can say all, and else that of version 2."""
+    return b"".join(b",".join(record) + b"\n" for record in records_of(log))
+
+
+def records_of(log):
+    """The records of the text of a log, the header among them."""
+    hosts = [host_record(host) for host in log.hosts]
+    latencies = [latency_record(host) for host in log.hosts if has_latency(host)]
+    header = SECOND_HEADER if is_of_version_2(log) else HEADER
+    return [header, *hosts, *latencies, *rows_and_resyncs(log)]
+
+
+def is_of_version_2(log):
+    """Whether a log has what version 1 can't say."""
+    has_pulse = any(row.act == b"pulse" for row in log.rows)
+    return has_pulse or bool(log.resyncs) or any(map(has_latency, log.hosts))
+
+
+def has_latency(host):
+    """Whether more is said of the messages to a host than that they take at least 1."""
+    return (host.least, host.most) != (1, None)
+
+
+def host_record(host):
+    """The record that declares a host."""
+    return [b"host", host.name, b"%d" % host.skew, b"%d" % host.gap]
+
+
+def latency_record(host):
+    """The record of what messages to a host take."""
+    most = b"inf" if host.most is None else b"%d" % host.most
+    return [b"latency", host.name, b"%d" % host.least, most]
+
+
+def rows_and_resyncs(log):
+    """The records of the rows, each resync directly before the row that its place names, or last."""
+    for place in range(len(log.rows) + 1):
+        for resync in log.resyncs:
+            if resync.place == place:
+                name = log.hosts[resync.host].name
+                yield [b"resync", name, b"%d" % resync.skew, b"%d" % resync.gap]
+        for row in log.rows[place : place + 1]:
+            yield [row.act, log.hosts[row.host].name, b"%d" % row.local, row.name]
