@@ -13,6 +13,7 @@ sys.dont_write_bytecode = True  # leaves no compiled files beside the sources
 import derivations
 import formats
 import freshness
+import generate_logs
 import invent
 import logs
 import spend
@@ -136,6 +137,7 @@ def main():
     parser.add_argument("--cases", type=int, default=1000, help="number of searches that spend")
     parser.add_argument("--seed", type=int, default=1)
     arguments = parser.parse_args()
+    generate_logs.second_share = 0.4
     check_by_hand()
     check_searches(random.Random(arguments.seed), arguments.cases)
     print("all checks hold")

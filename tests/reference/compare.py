@@ -25,6 +25,7 @@ import generate
 import generate_logs
 import invent_reports
 import judge
+import pulse_cases
 import second_cases
 from tables import add_second
 
@@ -144,8 +145,10 @@ def is_kind(case, only):
 
 def fixed_cases():
     """The fixed cases, those on logs of version 2 among them where there may be such logs."""
-    second = second_cases.fixed_cases() if generate_logs.second_share else []
-    return [*cases.fixed_cases(), *check_cases.fixed_cases(), *second]
+    modules = [cases, check_cases]
+    if generate_logs.second_share:
+        modules += [second_cases, pulse_cases]
+    return [case for module in modules for case in module.fixed_cases()]
 
 
 def random_case(draw, only=None):

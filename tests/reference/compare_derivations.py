@@ -18,7 +18,10 @@ sys.dont_write_bytecode = True  # leaves no compiled files beside the sources
 import derivation_cases
 import derivations
 import edits
+import generate_logs
 import invent
+import pulse_cases
+import second_cases
 from tables import answer_lines, print_table, read_log_arguments
 
 SECTION = "derivations"  # of the tables
@@ -47,7 +50,10 @@ def head_of(log, formula, value):
 
 def fixed_questions():
     """The derivations with answers that are written out by hand."""
-    for place, case in enumerate(derivation_cases.fixed_cases()):
+    known = [*derivation_cases.fixed_cases()]
+    if generate_logs.second_share:
+        known += [*second_cases.fixed_derivations(), *pulse_cases.fixed_derivations()]
+    for place, case in enumerate(known):
         head = head_of(case.log, case.formula, case.value)
         yield Question(f"fixed case {place}", head, case.lines, case.answer)
 

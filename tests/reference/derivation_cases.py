@@ -60,7 +60,7 @@ OF_TRUE = [
     ("learn 2 +node 0 0 +gap 0 0 0 1 rule 3 0 0", "wrong 1"),
     ("learn 0 3 rule 3 0 1 rule 11 rule 24 0", "wrong 1"),
     ("learn 0 3 rule 0 rule 11 rule 24 0", "wrong 1"),
-    ("learn 0 3 rule 25 rule 11 rule 24 0", "wrong 1"),
+    ("learn 0 3 rule 29 rule 11 rule 24 0", "wrong 1"),
     ("learn 0 3 rule 255 rule 11 rule 24 0", "wrong 1"),
     ("learn 0 3 rule 9 0 0 rule 11 rule 24 0", "wrong 1"),
     # Lines that hints name
@@ -135,7 +135,7 @@ FAULTY = [
     ("learn 1 order 0 1 -0 1 rule 11\n", 1), ("learn 1 order 0 1 01 1 rule 11\n", 1),
     ("learn 1 order 1 0 1000000000000000000001 1 rule 11\n", 1),
     ("cycle 2 order 0 0 -1 order 0 0 -1\n", 1), ("cycle 1 lows 0\n", 1), ("cycle 1 low 01\n", 1),
-    ("learn 0 1 rule 256\n", 1), ("learn 0 1 rule 25 0\n", 1), ("learn 0 1 rule 11 0\n", 1),
+    ("learn 0 1 rule 256\n", 1), ("learn 0 1 rule 29 0\n", 1), ("learn 0 1 rule 11 0\n", 1),
     ("learn 0 1 rule 3 0\n", 1), ("learn 0 1 line\n", 1), ("learn 0 1 line 4294967296\n", 1),
     ("learn 0 1 line 01\n", 1), ("learn 0 1 hint 1\n", 1),
     ("learn 0 1 rule 11\nlearn 0 1 rule 11\ncycle 1 low\nlearn\n", 3),
@@ -144,7 +144,7 @@ FAULTY = [
 # The clauses and faults of rules of the formula true, the value false and one event.
 RULES_OF_TRUE = [
     ("3 0 0", "+node 0 0"), ("11", "+first 0"), ("24 0", "-first 0 -node 0 0"),
-    ("9 0 0", "TRIVIAL"), ("4 0 0", "KIND"), ("3 1 0", "RANGE"), ("25", "NO_RULE"),
+    ("9 0 0", "TRIVIAL"), ("4 0 0", "KIND"), ("3 1 0", "RANGE"), ("29", "NO_RULE"),
     ("10 0", "+first 0"), ("10 1", "RANGE"), ("24 1", "RANGE"), ("0", "NO_RULE"),
 ]
 

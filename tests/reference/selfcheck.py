@@ -26,6 +26,7 @@ import invent
 import judge
 import logs
 import meanings
+import pulse_cases
 import reference
 import second_cases
 from instances import instances
@@ -265,12 +266,12 @@ def core_truth(log, times, node, place):
         return True
     if kind == "prop":
         rows = [
-            row
+            (time, row.act)
             for row, time in zip(log.rows, times)
-            if time <= instants[place] and row.act in (b"set", b"clear")
-            and (log.hosts[row.host].name, row.name) == node[1:]
+            if time <= instants[place] and (log.hosts[row.host].name, row.name) == node[1:]
         ]
-        return bool(rows) and rows[-1].act == b"set"
+        changes = [act for _, act in rows if act in (b"set", b"clear")]
+        return changes[-1:] == [b"set"] or (instants[place], b"pulse") in rows
     if kind == "not":
         return not core_truth(log, times, node[1], place)
     if kind == "and":
@@ -465,11 +466,13 @@ def clause_text(clause):
 def check_fixed_derivations():
     """The second checker gives the answers and clauses that are written out by hand."""
     count = 0
-    for case in [*derivation_cases.fixed_cases(), *second_cases.fixed_derivations()]:
+    for case in itertools.chain(
+        derivation_cases.fixed_cases(), second_cases.fixed_derivations(), pulse_cases.fixed_derivations()
+    ):
         found = derivations.answer(problem_of(case), case.lines)
         check(found == case.answer, case, found)
         count += 1
-    for case in derivation_cases.fixed_rules():
+    for case in [*derivation_cases.fixed_rules(), *pulse_cases.fixed_rules()]:
         number, *arguments = map(int, case.rule.split())
         rule = derivations.Rule(number, tuple(arguments))
         found = clause_text(derivations.clause_of(problem_of(case), rule))

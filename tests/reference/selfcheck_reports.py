@@ -14,13 +14,16 @@ sys.dont_write_bytecode = True  # leaves no compiled files beside the sources
 
 import check_cases
 import derivations
+import generate_logs
 import invent
 import invent_reports
 import judge
 import meanings
 import program
+import pulse_cases
 import reference
 import reports
+import second_cases
 from derivations import Step
 from invent_reports import Question
 from reports import Inconsistent, Refuted, SyntaxFault, Unknown, Verdicts, Witness
@@ -38,7 +41,9 @@ def check_fixed_cases(draw):
     Where any right report will do, one is made by the search of invent.py.
     """
     count = 0
-    for case in check_cases.fixed_cases():
+    for case in itertools.chain(
+        check_cases.fixed_cases(), second_cases.checks(), second_cases.audits(), pulse_cases.fixed_cases()
+    ):
         outputs = case.outputs if case.pattern is None else own_outputs(draw, case)
         for output in outputs:
             found = judge.complaint(case.words, case.files, output, case.status)
@@ -363,6 +368,7 @@ def main():
     parser = argparse.ArgumentParser(description="check the reference's reading of reports")
     parser.add_argument("--seed", type=int, default=1)
     draw = random.Random(parser.parse_args().seed)
+    generate_logs.second_share = 0.4
     check_fixed_cases(draw)
     check_words()
     check_places()
