@@ -1,20 +1,24 @@
 """Makes a log of skewcheck from lines of JSON, one for each event of a service.
 
-Run as: python3 from_jsonl.py EVENTS --skew S [--only ID]..
+Run as: python3 from_jsonl.py EVENTS --skew S [--tracking FILE] [--only ID]..
 
 A line has the fields `time`, as 2023-11-14T22:13:30.003Z, `service`, `thread`, `event` and `request`, and
 others are left out. Times become milliseconds. Each thread is a host, in the order of its lines. What
 an event becomes is the table EVENTS, which is to be changed for other services; an event that isn't in it
-becomes a note. With --only, which may be given again, lines of other requests are left out.
+becomes a note. With --only, which may be given again, lines of other requests are left out. With a tracking log of
+chrony the skew is what a stamp may be off beside the clock (stamps.py).
 """
 
 import argparse
 import json
 import re
-from datetime import datetime, timedelta, timezone
+import sys
+
+sys.dont_write_bytecode = True  # leaves no compiled files beside the sources
+
+from stamps import Row, add_options, milliseconds, print_records
 
 ID_BYTES = 12  # of a request's id that are kept: a name has 32 bytes at most, and the id alone has 32
-BEGINNING = datetime(1970, 1, 1, tzinfo=timezone.utc)
 
 # The rows that an event becomes: their kinds and names, R being the request.
 EVENTS = {
@@ -22,12 +26,6 @@ EVENTS = {
     "done": (("clear", "works"), ("set", "done")),
     "answered": (("send", "R_back"),),
 }
-
-
-def milliseconds(text):
-    """A time in milliseconds since 1970; what is below a millisecond is cut off."""
-    moment = datetime.fromisoformat(text.replace("Z", "+00:00"))
-    return (moment - BEGINNING) // timedelta(milliseconds=1)
 
 
 def name_of(text):
@@ -42,27 +40,23 @@ def host_of(event):
 
 def rows_of(event):
     """The rows of an event."""
-    request = "r" + event["request"][:ID_BYTES]
+    request, time = "r" + event["request"][:ID_BYTES], milliseconds(event["time"])
     for kind, name in EVENTS.get(event["event"], (("note", name_of(event["event"])),)):
-        yield f"{kind},{host_of(event)},{milliseconds(event['time'])},{name.replace('R', request)}"
+        yield Row(kind, host_of(event), time, name.replace("R", request))
 
 
 def main():
     """Prints the log."""
     parser = argparse.ArgumentParser(description="make a log of skewcheck from lines of JSON")
     parser.add_argument("events")
-    parser.add_argument("--skew", type=int, required=True, help="milliseconds that a stamp may be off")
+    add_options(parser)
     parser.add_argument("--only", action="append", metavar="ID", help="keep this request")
     arguments = parser.parse_args()
     with open(arguments.events, encoding="utf-8") as file:
         events = [json.loads(line) for line in file]
     if arguments.only:
         events = [event for event in events if event["request"] in arguments.only]
-    print("kind,host,time,name")
-    for host in dict.fromkeys(map(host_of, events)):
-        print(f"host,{host},{arguments.skew},0")
-    for event in events:
-        print(*rows_of(event), sep="\n")
+    print_records([row for event in events for row in rows_of(event)], arguments)
 
 
 if __name__ == "__main__":

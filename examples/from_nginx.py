@@ -1,6 +1,6 @@
 """Makes a log of skewcheck from an access log of nginx.
 
-Run as: python3 from_nginx.py ACCESS_LOG --skew S [--only ID]..
+Run as: python3 from_nginx.py ACCESS_LOG --skew S [--tracking FILE] [--only ID]..
 
 Each line of ACCESS_LOG is `$msec $request_time $request_id`, which this line in the configuration writes:
 
@@ -8,12 +8,17 @@ Each line of ACCESS_LOG is `$msec $request_time $request_id`, which this line in
 
 Times are in milliseconds. A request is two moments: it began, and it was answered. Requests that overlap are
 put on hosts of their own, web_1, web_2 and so on, since nothing is known of the order of their rows. With
---only, which may be given again, the other requests are left out, whatever their times.
+--only, which may be given again, the other requests are left out, whatever their times. With a tracking log of chrony
+the skew is what a stamp may be off beside the clock (stamps.py).
 """
 
 import argparse
 import sys
 from typing import NamedTuple
+
+sys.dont_write_bytecode = True  # leaves no compiled files beside the sources
+
+from stamps import Row, add_options, print_records
 
 ID_BYTES = 12  # of a request's id that are kept: a name has 32 bytes at most, and the id alone has 32
 
@@ -51,17 +56,17 @@ def lanes_of(requests):
 def rows_of(lane, request):
     """The rows of a request: it is handed on when it begins, and comes back with another message."""
     host, name = f"web_{lane}", f"r{request.id}"
-    yield f"set,{host},{request.began},asked"
-    yield f"send,{host},{request.began},{name}_go"
-    yield f"recv,{host},{request.ended},{name}_back"
-    yield f"clear,{host},{request.ended},asked"
+    yield Row("set", host, request.began, "asked")
+    yield Row("send", host, request.began, f"{name}_go")
+    yield Row("recv", host, request.ended, f"{name}_back")
+    yield Row("clear", host, request.ended, "asked")
 
 
 def main():
     """Prints the log."""
     parser = argparse.ArgumentParser(description="make a log of skewcheck from an access log of nginx")
     parser.add_argument("access_log")
-    parser.add_argument("--skew", type=int, required=True, help="milliseconds that a stamp may be off")
+    add_options(parser)
     parser.add_argument("--only", action="append", metavar="ID", help="keep this request")
     arguments = parser.parse_args()
     with open(arguments.access_log, encoding="ascii") as file:
@@ -70,11 +75,7 @@ def main():
         sys.exit(f"two requests have the same first {ID_BYTES} bytes of their ids")
     kept = [request[:ID_BYTES] for request in arguments.only or []]
     placed = list(lanes_of(request for request in requests if not kept or request.id in kept))
-    print("kind,host,time,name")
-    for lane in sorted({lane for lane, _ in placed}):
-        print(f"host,web_{lane},{arguments.skew},0")
-    for lane, request in placed:
-        print(*rows_of(lane, request), sep="\n")
+    print_records([row for lane, request in placed for row in rows_of(lane, request)], arguments)
 
 
 if __name__ == "__main__":
