@@ -48,6 +48,7 @@ def steady_log(draw):
     hosts = some_hosts(draw)
     names = some_names(draw)
     second = is_second(draw)
+    kinds = EVENT_KINDS + [b"send", b"recv", b"recv", b"recv"] * 2 if second and chance(draw, 0.6) else EVENT_KINDS
     moment = draw.choice(BASES)
     clocks = list(hosts)  # what tells the skew and the gap of each host from here on
     last, sent, delays, items = {}, [], {}, []
@@ -60,7 +61,7 @@ def steady_log(draw):
         if host in last:
             moment = max(moment, last[host] + clocks[host].gap)
         last[host] = moment
-        act, name = steady_act(draw, names, sent, moment)
+        act, name = steady_act(draw, kinds, names, sent, moment)
         if act == b"recv":
             delays.setdefault(host, []).append(moment - dict(sent)[name])
         if second and logs.PULSES and act in (b"set", b"clear") and chance(draw, 0.4):
@@ -104,9 +105,9 @@ def some_names(draw):
     return draw.choices(EVENT_NAMES, k=draw.choice((1, 1, 2, 3)))
 
 
-def steady_act(draw, names, sent, moment):
-    """An act and its name; a receive is later than its send, which is added to those sent."""
-    act = draw.choice(EVENT_KINDS)
+def steady_act(draw, kinds, names, sent, moment):
+    """An act of some kind and its name; a receive is later than its send, which is added to those sent."""
+    act = draw.choice(kinds)
     if act == b"recv":
         earlier = [name for name, sending in sent if sending < moment]
         return (act, draw.choice(earlier)) if earlier else (b"note", b"n")

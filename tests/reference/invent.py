@@ -39,7 +39,7 @@ def small_log(draw):
     hosts = [small_clock(draw, host) for host in log.hosts]
     count = draw.choice((1, 2, 2, 3, 3, 3, 4, 4, ROWS_MOST))
     rows = [without_message(draw, row) for row in log.rows[:count]]
-    if len(rows) > 1 and chance(draw, 0.4):
+    if len(rows) > 1 and chance(draw, 0.8 if logs.is_of_version_2(log) else 0.4):
         send, receive = draw.sample(range(len(rows)), 2)
         rows[send] = Row(rows[send].host, rows[send].local, b"send", b"m")
         rows[receive] = Row(rows[receive].host, rows[receive].local, b"recv", b"m")
