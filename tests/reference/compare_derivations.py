@@ -22,7 +22,7 @@ import generate_logs
 import invent
 import pulse_cases
 import second_cases
-from tables import answer_lines, print_table, read_log_arguments
+from tables import answer_lines, print_table, read_log_arguments, table_of
 
 SECTION = "derivations"  # of the tables
 TABLE_MOST = 250_000  # bytes of one table, well below what the program takes
@@ -97,7 +97,7 @@ def tables(questions):
 
 def answers_of(program, table):
     """The answers of the program to a table, of which there may be too few."""
-    lines = answer_lines(program, SECTION, table)
+    lines = answer_lines(program, table_of(SECTION, table))
     return [line for line in lines if line[:1] not in ("=", "?")]
 
 
@@ -120,7 +120,7 @@ def compare_all(program, questions):
 def print_difference(question, answer):
     """Prints a question as a table of its own, with both answers."""
     print(f"difference: {question.title}: {question.answer} is expected, and {answer} came")
-    print_table(SECTION, question.head + question.table())
+    print_table(table_of(SECTION, question.head + question.table()))
 
 
 def main():

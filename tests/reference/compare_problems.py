@@ -27,7 +27,7 @@ import reference
 from compare_derivations import head_of
 from derivations import Literal, Problem
 from generate_logs import chance
-from tables import answer_lines, print_table, read_log_arguments
+from tables import answer_lines, print_table, read_log_arguments, table_of
 
 SECTION = "problems"  # of the tables
 PROBLEMS_A_TABLE = 20
@@ -151,7 +151,7 @@ def variable_of(word):
 def answers_of(program, section, table):
     """The lines of each answer of the program to a section, by the name of the question."""
     answers, lines = {}, []
-    for line in answer_lines(program, section, table):
+    for line in answer_lines(program, table_of(section, table)):
         if line[:1] == "?":
             lines = answers.setdefault(line[1:], [])
         elif line[:1] != "=":
@@ -368,7 +368,7 @@ def compare_all(program, asked):
 def print_difference(question, found):
     """Prints a question as a table of its own, with what is wrong."""
     print(f"difference: {question.title}: {found}")
-    print_table(SECTION, question.table())
+    print_table(table_of(SECTION, question.table()))
 
 
 def main():

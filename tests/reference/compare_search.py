@@ -25,7 +25,7 @@ import meanings
 from compare_derivations import head_of
 from compare_problems import answers_of
 from generate_logs import chance
-from tables import print_table, read_log_arguments
+from tables import print_table, read_log_arguments, table_of
 
 SECTION = "searches"  # of the tables
 SEARCHES_A_TABLE = 20
@@ -97,7 +97,7 @@ def compare_all(program, asked):
 def print_difference(question, answer):
     """Prints a question as a table of its own, with the answer that came."""
     print(f"difference: {question.title}: {answer}, not {' or '.join(question.allowed())}")
-    print_table(SECTION, question.table())
+    print_table(table_of(SECTION, question.table()))
 
 
 def main():

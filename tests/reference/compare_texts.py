@@ -19,7 +19,7 @@ import logs
 from generate_logs import chance
 from tables import answer_lines, print_table, read_log_arguments
 
-SECTION = "logs"  # of the tables
+HEADING = b"[logs\n"  # of the tables
 FILES_A_TABLE = 20
 SHARE_BROKEN = 0.4
 PLAIN = b"abcdefghijklmnopqrstuvwxyzABCDEFGHIJKLMNOPQRSTUVWXYZ0123456789_-,"
@@ -56,10 +56,15 @@ def questions(seed, count):
         yield Question(f"log {number} of seed {seed}", generate_logs.log_file(draw, log, SHARE_BROKEN))
 
 
+def table_of(asked):
+    """The table of questions."""
+    return HEADING + b"".join(question.lines() for question in asked)
+
+
 def answers(program, asked):
     """What the program answers to questions: the last answer to each file, without the words of a fault."""
     found = []
-    for line in answer_lines(program, SECTION, b"".join(question.lines() for question in asked)):
+    for line in answer_lines(program, table_of(asked)):
         if line.startswith("=read"):
             found.append("nothing")
         elif line.startswith("  "):
@@ -73,7 +78,7 @@ def is_right(program, asked):
     for question, answer in zip(asked, answers(program, asked) + ["nothing"] * len(asked)):
         if answer != question.answer():
             print(f"difference: {question.title}: {question.answer()} is expected, and {answer} came")
-            print_table(SECTION, question.lines())
+            print_table(table_of([question]))
             return False
     return True
 

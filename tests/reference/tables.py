@@ -13,9 +13,8 @@ def table_of(section, lines):
     return b"[%s]\n" % section.encode() + lines
 
 
-def answer_lines(program, section, lines):
-    """What the program answers to the lines of a section, of which there may be too few lines."""
-    table = table_of(section, lines)
+def answer_lines(program, table):
+    """What the program answers to a table, of which there may be too few lines."""
     done = subprocess.run([program], input=table, capture_output=True, timeout=PATIENCE)
     if done.returncode or done.stderr:
         print(f"the program ended with {done.returncode} and wrote {done.stderr!r}")
@@ -23,10 +22,10 @@ def answer_lines(program, section, lines):
     return [line for line in answers if line[:1] != "["]
 
 
-def print_table(section, lines):
-    """Prints a table of one section, ready to copy."""
+def print_table(table):
+    """Prints a table, ready to copy."""
     print("table = (")
-    for line in table_of(section, lines).splitlines(keepends=True):
+    for line in table.splitlines(keepends=True):
         print(f"    {line!r}")
     print(")", flush=True)
 
