@@ -53,9 +53,9 @@ def steady_log(draw):
     clocks = list(hosts)  # what tells the skew and the gap of each host from here on
     last, sent, delays, items = {}, [], {}, []
     for _ in range(draw.choice((1, 2, 3, 4, 4, 5, 5, 6, 6, 7, 7))):
-        while second and chance(draw, 0.2):
-            items.append(some_resync(draw, hosts))
-            clocks[items[-1].host] = items[-1]
+        for resync in some_resyncs(draw, hosts) if second else ():
+            clocks[resync.host] = resync
+            items.append(resync)
         host = draw.randrange(len(hosts))
         moment += draw.randint(0, 3)
         if host in last:
@@ -72,6 +72,12 @@ def steady_log(draw):
         hosts = [with_latency(draw, host, delays.get(place, [])) for place, host in enumerate(hosts)]
         items += [some_resync(draw, hosts) for _ in range(draw.choice((0, 0, 1)))]
     return log_of(hosts, merged(draw, items) if chance(draw, 0.6) else items)
+
+
+def some_resyncs(draw, hosts):
+    """No resync, mostly, or some on end."""
+    while chance(draw, 0.2):
+        yield some_resync(draw, hosts)
 
 
 def some_resync(draw, hosts):
