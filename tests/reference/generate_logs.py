@@ -246,7 +246,7 @@ def broken_records(draw, records):
     records = [list(record) for record in records]
     edits = [change_width, change_header, repeat_record, move_record]
     if any(record[0] in (b"latency", b"resync") for record in records):
-        edits += [break_second] * 5
+        edits += [break_second] * 10
     edit = draw.choice([change_field] * 5 + [change_quotes] * 2 + edits)
     edit(draw, records)
     return records
@@ -328,22 +328,31 @@ def change_header(draw, records):
 
 def break_second(draw, records):
     """Breaks a latency or a resync: its host, its numbers or their order, or it stands twice or too early."""
-    places = [place for place, record in enumerate(records) if record[0] in (b"latency", b"resync")]
-    place = draw.choice(places)
+    kinds = [kind for kind in (b"latency", b"latency", b"resync") if any(record[0] == kind for record in records)]
+    kind = draw.choice(kinds)
+    place = draw.choice([place for place, record in enumerate(records) if record[0] == kind])
     record = records[place]
-    choice = draw.randrange(6)
+    choice = draw.randrange(7)
     if choice == 0:
         record[1] = draw.choice((b"zz", b"", b"A", b"true"))
     elif choice == 1:
         record[2:] = reversed(record[2:])
-    elif choice == 2:
-        record[draw.choice((2, 3))] = draw.choice((b"0", b"1", b"inf", b"-1", b"%d" % GREATEST, b"%d" % (GREATEST + 1)))
-    elif choice == 3:
-        records.insert(draw.randint(place + 1, len(records)), list(record))
+    elif choice in (2, 3):
+        change_bound(draw, record)
     elif choice == 4:
+        records.insert(draw.randint(place + 1, len(records)), list(record))
+        if chance(draw, 0.5):
+            change_bound(draw, draw.choice((record, records[place + 1])))
+    elif choice == 5:
         record[0] = draw.choice((b"latency", b"resync", b"host", b"set", b"pulse"))
     else:
         records.insert(draw.randint(1, place), records.pop(place))
+
+
+def change_bound(draw, record):
+    """Puts another number, or something else, into one of the last two fields of a record."""
+    others = (b"0", b"0", b"1", b"2", b"inf", b"Inf", b"-1", b"", b"%d" % GREATEST, b"%d" % (GREATEST + 1))
+    record[draw.choice((2, 3))] = draw.choice(others)
 
 
 def repeat_record(draw, records):
