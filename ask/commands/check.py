@@ -1,0 +1,261 @@
+"""`ask check`: the verdict in a sentence, warnings, the timings side by side, and what a refutation rests on."""
+
+from __future__ import annotations
+
+import argparse
+from typing import Any, Dict, List, Optional, Sequence
+
+from ask import explain
+from ask.cautions import KINDS, Caution, cautions_of
+from ask.formulas import Tree, propositions
+from ask.logs import Log
+from ask.nearer import brought_nearer
+from ask.program import Program, Run, Stopped, find_program
+from ask.question import (
+    VERDICTS, Question, accepted_log, accepted_tree, answered, formula_source, report_of_run, run_facts,
+    shown_formula, text_of_source,
+)
+from ask.reports import Report, Section, Step, bounds_used
+from ask.texts import Source, Trouble, read_source
+from ask.words import Answer, bold, counted, grouped, signed, step_words, table, walk_words, yellow
+
+WARNED = 65  # the status where --strict makes an error of a warning
+FEW_CONFLICTS = 100  # what is tried where a run was stopped
+MOST_ROWS_SHOWN = 40
+MOST_BOUNDS_SHOWN = 8
+SPREAD_NOTE = "a skew is a range for each row by itself, and no offset of the clock"
+
+
+def add_words(commands: argparse._SubParsersAction, common: argparse.ArgumentParser) -> None:
+    """Adds the words of the command."""
+    words = commands.add_parser(
+        "check", parents=[common], allow_abbrev=False, help="the verdict on a formula and a log, in words",
+        description="The verdict on a formula and a log in a sentence, warnings, the timings that show it, and why.",
+    )
+    words.add_argument("formula", metavar="FORMULA", help="a file, or the formula itself")
+    words.add_argument("log", metavar="LOG")
+    words.add_argument("--conflicts", metavar="N", help="of the search for each value, as for the program")
+    words.add_argument("--strict", action="store_true", help="end with 65 where there is a warning")
+    words.add_argument("--strict-for", action="append", choices=KINDS, default=[], help="the same for one kind of warning")
+    words.add_argument("--as-found", action="store_true", help="show the program's own timings, not brought nearer to the stamps")
+    words.add_argument("--all", action="store_true", help="show all rows, and all bounds that a refutation rests on")
+    words.add_argument("--runs", action="store_true", help="name all runs of the program")
+    words.set_defaults(do=do)
+
+
+def do(arguments: argparse.Namespace) -> Answer:
+    """The answer of the command."""
+    options = ["--conflicts", arguments.conflicts] if arguments.conflicts else []
+    program = Program(find_program(arguments.program), arguments.seconds)
+    question = Question(program, formula_source(arguments.formula), read_source(arguments.log), options)
+    refuse_wrong_conflicts(arguments.conflicts)
+    notes: List[str] = []
+    try:
+        run = answered(question.check(), question)
+    except Stopped:
+        run = with_few_conflicts(question, notes)
+    return Reading(question, run, notes, arguments).answer()
+
+
+def refuse_wrong_conflicts(text: Optional[str]) -> None:
+    """Refuses a number of conflicts that the program doesn't take."""
+    if text is not None and not (text.isascii() and text.isdigit() and 1 <= int(text[:8]) <= 10**6 and text[0] != "0"):
+        raise Trouble(64, f"--conflicts is a number from 1 to 1,000,000, and not {text!r}")
+
+
+def with_few_conflicts(question: Question, notes: List[str]) -> Run:
+    """What a search with few conflicts found, where the whole one was stopped."""
+    question.options = ["--conflicts", str(FEW_CONFLICTS)]
+    seconds = question.program.seconds
+    notes.append(f"The check was stopped after {seconds:g} seconds. This is what {FEW_CONFLICTS} conflicts found; "
+                 f"--seconds and --conflicts set other limits.")
+    return answered(question.check(), question)
+
+
+class Reading:
+    """A run of `check`, and what is said of it."""
+
+    def __init__(self, question: Question, run: Run, notes: List[str], arguments: argparse.Namespace):
+        self.question, self.run, self.notes, self.arguments = question, run, notes, arguments
+        self.log = accepted_log(question.log_source)
+        self.tree = accepted_tree(question.formula)
+        self.report = report_of_run(run)
+        self.lines: List[str] = []
+        self.facts: Dict[str, Any] = {}
+
+    def answer(self) -> Answer:
+        """The answer: its sections one after another."""
+        warnings = [] if self.run.status == 3 else cautions_of(self.question, self.log, self.tree, self.run.status)
+        self.say_verdict()
+        self.say_warnings(warnings)
+        self.say_contradiction()
+        self.say_stamps()
+        timings = self.timings()
+        self.say_timings(timings)
+        self.say_positions(timings)
+        self.say_grounds()
+        self.say_runs()
+        strict = [w for w in warnings if self.arguments.strict or w.kind in self.arguments.strict_for]
+        return Answer(WARNED if strict else self.run.status, self.lines, self.facts)
+
+    # The verdict
+
+    def say_verdict(self) -> None:
+        formula, log = shown_formula(self.question.formula), self.question.log_source.name
+        self.lines += [*self.notes, bold(verdict_words(self.run.status, formula, log, self.report, self.question.options))]
+        self.facts.update(
+            verdict=VERDICTS[self.run.status], check_status=self.run.status, formula=formula, log=log, notes=self.notes,
+        )
+
+    def say_warnings(self, warnings: Sequence[Caution]) -> None:
+        self.facts["warnings"] = [w._asdict() for w in warnings]
+        for warning in warnings:
+            by = f" [{warning.run}]" if warning.run else ""
+            self.lines.append(yellow(f"Warning ({warning.kind}): {warning.sentence}.{by}"))
+
+    def say_stamps(self) -> None:
+        """The value on the stamps as they are written, or the first bound that they break."""
+        stamps = self.log.stamps()
+        run = self.question.replay(text_of_source(self.question.formula), stamps)
+        if run.status in (0, 1):
+            word = "true" if run.status == 0 else "false"
+            self.facts["as_stamped"] = {"value": word}
+            self.lines.append(f"With every row at its stamp it is {word}. [replay]")
+        elif run.status == 6:
+            kind, number = run.line().split(" ")[2:4]
+            broken = step_words(self.log, Step(kind, (int(number),)))
+            self.facts["as_stamped"] = {"value": None, "broken": f"{kind} {number}", "sentence": broken}
+            self.lines.append(f"The stamps themselves are no admissible timing: {broken}. [replay]")
+
+    # Timings
+
+    def timings(self) -> Dict[bool, List[int]]:
+        """The timings that the report has, brought nearer to the stamps unless they are wanted as found."""
+        found = {v: s.times for v, s in self.report.sections.items() if s.kind == "witness"}
+        if self.arguments.as_found:
+            return found
+        nearer = {}
+        for value, times in found.items():
+            try:
+                nearer[value] = brought_nearer(self.question, self.log, times, value)
+            except Stopped:
+                nearer[value] = times
+        return nearer
+
+    def say_timings(self, timings: Dict[bool, List[int]]) -> None:
+        """The timings side by side, a line a row."""
+        self.facts["timings"] = {str(value).lower(): times for value, times in timings.items()}
+        if not timings:
+            return
+        shown = self.rows_shown()
+        heads = ["line", "host", "row", "stamp"]
+        for value in timings:
+            heads += ["shift", f"{'true' if value else 'false'} at"]
+        heads.append("")
+        rows = [self.cells(event, timings) for event in shown]
+        by = "found by check" if self.arguments.as_found else "found by check, and brought nearer to the stamps by replay"
+        title = "Timings that make it true and false" if len(timings) == 2 else f"A timing that makes it {'true' if True in timings else 'false'}"
+        self.lines += ["", f"{title} ({by}):", *table(heads, rows, left=(1, 2, len(heads) - 1))]
+        if len(shown) < len(self.log.rows):
+            rest = len(self.log.rows) - len(shown)
+            self.lines.append(f"  {counted(rest, 'row')} left out, which neither shift nor change what the formula names; --all shows all")
+        if any("both" in row[-1] for row in rows):
+            self.lines.append("  both: a row that isn't at its stamp in either timing")
+        self.say_spreads(timings)
+
+    def cells(self, event: int, timings: Dict[bool, List[int]]) -> List[str]:
+        """The line of a row in the table of timings."""
+        row = self.log.rows[event]
+        cells = [str(row.line), self.log.host_of(event), f"{row.kind} {row.name}", str(row.stamp)]
+        shifts = [times[event] - row.stamp for times in timings.values()]
+        for shift in shifts:
+            cells += [signed(shift), str(row.stamp + shift)]
+        return cells + ["both" if len(shifts) == 2 and all(shifts) else ""]
+
+    def rows_shown(self) -> List[int]:
+        """All rows of a short log; of a long one those that the formula names or that are shifted."""
+        events = range(len(self.log.rows))
+        if self.arguments.all or len(events) <= MOST_ROWS_SHOWN:
+            return list(events)
+        named = {(self.log.host_numbered(part.host), part.name) for part in propositions(self.tree)}
+        return [event for event in events if (self.log.rows[event].host, self.log.rows[event].name) in named][:200]
+
+    def say_spreads(self, timings: Dict[bool, List[int]]) -> None:
+        """That rows of one host are shifted by different amounts, which an offset couldn't do."""
+        for value, times in timings.items():
+            for number, host in enumerate(self.log.hosts):
+                shifts = {t - r.stamp for t, r in zip(times, self.log.rows) if r.host == number}
+                if min(shifts, default=0) < 0 < max(shifts, default=0):
+                    word = "true" if value else "false"
+                    note = f"In the timing that makes it {word}, rows of {host.name} are shifted to both sides: {SPREAD_NOTE}."
+                    self.facts.setdefault("remarks", []).append(note)
+                    self.lines.append(f"  {note}")
+
+    # Positions
+
+    def say_positions(self, timings: Dict[bool, List[int]]) -> None:
+        """Where on each timing the formula gets its value."""
+        self.facts["positions"] = {}
+        for value, times in timings.items():
+            try:
+                timing = explain.Timing(self.question, self.log, times)
+                lines = explain.explained(timing, self.tree, value) + explain.vanished_words(timing, self.tree)
+            except (Trouble, Stopped):
+                continue  # a part of the formula was refused, or took too long: the table stands without it
+            if lines:
+                word = "true" if value else "false"
+                self.facts["positions"][word] = lines
+                self.lines += ["", f"Why it is {word} there [replay]:", *(f"  {line}." for line in lines)]
+
+    # Grounds
+
+    def say_contradiction(self) -> None:
+        """The bounds that exclude every timing."""
+        if self.report.walk is not None:
+            self.lines += walk_words(self.log, self.report.walk)
+            self.facts["contradiction"] = [step_words(self.log, step) for step in self.report.walk]
+
+    def say_grounds(self) -> None:
+        """What a refutation rests on."""
+        for value, section in self.report.sections.items():
+            if section.kind == "refuted":
+                self.say_refutation(value, section)
+
+    def say_refutation(self, value: bool, section: Section) -> None:
+        word = "true" if value else "false"
+        used = bounds_used(section)
+        self.facts["rests_on"] = [
+            {"bound": f"{step.kind} {step.numbers[0]}", "uses": uses, "sentence": step_words(self.log, step)}
+            for step, uses in used
+        ]
+        if not used:
+            self.lines += ["", f"It can't be {word} by its form alone: no bound of the log is used."]
+            return
+        shown = used if self.arguments.all else used[:MOST_BOUNDS_SHOWN]
+        self.lines += ["", f"Why it can't be {word}: the {counted(section.lines, 'line')} of the derivation rest on"]
+        self.lines += [f"  {step_words(self.log, step)} ({uses}x)" if uses > 1 else f"  {step_words(self.log, step)}" for step, uses in shown]
+        if len(shown) < len(used):
+            self.lines.append(f"  and {counted(len(used) - len(shown), 'bound')} more; --all shows all")
+
+    def say_runs(self) -> None:
+        runs = self.question.program.runs
+        self.facts["runs"] = run_facts(runs)
+        if self.arguments.runs:
+            self.lines += ["", f"{counted(len(runs), 'run')} of the program:"]
+            self.lines += [f"  {run.words} -> {run.status}" for run in runs]
+
+
+def verdict_words(status: int, formula: str, log: str, report: Report, options: Sequence[str]) -> str:
+    """The verdict in a sentence."""
+    if status == 0:
+        return f"True: {formula} is true by every timing that {log} admits."
+    if status == 1:
+        return f"False: {formula} is false by every timing that {log} admits."
+    if status == 2:
+        return f"Either: {formula} is true by some timings that {log} admits and false by others. The log doesn't tell."
+    if status == 3:
+        return f"No timing: {log} admits none, since these bounds contradict each other."
+    found = "true" if report.sections[True].kind == "witness" else "false"
+    other = "false" if found == "true" else "true"
+    limit = grouped(int(options[1])) if options else "200,000"
+    return f"Unknown: {formula} can be {found}, and whether it can be {other} wasn't found within {limit} conflicts."

@@ -1,0 +1,2 @@
+def add_words(commands, common):
+    pass

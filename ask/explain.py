@@ -1,0 +1,207 @@
+"""Where on a timing a formula holds or fails: each step is asked of the program by `replay`."""
+
+from __future__ import annotations
+
+from dataclasses import dataclass
+from typing import Callable, List, Optional, Sequence
+
+from ask.formulas import NO_BOUND, Tree, interval_text, propositions, text_of
+from ask.logs import Log
+from ask.question import Question
+from ask.words import lines_words
+
+DEEPEST = 8  # parts within parts that are explained
+
+
+@dataclass
+class Timing:
+    """An admissible timing of a question, with the runs that ask for truth at its positions."""
+
+    question: Question
+    log: Log
+    times: Sequence[int]
+
+    def __post_init__(self) -> None:
+        self.positions = sorted(set(self.times))
+
+    def holds(self, text: str, place: int) -> bool:
+        """Whether a text is true at a position."""
+        distance = self.positions[place] - self.positions[0]
+        return self.question.is_true(f"F[{distance},{distance}] ({text})" if place else text, self.times)
+
+    def place_words(self, place: int) -> str:
+        """A position as sentences name it."""
+        moment = self.positions[place]
+        events = [event for event, time in enumerate(self.times) if time == moment]
+        rows = [self.log.rows[event] for event in events]
+        shown = [f"{self.log.host_of(event)} {row.kind} {row.name}" for event, row in zip(events, rows)]
+        return f"at {moment} ({lines_words(self.log, events)}: {', '.join(shown[:4])}{', ..' if len(shown) > 4 else ''})"
+
+    def least_place(self, place: int, is_there: Callable[[int], bool], is_forward: bool = True) -> int:
+        """The nearest position from a place on, forward or back, up to which something is; some position is such."""
+        distances = range(0, len(self.positions) - place if is_forward else place + 1)
+        low, high = 0, len(distances) - 1
+        while low < high:
+            middle = (low + high) // 2
+            if is_there(place + middle if is_forward else place - middle):
+                high = middle
+            else:
+                low = middle + 1
+        return place + low if is_forward else place - low
+
+
+def explained(timing: Timing, tree: Tree, value: bool) -> List[str]:
+    """Sentences on why a formula has its value at the first position of a timing."""
+    return list(steps(timing, tree, 0, value, 0))
+
+
+def steps(timing: Timing, tree: Tree, place: int, value: bool, depth: int) -> List[str]:
+    """Sentences on why a part has its value at a position."""
+    if depth >= DEEPEST or not tree.parts:
+        return state_words(timing, tree, place, value)
+    if tree.form == "!":
+        return steps(timing, tree.parts[0], place, not value, depth + 1)
+    if tree.form in ("&", "|", "->"):
+        return steps_of_connective(timing, tree, place, value, depth)
+    if tree.form in ("F", "O") and value or tree.form in ("G", "H") and not value:
+        return steps_of_some(timing, tree, place, depth)
+    if tree.form in ("F", "O", "G", "H"):
+        return steps_of_all(timing, tree, place, value)
+    return steps_of_until(timing, tree, place, value, depth)
+
+
+def state_words(timing: Timing, tree: Tree, place: int, value: bool) -> List[str]:
+    """That a proposition has its value, and since which row."""
+    if tree.form != "prop":
+        return []
+    host = timing.log.host_numbered(tree.host)
+    moment = timing.positions[place]
+    changes = [
+        event for event, row in enumerate(timing.log.rows)
+        if row.host == host and row.name == tree.name and row.kind in ("set", "clear") and timing.times[event] <= moment
+    ]
+    since = f"since {lines_words(timing.log, changes[-1:])}" if changes else "as no row before has set it"
+    return [f"{tree.host}.{tree.name} is {str(value).lower()} {timing.place_words(place)}, {since}"]
+
+
+def steps_of_connective(timing: Timing, tree: Tree, place: int, value: bool, depth: int) -> List[str]:
+    """Sentences on a connective: on the parts that give it its value."""
+    left, right = tree.parts
+    needs_left = {"&": True, "|": False, "->": True}[tree.form]
+    if tree.form == "->" and not value or tree.form == "&" and value or tree.form == "|" and not value:
+        right_value = value if tree.form != "->" else False
+        return steps(timing, left, place, needs_left, depth + 1) + steps(timing, right, place, right_value, depth + 1)
+    if timing.holds(text_of(left), place) != needs_left:
+        return steps(timing, left, place, not needs_left, depth + 1)
+    return steps(timing, right, place, value, depth + 1)
+
+
+def is_forward(tree: Tree) -> bool:
+    return tree.form in ("F", "G", "U")
+
+
+def steps_of_some(timing: Timing, tree: Tree, place: int, depth: int) -> List[str]:
+    """Sentences on the nearest position at which an `F` or `O` has its witness, or a `G` or `H` fails."""
+    child = tree.parts[0]
+    is_negated = tree.form in ("G", "H")
+    sign = "F" if is_forward(tree) else "O"
+    wanted = f"!({text_of(child)})" if is_negated else text_of(child)
+    found = nearest(timing, sign, tree.interval[0], wanted, place)
+    if found is None:
+        return []
+    verb = "fails" if is_negated else "holds"
+    first = f"{text_of(tree)} {'fails' if is_negated else 'holds'} {timing.place_words(place)}, " if place else ""
+    distance = abs(timing.positions[found] - timing.positions[place])
+    away = f"{distance} {'later' if is_forward(tree) else 'earlier'}" if place and distance else ""
+    line = f"{first}{'as ' if first else ''}{text_of(child)} {verb} {timing.place_words(found)}{', ' + away if away else ''}"
+    return [line] + steps(timing, child, found, not is_negated, depth + 1)
+
+
+def nearest(timing: Timing, sign: str, low: str, wanted: str, place: int) -> Optional[int]:
+    """The position nearest to a place, at least a distance away, at which a text is true, or None."""
+    forward = sign == "F"
+    here = timing.positions[place]
+    if not timing.holds(f"{sign}[{low},inf] ({wanted})", place):
+        return None
+
+    def is_there(other: int) -> bool:
+        distance = abs(timing.positions[other] - here)
+        return distance >= int(low) and timing.holds(f"{sign}[{low},{distance}] ({wanted})", place)
+
+    return timing.least_place(place, is_there, forward)
+
+
+def steps_of_all(timing: Timing, tree: Tree, place: int, value: bool) -> List[str]:
+    """Sentences on a `G` or `H` that holds at all positions, or an `F` or `O` that has none, with what comes nearest."""
+    child = text_of(tree.parts[0])
+    sign = "F" if is_forward(tree) else "O"
+    interval = interval_text(tree.interval)
+    here = timing.positions[place]
+    if value:
+        return [f"{child} holds at each position {interval_words(tree)} {here}"]
+    line = f"{child} holds at no position {interval_words(tree)} {here}"
+    if not interval:
+        return [line]
+    found = nearest(timing, sign, tree.interval[0], child, place)
+    if found is None:
+        return [f"{line}, nor {'later' if sign == 'F' else 'earlier'} in the log"]
+    distance = abs(timing.positions[found] - here)
+    return [f"{line}: next it holds {timing.place_words(found)}, {distance} {'later' if sign == 'F' else 'earlier'}"]
+
+
+def interval_words(tree: Tree) -> str:
+    """Which positions an interval speaks of, before the moment that it is counted from."""
+    low, high = tree.interval
+    way = "after" if is_forward(tree) else "before"
+    if (low, high) == NO_BOUND:
+        return "from" if is_forward(tree) else "up to"
+    return f"{low} or more {way}" if high == "inf" else f"{low} to {high} {way}"
+
+
+def steps_of_until(timing: Timing, tree: Tree, place: int, value: bool, depth: int) -> List[str]:
+    """Sentences on an until or a since."""
+    left, right = tree.parts
+    sign = "F" if is_forward(tree) else "O"
+    found = nearest(timing, sign, tree.interval[0], text_of(right), place)
+    interval = interval_text(tree.interval)
+    if value:
+        here = timing.positions[place]
+
+        def is_there(other: int) -> bool:
+            distance = abs(timing.positions[other] - here)
+            low = tree.interval[0]
+            text = f"({text_of(left)}) {tree.form}[{low},{distance}] ({text_of(right)})"
+            return distance >= int(low) and timing.holds(text, place)
+
+        found = timing.least_place(place, is_there, is_forward(tree))
+        return [f"{text_of(right)} holds {timing.place_words(found)}, and {text_of(left)} at each position before that"
+                if sign == "F" else
+                f"{text_of(right)} holds {timing.place_words(found)}, and {text_of(left)} at each position after that"]
+    lines = []
+    failing = nearest(timing, sign, "0", f"!({text_of(left)})", place)
+    if failing is not None:
+        lines.append(f"{text_of(left)} fails {timing.place_words(failing)}")
+        lines += steps(timing, left, failing, False, depth + 1)
+    if found is None:
+        lines.append(f"{text_of(right)} doesn't hold at any position of {tree.form}{interval} from {timing.positions[place]}")
+    else:
+        lines.append(f"{text_of(right)} first holds {timing.place_words(found)}, {abs(timing.positions[found] - timing.positions[place])} away")
+    return lines
+
+
+def vanished_words(timing: Timing, tree: Tree) -> List[str]:
+    """The propositions of a formula whose `set` and `clear` are at one instant, so that they are never true there."""
+    lines = []
+    for part in propositions(tree):
+        host = timing.log.host_numbered(part.host)
+        changes = [e for e, row in enumerate(timing.log.rows) if row.host == host and row.name == part.name and row.kind in ("set", "clear")]
+        for first, second in zip(changes, changes[1:]):
+            is_lost = timing.log.rows[first].kind == "set" and timing.log.rows[second].kind == "clear"
+            if is_lost and timing.times[first] == timing.times[second]:
+                place = timing.positions.index(timing.times[first])
+                if not timing.holds(f"{part.host}.{part.name}", place):
+                    lines.append(
+                        f"{lines_words(timing.log, [first, second])} set and clear {part.host}.{part.name} at one instant, "
+                        f"{timing.times[first]}, where the later row counts: it isn't true there (gap {timing.log.rows[second].gap})"
+                    )
+    return lines

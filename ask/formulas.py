@@ -1,0 +1,277 @@
+"""Reads formulas as trees with their places in the text, and makes further formulas of them.
+
+A text that the program refuses needn't have a tree here; what is wrong with it is for the program to say.
+"""
+
+from __future__ import annotations
+
+import re
+from dataclasses import dataclass
+from typing import Iterator, List, NamedTuple, Optional, Tuple
+
+TOKEN = re.compile(r"([0-9]+|\?)|([a-z][a-z0-9_]*)|(->|[()\[\],.!&|USFGOH])")
+BLANKS = " \t\r\n"
+TIGHTNESS = {"->": 1, "|": 2, "&": 3, "U": 4, "S": 4}
+PREFIX = 5  # how tightly `!`, F, G, O and H bind
+RIGHTWARD = ("->", "U", "S")
+TIMED = ("F", "G", "O", "H", "U", "S")
+NO_BOUND = ("0", "inf")
+
+
+class Token(NamedTuple):
+    """A token and the characters at which it begins and ends."""
+
+    kind: str  # "number", "word", or the sign itself
+    text: str
+    start: int
+    end: int
+
+
+@dataclass(frozen=True)
+class Tree:
+    """A formula: a form, its parts, and the characters of the text at which it begins and ends.
+
+    The forms are true, false, prop and the signs of the operators. The bounds of an interval are kept as they
+    are written, so that `?` may stand for one.
+    """
+
+    form: str
+    parts: Tuple["Tree", ...]
+    start: int
+    end: int
+    interval: Tuple[str, str] = NO_BOUND
+    host: str = ""
+    name: str = ""
+
+
+class Operator(NamedTuple):
+    """An operator that waits for its right side, or an open parenthesis."""
+
+    sign: str
+    interval: Tuple[str, str]
+    start: int
+
+
+def tokens_of(text: str) -> Optional[List[Token]]:
+    """The tokens of a text, or None where it has something else."""
+    tokens, place = [], 0
+    while place < len(text):
+        if text[place] in BLANKS:
+            place += 1
+            continue
+        found = TOKEN.match(text, place)
+        if not found:
+            return None
+        kind = "number" if found.group(1) else "word" if found.group(2) else found.group()
+        tokens.append(Token(kind, found.group(), place, found.end()))
+        place = found.end()
+    return tokens
+
+
+class Parser:
+    """Reads tokens with a stack of operators, so that no depth of parentheses is too much."""
+
+    def __init__(self, tokens: List[Token]):
+        self.tokens = tokens
+        self.place = 0
+        self.operands: List[Tree] = []
+        self.operators: List[Operator] = []
+
+    def tree(self) -> Optional[Tree]:
+        """The tree of all tokens, or None where they are no formula."""
+        try:
+            self.operand()
+            while self.place < len(self.tokens):
+                self.operator_or_close()
+            while self.operators:
+                self.reduce()
+        except (IndexError, ValueError):
+            return None
+        return self.operands[0] if len(self.operands) == 1 else None
+
+    def take(self) -> Token:
+        self.place += 1
+        return self.tokens[self.place - 1]
+
+    def expect(self, kind: str) -> Token:
+        token = self.take()
+        if token.kind != kind:
+            raise ValueError(token.text)
+        return token
+
+    def operand(self) -> None:
+        """Takes prefixes and open parentheses up to an atom, and the atom."""
+        while True:
+            token = self.take()
+            if token.kind in ("(", "!"):
+                self.operators.append(Operator(token.kind, NO_BOUND, token.start))
+            elif token.kind in ("F", "G", "O", "H"):
+                self.operators.append(Operator(token.kind, self.interval(), token.start))
+            else:
+                self.operands.append(self.atom(token))
+                return
+
+    def atom(self, token: Token) -> Tree:
+        if token.kind != "word":
+            raise ValueError(token.text)
+        if token.text in ("true", "false"):
+            return Tree(token.text, (), token.start, token.end)
+        self.expect(".")
+        name = self.expect("word")
+        return Tree("prop", (), token.start, name.end, host=token.text, name=name.text)
+
+    def interval(self) -> Tuple[str, str]:
+        """The interval at this place, `[0,inf]` where there is none."""
+        if self.place >= len(self.tokens) or self.tokens[self.place].kind != "[":
+            return NO_BOUND
+        self.take()
+        low = self.expect("number").text
+        self.expect(",")
+        high = self.take()
+        if high.kind != "number" and high.text != "inf":
+            raise ValueError(high.text)
+        self.expect("]")
+        return low, high.text
+
+    def operator_or_close(self) -> None:
+        """Takes an operator between two formulas with what follows, or a closing parenthesis."""
+        token = self.take()
+        if token.kind == ")":
+            while self.operators[-1].sign != "(":
+                self.reduce()
+            opened = self.operators.pop()
+            inner = self.operands.pop()
+            self.operands.append(widened(inner, opened.start, token.end))
+            return
+        if token.kind not in TIGHTNESS:
+            raise ValueError(token.text)
+        while self.operators and self.binds_first(self.operators[-1].sign, token.kind):
+            self.reduce()
+        interval = self.interval() if token.kind in TIMED else NO_BOUND
+        self.operators.append(Operator(token.kind, interval, token.start))
+        self.operand()
+
+    @staticmethod
+    def binds_first(waiting: str, sign: str) -> bool:
+        """Whether a waiting operator takes its right side before the operator that comes."""
+        if waiting == "(":
+            return False
+        tightness = TIGHTNESS.get(waiting, PREFIX)
+        return tightness > TIGHTNESS[sign] or tightness == TIGHTNESS[sign] and sign not in RIGHTWARD
+
+    def reduce(self) -> None:
+        """Gives the last waiting operator its parts."""
+        operator = self.operators.pop()
+        if operator.sign == "(":
+            raise ValueError("(")
+        right = self.operands.pop()
+        if operator.sign not in TIGHTNESS:
+            self.operands.append(Tree(operator.sign, (right,), operator.start, right.end, operator.interval))
+            return
+        left = self.operands.pop()
+        self.operands.append(Tree(operator.sign, (left, right), left.start, right.end, operator.interval))
+
+
+def widened(tree: Tree, start: int, end: int) -> Tree:
+    """A tree whose text has the parentheses about it."""
+    return Tree(tree.form, tree.parts, start, end, tree.interval, tree.host, tree.name)
+
+
+def read_formula(text: str) -> Optional[Tree]:
+    """The tree of a text, or None where it is no formula."""
+    tokens = tokens_of(text)
+    return Parser(tokens).tree() if tokens else None
+
+
+def subtrees(tree: Tree) -> Iterator[Tree]:
+    """A tree and all of its parts, from left to right."""
+    yield tree
+    for part in tree.parts:
+        yield from subtrees(part)
+
+
+def propositions(tree: Tree) -> List[Tree]:
+    """The propositions of a tree, each host and name once, at its first place."""
+    found = {}
+    for part in subtrees(tree):
+        if part.form == "prop":
+            found.setdefault((part.host, part.name), part)
+    return list(found.values())
+
+
+# Texts
+
+
+def text_of(tree: Tree) -> str:
+    """A text of the tree, with no more parentheses than it needs to be read at a glance."""
+    if tree.form == "prop":
+        return f"{tree.host}.{tree.name}"
+    if not tree.parts:
+        return tree.form
+    sign = tree.form + interval_text(tree.interval) if tree.form in TIMED else tree.form
+    if len(tree.parts) == 1:
+        return ("!" if tree.form == "!" else sign + " ") + enclosed(tree.parts[0])
+    return f"{enclosed(tree.parts[0])} {sign} {enclosed(tree.parts[1])}"
+
+
+def enclosed(tree: Tree) -> str:
+    """The text of a tree as a part: in parentheses where it has two parts of its own."""
+    return f"({text_of(tree)})" if len(tree.parts) == 2 else text_of(tree)
+
+
+def interval_text(interval: Tuple[str, str]) -> str:
+    """An interval as it is written, nothing where it has no bounds."""
+    return "" if interval == NO_BOUND else f"[{interval[0]},{interval[1]}]"
+
+
+# Further formulas
+
+
+TRUE = Tree("true", (), 0, 0)
+FALSE = Tree("false", (), 0, 0)
+
+
+def made(form: str, *parts: Tree, interval: Tuple[str, str] = NO_BOUND) -> Tree:
+    """A tree that stands in no text."""
+    return Tree(form, parts, 0, 0, interval)
+
+
+def beyond_the_end(tree: Tree, wanted: bool) -> Tree:
+    """The formula with each interval that reaches beyond the last row in favour of a value.
+
+    With wanted true, an `F` or `U` whose interval isn't over at the last row counts as true, and a `G` that
+    stands for its opposite as false, since later rows might have made it so; with wanted false it is the other
+    way round, but for a `G` without an upper bound, which speaks of the rows that there are.
+    """
+    if not tree.parts:
+        return tree
+    turned = [wanted != (tree.form == "!" or tree.form == "->" and place == 0) for place in range(len(tree.parts))]
+    parts = [beyond_the_end(part, way) for part, way in zip(tree.parts, turned)]
+    same = made(tree.form, *parts, interval=tree.interval)
+    high = tree.interval[1]
+    is_over = FALSE if high == "inf" else made("F", TRUE, interval=(high, "inf"))
+    if tree.form == "F" and wanted:
+        return TRUE if high == "inf" else made("|", same, made("!", is_over))
+    if tree.form == "U" and wanted:
+        still = made("G", parts[0])
+        return made("|", same, still if high == "inf" else made("&", still, made("!", is_over)))
+    if tree.form == "G" and not wanted and high != "inf":
+        return made("&", same, is_over)
+    return same
+
+
+def grows_truer(tree: Tree, is_positive: bool = True) -> List[bool]:
+    """For each `?` of a tree, whether a greater number makes the whole formula true of more timings."""
+    if tree.form == "!":
+        return grows_truer(tree.parts[0], not is_positive)
+    if tree.form == "->":
+        return grows_truer(tree.parts[0], not is_positive) + grows_truer(tree.parts[1], is_positive)
+    directions = []
+    if tree.form in TIMED:
+        is_some = tree.form in ("F", "O", "U", "S")
+        widens_upward = is_some == is_positive
+        directions += [not widens_upward] * (tree.interval[0] == "?")
+        directions += [widens_upward] * (tree.interval[1] == "?")
+    for part in tree.parts:
+        directions += grows_truer(part, is_positive)
+    return directions

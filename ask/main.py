@@ -1,0 +1,101 @@
+"""The commands of ask, their words, and how each ends."""
+
+from __future__ import annotations
+
+import argparse
+import os
+import sys
+from typing import List, NoReturn, Optional, Sequence
+
+from ask.commands import check, convert, deadline, draw, each
+from ask.program import NOT_THERE, STOPPED, Program, Stopped
+from ask.texts import Trouble
+from ask.words import USAGE, Answer, print_answer
+
+COMMANDS = (check, deadline, each, convert, draw)
+
+STATUSES = """\
+statuses:
+  0 to 6      those of the program (docs/statuses.md): of check 0 is true, 1 false, 2 either, 3 no timing,
+              4 not found within the conflicts
+  64          the words are no command of ask
+  65 to 75    the program's refusals and failures; 65 also a warning with --strict
+  69          the program isn't there
+  124         a run took longer than --seconds
+"""
+
+
+class Parser(argparse.ArgumentParser):
+    """A parser that ends with the status of wrong words, since 2 is an answer."""
+
+    def error(self, message: str) -> NoReturn:
+        self.print_usage(sys.stderr)
+        print(f"{self.prog}: {message}", file=sys.stderr)
+        sys.exit(USAGE)
+
+
+def seconds(text: str) -> float:
+    """A number of seconds above 0."""
+    value = float(text)
+    if not 0 < value < 10**7:
+        raise ValueError(text)
+    return value
+
+
+def common_words() -> argparse.ArgumentParser:
+    """The options that every command has."""
+    words = argparse.ArgumentParser(add_help=False)
+    words.add_argument("--json", action="store_true", help="write the answer as JSON")
+    words.add_argument("--program", metavar="FILE", help="the program; else SKEWCHECK of the environment, else the built one")
+    words.add_argument("--seconds", type=seconds, metavar="S", help="stop a run of the program that takes longer")
+    return words
+
+
+def parser() -> Parser:
+    """The parser of all words."""
+    words = Parser(
+        prog="ask", description="Asks skewcheck of formulas and logs, and answers in words, tables and pictures.",
+        epilog=STATUSES, formatter_class=argparse.RawDescriptionHelpFormatter,
+    )
+    commands = words.add_subparsers(dest="command", metavar="COMMAND", parser_class=Parser)
+    commands.required = True
+    for command in COMMANDS:
+        command.add_words(commands, common_words())
+    return words
+
+
+def main(words: Sequence[str]) -> int:
+    """Does what the words say, and gives the status."""
+    try:
+        return finished(words)
+    except Trouble as trouble:
+        print(f"ask: {trouble.message}", file=sys.stderr)
+        return trouble.status
+    except Stopped:
+        print("ask: stopped, since a run took longer than --seconds allows", file=sys.stderr)
+        return STOPPED
+    except BrokenPipeError:
+        os.dup2(os.open(os.devnull, os.O_WRONLY), sys.stdout.fileno())
+        return 75
+    except KeyboardInterrupt:
+        print("ask: interrupted", file=sys.stderr)
+        return 130
+    except (MemoryError, RecursionError):
+        print("ask: this is more than the memory of ask holds", file=sys.stderr)
+        return 70
+    except OSError as error:
+        print(f"ask: {error}", file=sys.stderr)
+        return 74
+
+
+def finished(words: Sequence[str]) -> int:
+    """The status of a command that came to its end."""
+    arguments = parser().parse_args(list(words))
+    answer: Answer = arguments.do(arguments)
+    print_answer(answer, arguments.json)
+    sys.stdout.flush()
+    return answer.status
+
+
+if __name__ == "__main__":
+    sys.exit(main(sys.argv[1:]))

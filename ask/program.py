@@ -1,0 +1,125 @@
+"""Runs the program: hands it the bytes that were read, and keeps a list of what was asked."""
+
+from __future__ import annotations
+
+import os
+import subprocess
+import sys
+import tempfile
+import time
+from contextlib import ExitStack
+from dataclasses import dataclass, field
+from pathlib import Path
+from typing import BinaryIO, List, NamedTuple, Optional, Sequence
+
+from ask.texts import Source, Trouble
+
+ROOT = Path(__file__).resolve().parent.parent
+BUILT = ROOT / "crates" / "skewcheck" / "out" / "skewcheck"
+NOT_THERE = 69  # the status where there is no program, which is also that of ./skewcheck
+STOPPED = 124  # the status where a run took longer than --seconds allows, which is also that of timeout
+PATIENCE = 1.0  # seconds after which a run is spoken of
+
+
+class Run(NamedTuple):
+    """What was asked of the program, how it ended, and what it wrote."""
+
+    words: str
+    status: int
+    output: bytes
+
+    def line(self) -> str:
+        """The first line that was written."""
+        return self.output.split(b"\n", 1)[0].decode("utf-8", "replace")
+
+
+class Stopped(Exception):
+    """A run took longer than it may."""
+
+
+@dataclass
+class Program:
+    """The program, how long a run may take, and the runs so far."""
+
+    path: str
+    seconds: Optional[float] = None
+    runs: List[Run] = field(default_factory=list)
+
+    def run(self, command: str, sources: Sequence[Source], options: Sequence[str] = ()) -> Run:
+        """Runs a command on files whose bytes are handed over as they were read."""
+        shown = " ".join(" ".join([command, *options, *(source.name for source in sources)]).split())
+        with ExitStack() as stack:
+            files = [stack.enter_context(handed(source.data)) for source in sources]
+            words = [self.path, command, *options, *(f"/dev/fd/{file.fileno()}" for file in files)]
+            status, output = self.finish(words, [file.fileno() for file in files], shown)
+        if status < 0:
+            raise Trouble(NOT_THERE, f"{self.path} was ended by signal {-status}, at: {shown}")
+        run = Run(shown, status, output)
+        self.runs.append(run)
+        return run
+
+    def finish(self, words: List[str], descriptors: List[int], shown: str) -> "tuple[int, bytes]":
+        """Starts words, waits for their end, and tells of long runs on the standard error."""
+        try:
+            process = subprocess.Popen(
+                words, stdin=subprocess.DEVNULL, stdout=subprocess.PIPE, pass_fds=descriptors
+            )
+        except (OSError, ValueError) as error:
+            raise Trouble(NOT_THERE, f"{self.path} can't be run: {error}") from None
+        began = time.monotonic()
+        waits = PATIENCE
+        told = False
+        try:
+            while True:
+                left = None if self.seconds is None else began + self.seconds - time.monotonic()
+                if left is not None and left <= 0:
+                    raise Stopped
+                try:
+                    output, _ = process.communicate(timeout=waits if left is None else min(waits, left))
+                    return process.returncode, output
+                except subprocess.TimeoutExpired:
+                    taken = time.monotonic() - began
+                    if taken >= PATIENCE:
+                        told = tell(shown, taken)
+                        waits = PATIENCE if sys.stderr.isatty() else min(2 * waits, 60)
+        finally:
+            if told and sys.stderr.isatty():
+                print(file=sys.stderr)
+            if process.poll() is None:
+                process.kill()
+                process.communicate()
+
+
+def tell(shown: str, taken: float) -> bool:
+    """Says on the standard error how long a run has taken."""
+    end = "\r" if sys.stderr.isatty() else "\n"
+    short = shown if len(shown) <= 60 else shown[:57] + ".."
+    print(f"ask: {taken:.0f} s: {short}", end=end, file=sys.stderr, flush=True)
+    return True
+
+
+def handed(data: bytes) -> BinaryIO:
+    """An unnamed file with these bytes, which a run can read by its number."""
+    if hasattr(os, "memfd_create"):
+        file = os.fdopen(os.memfd_create("skewcheck"), "w+b")
+    else:
+        file = tempfile.TemporaryFile()
+    file.write(data)
+    file.flush()
+    file.seek(0)
+    return file
+
+
+def find_program(named: Optional[str]) -> str:
+    """The program that was named, that of the environment, or the one that ./skewcheck built."""
+    path = named or os.environ.get("SKEWCHECK") or str(BUILT)
+    if os.path.isfile(path) and os.access(path, os.X_OK):
+        return os.path.abspath(path)
+    if named or os.environ.get("SKEWCHECK"):
+        by = "--program" if named else "SKEWCHECK in the environment"
+        raise Trouble(NOT_THERE, f"{path}, which {by} names, isn't a program that can be run")
+    raise Trouble(
+        NOT_THERE,
+        f"the program isn't built: there is no {path}.\n"
+        f"Run {ROOT / 'skewcheck'} once, which proves and builds it, or name one by --program FILE.",
+    )

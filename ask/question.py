@@ -1,0 +1,102 @@
+"""A formula and a log that something is asked of, and the runs of the program that answer it."""
+
+from __future__ import annotations
+
+from dataclasses import dataclass
+from typing import List, Optional, Sequence
+
+from ask.formulas import Tree, read_formula
+from ask.logs import Log, read_log
+from ask.program import NOT_THERE, Program, Run
+from ask.reports import Report, Unreadable, read_report
+from ask.texts import Source, Trouble, is_existing_file, read_source
+from ask.words import refusal
+
+VERDICTS = {0: "true", 1: "false", 2: "either", 3: "no timing", 4: "unknown"}
+
+
+@dataclass
+class Question:
+    """A formula and a log, with the program that is asked."""
+
+    program: Program
+    formula: Source
+    log_source: Source
+    options: Sequence[str] = ()
+
+    def check(self, text: Optional[str] = None, options: Optional[Sequence[str]] = None) -> Run:
+        """Runs `check` on the formula, or on another text in its place."""
+        formula = self.formula if text is None else Source(f"'{text}'", text.encode())
+        return self.program.run("check", [formula, self.log_source], self.options if options is None else options)
+
+    def replay(self, text: str, times: Sequence[int]) -> Run:
+        """Runs `replay` of a text on a timing."""
+        sources = [Source(f"'{text}'", text.encode()), self.log_source, times_source(times)]
+        return self.program.run("replay", sources)
+
+    def is_true(self, text: str, times: Sequence[int]) -> bool:
+        """Whether a text is true on an admissible timing, as `replay` says."""
+        run = self.replay(text, times)
+        if run.status not in (0, 1):
+            raise refusal(run, Source(text, text.encode()), self.log_source)
+        return run.status == 0
+
+
+def times_source(times: Sequence[int]) -> Source:
+    """A file of times."""
+    return Source("TIMES", "".join(f"{time}\n" for time in times).encode())
+
+
+def formula_source(word: str) -> Source:
+    """A formula by the name of its file, or its text."""
+    if word == "-" or is_existing_file(word):
+        return read_source(word)
+    if "/" in word or word.endswith((".formula", ".txt")) or not word.strip():
+        raise Trouble(74, f"{word or 'an empty word'} is no file, and no formula either")
+    return Source("the formula", word.encode("utf-8", "surrogateescape"))
+
+
+def text_of_source(formula: Source) -> str:
+    """The text of a formula."""
+    return formula.data.decode("utf-8", "replace")
+
+
+def shown_formula(formula: Source) -> str:
+    """A formula on one line."""
+    return " ".join(text_of_source(formula).split())
+
+
+def accepted_log(source: Source) -> Log:
+    """The log of a file that the program has accepted."""
+    log = read_log(source.data)
+    if not isinstance(log, Log):
+        raise Trouble(NOT_THERE, f"the program accepts {source.name}, and ask can't read it")
+    return log
+
+
+def accepted_tree(formula: Source) -> Tree:
+    """The tree of a formula that the program has accepted."""
+    tree = read_formula(text_of_source(formula))
+    if tree is None:
+        raise Trouble(NOT_THERE, f"the program accepts {formula.name}, and ask can't read it")
+    return tree
+
+
+def report_of_run(run: Run) -> Report:
+    """The report that a run wrote."""
+    try:
+        return read_report(run.output)
+    except Unreadable:
+        raise Trouble(NOT_THERE, f"what the program wrote is no report that ask can read, at: {run.words}") from None
+
+
+def answered(run: Run, question: Question) -> Run:
+    """A run of `check` with an answer, or the trouble that its refusal is."""
+    if run.status not in VERDICTS:
+        raise refusal(run, question.formula, question.log_source)
+    return run
+
+
+def run_facts(runs: Sequence[Run]) -> List[dict]:
+    """The runs so far, for programs."""
+    return [{"words": run.words, "status": run.status} for run in runs]

@@ -1,0 +1,280 @@
+"""What is said: rows, bounds, walks and refusals in sentences, tables, and answers for people and programs."""
+
+from __future__ import annotations
+
+import json
+import os
+import re
+import sys
+from dataclasses import dataclass, field
+from typing import Any, Dict, List, Optional, Sequence
+
+from ask.logs import Log, Record, bound_of, declared_hosts, records_of
+from ask.program import NOT_THERE, Run
+from ask.reports import Step
+from ask.texts import Source, Trouble, place_of, shown_text
+
+USAGE = 64  # the status of words that are no command
+
+
+@dataclass
+class Answer:
+    """An answer: its status, its lines for people, and the same facts for programs."""
+
+    status: int
+    lines: List[str] = field(default_factory=list)
+    facts: Dict[str, Any] = field(default_factory=dict)
+
+
+def print_answer(answer: Answer, is_json: bool) -> None:
+    """Writes an answer to the standard output."""
+    if is_json:
+        print(json.dumps({"status": answer.status, **answer.facts}, indent=2, ensure_ascii=False))
+    else:
+        print("\n".join(answer.lines))
+
+
+# Looks
+
+
+def is_coloured() -> bool:
+    """Whether the output is a terminal that shows colours."""
+    return sys.stdout.isatty() and "NO_COLOR" not in os.environ and os.environ.get("TERM") != "dumb"
+
+
+def bold(text: str) -> str:
+    return f"\x1b[1m{text}\x1b[0m" if is_coloured() else text
+
+
+def yellow(text: str) -> str:
+    return f"\x1b[33m{text}\x1b[0m" if is_coloured() else text
+
+
+def grouped(number: int) -> str:
+    """A number with commas between its thousands."""
+    return f"{number:,}"
+
+
+def counted(count: int, one: str, many: str = "") -> str:
+    """A count with its noun."""
+    return f"{grouped(count)} {one if count == 1 else many or one + 's'}"
+
+
+def listed(words: Sequence[str], most: int = 12) -> str:
+    """Words with commas between them, no more than so many."""
+    shown = ", ".join(words[:most])
+    return f"{shown} and {len(words) - most} more" if len(words) > most else shown
+
+
+def signed(number: int) -> str:
+    """A shift with its sign."""
+    return f"{number:+d}" if number else "0"
+
+
+def table(heads: Sequence[str], rows: Sequence[Sequence[str]], left: Sequence[int] = ()) -> List[str]:
+    """Lines of columns under their heads; columns are set to the right but for those named."""
+    widths = [max(len(cell) for cell in column) for column in zip(heads, *rows)]
+    lines = []
+    for cells in [heads, *rows]:
+        padded = [
+            cell.ljust(width) if place in left else cell.rjust(width)
+            for place, (cell, width) in enumerate(zip(cells, widths))
+        ]
+        lines.append(("  " + "  ".join(padded)).rstrip())
+    return lines
+
+
+# Rows, bounds and walks
+
+
+def row_words(log: Log, event: int) -> str:
+    """A row as sentences name it, as `pay recv m1 (line 6)`."""
+    row = log.rows[event]
+    return f"{log.host_of(event)} {row.kind} {row.name} (line {row.line})"
+
+
+def lines_words(log: Log, events: Sequence[int]) -> str:
+    """The lines of the file at which rows stand."""
+    lines = [str(log.rows[event].line) for event in events]
+    return f"line {lines[0]}" if len(lines) == 1 else f"lines {listed(lines)}"
+
+
+def step_words(log: Log, step: Step) -> str:
+    """What a bound of the log says, as a sentence without its full stop."""
+    event = step.numbers[0]
+    bound = bound_of(log, step.kind, event)
+    if bound is None:
+        return " ".join([step.kind, *(str(number) for number in step.numbers)])
+    row = log.rows[event]
+    name = row_words(log, event)
+    by = f"its stamp is {row.stamp} and the skew of {log.host_of(event)} {row.skew}"
+    if step.kind == "low":
+        return f"{name} can't be before {-bound.most}: {by}"
+    if step.kind == "high":
+        return f"{name} can't be after {bound.most}: {by}"
+    if step.kind == "late":
+        return f"{name} can't be more than {bound.most} after {row_words(log, bound.end or 0)}: message {row.name}"
+    earlier = row_words(log, bound.start or 0)
+    if step.kind == "message":
+        return f"{name} can't be less than {-bound.most} after {earlier}: message {row.name}"
+    if bound.most == 0:
+        return f"{name} can't be before {earlier}: rows of one host are in the order of the file"
+    return f"{name} can't be less than {-bound.most} after {earlier}: the gap of {log.host_of(event)}"
+
+
+def walk_words(log: Log, walk: Sequence[Step]) -> List[str]:
+    """The bounds of a closed walk, and by how much they contradict each other."""
+    lines = [f"  {step_words(log, step)}" for step in walk]
+    bounds = [bound_of(log, step.kind, step.numbers[0]) for step in walk]
+    if all(bounds):
+        excess = -sum(bound.most for bound in bounds if bound)
+        lines.append(f"Together they ask for {excess} more than there is.")
+    return lines
+
+
+# Refusals
+
+
+def refusal(run: Run, formula: Optional[Source], log: Optional[Source]) -> Trouble:
+    """The trouble that a refusal of the program is, in words."""
+    words = run.line().split(" ")
+    kind = words[1] if len(words) > 1 and words[0] == "refused" else ""
+    if kind == "formula" and formula:
+        return Trouble(run.status, formula_refusal(words, formula, log))
+    if kind == "log" and log:
+        return Trouble(run.status, log_refusal(words, log))
+    if kind == "length":
+        return Trouble(run.status, LENGTHS.get(words[-1], run.line()))
+    if kind == "nodes":
+        return Trouble(run.status, "the formula has more than 512 different parts, which is the limit: ask for it in parts")
+    if kind == "size":
+        return Trouble(run.status, size_refusal(int(words[-1]), log))
+    known = {70: "memory ran out", 74: "the program couldn't read a file", 75: "the program couldn't write"}
+    if run.status in known:
+        return Trouble(run.status, f"{known[run.status]}, at: {run.words}")
+    said = f" and {shown_text(run.output[:80])!r}" if run.output else ""
+    return Trouble(NOT_THERE, f"the program answered with status {run.status}{said}, which ask doesn't know, at: {run.words}")
+
+
+LENGTHS = {
+    "log": "the log is longer than 1,048,576 bytes, which is the limit: cut a window of it (ask log --help)",
+    "formula": "the formula is longer than 65,536 bytes, which is the limit",
+    "report": "the report is longer than 1,073,741,824 bytes, which is the limit",
+    "times": "the file of times is longer than 65,536 bytes, which is the limit",
+}
+
+
+def size_refusal(size: int, log: Optional[Source]) -> str:
+    """What to do where a formula and a log are too large together."""
+    rows = sum(1 for record in records_of(log.data) if record.fields[0] not in ("kind", "host")) if log else 0
+    return (
+        f"the formula on a log of {counted(rows, 'row')} has the size {grouped(size)}, and the limit is 4,194,304. "
+        f"Each F, G, O, H, U and S counts with the square of the rows: cut a window (ask log --help), leave out "
+        f"rows that the formula and the messages don't need, or ask for the parts of the formula one by one"
+    )
+
+
+FORMULA_FAULTS = {
+    "1": "here begins nothing of the language",
+    "2": "something else is expected here",
+    "3": "a number has no leading zero and is at most 10^18",
+    "4": "the first number of an interval can't be above the second",
+    "5": "the formula is higher than 200 levels, which is the limit",
+    "6": "a whole formula ends before this, and nothing can go on here: is an operator missing?",
+    "7": "the formula is empty",
+}
+
+
+def formula_refusal(words: Sequence[str], formula: Source, log: Optional[Source]) -> str:
+    """What is wrong with a formula, and where."""
+    number, offset = words[2], int(words[-1])
+    place = place_of(formula.data, offset)
+    where = f"{formula.name}, line {place.line}, column {place.column}"
+    rest = formula.data[offset:]
+    if number == "8":
+        host = re.match(rb"[a-z0-9_]*", rest)
+        hosts = declared_hosts(records_of(log.data)) if log else []
+        name = host.group().decode() if host else ""
+        return f"{where}: the log has no host {name}. Its hosts: {listed(hosts) or 'none'}"
+    said = FORMULA_FAULTS.get(number, " ".join(words))
+    if number == "1" and re.match(rb"[a-z][a-z0-9_]{32,}", rest):
+        said = "a name has at most 32 characters"
+    if number == "2" and not rest.strip():
+        said = "the formula ends too early"
+    lines = re.split(r"\r\n|\n|\r", formula.data.decode("utf-8", "replace").lstrip("\ufeff"))
+    line = lines[place.line - 1] if place.line <= len(lines) else ""
+    start = max(0, place.column - 60)
+    shown = line[start : start + 100].replace("\t", " ")
+    pointer = " " * (place.column - 1 - start) + "^"
+    return f"{where}: {said}\n  {shown}\n  {pointer}"
+
+
+def log_refusal(words: Sequence[str], log: Source) -> str:
+    """What is wrong with a log, and where."""
+    records = records_of(log.data)
+    number = words[2]
+    if number == "11":
+        return f"{log.name} has no row: only its header and hosts"
+    place = int(words[-1])
+    if place > len(records):
+        return f"{log.name} is empty: the first line has to be kind,host,time,name"
+    record = records[place - 1]
+    said, wrong = log_fault_words(number, record, records)
+    column = place_of(log.data, record.offsets[wrong]).column if wrong < len(record.offsets) else 1
+    return f"{log.name}, line {record.line}, column {column}: {said}"
+
+
+def log_fault_words(number: str, record: Record, records: Sequence[Record]) -> "tuple[str, int]":
+    """What is wrong with a record, and with which of its fields."""
+    fields = record.fields + [""] * 4
+    kinds = "host, set, clear, send, recv, note"
+    if number == "1":
+        if fields[0] == "skewlog2":
+            return "this is a log of version 2, which the program doesn't know", 0
+        return f"the first line has to be kind,host,time,name, and is {','.join(record.fields)!r}", 0
+    if number == "2":
+        return f"a record has four fields, and this one has {len(record.fields)}", 0
+    if number == "3":
+        return f"there is no kind {fields[0]!r}. The kinds: {kinds}", 0
+    if number == "4":
+        return f"{fields[1]!r} is no host's name: {name_rule()}, and none is named true, false or inf", 1
+    if number == "5":
+        return f"the host {fields[1]} is declared twice", 1
+    if number == "6":
+        hosts = declared_hosts(records)
+        later = " It is declared further down, and has to be before its first row." if fields[1] in hosts else ""
+        return f"no host {fields[1]!r} is declared before this.{later} The hosts: {listed(hosts) or 'none'}", 1
+    if number == "7":
+        return number_fault_words(fields)
+    if number == "8":
+        return f"{fields[3]!r} is no name: {name_rule()}. `ask log` maps names", 3
+    if number == "9":
+        return f"the message {fields[3]} is sent twice: give each message a name of its own", 3
+    if number == "10":
+        return (
+            f"the message {fields[3]} is received, and no row of the file sends it. Where its `send` was cut away, "
+            f"make this a `note`, as `ask log` does"
+        ), 3
+    if number == "12":
+        hosts = len(declared_hosts(records))
+        return f"{counted(hosts, 'host')}; at most 64: leave out hosts that the formula and the messages don't need", 0
+    if number == "13":
+        rows = sum(1 for other in records[1:] if other.fields[0] not in ("host", "resync", "latency"))
+        return f"{counted(rows, 'row')}; at most 1,024: cut a window (ask log --help, docs/real-logs.md)", 0
+    return f"fault {number}", 0
+
+
+def name_rule() -> str:
+    return "a small letter, then small letters, digits and _, 32 characters at most"
+
+
+def number_fault_words(fields: Sequence[str]) -> "tuple[str, int]":
+    """Which number of a record is none."""
+    if fields[0] == "host":
+        wrong = 2 if not re.fullmatch(r"0|[1-9][0-9]*", fields[2]) or int(fields[2][:20]) > 10**18 else 3
+        what = "skew" if wrong == 2 else "gap"
+        return f"the {what} {fields[wrong]!r} is no whole number from 0 to 10^18, without a sign or a leading zero", wrong
+    hint = ""
+    if re.search(r"\d[.T:]\d|\d-\d", fields[2]):
+        hint = ". `ask log` makes whole units of decimal seconds and ISO 8601 stamps"
+    return f"the stamp {fields[2]!r} is no whole number up to 4*10^18, with - where it is negative{hint}", 2
