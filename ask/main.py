@@ -7,12 +7,12 @@ import os
 import sys
 from typing import List, NoReturn, Optional, Sequence
 
-from ask.commands import check, convert, deadline, draw, each
+from ask.commands import check, deadline, draw, each, log
 from ask.program import NOT_THERE, STOPPED, Program, Stopped
 from ask.texts import Trouble
 from ask.words import USAGE, Answer, print_answer
 
-COMMANDS = (check, deadline, each, convert, draw)
+COMMANDS = (check, deadline, each, log, draw)
 
 STATUSES = """\
 statuses:

@@ -10,7 +10,7 @@ from ask.logs import Log, read_log
 from ask.program import NOT_THERE, Program, Run
 from ask.reports import Report, Unreadable, read_report
 from ask.texts import Source, Trouble, is_existing_file, read_source
-from ask.words import refusal
+from ask.words import TYPED, refusal
 
 VERDICTS = {0: "true", 1: "false", 2: "either", 3: "no timing", 4: "unknown"}
 
@@ -53,7 +53,7 @@ def formula_source(word: str) -> Source:
         return read_source(word)
     if "/" in word or word.endswith((".formula", ".txt")) or not word.strip():
         raise Trouble(74, f"{word or 'an empty word'} is no file, and no formula either")
-    return Source("the formula", word.encode("utf-8", "surrogateescape"))
+    return Source(TYPED, word.encode("utf-8", "surrogateescape"))
 
 
 def text_of_source(formula: Source) -> str:

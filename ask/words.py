@@ -15,6 +15,7 @@ from ask.reports import Step
 from ask.texts import Source, Trouble, place_of, shown_text
 
 USAGE = 64  # the status of words that are no command
+TYPED = "the formula"  # the name of a formula that is in the words themselves
 
 
 @dataclass
@@ -69,6 +70,11 @@ def listed(words: Sequence[str], most: int = 12) -> str:
 def signed(number: int) -> str:
     """A shift with its sign."""
     return f"{number:+d}" if number else "0"
+
+
+def shortened(text: str, most: int = 60) -> str:
+    """The beginning of a long text."""
+    return text if len(text) <= most else text[: most - 2] + ".."
 
 
 def table(heads: Sequence[str], rows: Sequence[Sequence[str]], left: Sequence[int] = ()) -> List[str]:
@@ -147,6 +153,9 @@ def refusal(run: Run, formula: Optional[Source], log: Optional[Source]) -> Troub
         return Trouble(run.status, LENGTHS.get(words[-1], run.line()))
     if kind == "nodes":
         return Trouble(run.status, "the formula has more than 512 different parts, which is the limit: ask for it in parts")
+    if kind == "times":
+        what = {"1": "is no whole number", "2": "is where the times end too early or go on too long, since there is one a row"}
+        return Trouble(run.status, f"the file of times: line {words[-1]} {what.get(words[2], 'is wrong')}")
     if kind == "size":
         return Trouble(run.status, size_refusal(int(words[-1]), log))
     known = {70: "memory ran out", 74: "the program couldn't read a file", 75: "the program couldn't write"}
@@ -201,6 +210,8 @@ def formula_refusal(words: Sequence[str], formula: Source, log: Optional[Source]
         said = "a name has at most 32 characters"
     if number == "2" and not rest.strip():
         said = "the formula ends too early"
+    if formula.name == TYPED and not re.search(rb"[\s(\[!]", formula.data):
+        said += ". There is no file of that name, so it was read as a formula"
     lines = re.split(r"\r\n|\n|\r", formula.data.decode("utf-8", "replace").lstrip("\ufeff"))
     line = lines[place.line - 1] if place.line <= len(lines) else ""
     start = max(0, place.column - 60)
@@ -231,23 +242,24 @@ def log_fault_words(number: str, record: Record, records: Sequence[Record]) -> "
     if number == "1":
         if fields[0] == "skewlog2":
             return "this is a log of version 2, which the program doesn't know", 0
-        return f"the first line has to be kind,host,time,name, and is {','.join(record.fields)!r}", 0
+        line = shown_text(",".join(record.fields).encode())
+        return f"the first line has to be kind,host,time,name, and is {shortened(line)}", 0
     if number == "2":
         return f"a record has four fields, and this one has {len(record.fields)}", 0
     if number == "3":
-        return f"there is no kind {fields[0]!r}. The kinds: {kinds}", 0
+        return f"there is no kind {shortened(fields[0])!r}. The kinds: {kinds}", 0
     if number == "4":
-        return f"{fields[1]!r} is no host's name: {name_rule()}, and none is named true, false or inf", 1
+        return f"{shortened(fields[1])!r} is no host's name: {name_rule()}, and none is named true, false or inf", 1
     if number == "5":
         return f"the host {fields[1]} is declared twice", 1
     if number == "6":
         hosts = declared_hosts(records)
         later = " It is declared further down, and has to be before its first row." if fields[1] in hosts else ""
-        return f"no host {fields[1]!r} is declared before this.{later} The hosts: {listed(hosts) or 'none'}", 1
+        return f"no host {shortened(fields[1])!r} is declared before this.{later} The hosts: {listed(hosts) or 'none'}", 1
     if number == "7":
         return number_fault_words(fields)
     if number == "8":
-        return f"{fields[3]!r} is no name: {name_rule()}. `ask log` maps names", 3
+        return f"{shortened(fields[3])!r} is no name: {name_rule()}. `ask log` maps names", 3
     if number == "9":
         return f"the message {fields[3]} is sent twice: give each message a name of its own", 3
     if number == "10":
@@ -273,8 +285,8 @@ def number_fault_words(fields: Sequence[str]) -> "tuple[str, int]":
     if fields[0] == "host":
         wrong = 2 if not re.fullmatch(r"0|[1-9][0-9]*", fields[2]) or int(fields[2][:20]) > 10**18 else 3
         what = "skew" if wrong == 2 else "gap"
-        return f"the {what} {fields[wrong]!r} is no whole number from 0 to 10^18, without a sign or a leading zero", wrong
+        return f"the {what} {shortened(fields[wrong])!r} is no whole number from 0 to 10^18, without a sign or a leading zero", wrong
     hint = ""
     if re.search(r"\d[.T:]\d|\d-\d", fields[2]):
         hint = ". `ask log` makes whole units of decimal seconds and ISO 8601 stamps"
-    return f"the stamp {fields[2]!r} is no whole number up to 4*10^18, with - where it is negative{hint}", 2
+    return f"the stamp {shortened(fields[2])!r} is no whole number up to 4*10^18, with - where it is negative{hint}", 2

@@ -1,2 +1,168 @@
-def add_words(commands, common):
-    pass
+"""`ask draw`: a log as a picture, by its stamps, by the timings of a report, or by a timing."""
+
+from __future__ import annotations
+
+import argparse
+from typing import List, Optional, Sequence, Tuple
+
+from ask.logs import Log
+from ask.nearer import brought_nearer
+from ask.page import page_of
+from ask.picture import Panel, picture
+from ask.program import NOT_THERE, Program, Run, find_program
+from ask.question import (
+    Question, accepted_log, answered, formula_source, report_of_run, run_facts, shown_formula, times_source,
+)
+from ask.reports import Report, Step, Unreadable, read_report, steps_of
+from ask.texts import Source, Trouble, read_source
+from ask.words import Answer, refusal, step_words
+
+ANY = Source("true", b"true")  # a formula that every timing has, where only the timing is asked about
+REJECTED = 5  # the status of a report that doesn't hold
+
+
+def add_words(commands: argparse._SubParsersAction, common: argparse.ArgumentParser) -> None:
+    """Adds the words of the command."""
+    words = commands.add_parser(
+        "draw", parents=[common], allow_abbrev=False, help="a log as a picture",
+        description="Writes a page with a picture of a log: by the timings that a report has, or that check finds for "
+        "--formula; by a timing; else by its stamps. A log without a timing is shown with the bounds that exclude it.",
+    )
+    words.add_argument("log", metavar="LOG")
+    which = words.add_mutually_exclusive_group()
+    which.add_argument("--report", metavar="FILE", help="a report of check")
+    which.add_argument("--times", metavar="FILE", help="a file of times, as the program's times writes them")
+    words.add_argument("--formula", metavar="FORMULA", help="a file, or the formula itself")
+    words.add_argument("--svg", action="store_true", help="write the picture alone, without a page")
+    words.add_argument("--as-found", action="store_true", help="show the timings of check as they are, not brought nearer to the stamps")
+    words.set_defaults(do=do)
+
+
+def do(arguments: argparse.Namespace) -> Answer:
+    """The answer of the command."""
+    program = Program(find_program(arguments.program), arguments.seconds)
+    formula = formula_source(arguments.formula) if arguments.formula else None
+    drawing = Drawing(Question(program, formula or ANY, read_source(arguments.log)), formula)
+    if arguments.times:
+        panels = drawing.panels_of_times(read_source(arguments.times))
+    elif arguments.report:
+        panels = drawing.panels_of_report(read_source(arguments.report))
+    elif formula:
+        panels = drawing.panels_of_check(arguments.as_found)
+    else:
+        panels = drawing.panels_of_stamps()
+    log = drawing.log()
+    heading = drawing.question.log_source.name + (f": {shown_formula(formula)}" if formula else "")
+    svg = picture(log, panels, heading if arguments.svg else "")
+    text = svg if arguments.svg else page_of(heading, svg)
+    titles = [{"title": panel.title, "times": list(panel.times)} for panel in panels]
+    return Answer(0, [text], {"panels": titles, "picture": text, "runs": run_facts(program.runs)})
+
+
+class Drawing:
+    """A log to be drawn, and what is asked of it."""
+
+    def __init__(self, question: Question, formula: Optional[Source]):
+        self.question, self.formula = question, formula
+
+    def log(self) -> Log:
+        return accepted_log(self.question.log_source)
+
+    def run(self, command: str, sources: Sequence[Source]) -> Run:
+        return self.question.program.run(command, sources)
+
+    def refused(self, run: Run) -> Trouble:
+        return refusal(run, self.question.formula, self.question.log_source)
+
+    def panels_of_stamps(self) -> List[Panel]:
+        """The stamps, or a contradiction of a log that has no timing."""
+        run = self.run("times", [self.question.log_source])
+        if run.status == 3:
+            lines = run.output.decode("ascii").splitlines()[1:]
+            return [self.contradiction([steps_of(line.split(" "))[0] for line in lines])]
+        if run.status != 0:
+            raise self.refused(run)
+        stamps = self.log().stamps()
+        run = self.question.replay("true", stamps)
+        title = "By the stamps"
+        return [Panel(title if run.status == 0 else f"{title}, which are no admissible timing: {self.broken(run)}", stamps)]
+
+    def broken(self, run: Run) -> str:
+        """The bound that a timing breaks."""
+        kind, number = run.line().split(" ")[2:4]
+        return step_words(self.log(), Step(kind, (int(number),)))
+
+    def contradiction(self, walk: Sequence[Step]) -> Panel:
+        return Panel("No timing is admissible: these bounds contradict each other", self.log().stamps(), walk)
+
+    def panels_of_times(self, times: Source) -> List[Panel]:
+        """A timing of a file, as `replay` judges it."""
+        run = self.run("replay", [self.question.formula, self.question.log_source, times])
+        if run.status not in (0, 1, 6):
+            raise self.refused(run)
+        numbers = [int(line) for line in times.data.decode("ascii").split("\n") if line.strip()]
+        if run.status == 6:
+            return [Panel(f"No admissible timing: {self.broken(run)}", numbers)]
+        value = f", where the formula is {run.line()}" if self.formula else ""
+        return [Panel(f"The timing of {times.name}{value}", numbers)]
+
+    def panels_of_report(self, source: Source) -> List[Panel]:
+        """The timings of a report that the program accepts; without a formula, those that are admissible."""
+        run = self.run("audit", [self.question.formula, self.question.log_source, source])
+        report = self.report(source, run)
+        if self.formula and run.status != 0:
+            raise Trouble(run.status, f"{source.name} isn't a report on this formula and log: the program says {run.line()!r}. "
+                                      f"Where it was made with --conflicts, ask draw can't tell; else it is of another formula or log")
+        if report.walk is not None and run.status != 0:
+            raise Trouble(run.status, f"{source.name} isn't a report on this log: the program says {run.line()!r}")
+        if not self.formula:
+            self.refuse_inadmissible(source, report)
+        return self.panels_of_sections(report, None)
+
+    def report(self, source: Source, run: Run) -> Report:
+        """The report of a file, or the trouble with it."""
+        if run.status not in (0, REJECTED):
+            raise self.refused(run)
+        words = run.line().split(" ")
+        if words[:2] == ["refused", "report"]:
+            raise Trouble(run.status, f"{source.name} is no report, or not a whole one: line {words[-1]} is wrong")
+        try:
+            report = read_report(source.data)
+        except Unreadable:
+            raise Trouble(NOT_THERE, f"the program reads {source.name}, and ask can't") from None
+        rows = len(self.log().rows)
+        if words[:2] == ["refused", "events"]:
+            raise Trouble(run.status, f"{source.name} is a report on a log of {report.events} rows, and {self.question.log_source.name} has {rows}")
+        return report
+
+    def refuse_inadmissible(self, source: Source, report: Report) -> None:
+        """Refuses timings that the log doesn't admit."""
+        for value, section in report.sections.items():
+            if section.kind == "witness":
+                run = self.question.replay("true", section.times)
+                if run.status == 6:
+                    raise Trouble(REJECTED, f"{source.name} isn't a report on this log: its timing for {str(value).lower()} isn't admissible, since {self.broken(run)}")
+
+    def panels_of_check(self, as_found: bool) -> List[Panel]:
+        """The timings that `check` finds."""
+        run = answered(self.question.check(), self.question)
+        return self.panels_of_sections(report_of_run(run), None if as_found else self.question)
+
+    def panels_of_sections(self, report: Report, nearer: Optional[Question]) -> List[Panel]:
+        """A panel for each timing of a report, or one for the walk of a log without any."""
+        if report.walk is not None:
+            return [self.contradiction(report.walk)]
+        panels = []
+        for value, section in report.sections.items():
+            word = str(value).lower()
+            if section.kind == "witness":
+                times = brought_nearer(nearer, self.log(), section.times, value) if nearer else section.times
+                panels.append(Panel(f"A timing in which the formula is {word}{self.other_words(report, value)}", times))
+        return panels or [Panel("By the stamps", self.log().stamps())]
+
+    @staticmethod
+    def other_words(report: Report, value: bool) -> str:
+        """What the report says of the other value, where it has no timing."""
+        other = report.sections[not value].kind
+        word = str(not value).lower()
+        return {"refuted": f"; by no timing is it {word}", "unknown": f"; whether it can be {word} isn't known"}.get(other, "")

@@ -1,2 +1,0 @@
-def add_words(commands, common):
-    pass

@@ -1,0 +1,374 @@
+"""Pictures of logs: a lane a host, rows with their skews, messages, states, positions, and a contradiction as a loop.
+
+A picture has a panel for each timing that is shown. Distances along the time axis carry their ends as data, in
+units of the plot, so that a script in a page can zoom without drawing anew.
+"""
+
+from __future__ import annotations
+
+import math
+from dataclasses import dataclass, field
+from html import escape
+from typing import Dict, List, NamedTuple, Optional, Sequence, Tuple
+
+from ask.logs import Log, bound_of, proposition_names, state_at
+from ask.reports import Step
+from ask.words import signed, step_words
+
+LEFT = 120  # where the plot begins
+PLOT = 980  # its width
+RIGHT = 40
+HEAD = 44  # the height of a panel's title
+LANE = 58  # the height of a lane without its propositions
+STRIP = 13  # the height of a proposition
+AXIS = 46
+LABEL_LEVELS = 3
+LETTER = 6.3  # the width of a letter of a label
+MOST_STRIPS = 8
+MOST_CLEAR_POSITIONS = 120
+BEYOND = 24  # how far a state that stays is drawn beyond the plot
+COLOURS = ("#0072b2", "#d55e00", "#009e73", "#cc79a7", "#b8860b", "#56b4e9", "#7a5195", "#666666")
+
+STYLE = """
+text { font: 12px system-ui, sans-serif; fill: #222; }
+.title { font-weight: 600; font-size: 14px; }
+.host { font-weight: 600; }
+.small { font-size: 11px; fill: #555; }
+.label { font-size: 11px; }
+.shift { font-size: 10px; fill: #8a1c1c; }
+.lane { fill: #f6f7f9; }
+.position { stroke: #c9ced6; stroke-width: 1; }
+.faint { stroke-opacity: .35; }
+.skew { stroke: #9aa4b2; stroke-width: 5; stroke-opacity: .38; }
+.moved { stroke: #8a1c1c; stroke-width: 1; stroke-dasharray: 2 2; }
+.stamp { fill: #fff; stroke: #8a1c1c; }
+.row { fill: #222; }
+.message { stroke: #44546a; stroke-width: 1.3; fill: none; }
+.step { stroke: #c00; stroke-width: 2; fill: none; }
+.number { fill: #c00; font-weight: 700; }
+.axis { stroke: #888; }
+.off { visibility: hidden; }
+"""
+
+
+class Panel(NamedTuple):
+    """A timing to be drawn, under a title; of an inconsistent log the stamps, with the walk that shows it."""
+
+    title: str
+    times: Sequence[int]
+    walk: Sequence[Step] = ()
+
+
+@dataclass
+class Scale:
+    """Where moments stand in the plot."""
+
+    first: int
+    last: int
+
+    def at(self, moment: int) -> float:
+        """The distance of a moment from the plot's left, of the width PLOT."""
+        return round(PLOT * (moment - self.first) / max(1, self.last - self.first), 2)
+
+
+@dataclass
+class Canvas:
+    """The parts of a picture, from top to bottom."""
+
+    parts: List[str] = field(default_factory=list)
+    height: int = 0
+
+    def text(self, x: float, y: float, words: str, kind: str = "", anchor: str = "start") -> None:
+        self.parts.append(f'<text class="{kind}" x="{x:g}" y="{y:g}" text-anchor="{anchor}">{escape(words)}</text>')
+
+    def line(self, kind: str, ends: Tuple[float, float], heights: Tuple[float, float], title: str = "", more: str = "") -> None:
+        """A line between two moments of the plot."""
+        hover = f"<title>{escape(title)}</title>" if title else ""
+        self.parts.append(
+            f'<line class="{kind} l" data-a="{ends[0]:g}" data-b="{ends[1]:g}" x1="{LEFT + ends[0]:g}" '
+            f'x2="{LEFT + ends[1]:g}" y1="{heights[0]:g}" y2="{heights[1]:g}"{more}>{hover}</line>'
+        )
+
+
+def picture(log: Log, panels: Sequence[Panel], heading: str = "") -> str:
+    """The picture of a log, with a panel for each timing."""
+    scale = scale_of(log, panels)
+    canvas = Canvas()
+    if heading:
+        canvas.text(12, 22, heading, "title")
+        canvas.height = 32
+    for number, panel in enumerate(panels):
+        draw_panel(canvas, log, panel, scale, number)
+    width = LEFT + PLOT + RIGHT
+    return "\n".join([
+        f'<svg xmlns="http://www.w3.org/2000/svg" width="{width}" height="{canvas.height + 12}" '
+        f'viewBox="0 0 {width} {canvas.height + 12}" data-left="{LEFT}" data-plot="{PLOT}" data-right="{RIGHT}" '
+        f'data-levels="{LABEL_LEVELS}" data-letter="{LETTER}">',
+        f"<style>{STYLE}</style>",
+        '<defs><marker id="head" viewBox="0 0 8 8" refX="8" refY="4" markerWidth="7" markerHeight="7" orient="auto">'
+        '<path d="M0 0 L8 4 L0 8 z" fill="#44546a"/></marker>'
+        '<marker id="redhead" viewBox="0 0 8 8" refX="8" refY="4" markerWidth="5" markerHeight="5" orient="auto">'
+        '<path d="M0 0 L8 4 L0 8 z" fill="#c00"/></marker>'
+        f'<clipPath id="plot"><rect class="clip" x="{LEFT - 12}" y="0" width="{PLOT + 12 + RIGHT}" height="{canvas.height}"/></clipPath></defs>',
+        '<rect class="paper" width="100%" height="100%" fill="#fff"/>',
+        *canvas.parts,
+        "</svg>",
+    ])
+
+
+def scale_of(log: Log, panels: Sequence[Panel]) -> Scale:
+    """A scale that has all rows, their skews and the timings; a skew beyond all stamps is cut at a fifth of them."""
+    moments = log.stamps() + [time for panel in panels for time in panel.times]
+    low, high = min(moments), max(moments)
+    room = max(high - low, 4) // 4 + 1
+    firsts = [max(row.stamp - row.skew, low - room) for row in log.rows]
+    lasts = [min(row.stamp + row.skew, high + room) for row in log.rows]
+    first, last = min(firsts + [low]), max(lasts + [high])
+    return Scale(first, last) if last - first > 1 else Scale(first - 2, last + 2)
+
+
+# Panels
+
+
+class Lane(NamedTuple):
+    """Where a host is drawn: its top, the height of its rows, and its propositions from top to bottom."""
+
+    top: int
+    middle: int
+    height: int
+    names: List[str]
+
+
+def draw_panel(canvas: Canvas, log: Log, panel: Panel, scale: Scale, number: int) -> None:
+    """Adds a panel below what is there."""
+    canvas.text(12, canvas.height + 24, panel.title, "title")
+    top = canvas.height + HEAD
+    lanes, bottom = lanes_of(log, top + (24 if panel.walk else 0))
+    for host, lane in zip(log.hosts, lanes):
+        draw_lane_ground(canvas, lane, f"{host.name}", f"skew {host.skew}, gap {host.gap}")
+    canvas.parts.append('<g clip-path="url(#plot)">')
+    positions = sorted(set(panel.times))
+    kind = "position" if len(positions) <= MOST_CLEAR_POSITIONS else "position faint"
+    for moment in positions:
+        at = scale.at(moment)
+        canvas.line(kind, (at, at), (top - 4, bottom + 4))
+    for place, lane in enumerate(lanes):
+        draw_states(canvas, log, panel, scale, place, lane)
+    draw_messages(canvas, log, panel, scale, lanes)
+    draw_rows(canvas, log, panel, scale, lanes, number)
+    if panel.walk:
+        draw_walk(canvas, log, panel, scale, lanes, top)
+    canvas.parts.append("</g>")
+    draw_axis(canvas, scale, bottom + 6)
+    canvas.height = bottom + AXIS + 6
+    for step_number, step in enumerate(panel.walk, start=1):
+        bound = bound_of(log, step.kind, step.numbers[0])
+        canvas.text(LEFT, canvas.height + 14, f"{step_number}. {step_words(log, step)}: {bound.most if bound else ''}", "small")
+        canvas.height += 17
+    if panel.walk:
+        bounds = [bound_of(log, step.kind, step.numbers[0]) for step in panel.walk]
+        total = sum(bound.most for bound in bounds if bound)
+        canvas.text(LEFT, canvas.height + 16, f"The bounds add up to {total}, and a loop that can be met has no negative sum.", "number")
+        canvas.height += 26
+
+
+def lanes_of(log: Log, top: int) -> Tuple[List[Lane], int]:
+    """The lanes of all hosts from a height on, and the height below them."""
+    lanes = []
+    for place in range(len(log.hosts)):
+        names = proposition_names(log, place)[:MOST_STRIPS]
+        height = LANE + STRIP * len(names)
+        lanes.append(Lane(top, top + 36, height, names))
+        top += height + 6
+    return lanes, top
+
+
+def draw_lane_ground(canvas: Canvas, lane: Lane, name: str, limits: str) -> None:
+    """The ground of a lane, with the names at its left."""
+    canvas.parts.append(f'<rect class="lane" x="0" y="{lane.top}" width="100%" height="{lane.height}"/>')
+    canvas.text(12, lane.top + 20, name, "host")
+    canvas.text(12, lane.top + 35, limits if len(limits) < 19 else limits.replace(", ", " "), "small")
+    for place, strip in enumerate(lane.names):
+        canvas.text(LEFT - 16, strip_top(lane, place) + 9, strip if len(strip) <= 16 else strip[:15] + "..", "small", "end")
+
+
+def strip_top(lane: Lane, place: int) -> int:
+    return lane.top + LANE + STRIP * place - 4
+
+
+def draw_states(canvas: Canvas, log: Log, panel: Panel, scale: Scale, host: int, lane: Lane) -> None:
+    """The stretches in which each proposition of a host is true."""
+    positions = sorted(set(panel.times))
+    for place, name in enumerate(lane.names):
+        colour = COLOURS[names_of_log(log).index(name) % len(COLOURS)]
+        for begin, end in stretches(log, panel.times, positions, host, name):
+            a, b = scale.at(begin), PLOT + BEYOND if end is None else scale.at(end)
+            words = f"{log.hosts[host].name}.{name} is true from {begin}" + ("" if end is None else f" up to {end}, where it isn't")
+            canvas.parts.append(
+                f'<rect class="w" data-a="{a:g}" data-b="{b:g}" x="{LEFT + a:g}" y="{strip_top(lane, place)}" '
+                f'width="{max(b - a, 2):g}" height="{STRIP - 4}" rx="2" fill="{colour}"><title>{escape(words)}</title></rect>'
+            )
+
+
+def names_of_log(log: Log) -> List[str]:
+    """The names of all propositions, each once; those of one name have one colour."""
+    return list(dict.fromkeys(name for host in range(len(log.hosts)) for name in proposition_names(log, host)))
+
+
+def stretches(
+    log: Log, times: Sequence[int], positions: Sequence[int], host: int, name: str
+) -> List[Tuple[int, Optional[int]]]:
+    """From which position on a proposition is true, and from which on it isn't again; None where it stays so."""
+    found: List[Tuple[int, Optional[int]]] = []
+    relevant = {times[e] for e, row in enumerate(log.rows) if row.host == host and row.name == name}
+    was = False
+    pulsed = {times[e] for e, row in enumerate(log.rows) if row.host == host and row.name == name and row.kind == "pulse"}
+    for place, moment in enumerate(positions):
+        if moment not in relevant and (place == 0 or positions[place - 1] not in pulsed):
+            continue
+        now = state_at(log, times, moment, host, name)
+        if now and not was:
+            found.append((moment, None))
+        if was and not now:
+            found[-1] = (found[-1][0], moment)
+        was = now
+    return found
+
+
+def draw_messages(canvas: Canvas, log: Log, panel: Panel, scale: Scale, lanes: Sequence[Lane]) -> None:
+    """An arrow for each message that is received."""
+    sends = log.sends()
+    for event, row in enumerate(log.rows):
+        send = sends.get(row.name)
+        if row.kind != "recv" or send is None:
+            continue
+        ends = (scale.at(panel.times[send]), scale.at(panel.times[event]))
+        heights = (lanes[log.rows[send].host].middle, lanes[row.host].middle)
+        takes = panel.times[event] - panel.times[send]
+        title = f"message {row.name}: {log.host_of(send)} line {log.rows[send].line} to {log.host_of(event)} line {row.line}, takes {takes}"
+        canvas.line("message", ends, heights, title, ' marker-end="url(#head)"')
+
+
+def draw_rows(canvas: Canvas, log: Log, panel: Panel, scale: Scale, lanes: Sequence[Lane], number: int) -> None:
+    """Each row at its time, with its stamp, its skew and its shift."""
+    levels = label_levels(log, panel, scale)
+    has_room = shift_rooms(log, panel, scale)
+    for event, row in enumerate(log.rows):
+        lane, time = lanes[row.host], panel.times[event]
+        at, stamp = scale.at(time), scale.at(row.stamp)
+        shift = time - row.stamp
+        skew = (scale.at(max(row.stamp - row.skew, scale.first)), scale.at(min(row.stamp + row.skew, scale.last)))
+        title = f"line {row.line}: {row.kind},{log.host_of(event)},{row.stamp},{row.name}\nskew {row.skew}: {row.stamp - row.skew} to {row.stamp + row.skew}"
+        title += f"\ntime {time}, shift {signed(shift)}" if shift else ""
+        canvas.line("skew", skew, (lane.middle, lane.middle), title)
+        if shift:
+            canvas.line("moved", (stamp, at), (lane.middle, lane.middle))
+            canvas.parts.append(mark(stamp, lane.middle, '<circle class="stamp" r="2.6"/>'))
+        level = levels[event]
+        off = " off" if level is None else ""
+        label = f"{row.kind} {row.name}"
+        parts = f'<circle class="row" r="4"/><title>{escape(title)}</title>'
+        parts += (
+            f'<text class="label{off}" data-lane="{number}.{row.host}" data-wide="{LETTER * len(label):g}" x="-3" '
+            f'y="{-8 - 11 * (level or 0)}">{escape(label)}</text>'
+        )
+        off = "" if has_room[event] else " off"
+        parts += f'<text class="shift{off}" x="0" y="15" text-anchor="middle">{signed(shift)}</text>' if shift else ""
+        canvas.parts.append(mark(at, lane.middle, parts))
+
+
+def mark(at: float, height: float, parts: str) -> str:
+    """Parts at a moment, which keep their size."""
+    return f'<g class="x" data-x="{at:g}" data-y="{height:g}" transform="translate({LEFT + at:g},{height:g})">{parts}</g>'
+
+
+def label_levels(log: Log, panel: Panel, scale: Scale) -> List[Optional[int]]:
+    """At which height the label of each row has room, None where at none."""
+    free: Dict[Tuple[int, int], float] = {}
+    levels: List[Optional[int]] = [None] * len(log.rows)
+    for event in sorted(range(len(log.rows)), key=lambda event: panel.times[event]):
+        row = log.rows[event]
+        at = scale.at(panel.times[event])
+        wide = LETTER * (len(row.kind) + 1 + len(row.name))
+        for level in range(LABEL_LEVELS):
+            if at - 3 >= free.get((row.host, level), -100.0):
+                levels[event] = level
+                free[row.host, level] = at + wide + 4
+                break
+    return levels
+
+
+def shift_rooms(log: Log, panel: Panel, scale: Scale) -> List[bool]:
+    """Whether the figure of each row's shift has room beside those of its lane before it."""
+    free: Dict[int, float] = {}
+    rooms = [False] * len(log.rows)
+    for event in sorted(range(len(log.rows)), key=lambda event: panel.times[event]):
+        row = log.rows[event]
+        half = LETTER * len(signed(panel.times[event] - row.stamp)) / 2
+        at = scale.at(panel.times[event])
+        if panel.times[event] != row.stamp and at - half >= free.get(row.host, -100.0):
+            rooms[event] = True
+            free[row.host] = at + half + 3
+    return rooms
+
+
+def draw_walk(canvas: Canvas, log: Log, panel: Panel, scale: Scale, lanes: Sequence[Lane], top: int) -> None:
+    """The loop of a contradiction: an arrow for each bound, with its number; the zero moment is the clock above."""
+    clock = (PLOT / 2, top + 8)
+    if any(step.kind in ("low", "high") for step in panel.walk):
+        canvas.parts.append(mark(clock[0], clock[1], '<rect x="-5" y="-5" width="10" height="10" fill="#c00"/><text class="number" x="9" y="-3">the time itself</text>'))
+
+    def point(event: Optional[int]) -> Tuple[float, float]:
+        if event is None:
+            return clock
+        return scale.at(panel.times[event]), lanes[log.rows[event].host].middle
+
+    for number, step in enumerate(panel.walk, start=1):
+        bound = bound_of(log, step.kind, step.numbers[0])
+        if bound is None:
+            continue
+        (a, y), (b, z) = point(bound.start), point(bound.end)
+        words = f"{number}. {step_words(log, step)}: {bound.most}"
+        data = f'data-a="{a:g}" data-b="{b:g}" data-y="{y:g}" data-z="{z:g}"'
+        path, (x, height) = curve(LEFT + a, y, LEFT + b, z)
+        canvas.parts.append(f'<path class="step c" {data} d="{path}" marker-end="url(#redhead)"><title>{escape(words)}</title></path>')
+        canvas.parts.append(f'<text class="number m" {data} x="{x:g}" y="{height:g}">{number}: {bound.most}</text>')
+
+
+def curve(a: float, y: float, b: float, z: float) -> Tuple[str, Tuple[float, float]]:
+    """A path between two points that is bent to its left, and the place of its label."""
+    length = math.hypot(b - a, z - y)
+    if length < 2:
+        return f"M{a:g} {y:g} C{a - 30:g} {y - 40:g} {a + 30:g} {y - 40:g} {a:g} {y:g}", (a + 20, y - 22)
+    bend = min(34, 12 + length / 8)
+    across, down = (a + b) / 2 + bend * (z - y) / length, (y + z) / 2 - bend * (b - a) / length
+    label = (0.36 * a + 0.48 * across + 0.16 * b + 4, 0.36 * y + 0.48 * down + 0.16 * z)
+    return f"M{a:g} {y:g} Q{across:g} {down:g} {b:g} {z:g}", label
+
+
+# The axis
+
+
+def draw_axis(canvas: Canvas, scale: Scale, height: float) -> None:
+    """The axis with its ticks; large moments are counted from the first."""
+    canvas.parts.append(f'<line class="axis" x1="{LEFT}" x2="{LEFT + PLOT}" y1="{height}" y2="{height}"/>')
+    base = scale.first if max(abs(scale.first), abs(scale.last)) >= 10**7 else 0
+    if base:
+        canvas.text(LEFT, height + 32, f"counted from {base}", "small")
+    canvas.parts.append(f'<g class="ticks" data-offset="{scale.first - base}" data-span="{scale.last - scale.first}" data-y="{height}">')
+    for moment in ticks(scale.first, scale.last):
+        at = scale.at(moment)
+        canvas.parts.append(
+            f'<g transform="translate({LEFT + at:g},{height:g})"><line class="axis" y2="4"/>'
+            f'<text class="small" y="16" text-anchor="middle">{moment - base}</text></g>'
+        )
+    canvas.parts.append("</g>")
+
+
+def ticks(first: int, last: int) -> List[int]:
+    """Round moments from the first to the last, about ten."""
+    steps = (factor * 10**power for power in range(22) for factor in (1, 2, 5))
+    step = next(step for step in steps if (last - first) // step <= 10)
+    base = first if max(abs(first), abs(last)) >= 10**7 else 0
+    begin = base + -(-(first - base) // step) * step
+    return list(range(begin, last + 1, step))
