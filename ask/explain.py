@@ -3,7 +3,7 @@
 from __future__ import annotations
 
 from dataclasses import dataclass
-from typing import Callable, List, Optional, Sequence
+from typing import Callable, List, Optional, Sequence, Set
 
 from ask.formulas import NO_BOUND, Tree, interval_text, propositions, text_of
 from ask.logs import Log
@@ -23,6 +23,7 @@ class Timing:
 
     def __post_init__(self) -> None:
         self.positions = sorted(set(self.times))
+        self.named: Set[int] = set()  # the rows that sentences have named
 
     def holds(self, text: str, place: int) -> bool:
         """Whether a text is true at a position."""
@@ -33,6 +34,7 @@ class Timing:
         """A position as sentences name it."""
         moment = self.positions[place]
         events = [event for event, time in enumerate(self.times) if time == moment]
+        self.named.update(events)
         rows = [self.log.rows[event] for event in events]
         shown = [f"{self.log.host_of(event)} {row.kind} {row.name}" for event, row in zip(events, rows)]
         return f"at {moment} ({lines_words(self.log, events)}: {', '.join(shown[:4])}{', ..' if len(shown) > 4 else ''})"
@@ -144,9 +146,18 @@ def steps_of_all(timing: Timing, tree: Tree, place: int, value: bool) -> List[st
         return [line]
     found = nearest(timing, sign, tree.interval[0], child, place)
     if found is None:
-        return [f"{line}, nor {'later' if sign == 'F' else 'earlier'} in the log"]
+        return [f"{line}, nor {'later' if sign == 'F' else 'earlier'} in the log{last_words(timing, child, sign, place)}"]
     distance = abs(timing.positions[found] - here)
     return [f"{line}: next it holds {timing.place_words(found)}, {distance} {'later' if sign == 'F' else 'earlier'}"]
+
+
+def last_words(timing: Timing, child: str, sign: str, place: int) -> str:
+    """When a text that isn't true from a position on was true before, or before it and is true after."""
+    found = nearest(timing, "O" if sign == "F" else "F", "0", child, place)
+    if found is None:
+        return ""
+    distance = abs(timing.positions[found] - timing.positions[place])
+    return f"; {'last' if sign == 'F' else 'next'} it holds {timing.place_words(found)}, {distance} {'earlier' if sign == 'F' else 'later'}"
 
 
 def interval_words(tree: Tree) -> str:

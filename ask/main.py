@@ -3,12 +3,13 @@
 from __future__ import annotations
 
 import argparse
+import json
 import os
 import sys
-from typing import List, NoReturn, Optional, Sequence
+from typing import NoReturn, Sequence
 
 from ask.commands import check, deadline, draw, each, log
-from ask.program import NOT_THERE, STOPPED, Program, Stopped
+from ask.program import STOPPED, Stopped
 from ask.texts import Trouble
 from ask.words import USAGE, Answer, print_answer
 
@@ -69,7 +70,11 @@ def main(words: Sequence[str]) -> int:
     try:
         return finished(words)
     except Trouble as trouble:
+        if "--json" in words:
+            print(json.dumps({"status": trouble.status, "refusal": trouble.message}, indent=2, ensure_ascii=False))
         print(f"ask: {trouble.message}", file=sys.stderr)
+        if trouble.status == USAGE:
+            print(f"usage: ask {words[0]} --help says how", file=sys.stderr)
         return trouble.status
     except Stopped:
         print("ask: stopped, since a run took longer than --seconds allows", file=sys.stderr)

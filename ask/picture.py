@@ -314,7 +314,7 @@ def shift_rooms(log: Log, panel: Panel, scale: Scale) -> List[bool]:
 
 def draw_walk(canvas: Canvas, log: Log, panel: Panel, scale: Scale, lanes: Sequence[Lane], top: int) -> None:
     """The loop of a contradiction: an arrow for each bound, with its number; the zero moment is the clock above."""
-    clock = (PLOT / 2, top + 8)
+    clock = (PLOT / 5, top + 8)
     if any(step.kind in ("low", "high") for step in panel.walk):
         canvas.parts.append(mark(clock[0], clock[1], '<rect x="-5" y="-5" width="10" height="10" fill="#c00"/><text class="number" x="9" y="-3">the time itself</text>'))
 

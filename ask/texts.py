@@ -15,11 +15,10 @@ MOST_BYTES = 1 << 30  # the longest file that the program reads, which is a repo
 class Trouble(Exception):
     """What ends a command: the message for whoever gave the command, and the status."""
 
-    def __init__(self, status: int, message: str, shows_usage: bool = False):
+    def __init__(self, status: int, message: str):
         super().__init__(message)
         self.status = status
         self.message = message
-        self.shows_usage = shows_usage
 
 
 class Source(NamedTuple):

@@ -3,12 +3,10 @@
 from __future__ import annotations
 
 import argparse
-from typing import Any, Dict, List, Optional, Sequence
+from typing import Any, Dict, List, Optional, Sequence, Set, Tuple
 
 from ask import explain
 from ask.cautions import KINDS, Caution, cautions_of
-from ask.formulas import Tree, propositions
-from ask.logs import Log
 from ask.nearer import brought_nearer
 from ask.program import Program, Run, Stopped, find_program
 from ask.question import (
@@ -16,7 +14,7 @@ from ask.question import (
     shown_formula, text_of_source,
 )
 from ask.reports import Report, Section, Step, bounds_used
-from ask.texts import Source, Trouble, read_source
+from ask.texts import Trouble, read_source
 from ask.words import Answer, bold, counted, grouped, signed, step_words, table, walk_words, yellow
 
 WARNED = 65  # the status where --strict makes an error of a warning
@@ -91,8 +89,9 @@ class Reading:
         self.say_contradiction()
         self.say_stamps()
         timings = self.timings()
-        self.say_timings(timings)
-        self.say_positions(timings)
+        reasons, named = self.reasons(timings)
+        self.say_timings(timings, named)
+        self.say_reasons(reasons)
         self.say_grounds()
         self.say_runs()
         strict = [w for w in warnings if self.arguments.strict or w.kind in self.arguments.strict_for]
@@ -142,12 +141,12 @@ class Reading:
                 nearer[value] = times
         return nearer
 
-    def say_timings(self, timings: Dict[bool, List[int]]) -> None:
+    def say_timings(self, timings: Dict[bool, List[int]], named: Set[int]) -> None:
         """The timings side by side, a line a row."""
         self.facts["timings"] = {str(value).lower(): times for value, times in timings.items()}
         if not timings:
             return
-        shown = self.rows_shown()
+        shown = self.rows_shown(timings, named)
         heads = ["line", "host", "row", "stamp"]
         for value in timings:
             heads += ["shift", f"{'true' if value else 'false'} at"]
@@ -158,7 +157,7 @@ class Reading:
         self.lines += ["", f"{title} ({by}):", *table(heads, rows, left=(1, 2, len(heads) - 1))]
         if len(shown) < len(self.log.rows):
             rest = len(self.log.rows) - len(shown)
-            self.lines.append(f"  {counted(rest, 'row')} left out, which neither shift nor change what the formula names; --all shows all")
+            self.lines.append(f"  {counted(rest, 'row')} left out; --all shows all")
         if any("both" in row[-1] for row in rows):
             self.lines.append("  both: a row that isn't at its stamp in either timing")
         self.say_spreads(timings)
@@ -172,39 +171,46 @@ class Reading:
             cells += [signed(shift), str(row.stamp + shift)]
         return cells + ["both" if len(shifts) == 2 and all(shifts) else ""]
 
-    def rows_shown(self) -> List[int]:
-        """All rows of a short log; of a long one those that the formula names or that are shifted."""
+    def rows_shown(self, timings: Dict[bool, List[int]], named: Set[int]) -> List[int]:
+        """All rows of a short log; of a long one those that the reasons name, and then those that are shifted."""
         events = range(len(self.log.rows))
         if self.arguments.all or len(events) <= MOST_ROWS_SHOWN:
             return list(events)
-        named = {(self.log.host_numbered(part.host), part.name) for part in propositions(self.tree)}
-        return [event for event in events if (self.log.rows[event].host, self.log.rows[event].name) in named][:200]
+        stamps = self.log.stamps()
+        shifted = [event for event in events if any(times[event] != stamps[event] for times in timings.values())]
+        return sorted([*named, *(event for event in shifted if event not in named)][:MOST_ROWS_SHOWN])
 
     def say_spreads(self, timings: Dict[bool, List[int]]) -> None:
         """That rows of one host are shifted by different amounts, which an offset couldn't do."""
-        for value, times in timings.items():
+        for times in timings.values():
             for number, host in enumerate(self.log.hosts):
-                shifts = {t - r.stamp for t, r in zip(times, self.log.rows) if r.host == number}
-                if min(shifts, default=0) < 0 < max(shifts, default=0):
-                    word = "true" if value else "false"
-                    note = f"In the timing that makes it {word}, rows of {host.name} are shifted to both sides: {SPREAD_NOTE}."
-                    self.facts.setdefault("remarks", []).append(note)
-                    self.lines.append(f"  {note}")
+                shifts = {time - row.stamp for time, row in zip(times, self.log.rows) if row.host == number}
+                if len(shifts) > 1:
+                    amounts = f"{signed(min(shifts))} to {signed(max(shifts))}"
+                    remark = f"rows of {host.name} are shifted by different amounts, {amounts}: {SPREAD_NOTE}"
+                    self.facts["remarks"] = [remark]
+                    self.lines.append(f"  {remark}")
+                    return
 
-    # Positions
+    # Reasons
 
-    def say_positions(self, timings: Dict[bool, List[int]]) -> None:
-        """Where on each timing the formula gets its value."""
-        self.facts["positions"] = {}
+    def reasons(self, timings: Dict[bool, List[int]]) -> Tuple[Dict[str, List[str]], Set[int]]:
+        """Where on each timing the formula gets its value, and the rows that are named by it."""
+        reasons: Dict[str, List[str]] = {}
+        named: Set[int] = set()
         for value, times in timings.items():
+            timing = explain.Timing(self.question, self.log, times)
             try:
-                timing = explain.Timing(self.question, self.log, times)
-                lines = explain.explained(timing, self.tree, value) + explain.vanished_words(timing, self.tree)
+                reasons[str(value).lower()] = explain.explained(timing, self.tree, value) + explain.vanished_words(timing, self.tree)
             except (Trouble, Stopped):
                 continue  # a part of the formula was refused, or took too long: the table stands without it
+            named |= timing.named
+        return reasons, named
+
+    def say_reasons(self, reasons: Dict[str, List[str]]) -> None:
+        self.facts["reasons"] = reasons
+        for word, lines in reasons.items():
             if lines:
-                word = "true" if value else "false"
-                self.facts["positions"][word] = lines
                 self.lines += ["", f"Why it is {word} there [replay]:", *(f"  {line}." for line in lines)]
 
     # Grounds

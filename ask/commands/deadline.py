@@ -3,10 +3,10 @@
 from __future__ import annotations
 
 import argparse
-from typing import Any, Dict, List, Optional
+from typing import Any, Dict, List, Optional, Tuple
 
 from ask.commands.check import refuse_wrong_conflicts
-from ask.formulas import grows_truer, read_formula
+from ask.formulas import Tree, grows_truer, read_formula, subtrees
 from ask.logs import Log
 from ask.program import Program, Run, find_program
 from ask.question import (
@@ -48,7 +48,7 @@ def do(arguments: argparse.Namespace) -> Answer:
     program = Program(find_program(arguments.program), arguments.seconds)
     template = formula_source(arguments.formula)
     question = Question(program, template, read_source(arguments.log), options)
-    answer = Search(question, is_rising(template)).answer()
+    answer = Search(question, tree_of(template)).answer()
     answer.facts["runs"] = run_facts(program.runs)
     if arguments.runs:
         answer.lines += ["", f"{counted(len(program.runs), 'run')} of the program:"]
@@ -56,12 +56,16 @@ def do(arguments: argparse.Namespace) -> Answer:
     return answer
 
 
-def is_rising(template: Source) -> bool:
-    """Whether a greater number makes the formula true of more timings; all `?` have to agree on it."""
+def tree_of(template: Source) -> Optional[Tree]:
+    """The tree of a formula with `?`, or None where it is no formula, which the program then says."""
     text = text_of_source(template)
     if "?" not in text:
         raise Trouble(USAGE, "the formula has no `?`: write it in place of the number that is asked for, as F[0,?]")
-    tree = read_formula(text)
+    return read_formula(text)
+
+
+def is_rising(tree: Optional[Tree]) -> bool:
+    """Whether a greater number makes the formula true of more timings; all `?` have to agree on it."""
     directions = set(grows_truer(tree)) if tree else {True}
     if len(directions) != 1:
         raise Trouble(USAGE, "a greater number in place of `?` makes this formula easier to meet at one place and harder at another, so "
@@ -69,11 +73,22 @@ def is_rising(template: Source) -> bool:
     return directions.pop()
 
 
+def range_of(tree: Optional[Tree]) -> Tuple[int, int]:
+    """The numbers with which no interval of the formula ends before it begins."""
+    intervals = [part.interval for part in subtrees(tree)] if tree else []
+    least = max((int(low) for low, high in intervals if high == "?" and low != "?"), default=0)
+    most = min((int(high) for low, high in intervals if low == "?" and high not in ("?", "inf")), default=MOST_NUMBER)
+    if least > most:
+        raise Trouble(USAGE, f"no number fits in place of `?`: it would be at least {least} and at most {most}")
+    return least, most
+
+
 class Search:
     """The bisection of a question whose formula has `?`."""
 
-    def __init__(self, question: Question, rises: bool):
-        self.question, self.rises = question, rises
+    def __init__(self, question: Question, tree: Optional[Tree]):
+        self.question, self.rises = question, is_rising(tree)
+        self.least, self.most = range_of(tree)
         self.template = text_of_source(question.formula)
         self.runs: Dict[int, Run] = {}
 
@@ -95,20 +110,21 @@ class Search:
 
     def answer(self) -> Answer:
         """The number at the edge, with the check of it and of its neighbour."""
-        first = self.run_at(0)
+        first = self.run_at(self.least)
         if first.status == 3:
             return Answer(3, [bold(f"No timing: {self.question.log_source.name} admits none, so there is nothing to ask (see ask check).")], {"number": None})
         log = accepted_log(self.question.log_source)
         try:
-            number = self.edge(greatest_distance(log))
+            self.most = max(self.least, min(self.most, greatest_distance(log)))
+            number = self.edge()
         except Unknown as unknown:
             line = f"Unknown: with {unknown.number} it wasn't found within the conflicts whether the formula can be false."
             return Answer(4, [bold(line)], {"number": None, "unknown_at": unknown.number})
-        return self.none(log) if number is None else self.found(number)
+        return self.none() if number is None else self.found(number)
 
-    def edge(self, most: int) -> Optional[int]:
+    def edge(self) -> Optional[int]:
         """The least number that is met where a formula rises, and the greatest where it falls."""
-        met, failed = (most, 0) if self.rises else (0, most)
+        met, failed = (self.most, self.least) if self.rises else (self.least, self.most)
         if not self.is_met(met):
             return None
         if self.is_met(failed):
@@ -128,20 +144,26 @@ class Search:
         lines = [bold(f"{number} is the {which} number with which {shown_formula(self.question.formula)} is true by every timing.")]
         lines.append(f"  {number}: {end_words(self.run_at(number))}")
         facts: Dict[str, Any] = {"number": number, "which": which, "statuses": {str(number): self.run_at(number).status}}
-        if 0 <= beyond <= MOST_NUMBER and (self.rises or beyond in self.runs):
+        if beyond in self.runs:
             lines.append(f"  {beyond}: {end_words(self.run_at(beyond))}")
             facts["statuses"][str(beyond)] = self.run_at(beyond).status
-        elif not self.rises:
-            lines.append("  No two rows of the log can be further apart, so that a greater number asks for no more.")
+        else:
+            lines.append(f"  {beyond} isn't asked about: {self.limit_words(beyond)}")
         return Answer(0, lines, facts)
 
-    def none(self, log: Log) -> Answer:
+    def limit_words(self, beyond: int) -> str:
+        """Why no number beyond one is tried."""
+        if beyond < self.least:
+            return "an interval of the formula would end before it begins" if self.least else "there is no number below 0"
+        return "no two rows of the log can be further apart, or an interval of the formula would end before it begins"
+
+    def none(self) -> Answer:
         """The answer where no number will do."""
-        number = greatest_distance(log) if self.rises else 0
+        number = self.most if self.rises else self.least
         lines: List[str] = [bold(f"None: {shown_formula(self.question.formula)} isn't true by every timing with any number in place of `?`.")]
         lines.append(f"  {number}: {end_words(self.run_at(number))}")
         if self.rises:
-            lines.append("  No two rows of the log can be further apart, so that a greater number brings nothing.")
+            lines.append("  A greater number brings nothing: no two rows of the log can be further apart, or no interval can be.")
         return Answer(1, lines, {"number": None, "statuses": {str(number): self.run_at(number).status}})
 
 

@@ -1,0 +1,48 @@
+"""What the tests of the companion have in common: its folder, the reference, and how it is run."""
+
+import contextlib
+import io
+import os
+import subprocess
+import sys
+from pathlib import Path
+from unittest import mock
+
+ROOT = Path(__file__).resolve().parent.parent.parent
+sys.path[:0] = [str(ROOT), str(ROOT / "tests" / "reference")]
+PATIENCE = 60  # seconds that one run may take
+
+from ask.main import main  # noqa: E402
+
+
+@contextlib.contextmanager
+def standing_in(folder):
+    """Has a folder as the one in which names are looked up."""
+    before = os.getcwd()
+    os.chdir(folder)
+    try:
+        yield
+    finally:
+        os.chdir(before)
+
+
+def asked(words, folder=ROOT, text=b"", **environment):
+    """How ask with these words ended: its status, what it wrote, and what it said beside that."""
+    written, said = io.StringIO(), io.StringIO()
+    given = io.TextIOWrapper(io.BytesIO(text))
+    with standing_in(folder), mock.patch.dict(os.environ, {"COLUMNS": "80", **environment}), mock.patch("sys.stdin", given):
+        with contextlib.redirect_stdout(written), contextlib.redirect_stderr(said):
+            try:
+                status = main(words)
+            except SystemExit as end:
+                status = end.code
+    return status, written.getvalue(), said.getvalue()
+
+
+def asked_apart(words, folder=ROOT, text=b"", **environment):
+    """The same of `./ask/ask` as a process of its own."""
+    done = subprocess.run(
+        [sys.executable, "-B", str(ROOT / "ask" / "ask"), *words], cwd=folder, input=text, capture_output=True,
+        timeout=PATIENCE, env={**os.environ, "COLUMNS": "80", **environment},
+    )
+    return done.returncode, done.stdout.decode(), done.stderr.decode()

@@ -1,0 +1,189 @@
+"""What is wrong is said in plain words, with its status, and never by a traceback."""
+
+import os
+import random
+import tempfile
+import unittest
+from pathlib import Path
+
+from common import ROOT, asked, asked_apart
+
+HEAD = "kind,host,time,name\nhost,a,2,1\n"
+EXAMPLES = ROOT / "examples"
+
+
+class Words(unittest.TestCase):
+    def told(self, words, status, *parts, **environment):
+        """Asserts that words end with a status and a message with these parts."""
+        ended, _, said = asked(words, EXAMPLES, **environment)
+        self.assertEqual(ended, status, f"{words}: {said}")
+        self.assertNotIn("Traceback", said)
+        for part in parts:
+            self.assertIn(part, said)
+
+    def test_no_command(self):
+        for words in ([], ["what"], ["check"], ["check", "a.p"], ["check", "a.p", "set.csv", "--seconds", "0"],
+                      ["check", "a.p", "set.csv", "--conflicts", "0"], ["deadline", "F[0,5] a.p", "set.csv"],
+                      ["each", "F a.{7}", "set.csv", "--over", ".*"], ["each", "F a.p", "set.csv", "--over", "("],
+                      ["each", "F a.p", "set.csv", "--over", "nothing"], ["log", "set.csv", "--skew", "x"],
+                      ["log", "set.csv", "--row", "x"], ["draw", "set.csv", "--report", "x", "--times", "y"],
+                      ["deadline", "F[0,?] a.p & G[0,?] a.p", "set.csv"], ["check", "a.p", "set.csv", "--nothing"]):
+            self.told(words, 64, "usage:")
+
+    def test_help(self):
+        for words in (["--help"], ["check", "--help"], ["deadline", "--help"], ["each", "--help"], ["log", "--help"], ["draw", "--help"]):
+            ended, text, _ = asked(words)
+            self.assertEqual(ended, 0)
+            self.assertIn("usage:", text)
+
+    def test_files_that_cannot_be_read(self):
+        self.told(["check", "a.p", "missing.csv"], 74, "missing.csv", "No such file")
+        self.told(["check", "a.p", "."], 74, "Is a directory")
+        self.told(["check", "missing.formula", "set.csv"], 74, "missing.formula")
+        self.told(["draw", "set.csv", "--report", "missing.report"], 74, "missing.report")
+        self.told(["log", "set.csv", "--notes", "missing/notes"], 75, "missing/notes")
+
+    def test_programs_that_are_none(self):
+        self.told(["check", "a.p", "set.csv", "--program", "missing"], 69, "missing")
+        self.told(["check", "a.p", "set.csv"], 69, "SKEWCHECK", SKEWCHECK="missing")
+        self.told(["check", "a.p", "set.csv", "--program", "/bin/true"], 69)
+        self.told(["check", "a.p", "set.csv", "--program", "/bin/false"], 69)
+        self.told(["draw", "set.csv", "--program", "/bin/false"], 69)
+        self.told(["check", "a.p", "set.csv", "--program", "set.csv"], 69)
+
+    def test_reports_of_others(self):
+        self.told(["draw", "answered.csv", "--report", "checkout_within_5000.report"], 5, "7 rows", "has 2")
+        self.told(["draw", "answered.csv", "--report", "answered_within_8.report", "--formula", "within_9.formula"], 5, "refused false")
+        self.told(["draw", "answered.csv", "--report", "answered.csv"], 5, "no report")
+        self.told(["draw", "apart.csv", "--report", "answered_within_8.report"], 5, "isn't a report on this log")
+        self.told(["draw", "answered.csv", "--times", "overlap.times"], 68, "line 3")
+
+    def test_warnings_may_be_errors(self):
+        words = ["check", "heartbeat.formula", "heartbeat_notes.csv"]
+        self.told([*words, "--strict-for", "end"], 0)
+        self.told([*words, "--strict-for", "never"], 65)
+
+    def test_long_runs_are_stopped(self):
+        with tempfile.TemporaryDirectory() as folder:
+            slow = Path(folder, "slow")
+            slow.write_text("#!/bin/sh\nexec sleep 20\n")
+            slow.chmod(0o755)
+            for words in (["check", "a.p", "set.csv"], ["draw", "set.csv"], ["deadline", "F[0,?] a.p", "set.csv"]):
+                self.told([*words, "--program", str(slow), "--seconds", "0.3"], 124, "--seconds")
+
+    def test_what_few_conflicts_found_is_shown(self):
+        with tempfile.TemporaryDirectory() as folder:
+            slow = Path(folder, "slow")
+            slow.write_text(f'#!/bin/sh\ncase "$*" in *conflicts*|replay*) exec {os.environ["SKEWCHECK"]} "$@";; esac\nexec sleep 20\n')
+            slow.chmod(0o755)
+            ended, text, _ = asked(["check", "within_8.formula", "answered.csv", "--program", str(slow), "--seconds", "1"], EXAMPLES)
+        self.assertEqual(ended, 2)
+        self.assertIn("stopped after 1 seconds", text)
+
+    def test_as_a_process_of_its_own(self):
+        self.assertEqual(asked_apart(["check"])[0], 64)
+        ended, text, said = asked_apart(["check", "-", "examples/answered.csv"], text=b"G (a.req -> F[0,9] b.ack)")
+        self.assertEqual((ended, text[:5], said), (0, "True:", ""))
+
+
+class Refusals(unittest.TestCase):
+    def refused(self, formula, log, status, *parts):
+        """Asserts that a formula on a log is refused with these parts in the message."""
+        with tempfile.TemporaryDirectory() as folder:
+            Path(folder, "f").write_bytes(formula if isinstance(formula, bytes) else formula.encode())
+            Path(folder, "l").write_bytes(log if isinstance(log, bytes) else log.encode())
+            ended, _, said = asked(["check", "f", "l"], folder)
+        self.assertEqual(ended, status, said)
+        self.assertNotIn("Traceback", said)
+        for part in parts:
+            self.assertIn(part, said)
+
+    def test_formulas(self):
+        log = HEAD + "set,a,1,p\n"
+        for formula, parts in (
+            ("a.p #", ["f, line 1, column 5", "nothing of the language"]), ("a.p &\r\n b.q", ["line 2, column 2", "no host b", "a"]),
+            ("a.p\n& (a.p", ["line 2, column 7", "ends too early"]), ("F[5,3] a.p", ["column 2", "above the second"]),
+            ("F[01,3] a.p", ["column 3", "leading zero"]), ("", ["empty"]), ("!" * 200 + "a.p", ["200 levels"]),
+            ("a.p a.p", ["column 5", "a whole formula ends"]), ("a." + "p" * 33, ["at most 32"]), (b"\xff\xfe", ["column 1"]),
+        ):
+            self.refused(formula, log, 65, *parts)
+
+    def test_logs(self):
+        for text, parts in (
+            ("", ["is empty"]), ("x\n", ["first line", "kind,host,time,name"]), (HEAD, ["no row"]),
+            (HEAD + "put,a,1,p\n", ["line 3, column 1", "no kind 'put'", "set, clear"]), (HEAD + "set,c,1,p\n", ["column 5", "'c'", "hosts: a"]),
+            (HEAD + "set,a,1.5,p\n", ["column 7", "'1.5'", "ask log"]), (HEAD + "set,a,1,P\n", ["column 9", "'P'"]),
+            (HEAD + "set,a,1\n", ["four fields", "has 3"]), (HEAD + "host,b,-1,0\n", ["the skew '-1'"]), (HEAD + "host,b,1,x\n", ["the gap 'x'"]),
+            (HEAD + "host,a,1,0\n", ["declared twice"]), (HEAD + "recv,a,1,m\n", ["m is received", "note"]),
+            (HEAD + "send,a,1,m\nsend,a,2,m\n", ["line 4", "sent twice"]), (HEAD + "host,true,1,1\n", ["'true' is no host"]),
+            (HEAD + "".join(f"note,a,{n},n\n" for n in range(1300)), ["1,300 rows; at most 1,024"]),
+            (HEAD + "".join(f"host,h{n},1,0\n" for n in range(70)), ["71 hosts; at most 64"]),
+            ("skewlog2,host,time,name\nhost,a,1,1\nset,a,1,p\n", ["version 2"]),
+            (HEAD + "set,b,1,p\nhost,b,1,0\n", ["line 3", "declared further down"]),
+            ("\ufeff\r\nkind,host,time,name\r\n\r\nhost,a,2,1\r\nset,a,1o,p\r\n", ["line 5, column 7", "'1o'"]),
+        ):
+            self.refused("a.p", text, 66, *parts)
+
+    def test_sizes(self):
+        rows = HEAD + "".join(f"note,a,{3 * n},n\n" for n in range(1000))
+        self.refused("F a.p & F F a.p & F F F a.p & F F F F a.p & F F F F F a.p", rows, 67, "1,000 rows", "4,194,304")
+        self.refused("a.p", HEAD + "set,a,1,p\n" * 120_000, 67, "1,048,576 bytes")
+
+    def test_bytes_by_chance(self):
+        draw = random.Random(38)
+        example = (EXAMPLES / "checkout.csv").read_bytes()
+        with tempfile.TemporaryDirectory() as folder:
+            for place in range(24):
+                broken = bytearray(example)
+                for _ in range(draw.randint(1, 4)):
+                    broken[draw.randrange(len(broken))] = draw.randrange(256)
+                data = bytes(broken) if place % 4 else os.urandom(draw.randint(0, 3000))
+                Path(folder, "l").write_bytes(data)
+                for words in (["check", "G (web.asked -> F[0,9] pay.done)", "l"], ["draw", "l"], ["log", "l", "--skew", "5"]):
+                    ended, _, said = asked(words, folder)
+                    self.assertNotIn("Traceback", said, data)
+                    self.assertIn(ended, (0, 1, 2, 3, 64, 65, 66), said)
+
+
+class Logs(unittest.TestCase):
+    def made(self, text, *words):
+        """How a log is made of a text."""
+        return asked(["log", "-", *words], text=text.encode())
+
+    def test_lines_of_json_that_are_none(self):
+        for text, part in (
+            ('{"time": 1', "line 1: this is no JSON"), ('{"time": 1}\n', "there is no 'host'"), ('{"host": "a"}\n[1]\n', "line 1: there is no 'time'"),
+            ('{"time": 1, "host": "a", "name": "x"}\n[1]\n', "line 2: this is no JSON object"), ("{" * 100_000, "no JSON"),
+            ('{"time": "x", "host": "a", "name": "x"}', "'x' is no whole number"), ('{"time": 1, "host": "a", "name": "x", "kind": "y"}', "no kind 'y'"),
+        ):
+            ended, _, said = self.made(text, "--skew", "5")
+            self.assertEqual(ended, 66, said)
+            self.assertIn(part, said)
+            self.assertNotIn("Traceback", said)
+
+    def test_a_host_without_a_skew(self):
+        ended, _, said = self.made('{"time": 1, "host": "a", "name": "x"}')
+        self.assertEqual(ended, 64)
+        self.assertIn("--skew a=D", said)
+
+    def test_windows(self):
+        text = HEAD.replace(",2,1", ",2,3") + "set,a,10,up\nsend,a,20,m\nnote,a,30,n\nclear,a,40,up\n"
+        ended, log, said = self.made(text, "--from", "25")
+        self.assertEqual(ended, 0)
+        self.assertEqual(log, "kind,host,time,name\nhost,a,2,3\nset,a,22,up\nnote,a,30,n\nclear,a,40,up\n")
+        self.assertIn("carried in: a up", said)
+
+    def test_receives_without_a_send(self):
+        text = HEAD + "send,a,20,m\nrecv,a,30,m\n"
+        ended, log, said = self.made(text, "--from", "25")
+        self.assertEqual((ended, log), (0, "kind,host,time,name\nhost,a,2,1\nnote,a,30,m\n"))
+        self.assertIn("is a note", said)
+
+    def test_too_many_rows(self):
+        ended, log, said = self.made(HEAD + "".join(f"note,a,{n},n\n" for n in range(1300)))
+        self.assertEqual((ended, log), (66, ""))
+        self.assertIn("1,300 rows; at most 1,024", said)
+
+
+if __name__ == "__main__":
+    unittest.main()
