@@ -5,13 +5,13 @@ from __future__ import annotations
 from typing import Iterator, List, NamedTuple, Optional
 
 from ask.formulas import Tree, beyond_the_end, propositions, subtrees, text_of
-from ask.logs import Log, proposition_names
-from ask.program import Stopped
-from ask.question import Question, text_of_source
+from ask.logs import Log
+from ask.program import Run, Stopped
+from ask.question import VERDICTS, Question, text_of_source
 from ask.texts import place_of
 from ask.words import lines_words, listed
 
-KINDS = ("unset", "no-proposition", "never", "end")
+KINDS = ("unset", "no-proposition", "never", "end", "unasked")
 
 
 class Caution(NamedTuple):
@@ -23,38 +23,64 @@ class Caution(NamedTuple):
 
 
 def cautions_of_names(question: Question, log: Log, tree: Tree) -> Iterator[Caution]:
-    """The propositions that no row sets or pulses."""
-    text = text_of_source(question.formula)
+    """The propositions that no row sets or pulses, and that `check` finds to be false throughout."""
     for part in propositions(tree):
         host = log.host_numbered(part.host)
-        if host is None:
+        if host is None or part.name in set_names(log, host):
             continue
         shown = f"{part.host}.{part.name}"
-        names = proposition_names(log, host)
-        setting = {row.name for row in log.rows if row.host == host and row.kind in ("set", "pulse")}
-        if part.name in setting:
+        run = run_of(question, f"F {shown}")
+        if run is None or run.status != 1:
+            yield unasked(f"whether {shown} is ever true", run)
             continue
+        text = text_of_source(question.formula)
         place = place_of(question.formula.data, len(text[: part.start].encode()))
-        where = f"line {place.line}, column {place.column}"
-        others = [event for event, row in enumerate(log.rows) if row.name == part.name and row.kind in ("note", "send", "recv")]
-        if others:
-            what = "note" if log.rows[others[0]].kind == "note" else "message"
-            yield Caution("no-proposition", (
-                f"{shown} ({where}) is false throughout: {part.name} is the name of a {what} "
-                f"({lines_words(log, others)}), and only `set` and `clear` rows make propositions"
-            ))
-        else:
-            has = f"Rows of {part.host} set {listed(names)}" if names else f"No row of {part.host} sets anything"
-            yield Caution("unset", f"{shown} ({where}) is false throughout: no row sets it. {has}")
+        where = f"{shown} (line {place.line}, column {place.column})"
+        yield caution_of_name(log, host, part.name, where, run.words)
+
+
+def set_names(log: Log, host: int) -> List[str]:
+    """The names that rows of a host set or pulse, each once."""
+    return list(dict.fromkeys(row.name for row in log.rows if row.host == host and row.kind in ("set", "pulse")))
+
+
+def caution_of_name(log: Log, host: int, name: str, where: str, run: str) -> Caution:
+    """The warning of a proposition that no row sets."""
+    others = [event for event, row in enumerate(log.rows) if row.name == name and row.kind in ("note", "send", "recv")]
+    if others:
+        what = "note" if log.rows[others[0]].kind == "note" else "message"
+        return Caution("no-proposition", (
+            f"{where} is false throughout: {name} is the name of a {what} ({lines_words(log, others)}), "
+            f"and only `set` and `clear` rows make propositions"
+        ), run)
+    names = set_names(log, host)
+    has = f"Rows of {log.hosts[host].name} set {listed(names)}" if names else f"No row of {log.hosts[host].name} sets anything"
+    return Caution("unset", f"{where} is false throughout: no row sets it. {has}", run)
 
 
 def cautions_of_implications(question: Question, tree: Tree) -> Iterator[Caution]:
     """The implications whose left side is never true, as `check` of it shows."""
     implications = {text_of(part.parts[0]): text_of(part) for part in subtrees(tree) if part.form == "->"}
     for left, whole in implications.items():
-        run = question.check(f"F ({left})")
-        if run.status == 1:
+        run = run_of(question, f"F ({left})")
+        if run is None or run.status not in VERDICTS or b"\ntrue unknown " in run.output:
+            yield unasked(f"whether {left} is ever true", run)
+        elif run.status == 1:
             yield Caution("never", f"{left} is never true by any timing, so {whole} is true for nothing", run.words)
+
+
+def run_of(question: Question, text: str) -> Optional[Run]:
+    """The check of a text, or None where it took too long."""
+    try:
+        return question.check(text)
+    except Stopped:
+        return None
+
+
+def unasked(what: str, run: Optional[Run]) -> Caution:
+    """The warning that something couldn't be found out."""
+    why = "that run was stopped" if run is None else "it wasn't found within the conflicts" if run.status == 4 else f"the program says {run.line()!r}"
+    return Caution("unasked", f"{what} isn't known: {why}", run.words if run else None)
 
 
 def cautions_of_the_end(question: Question, log: Log, tree: Tree, status: int) -> Iterator[Caution]:
@@ -65,9 +91,11 @@ def cautions_of_the_end(question: Question, log: Log, tree: Tree, status: int) -
         text = text_of(beyond_the_end(tree, wanted=not value))
         if text == text_of(tree):
             continue
-        run = question.check(text)
-        if run.status == status_of_other:
-            word = str(value).lower()
+        run = run_of(question, text)
+        word = str(value).lower()
+        if run is None or run.status not in VERDICTS or f"\n{word} unknown ".encode() in run.output:
+            yield unasked(f"whether the formula is {word} only for want of rows after the last one", run)
+        elif run.status == status_of_other:
             yield Caution("end", (
                 f"the formula is {word} only where an interval reaches beyond the last row (line {log.rows[-1].line}): "
                 f"where such an interval counts for the other value, it can't be {word}. Later rows might change it"
@@ -75,11 +103,9 @@ def cautions_of_the_end(question: Question, log: Log, tree: Tree, status: int) -
 
 
 def cautions_of(question: Question, log: Log, tree: Tree, status: int) -> List[Caution]:
-    """All warnings of a question that has a verdict. A run that takes too long leaves its own out."""
-    found = list(cautions_of_names(question, log, tree))
-    for more in (cautions_of_implications(question, tree), cautions_of_the_end(question, log, tree, status)):
-        try:
-            found += more
-        except Stopped:
-            continue
-    return found
+    """All warnings of a question that has a verdict."""
+    return [
+        *cautions_of_names(question, log, tree),
+        *cautions_of_implications(question, tree),
+        *cautions_of_the_end(question, log, tree, status),
+    ]

@@ -96,10 +96,19 @@ def main(words: Sequence[str]) -> int:
 def finished(words: Sequence[str]) -> int:
     """The status of a command that came to its end."""
     arguments = parser().parse_args(list(words))
+    refuse_second_input(arguments)
     answer: Answer = arguments.do(arguments)
     print_answer(answer, arguments.json)
     sys.stdout.flush()
     return answer.status
+
+
+def refuse_second_input(arguments: argparse.Namespace) -> None:
+    """Refuses words that name the standard input more than once."""
+    named = [value for value in vars(arguments).values() if value == "-"]
+    named += [name for name in getattr(arguments, "files", []) if name == "-"]
+    if len(named) > 1:
+        raise Trouble(USAGE, "`-` is the standard input, which can be read once")
 
 
 if __name__ == "__main__":

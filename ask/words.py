@@ -9,7 +9,7 @@ import sys
 from dataclasses import dataclass, field
 from typing import Any, Dict, List, Optional, Sequence
 
-from ask.logs import Log, Record, bound_of, declared_hosts, records_of
+from ask.logs import HEADERS, KINDS, Log, Record, bound_of, declared_hosts, number as number_of, records_of
 from ask.program import NOT_THERE, Run
 from ask.reports import Step
 from ask.texts import Source, Trouble, place_of, shown_text
@@ -238,7 +238,8 @@ def log_refusal(words: Sequence[str], log: Source) -> str:
 def log_fault_words(number: str, record: Record, records: Sequence[Record]) -> "tuple[str, int]":
     """What is wrong with a record, and with which of its fields."""
     fields = record.fields + [""] * 4
-    kinds = "host, set, clear, send, recv, note"
+    version = HEADERS.get(tuple(records[0].fields), 1)
+    kinds = ", ".join(KINDS[version])
     if number == "1":
         if fields[0] == "skewlog2":
             return "this is a log of version 2, which the program doesn't know", 0
@@ -267,6 +268,10 @@ def log_fault_words(number: str, record: Record, records: Sequence[Record]) -> "
             f"the message {fields[3]} is received, and no row of the file sends it. Where its `send` was cut away, "
             f"make this a `note`, as `ask log` does"
         ), 3
+    if number == "15":
+        return f"the host {fields[1]} has a latency already", 1
+    if number == "16":
+        return f"the greatest latency, {shortened(fields[3])}, is below the least, {shortened(fields[2])}", 3
     if number == "12":
         hosts = len(declared_hosts(records))
         return f"{counted(hosts, 'host')}; at most 64: leave out hosts that the formula and the messages don't need", 0
@@ -282,10 +287,11 @@ def name_rule() -> str:
 
 def number_fault_words(fields: Sequence[str]) -> "tuple[str, int]":
     """Which number of a record is none."""
-    if fields[0] == "host":
-        wrong = 2 if not re.fullmatch(r"0|[1-9][0-9]*", fields[2]) or int(fields[2][:20]) > 10**18 else 3
-        what = "skew" if wrong == 2 else "gap"
-        return f"the {what} {shortened(fields[wrong])!r} is no whole number from 0 to 10^18, without a sign or a leading zero", wrong
+    if fields[0] in ("host", "resync", "latency"):
+        names = ("least latency", "greatest latency") if fields[0] == "latency" else ("skew", "gap")
+        wrong = 2 if number_of(fields[2], 10**18) is None or (fields[0], fields[2]) == ("latency", "0") else 3
+        ends = "1 to 10^18" if fields[0] == "latency" else "0 to 10^18"
+        return f"the {names[wrong - 2]} {shortened(fields[wrong])!r} is no whole number from {ends}, without a sign or a leading zero", wrong
     hint = ""
     if re.search(r"\d[.T:]\d|\d-\d", fields[2]):
         hint = ". `ask log` makes whole units of decimal seconds and ISO 8601 stamps"

@@ -235,10 +235,10 @@ class Reading:
             for step, uses in used
         ]
         if not used:
-            self.lines += ["", f"It can't be {word} by its form alone: no bound of the log is used."]
+            self.lines += ["", f"It can't be {word} whatever the times are: the derivation rests on no bound of the log."]
             return
         shown = used if self.arguments.all else used[:MOST_BOUNDS_SHOWN]
-        self.lines += ["", f"Why it can't be {word}: the {counted(section.lines, 'line')} of the derivation rest on"]
+        self.lines += ["", f"Why it can't be {word}: the derivation, of {counted(section.lines, 'line')}, rests on"]
         self.lines += [f"  {step_words(self.log, step)} ({uses}x)" if uses > 1 else f"  {step_words(self.log, step)}" for step, uses in shown]
         if len(shown) < len(used):
             self.lines.append(f"  and {counted(len(used) - len(shown), 'bound')} more; --all shows all")

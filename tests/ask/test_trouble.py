@@ -27,7 +27,7 @@ class Words(unittest.TestCase):
                       ["each", "F a.{7}", "set.csv", "--over", ".*"], ["each", "F a.p", "set.csv", "--over", "("],
                       ["each", "F a.p", "set.csv", "--over", "nothing"], ["log", "set.csv", "--skew", "x"],
                       ["log", "set.csv", "--row", "x"], ["draw", "set.csv", "--report", "x", "--times", "y"],
-                      ["deadline", "F[0,?] a.p & G[0,?] a.p", "set.csv"], ["check", "a.p", "set.csv", "--nothing"]):
+                      ["deadline", "F[0,?] a.p & G[0,?] a.p", "set.csv"], ["check", "-", "-"], ["log", "-", "-"], ["check", "a.p", "set.csv", "--nothing"]):
             self.told(words, 64, "usage:")
 
     def test_help(self):
@@ -79,6 +79,18 @@ class Words(unittest.TestCase):
             ended, text, _ = asked(["check", "within_8.formula", "answered.csv", "--program", str(slow), "--seconds", "1"], EXAMPLES)
         self.assertEqual(ended, 2)
         self.assertIn("stopped after 1 seconds", text)
+
+    def test_what_could_not_be_asked_is_said(self):
+        with tempfile.TemporaryDirectory() as folder:
+            slow = Path(folder, "slow")
+            slow.write_text(
+                '#!/bin/sh\nif [ "$1" = check ] && head -c 1 "$2" | grep -q F; then exec sleep 20; fi\n'
+                f'exec {os.environ["SKEWCHECK"]} "$@"\n'
+            )
+            slow.chmod(0o755)
+            ended, text, _ = asked(["check", "within_9.formula", "answered.csv", "--program", str(slow), "--seconds", "1"], EXAMPLES)
+        self.assertEqual(ended, 0)
+        self.assertIn("Warning (unasked): whether a.req is ever true isn't known: that run was stopped.", text)
 
     def test_as_a_process_of_its_own(self):
         self.assertEqual(asked_apart(["check"])[0], 64)
