@@ -46,7 +46,9 @@ def set_names(log: Log, host: int) -> List[str]:
 
 def caution_of_name(log: Log, host: int, name: str, where: str, run: str) -> Caution:
     """The warning of a proposition that no row sets."""
-    others = [event for event, row in enumerate(log.rows) if row.name == name and row.kind in ("note", "send", "recv")]
+    others = [
+        event for event, row in enumerate(log.rows) if row.name == name and row.kind in ("note", "send", "recv")
+    ]
     if others:
         what = "note" if log.rows[others[0]].kind == "note" else "message"
         return Caution("no-proposition", (
@@ -54,7 +56,8 @@ def caution_of_name(log: Log, host: int, name: str, where: str, run: str) -> Cau
             f"and only `set` and `clear` rows make propositions"
         ), run)
     names = set_names(log, host)
-    has = f"Rows of {log.hosts[host].name} set {listed(names)}" if names else f"No row of {log.hosts[host].name} sets anything"
+    named = log.hosts[host].name
+    has = f"Rows of {named} set {listed(names)}" if names else f"No row of {named} sets anything"
     return Caution("unset", f"{where} is false throughout: no row sets it. {has}", run)
 
 
@@ -79,7 +82,9 @@ def run_of(question: Question, text: str) -> Optional[Run]:
 
 def unasked(what: str, run: Optional[Run]) -> Caution:
     """The warning that something couldn't be found out."""
-    why = "that run was stopped" if run is None else "it wasn't found within the conflicts" if run.status == 4 else f"the program says {run.line()!r}"
+    why = "that run was stopped"
+    if run is not None:
+        why = "it wasn't found within the conflicts" if run.status in VERDICTS else f"the program says {run.line()!r}"
     return Caution("unasked", f"{what} isn't known: {why}", run.words if run else None)
 
 
@@ -97,8 +102,9 @@ def cautions_of_the_end(question: Question, log: Log, tree: Tree, status: int) -
             yield unasked(f"whether the formula is {word} only for want of rows after the last one", run)
         elif run.status == status_of_other:
             yield Caution("end", (
-                f"the formula is {word} only where an interval reaches beyond the last row (line {log.rows[-1].line}): "
-                f"where such an interval counts for the other value, it can't be {word}. Later rows might change it"
+                f"the formula is {word} only where an interval reaches beyond the last row "
+                f"(line {log.rows[-1].line}): where such an interval counts for the other value, it can't be {word}. "
+                f"Later rows might change it"
             ), run.words)
 
 

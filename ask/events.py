@@ -4,7 +4,7 @@ from __future__ import annotations
 
 import json
 from dataclasses import dataclass
-from typing import Any, Dict, Iterator, List, Optional, Sequence, Tuple
+from typing import Any, Dict, Iterator, List, Sequence, Tuple
 
 from ask.logs import NAME, ROW_KINDS, records_of
 from ask.texts import BYTE_ORDER_MARK, Source, Trouble
@@ -108,7 +108,9 @@ def read_events(source: Source, keys: Keys, rows: Rows) -> Tuple[List[Event], Li
     hosts: List[HostRecord] = []
     for fields, where in fields_of_file(source, keys):
         if fields.get(keys.kind) == "host":
-            hosts.append(HostRecord(*(part(fields, key, where) for key in (keys.host[0], keys.time, keys.name)), where))
+            hosts.append(
+                HostRecord(*(part(fields, key, where) for key in (keys.host[0], keys.time, keys.name)), where)
+            )
             continue
         host = "_".join(part(fields, key, where) for key in keys.host)
         stamp, name, id_ = part(fields, keys.time, where), part(fields, keys.name, where), fields.get(keys.id, "")

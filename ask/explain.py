@@ -6,7 +6,7 @@ from dataclasses import dataclass
 from typing import Callable, List, Optional, Sequence, Set
 
 from ask.formulas import NO_BOUND, Tree, interval_text, propositions, text_of
-from ask.logs import Log
+from ask.logs import Log, change_rows
 from ask.question import Question
 from ask.words import lines_words
 
@@ -37,10 +37,11 @@ class Timing:
         self.named.update(events)
         rows = [self.log.rows[event] for event in events]
         shown = [f"{self.log.host_of(event)} {row.kind} {row.name}" for event, row in zip(events, rows)]
-        return f"at {moment} ({lines_words(self.log, events)}: {', '.join(shown[:4])}{', ..' if len(shown) > 4 else ''})"
+        more = ", .." if len(shown) > 4 else ""
+        return f"at {moment} ({lines_words(self.log, events)}: {', '.join(shown[:4])}{more})"
 
-    def least_place(self, place: int, is_there: Callable[[int], bool], is_forward: bool = True) -> int:
-        """The nearest position from a place on, forward or back, up to which something is; some position is such."""
+    def least_place(self, place: int, is_there: Callable[[int], bool], is_forward: bool) -> int:
+        """The nearest position from a place on, forward or back, up to which something is there; it is somewhere."""
         distances = range(0, len(self.positions) - place if is_forward else place + 1)
         low, high = 0, len(distances) - 1
         while low < high:
@@ -54,7 +55,7 @@ class Timing:
 
 def explained(timing: Timing, tree: Tree, value: bool) -> List[str]:
     """Sentences on why a formula has its value at the first position of a timing."""
-    return list(steps(timing, tree, 0, value, 0))
+    return steps(timing, tree, 0, value, 0)
 
 
 def steps(timing: Timing, tree: Tree, place: int, value: bool, depth: int) -> List[str]:
@@ -76,12 +77,10 @@ def state_words(timing: Timing, tree: Tree, place: int, value: bool) -> List[str
     """That a proposition has its value, and since which row."""
     if tree.form != "prop":
         return []
-    host = timing.log.host_numbered(tree.host)
+    host = timing.log.host_numbered(tree.host) or 0
     moment = timing.positions[place]
-    changes = [
-        event for event, row in enumerate(timing.log.rows)
-        if row.host == host and row.name == tree.name and row.kind in ("set", "clear") and timing.times[event] <= moment
-    ]
+    changes = [e for e in change_rows(timing.log, host, tree.name) if timing.times[e] <= moment]
+    timing.named.update(changes[-1:])
     since = f"since {lines_words(timing.log, changes[-1:])}" if changes else "as no row before has set it"
     return [f"{tree.host}.{tree.name} is {str(value).lower()} {timing.place_words(place)}, {since}"]
 
@@ -112,10 +111,10 @@ def steps_of_some(timing: Timing, tree: Tree, place: int, depth: int) -> List[st
     if found is None:
         return []
     verb = "fails" if is_negated else "holds"
-    first = f"{text_of(tree)} {'fails' if is_negated else 'holds'} {timing.place_words(place)}, " if place else ""
-    distance = abs(timing.positions[found] - timing.positions[place])
-    away = f"{distance} {'later' if is_forward(tree) else 'earlier'}" if place and distance else ""
-    line = f"{first}{'as ' if first else ''}{text_of(child)} {verb} {timing.place_words(found)}{', ' + away if away else ''}"
+    line = f"{text_of(child)} {verb} {timing.place_words(found)}"
+    if place:
+        away = f", {distance_words(timing, place, found)}" if found != place else ""
+        line = f"{text_of(tree)} {verb} {timing.place_words(place)}, as {line}{away}"
     return [line] + steps(timing, child, found, not is_negated, depth + 1)
 
 
@@ -134,7 +133,7 @@ def nearest(timing: Timing, sign: str, low: str, wanted: str, place: int) -> Opt
 
 
 def steps_of_all(timing: Timing, tree: Tree, place: int, value: bool) -> List[str]:
-    """Sentences on a `G` or `H` that holds at all positions, or an `F` or `O` that has none, with what comes nearest."""
+    """Sentences on a `G` or `H` that holds throughout, or an `F` or `O` without a witness, with what comes nearest."""
     child = text_of(tree.parts[0])
     sign = "F" if is_forward(tree) else "O"
     interval = interval_text(tree.interval)
@@ -146,9 +145,9 @@ def steps_of_all(timing: Timing, tree: Tree, place: int, value: bool) -> List[st
         return [line]
     found = nearest(timing, sign, tree.interval[0], child, place)
     if found is None:
-        return [f"{line}, nor {'later' if sign == 'F' else 'earlier'} in the log{last_words(timing, child, sign, place)}"]
-    distance = abs(timing.positions[found] - here)
-    return [f"{line}: next it holds {timing.place_words(found)}, {distance} {'later' if sign == 'F' else 'earlier'}"]
+        way = "later" if sign == "F" else "earlier"
+        return [f"{line}, nor {way} in the log{last_words(timing, child, sign, place)}"]
+    return [f"{line}: next it holds {timing.place_words(found)}, {distance_words(timing, place, found)}"]
 
 
 def last_words(timing: Timing, child: str, sign: str, place: int) -> str:
@@ -156,8 +155,14 @@ def last_words(timing: Timing, child: str, sign: str, place: int) -> str:
     found = nearest(timing, "O" if sign == "F" else "F", "0", child, place)
     if found is None:
         return ""
-    distance = abs(timing.positions[found] - timing.positions[place])
-    return f"; {'last' if sign == 'F' else 'next'} it holds {timing.place_words(found)}, {distance} {'earlier' if sign == 'F' else 'later'}"
+    which = "last" if sign == "F" else "next"
+    return f"; {which} it holds {timing.place_words(found)}, {distance_words(timing, place, found)}"
+
+
+def distance_words(timing: Timing, place: int, other: int) -> str:
+    """How far another position is from one."""
+    distance = timing.positions[other] - timing.positions[place]
+    return f"{abs(distance)} {'earlier' if distance < 0 else 'later'}"
 
 
 def interval_words(tree: Tree) -> str:
@@ -174,7 +179,6 @@ def steps_of_until(timing: Timing, tree: Tree, place: int, value: bool, depth: i
     left, right = tree.parts
     sign = "F" if is_forward(tree) else "O"
     found = nearest(timing, sign, tree.interval[0], text_of(right), place)
-    interval = interval_text(tree.interval)
     if value:
         here = timing.positions[place]
 
@@ -185,18 +189,18 @@ def steps_of_until(timing: Timing, tree: Tree, place: int, value: bool, depth: i
             return distance >= int(low) and timing.holds(text, place)
 
         found = timing.least_place(place, is_there, is_forward(tree))
-        return [f"{text_of(right)} holds {timing.place_words(found)}, and {text_of(left)} at each position before that"
-                if sign == "F" else
-                f"{text_of(right)} holds {timing.place_words(found)}, and {text_of(left)} at each position after that"]
+        way = "before" if sign == "F" else "after"
+        return [f"{text_of(right)} holds {timing.place_words(found)}, and {text_of(left)} at each position {way} that"]
     lines = []
     failing = nearest(timing, sign, "0", f"!({text_of(left)})", place)
     if failing is not None:
         lines.append(f"{text_of(left)} fails {timing.place_words(failing)}")
         lines += steps(timing, left, failing, False, depth + 1)
     if found is None:
-        lines.append(f"{text_of(right)} doesn't hold at any position of {tree.form}{interval} from {timing.positions[place]}")
+        lines.append(f"{text_of(right)} holds at no position {interval_words(tree)} {timing.positions[place]}")
     else:
-        lines.append(f"{text_of(right)} first holds {timing.place_words(found)}, {abs(timing.positions[found] - timing.positions[place])} away")
+        away = distance_words(timing, place, found)
+        lines.append(f"{text_of(right)} first holds {timing.place_words(found)}, {away}")
     return lines
 
 
@@ -204,15 +208,15 @@ def vanished_words(timing: Timing, tree: Tree) -> List[str]:
     """The propositions of a formula whose `set` and `clear` are at one instant, so that they are never true there."""
     lines = []
     for part in propositions(tree):
-        host = timing.log.host_numbered(part.host)
-        changes = [e for e, row in enumerate(timing.log.rows) if row.host == host and row.name == part.name and row.kind in ("set", "clear")]
+        changes = change_rows(timing.log, timing.log.host_numbered(part.host) or 0, part.name)
         for first, second in zip(changes, changes[1:]):
             is_lost = timing.log.rows[first].kind == "set" and timing.log.rows[second].kind == "clear"
             if is_lost and timing.times[first] == timing.times[second]:
                 place = timing.positions.index(timing.times[first])
                 if not timing.holds(f"{part.host}.{part.name}", place):
                     lines.append(
-                        f"{lines_words(timing.log, [first, second])} set and clear {part.host}.{part.name} at one instant, "
-                        f"{timing.times[first]}, where the later row counts: it isn't true there (gap {timing.log.rows[second].gap})"
+                        f"{lines_words(timing.log, [first, second])} set and clear {part.host}.{part.name} at one "
+                        f"instant, {timing.times[first]}, where the later row counts: it isn't true there "
+                        f"(gap {timing.log.rows[second].gap})"
                     )
     return lines

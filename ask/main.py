@@ -47,7 +47,9 @@ def common_words() -> argparse.ArgumentParser:
     """The options that every command has."""
     words = argparse.ArgumentParser(add_help=False)
     words.add_argument("--json", action="store_true", help="write the answer as JSON")
-    words.add_argument("--program", metavar="FILE", help="the program; else SKEWCHECK of the environment, else the built one")
+    words.add_argument(
+        "--program", metavar="FILE", help="the program; else SKEWCHECK of the environment, else the built one",
+    )
     words.add_argument("--seconds", type=seconds, metavar="S", help="stop a run of the program that takes longer")
     return words
 

@@ -16,18 +16,21 @@ header p { margin: 2px 0; color: #555; }
 svg { display: block; touch-action: none; cursor: grab; }
 </style>
 <header><strong>@TITLE@</strong>
-<p>Wheel or + and - zoom, dragging or arrow keys move, 0 or a double click shows all. A row's line of the file is shown where the pointer rests.</p>
+<p>Wheel or + and - zoom, dragging or arrow keys move, 0 or a double click shows all.
+A row's line of the file is shown where the pointer rests.</p>
 </header>
 @SVG@
 <script>
 "use strict";
 const svg = document.querySelector("svg");
-const [left, plot, right, levels, letter] = ["left", "plot", "right", "levels", "letter"].map(key => Number(svg.dataset[key]));
+const {left, plot, right, levels, letter} = numbers(svg.dataset);
 const all = kind => [...svg.querySelectorAll(kind)].map(element => ({element, ...numbers(element.dataset)}));
-const numbers = data => Object.fromEntries(Object.entries(data).map(([key, value]) => [key, key === "lane" ? value : Number(value)]));
-const marks = all(".x"), lines = all(".l"), stretches = all(".w"), curves = all(".c"), middles = all(".m"), ticks = all(".ticks");
-const labels = marks.map(mark => ({mark, text: mark.element.querySelector(".label"), shift: mark.element.querySelector(".shift")}))
+const marks = all(".x"), lines = all(".l"), stretches = all(".w"), curves = all(".c"), middles = all(".m");
+const ticks = all(".ticks");
+const part = (mark, kind) => mark.element.querySelector(kind);
+const labels = marks.map(mark => ({mark, text: part(mark, ".label"), shift: part(mark, ".shift")}))
   .filter(label => label.text).sort((one, other) => one.mark.x - other.mark.x);
+
 let width = plot, zoom = 1, moved = 0, waits = false;
 const at = place => left + (place * zoom - moved) * width / plot;
 
@@ -71,6 +74,8 @@ function make(kind, values) {
   for (const [key, value] of Object.entries(values)) element.setAttribute(key, value);
   return element;
 }
+
+function numbers(data) { return Object.fromEntries(Object.entries(data).map(([key, value]) => [key, Number(value)])); }
 
 // A path between two points that is bent to its left, and the place of its label.
 function bent(a, y, b, z) {
@@ -122,9 +127,14 @@ function fit() {
   ask();
 }
 
-svg.addEventListener("wheel", event => { event.preventDefault(); zoomBy(event.deltaY < 0 ? 1.2 : 1 / 1.2, event.offsetX); }, {passive: false});
+svg.addEventListener("wheel", event => {
+  event.preventDefault();
+  zoomBy(event.deltaY < 0 ? 1.2 : 1 / 1.2, event.offsetX);
+}, {passive: false});
 svg.addEventListener("pointerdown", event => { svg.setPointerCapture(event.pointerId); });
-svg.addEventListener("pointermove", event => { if (event.buttons & 1) { moved -= event.movementX * plot / width; ask(); } });
+svg.addEventListener("pointermove", event => {
+  if (event.buttons & 1) { moved -= event.movementX * plot / width; ask(); }
+});
 svg.addEventListener("dblclick", () => { zoom = 1; moved = 0; ask(); });
 addEventListener("keydown", event => {
   if (event.key === "+") zoomBy(1.5, left + width / 2);

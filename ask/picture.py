@@ -45,7 +45,7 @@ text { font: 12px system-ui, sans-serif; fill: #222; }
 .row { fill: #222; }
 .message { stroke: #44546a; stroke-width: 1.3; fill: none; }
 .step { stroke: #c00; stroke-width: 2; fill: none; }
-.number { fill: #c00; font-weight: 700; }
+.number { fill: #c00; font-weight: 700; paint-order: stroke; stroke: #fff; stroke-width: 3px; }
 .axis { stroke: #888; }
 .off { visibility: hidden; }
 """
@@ -81,7 +81,9 @@ class Canvas:
     def text(self, x: float, y: float, words: str, kind: str = "", anchor: str = "start") -> None:
         self.parts.append(f'<text class="{kind}" x="{x:g}" y="{y:g}" text-anchor="{anchor}">{escape(words)}</text>')
 
-    def line(self, kind: str, ends: Tuple[float, float], heights: Tuple[float, float], title: str = "", more: str = "") -> None:
+    def line(
+        self, kind: str, ends: Tuple[float, float], heights: Tuple[float, float], title: str = "", more: str = ""
+    ) -> None:
         """A line between two moments of the plot."""
         hover = f"<title>{escape(title)}</title>" if title else ""
         self.parts.append(
@@ -109,7 +111,8 @@ def picture(log: Log, panels: Sequence[Panel], heading: str = "") -> str:
         '<path d="M0 0 L8 4 L0 8 z" fill="#44546a"/></marker>'
         '<marker id="redhead" viewBox="0 0 8 8" refX="8" refY="4" markerWidth="5" markerHeight="5" orient="auto">'
         '<path d="M0 0 L8 4 L0 8 z" fill="#c00"/></marker>'
-        f'<clipPath id="plot"><rect class="clip" x="{LEFT - 12}" y="0" width="{PLOT + 12 + RIGHT}" height="{canvas.height}"/></clipPath></defs>',
+        f'<clipPath id="plot"><rect class="clip" x="{LEFT - 12}" y="0" width="{PLOT + 12 + RIGHT}" '
+        f'height="{canvas.height}"/></clipPath></defs>',
         '<rect class="paper" width="100%" height="100%" fill="#fff"/>',
         *canvas.parts,
         "</svg>",
@@ -163,12 +166,22 @@ def draw_panel(canvas: Canvas, log: Log, panel: Panel, scale: Scale, number: int
     canvas.height = bottom + AXIS + 6
     for step_number, step in enumerate(panel.walk, start=1):
         bound = bound_of(log, step.kind, step.numbers[0])
-        canvas.text(LEFT, canvas.height + 14, f"{step_number}. {step_words(log, step)}: {bound.most if bound else ''}", "small")
+        canvas.text(
+            LEFT,
+            canvas.height + 14,
+            f"{step_number}. {step_words(log, step)}: {bound.most if bound else ''}",
+            "small",
+        )
         canvas.height += 17
     if panel.walk:
         bounds = [bound_of(log, step.kind, step.numbers[0]) for step in panel.walk]
         total = sum(bound.most for bound in bounds if bound)
-        canvas.text(LEFT, canvas.height + 16, f"The bounds add up to {total}, and a loop that can be met has no negative sum.", "number")
+        canvas.text(
+            LEFT,
+            canvas.height + 16,
+            f"The bounds add up to {total}, and a loop that can be met has no negative sum.",
+            "number",
+        )
         canvas.height += 26
 
 
@@ -189,7 +202,9 @@ def draw_lane_ground(canvas: Canvas, lane: Lane, name: str, limits: str) -> None
     canvas.text(12, lane.top + 20, name, "host")
     canvas.text(12, lane.top + 35, limits if len(limits) < 19 else limits.replace(", ", " "), "small")
     for place, strip in enumerate(lane.names):
-        canvas.text(LEFT - 16, strip_top(lane, place) + 9, strip if len(strip) <= 16 else strip[:15] + "..", "small", "end")
+        canvas.text(
+            LEFT - 16, strip_top(lane, place) + 9, strip if len(strip) <= 16 else strip[:15] + "..", "small", "end",
+        )
 
 
 def strip_top(lane: Lane, place: int) -> int:
@@ -203,10 +218,12 @@ def draw_states(canvas: Canvas, log: Log, panel: Panel, scale: Scale, host: int,
         colour = COLOURS[names_of_log(log).index(name) % len(COLOURS)]
         for begin, end in stretches(log, panel.times, positions, host, name):
             a, b = scale.at(begin), PLOT + BEYOND if end is None else scale.at(end)
-            words = f"{log.hosts[host].name}.{name} is true from {begin}" + ("" if end is None else f" up to {end}, where it isn't")
+            words = f"{log.hosts[host].name}.{name} is true from {begin}"
+            words += "" if end is None else f" up to {end}, where it isn't"
             canvas.parts.append(
                 f'<rect class="w" data-a="{a:g}" data-b="{b:g}" x="{LEFT + a:g}" y="{strip_top(lane, place)}" '
-                f'width="{max(b - a, 2):g}" height="{STRIP - 4}" rx="2" fill="{colour}"><title>{escape(words)}</title></rect>'
+                f'width="{max(b - a, 2):g}" height="{STRIP - 4}" rx="2" fill="{colour}">'
+                f"<title>{escape(words)}</title></rect>"
             )
 
 
@@ -220,9 +237,10 @@ def stretches(
 ) -> List[Tuple[int, Optional[int]]]:
     """From which position on a proposition is true, and from which on it isn't again; None where it stays so."""
     found: List[Tuple[int, Optional[int]]] = []
-    relevant = {times[e] for e, row in enumerate(log.rows) if row.host == host and row.name == name}
     was = False
-    pulsed = {times[e] for e, row in enumerate(log.rows) if row.host == host and row.name == name and row.kind == "pulse"}
+    rows = [event for event, row in enumerate(log.rows) if row.host == host and row.name == name]
+    pulsed = {times[event] for event in rows if log.rows[event].kind == "pulse"}
+    relevant = {times[event] for event in rows}
     for place, moment in enumerate(positions):
         if moment not in relevant and (place == 0 or positions[place - 1] not in pulsed):
             continue
@@ -245,7 +263,8 @@ def draw_messages(canvas: Canvas, log: Log, panel: Panel, scale: Scale, lanes: S
         ends = (scale.at(panel.times[send]), scale.at(panel.times[event]))
         heights = (lanes[log.rows[send].host].middle, lanes[row.host].middle)
         takes = panel.times[event] - panel.times[send]
-        title = f"message {row.name}: {log.host_of(send)} line {log.rows[send].line} to {log.host_of(event)} line {row.line}, takes {takes}"
+        ends_words = f"{log.host_of(send)} line {log.rows[send].line} to {log.host_of(event)} line {row.line}"
+        title = f"message {row.name}: {ends_words}, takes {takes}"
         canvas.line("message", ends, heights, title, ' marker-end="url(#head)"')
 
 
@@ -258,7 +277,8 @@ def draw_rows(canvas: Canvas, log: Log, panel: Panel, scale: Scale, lanes: Seque
         at, stamp = scale.at(time), scale.at(row.stamp)
         shift = time - row.stamp
         skew = (scale.at(max(row.stamp - row.skew, scale.first)), scale.at(min(row.stamp + row.skew, scale.last)))
-        title = f"line {row.line}: {row.kind},{log.host_of(event)},{row.stamp},{row.name}\nskew {row.skew}: {row.stamp - row.skew} to {row.stamp + row.skew}"
+        title = f"line {row.line}: {row.kind},{log.host_of(event)},{row.stamp},{row.name}"
+        title += f"\nskew {row.skew}: {row.stamp - row.skew} to {row.stamp + row.skew}"
         title += f"\ntime {time}, shift {signed(shift)}" if shift else ""
         canvas.line("skew", skew, (lane.middle, lane.middle), title)
         if shift:
@@ -279,7 +299,8 @@ def draw_rows(canvas: Canvas, log: Log, panel: Panel, scale: Scale, lanes: Seque
 
 def mark(at: float, height: float, parts: str) -> str:
     """Parts at a moment, which keep their size."""
-    return f'<g class="x" data-x="{at:g}" data-y="{height:g}" transform="translate({LEFT + at:g},{height:g})">{parts}</g>'
+    move = f"translate({LEFT + at:g},{height:g})"
+    return f'<g class="x" data-x="{at:g}" data-y="{height:g}" transform="{move}">{parts}</g>'
 
 
 def label_levels(log: Log, panel: Panel, scale: Scale) -> List[Optional[int]]:
@@ -316,7 +337,8 @@ def draw_walk(canvas: Canvas, log: Log, panel: Panel, scale: Scale, lanes: Seque
     """The loop of a contradiction: an arrow for each bound, with its number; the zero moment is the clock above."""
     clock = (PLOT / 5, top + 8)
     if any(step.kind in ("low", "high") for step in panel.walk):
-        canvas.parts.append(mark(clock[0], clock[1], '<rect x="-5" y="-5" width="10" height="10" fill="#c00"/><text class="number" x="9" y="-3">the time itself</text>'))
+        box = '<rect x="-5" y="-5" width="10" height="10" fill="#c00"/>'
+        canvas.parts.append(mark(clock[0], clock[1], box + '<text class="number" x="9" y="-3">the time itself</text>'))
 
     def point(event: Optional[int]) -> Tuple[float, float]:
         if event is None:
@@ -331,7 +353,9 @@ def draw_walk(canvas: Canvas, log: Log, panel: Panel, scale: Scale, lanes: Seque
         words = f"{number}. {step_words(log, step)}: {bound.most}"
         data = f'data-a="{a:g}" data-b="{b:g}" data-y="{y:g}" data-z="{z:g}"'
         path, (x, height) = curve(LEFT + a, y, LEFT + b, z)
-        canvas.parts.append(f'<path class="step c" {data} d="{path}" marker-end="url(#redhead)"><title>{escape(words)}</title></path>')
+        canvas.parts.append(
+            f'<path class="step c" {data} d="{path}" marker-end="url(#redhead)"><title>{escape(words)}</title></path>'
+        )
         canvas.parts.append(f'<text class="number m" {data} x="{x:g}" y="{height:g}">{number}: {bound.most}</text>')
 
 
@@ -355,7 +379,9 @@ def draw_axis(canvas: Canvas, scale: Scale, height: float) -> None:
     base = scale.first if max(abs(scale.first), abs(scale.last)) >= 10**7 else 0
     if base:
         canvas.text(LEFT, height + 32, f"counted from {base}", "small")
-    canvas.parts.append(f'<g class="ticks" data-offset="{scale.first - base}" data-span="{scale.last - scale.first}" data-y="{height}">')
+    canvas.parts.append(
+        f'<g class="ticks" data-offset="{scale.first - base}" data-span="{scale.last - scale.first}" data-y="{height}">'
+    )
     for moment in ticks(scale.first, scale.last):
         at = scale.at(moment)
         canvas.parts.append(

@@ -80,7 +80,8 @@ class Program:
                 except subprocess.TimeoutExpired:
                     taken = time.monotonic() - began
                     if taken >= PATIENCE:
-                        told = tell(shown, taken)
+                        told = True
+                        tell(shown, taken)
                         waits = PATIENCE if sys.stderr.isatty() else min(2 * waits, 60)
         finally:
             if told and sys.stderr.isatty():
@@ -90,12 +91,11 @@ class Program:
                 process.communicate()
 
 
-def tell(shown: str, taken: float) -> bool:
+def tell(shown: str, taken: float) -> None:
     """Says on the standard error how long a run has taken."""
     end = "\r" if sys.stderr.isatty() else "\n"
     short = shown if len(shown) <= 60 else shown[:57] + ".."
     print(f"ask: {taken:.0f} s: {short}", end=end, file=sys.stderr, flush=True)
-    return True
 
 
 def handed(data: bytes) -> BinaryIO:

@@ -152,9 +152,12 @@ def refusal(run: Run, formula: Optional[Source], log: Optional[Source]) -> Troub
     if kind == "length":
         return Trouble(run.status, LENGTHS.get(words[-1], run.line()))
     if kind == "nodes":
-        return Trouble(run.status, "the formula has more than 512 different parts, which is the limit: ask for it in parts")
+        return Trouble(
+            run.status, "the formula has more than 512 different parts, which is the limit: ask for it in parts",
+        )
     if kind == "times":
-        what = {"1": "is no whole number", "2": "is where the times end too early or go on too long, since there is one a row"}
+        too_many = "is where the times end too early or go on too long, since there is one a row"
+        what = {"1": "is no whole number", "2": too_many}
         return Trouble(run.status, f"the file of times: line {words[-1]} {what.get(words[2], 'is wrong')}")
     if kind == "size":
         return Trouble(run.status, size_refusal(int(words[-1]), log))
@@ -162,7 +165,9 @@ def refusal(run: Run, formula: Optional[Source], log: Optional[Source]) -> Troub
     if run.status in known:
         return Trouble(run.status, f"{known[run.status]}, at: {run.words}")
     said = f" and {shown_text(run.output[:80])!r}" if run.output else ""
-    return Trouble(NOT_THERE, f"the program answered with status {run.status}{said}, which ask doesn't know, at: {run.words}")
+    return Trouble(
+        NOT_THERE, f"the program answered with status {run.status}{said}, which ask doesn't know, at: {run.words}",
+    )
 
 
 LENGTHS = {
@@ -206,6 +211,8 @@ def formula_refusal(words: Sequence[str], formula: Source, log: Optional[Source]
         name = host.group().decode() if host else ""
         return f"{where}: the log has no host {name}. Its hosts: {listed(hosts) or 'none'}"
     said = FORMULA_FAULTS.get(number, " ".join(words))
+    if re.match(rb"\W*(kind|skewlog2),host,", formula.data):
+        return f"{formula.name} is a log; the formula stands before the log"
     if number == "1" and re.match(rb"[a-z][a-z0-9_]{32,}", rest):
         said = "a name has at most 32 characters"
     if number == "2" and not rest.strip():
@@ -256,7 +263,8 @@ def log_fault_words(number: str, record: Record, records: Sequence[Record]) -> "
     if number == "6":
         hosts = declared_hosts(records)
         later = " It is declared further down, and has to be before its first row." if fields[1] in hosts else ""
-        return f"no host {shortened(fields[1])!r} is declared before this.{later} The hosts: {listed(hosts) or 'none'}", 1
+        known = listed(hosts) or "none"
+        return f"no host {shortened(fields[1])!r} is declared before this.{later} The hosts: {known}", 1
     if number == "7":
         return number_fault_words(fields)
     if number == "8":
@@ -291,7 +299,8 @@ def number_fault_words(fields: Sequence[str]) -> "tuple[str, int]":
         names = ("least latency", "greatest latency") if fields[0] == "latency" else ("skew", "gap")
         wrong = 2 if number_of(fields[2], 10**18) is None or (fields[0], fields[2]) == ("latency", "0") else 3
         ends = "1 to 10^18" if fields[0] == "latency" else "0 to 10^18"
-        return f"the {names[wrong - 2]} {shortened(fields[wrong])!r} is no whole number from {ends}, without a sign or a leading zero", wrong
+        what = f"{names[wrong - 2]} {shortened(fields[wrong])!r}"
+        return f"the {what} is no whole number from {ends}, without a sign or a leading zero", wrong
     hint = ""
     if re.search(r"\d[.T:]\d|\d-\d", fields[2]):
         hint = ". `ask log` makes whole units of decimal seconds and ISO 8601 stamps"

@@ -13,12 +13,11 @@ import argparse
 import json
 import re
 import sys
-
-sys.dont_write_bytecode = True  # leaves no compiled files beside the sources
-
-from stamps import Row, add_options, milliseconds, print_records
+from datetime import datetime, timedelta, timezone
 
 ID_BYTES = 12  # of a request's id that are kept: a name has 32 bytes at most, and the id alone has 32
+BEGINNING = datetime(1970, 1, 1, tzinfo=timezone.utc)
+FIELDS = ("time", "service", "thread", "event", "request")
 
 # The rows that an event becomes: their kinds and names, R being the request.
 EVENTS = {
@@ -28,10 +27,32 @@ EVENTS = {
 }
 
 
+def milliseconds(text):
+    """A time in milliseconds since 1970; what is below a millisecond is cut off."""
+    try:
+        moment = datetime.fromisoformat(text.replace("Z", "+00:00"))
+    except ValueError:
+        sys.exit(f"{text}: a time as 2023-11-14T22:13:30.003Z is asked for")
+    return (moment - BEGINNING) // timedelta(milliseconds=1)
+
+
 def name_of(text):
     """A text as a name: small letters, digits and underscores, a letter first, 32 bytes at most."""
     name = re.sub(r"[^a-z0-9_]", "_", text.lower())
     return (name if name[:1].isalpha() else "n" + name)[:32]
+
+
+def events_of(lines):
+    """The events of lines of JSON, each with all of its fields."""
+    for place, line in enumerate(lines, start=1):
+        try:
+            event = json.loads(line)
+        except ValueError as error:
+            sys.exit(f"line {place}: this is no JSON: {error}")
+        missing = [name for name in FIELDS if name not in event] if isinstance(event, dict) else FIELDS
+        if missing:
+            sys.exit(f"line {place}: there is no {missing[0]}; ask log takes other keys (docs/asking.md)")
+        yield event
 
 
 def host_of(event):
@@ -53,7 +74,7 @@ def main():
     parser.add_argument("--only", action="append", metavar="ID", help="keep this request")
     arguments = parser.parse_args()
     with open(arguments.events, encoding="utf-8") as file:
-        events = [json.loads(line) for line in file]
+        events = list(events_of(file))
     if arguments.only:
         events = [event for event in events if event["request"] in arguments.only]
     print_records([row for event in events for row in rows_of(event)], arguments)

@@ -31,16 +31,19 @@ class Request(NamedTuple):
 
 def milliseconds(text):
     """A number of seconds with three digits behind the point, as nginx writes them, in milliseconds."""
-    seconds, digits = text.split(".")
-    if len(digits) != 3:
-        sys.exit(f"{text}: three digits behind the point are asked for")
+    seconds, _, digits = text.partition(".")
+    if not (seconds.isdecimal() and digits.isdecimal() and len(digits) == 3):
+        sys.exit(f"{text}: seconds with three digits behind the point are asked for")
     return 1000 * int(seconds) + int(digits)
 
 
 def requests_of(lines):
     """The requests of an access log. A row is written at the end of a request."""
-    for line in lines:
-        ended, took, request = line.split()
+    for place, line in enumerate(lines, start=1):
+        parts = line.split()
+        if len(parts) != 3:
+            sys.exit(f"line {place}: $msec, $request_time and $request_id are asked for")
+        ended, took, request = parts
         yield Request(milliseconds(ended) - milliseconds(took), milliseconds(ended), request[:ID_BYTES])
 
 

@@ -8,7 +8,7 @@ from typing import Any, Dict, List, Optional, Sequence, Set, Tuple
 from ask import explain
 from ask.cautions import KINDS, Caution, cautions_of
 from ask.nearer import brought_nearer
-from ask.program import Program, Run, Stopped, find_program
+from ask.program import STOPPED, Program, Run, Stopped, find_program
 from ask.question import (
     VERDICTS, Question, accepted_log, accepted_tree, answered, formula_source, report_of_run, run_facts,
     shown_formula, text_of_source,
@@ -34,8 +34,12 @@ def add_words(commands: argparse._SubParsersAction, common: argparse.ArgumentPar
     words.add_argument("log", metavar="LOG")
     words.add_argument("--conflicts", metavar="N", help="of the search for each value, as for the program")
     words.add_argument("--strict", action="store_true", help="end with 65 where there is a warning")
-    words.add_argument("--strict-for", action="append", choices=KINDS, default=[], help="the same for one kind of warning")
-    words.add_argument("--as-found", action="store_true", help="show the program's own timings, not brought nearer to the stamps")
+    words.add_argument(
+        "--strict-for", action="append", choices=KINDS, default=[], help="the same for one kind of warning",
+    )
+    words.add_argument(
+        "--as-found", action="store_true", help="show the program's own timings, not brought nearer to the stamps",
+    )
     words.add_argument("--all", action="store_true", help="show all rows, and all bounds that a refutation rests on")
     words.add_argument("--runs", action="store_true", help="name all runs of the program")
     words.set_defaults(do=do)
@@ -57,7 +61,9 @@ def do(arguments: argparse.Namespace) -> Answer:
 
 def refuse_wrong_conflicts(text: Optional[str]) -> None:
     """Refuses a number of conflicts that the program doesn't take."""
-    if text is not None and not (text.isascii() and text.isdigit() and 1 <= int(text[:8]) <= 10**6 and text[0] != "0"):
+    if text is not None and not (
+        text.isascii() and text.isdigit() and 1 <= int(text[:8]) <= 10**6 and text[0] != "0"
+    ):
         raise Trouble(64, f"--conflicts is a number from 1 to 1,000,000, and not {text!r}")
 
 
@@ -67,7 +73,13 @@ def with_few_conflicts(question: Question, notes: List[str]) -> Run:
     seconds = question.program.seconds
     notes.append(f"The check was stopped after {seconds:g} seconds. This is what {FEW_CONFLICTS} conflicts found; "
                  f"--seconds and --conflicts set other limits.")
-    return answered(question.check(), question)
+    try:
+        return answered(question.check(), question)
+    except Stopped:
+        raise Trouble(STOPPED, (
+            f"the check took longer than {seconds:g} seconds and was stopped, and so was one with {FEW_CONFLICTS} "
+            f"conflicts. Give it more --seconds, or ask about a window of the log (ask log --help)"
+        )) from None
 
 
 class Reading:
@@ -101,10 +113,10 @@ class Reading:
 
     def say_verdict(self) -> None:
         formula, log = shown_formula(self.question.formula), self.question.log_source.name
-        self.lines += [*self.notes, bold(verdict_words(self.run.status, formula, log, self.report, self.question.options))]
-        self.facts.update(
-            verdict=VERDICTS[self.run.status], check_status=self.run.status, formula=formula, log=log, notes=self.notes,
-        )
+        sentence = verdict_words(self.run.status, formula, log, self.report, self.question.options)
+        self.lines += [*self.notes, bold(sentence)]
+        self.facts.update(verdict=VERDICTS[self.run.status], check_status=self.run.status, sentence=sentence)
+        self.facts.update(formula=formula, log=log, notes=self.notes)
 
     def say_warnings(self, warnings: Sequence[Caution]) -> None:
         self.facts["warnings"] = [w._asdict() for w in warnings]
@@ -152,8 +164,9 @@ class Reading:
             heads += ["shift", f"{'true' if value else 'false'} at"]
         heads.append("")
         rows = [self.cells(event, timings) for event in shown]
-        by = "found by check" if self.arguments.as_found else "found by check, and brought nearer to the stamps by replay"
-        title = "Timings that make it true and false" if len(timings) == 2 else f"A timing that makes it {'true' if True in timings else 'false'}"
+        by = "found by check" + ("" if self.arguments.as_found else ", and brought nearer to the stamps by replay")
+        one = f"A timing that makes it {'true' if True in timings else 'false'}"
+        title = "Timings that make it true and false" if len(timings) == 2 else one
         self.lines += ["", f"{title} ({by}):", *table(heads, rows, left=(1, 2, len(heads) - 1))]
         if len(shown) < len(self.log.rows):
             rest = len(self.log.rows) - len(shown)
@@ -201,7 +214,9 @@ class Reading:
         for value, times in timings.items():
             timing = explain.Timing(self.question, self.log, times)
             try:
-                reasons[str(value).lower()] = explain.explained(timing, self.tree, value) + explain.vanished_words(timing, self.tree)
+                reasons[str(value).lower()] = explain.explained(timing, self.tree, value) + explain.vanished_words(
+                    timing, self.tree,
+                )
             except (Trouble, Stopped):
                 continue  # a part of the formula was refused, or took too long: the table stands without it
             named |= timing.named
@@ -235,11 +250,12 @@ class Reading:
             for step, uses in used
         ]
         if not used:
-            self.lines += ["", f"It can't be {word} whatever the times are: the derivation rests on no bound of the log."]
+            self.lines += ["", f"It can't be {word} whatever the times: the derivation rests on no bound of the log."]
             return
         shown = used if self.arguments.all else used[:MOST_BOUNDS_SHOWN]
         self.lines += ["", f"Why it can't be {word}: the derivation, of {counted(section.lines, 'line')}, rests on"]
-        self.lines += [f"  {step_words(self.log, step)} ({uses}x)" if uses > 1 else f"  {step_words(self.log, step)}" for step, uses in shown]
+        for step, uses in shown:
+            self.lines.append(f"  {step_words(self.log, step)}{f' ({uses}x)' if uses > 1 else ''}")
         if len(shown) < len(used):
             self.lines.append(f"  and {counted(len(used) - len(shown), 'bound')} more; --all shows all")
 

@@ -16,6 +16,10 @@ from ask.texts import Source, Trouble, read_source
 from ask.words import Answer, USAGE, bold, counted
 
 MOST_NUMBER = 10**18  # in an interval
+SAID = {
+    0: "true by every timing", 1: "false by every timing", 2: "true by some timings and false by others",
+    4: "false by some timing",
+}
 
 
 def add_words(commands: argparse._SubParsersAction, common: argparse.ArgumentParser) -> None:
@@ -26,7 +30,9 @@ def add_words(commands: argparse._SubParsersAction, common: argparse.ArgumentPar
         "number after another; of a formula that is harder to meet with a greater number, the greatest. The status is "
         "0 where there is one, 1 where there is none, 3 without a timing, and 4 where a check left a value unknown.",
     )
-    words.add_argument("formula", metavar="FORMULA-WITH-?", help="a file, or the formula itself, as 'G (a.req -> F[0,?] b.ack)'")
+    words.add_argument(
+        "formula", metavar="FORMULA-WITH-?", help="a file, or the formula itself, as 'G (a.req -> F[0,?] b.ack)'",
+    )
     words.add_argument("log", metavar="LOG")
     words.add_argument("--conflicts", metavar="N", help="of the search for each value, as for the program")
     words.add_argument("--runs", action="store_true", help="name all runs of the program")
@@ -68,8 +74,10 @@ def is_rising(tree: Optional[Tree]) -> bool:
     """Whether a greater number makes the formula true of more timings; all `?` have to agree on it."""
     directions = set(grows_truer(tree)) if tree else {True}
     if len(directions) != 1:
-        raise Trouble(USAGE, "a greater number in place of `?` makes this formula easier to meet at one place and harder at another, so "
-                             "there is no least one to look for: ask for the parts one by one")
+        raise Trouble(USAGE, (
+            "a greater number in place of `?` makes this formula easier to meet at one place and harder at another, "
+            "so there is no least one to look for: ask for the parts one by one"
+        ))
     return directions.pop()
 
 
@@ -97,7 +105,9 @@ class Search:
         if number not in self.runs:
             text = " ".join(self.template.replace("?", str(number)).split())
             run = self.question.check(text)
-            asked = Question(self.question.program, Source(self.question.formula.name, text.encode()), self.question.log_source)
+            asked = Question(
+                self.question.program, Source(self.question.formula.name, text.encode()), self.question.log_source,
+            )
             self.runs[number] = answered(run, asked)
         return self.runs[number]
 
@@ -112,13 +122,14 @@ class Search:
         """The number at the edge, with the check of it and of its neighbour."""
         first = self.run_at(self.least)
         if first.status == 3:
-            return Answer(3, [bold(f"No timing: {self.question.log_source.name} admits none, so there is nothing to ask (see ask check).")], {"number": None})
+            line = f"No timing: {self.question.log_source.name} admits none, so there is nothing to ask."
+            return Answer(3, [bold(line)], {"number": None})
         log = accepted_log(self.question.log_source)
         try:
             self.most = max(self.least, min(self.most, greatest_distance(log)))
             number = self.edge()
         except Unknown as unknown:
-            line = f"Unknown: with {unknown.number} it wasn't found within the conflicts whether the formula can be false."
+            line = f"Unknown: with {unknown.number} it wasn't found within the conflicts whether it can be false."
             return Answer(4, [bold(line)], {"number": None, "unknown_at": unknown.number})
         return self.none() if number is None else self.found(number)
 
@@ -141,9 +152,11 @@ class Search:
         """The answer where there is a number."""
         beyond = number - 1 if self.rises else number + 1
         which = "least" if self.rises else "greatest"
-        lines = [bold(f"{number} is the {which} number with which {shown_formula(self.question.formula)} is true by every timing.")]
+        asked = shown_formula(self.question.formula)
+        lines = [bold(f"{number} is the {which} number with which {asked} is true by every timing.")]
         lines.append(f"  {number}: {end_words(self.run_at(number))}")
-        facts: Dict[str, Any] = {"number": number, "which": which, "statuses": {str(number): self.run_at(number).status}}
+        facts: Dict[str, Any] = {"number": number, "which": which}
+        facts["statuses"] = {str(number): self.run_at(number).status}
         if beyond in self.runs:
             lines.append(f"  {beyond}: {end_words(self.run_at(beyond))}")
             facts["statuses"][str(beyond)] = self.run_at(beyond).status
@@ -154,23 +167,26 @@ class Search:
     def limit_words(self, beyond: int) -> str:
         """Why no number beyond one is tried."""
         if beyond < self.least:
-            return "an interval of the formula would end before it begins" if self.least else "there is no number below 0"
-        return "no two rows of the log can be further apart, or an interval of the formula would end before it begins"
+            return "an interval would end before it begins" if self.least else "there is no number below 0"
+        return "no two rows of the log can be further apart, or an interval would end before it begins"
 
     def none(self) -> Answer:
         """The answer where no number will do."""
         number = self.most if self.rises else self.least
-        lines: List[str] = [bold(f"None: {shown_formula(self.question.formula)} isn't true by every timing with any number in place of `?`.")]
+        asked = shown_formula(self.question.formula)
+        lines = [bold(f"None: {asked} isn't true by every timing with any number in place of `?`.")]
         lines.append(f"  {number}: {end_words(self.run_at(number))}")
         if self.rises:
-            lines.append("  A greater number brings nothing: no two rows of the log can be further apart, or no interval can be.")
+            lines.append(
+                "  A greater number brings nothing: no two rows of the log can be further apart, or no interval "
+                "can be."
+            )
         return Answer(1, lines, {"number": None, "statuses": {str(number): self.run_at(number).status}})
 
 
 def end_words(run: Run) -> str:
     """What the check of an end said."""
-    said = {0: "true by every timing", 1: "false by every timing", 2: "true by some timings and false by others", 4: "false by some timing"}
-    return f"{said[run.status]} [{run.words}]"
+    return f"{SAID[run.status]} [{run.words}]"
 
 
 def greatest_distance(log: Log) -> int:

@@ -3,7 +3,7 @@
 from __future__ import annotations
 
 import argparse
-from typing import List, Optional, Sequence, Tuple
+from typing import List, Optional, Sequence
 
 from ask.logs import Log
 from ask.nearer import brought_nearer
@@ -11,7 +11,7 @@ from ask.page import page_of
 from ask.picture import Panel, picture
 from ask.program import NOT_THERE, Program, Run, find_program
 from ask.question import (
-    Question, accepted_log, answered, formula_source, report_of_run, run_facts, shown_formula, times_source,
+    Question, accepted_log, answered, formula_source, report_of_run, run_facts, shown_formula,
 )
 from ask.reports import Report, Step, Unreadable, read_report, steps_of
 from ask.texts import Source, Trouble, read_source
@@ -34,7 +34,11 @@ def add_words(commands: argparse._SubParsersAction, common: argparse.ArgumentPar
     which.add_argument("--times", metavar="FILE", help="a file of times, as the program's times writes them")
     words.add_argument("--formula", metavar="FORMULA", help="a file, or the formula itself")
     words.add_argument("--svg", action="store_true", help="write the picture alone, without a page")
-    words.add_argument("--as-found", action="store_true", help="show the timings of check as they are, not brought nearer to the stamps")
+    words.add_argument(
+        "--as-found",
+        action="store_true",
+        help="show the timings of check as they are, not brought nearer to the stamps",
+    )
     words.set_defaults(do=do)
 
 
@@ -85,7 +89,9 @@ class Drawing:
         stamps = self.log().stamps()
         run = self.question.replay("true", stamps)
         title = "By the stamps"
-        return [Panel(title if run.status == 0 else f"{title}, which are no admissible timing: {self.broken(run)}", stamps)]
+        return [
+            Panel(title if run.status == 0 else f"{title}, which are no admissible timing: {self.broken(run)}", stamps)
+        ]
 
     def broken(self, run: Run) -> str:
         """The bound that a timing breaks."""
@@ -111,8 +117,10 @@ class Drawing:
         run = self.run("audit", [self.question.formula, self.question.log_source, source])
         report = self.report(source, run)
         if self.formula and run.status != 0:
-            raise Trouble(run.status, f"{source.name} isn't a report on this formula and log: the program says {run.line()!r}. "
-                                      f"Where it was made with --conflicts, ask draw can't tell; else it is of another formula or log")
+            raise Trouble(run.status, (
+                f"{source.name} isn't a report on this formula and log: the program says {run.line()!r}. It is of "
+                f"another formula or log, or was made with --conflicts and left a value unknown"
+            ))
         if report.walk is not None and run.status != 0:
             raise Trouble(run.status, f"{source.name} isn't a report on this log: the program says {run.line()!r}")
         if not self.formula:
@@ -132,7 +140,11 @@ class Drawing:
             raise Trouble(NOT_THERE, f"the program reads {source.name}, and ask can't") from None
         rows = len(self.log().rows)
         if words[:2] == ["refused", "events"]:
-            raise Trouble(run.status, f"{source.name} is a report on a log of {report.events} rows, and {self.question.log_source.name} has {rows}")
+            raise Trouble(
+                run.status,
+                f"{source.name} is a report on a log of {report.events} rows, and "
+                f"{self.question.log_source.name} has {rows}",
+            )
         return report
 
     def refuse_inadmissible(self, source: Source, report: Report) -> None:
@@ -141,7 +153,11 @@ class Drawing:
             if section.kind == "witness":
                 run = self.question.replay("true", section.times)
                 if run.status == 6:
-                    raise Trouble(REJECTED, f"{source.name} isn't a report on this log: its timing for {str(value).lower()} isn't admissible, since {self.broken(run)}")
+                    raise Trouble(
+                        REJECTED,
+                        f"{source.name} isn't a report on this log: its timing for {str(value).lower()} isn't "
+                        f"admissible, since {self.broken(run)}",
+                    )
 
     def panels_of_check(self, as_found: bool) -> List[Panel]:
         """The timings that `check` finds."""
@@ -157,7 +173,9 @@ class Drawing:
             word = str(value).lower()
             if section.kind == "witness":
                 times = brought_nearer(nearer, self.log(), section.times, value) if nearer else section.times
-                panels.append(Panel(f"A timing in which the formula is {word}{self.other_words(report, value)}", times))
+                panels.append(
+                    Panel(f"A timing in which the formula is {word}{self.other_words(report, value)}", times)
+                )
         return panels or [Panel("By the stamps", self.log().stamps())]
 
     @staticmethod
@@ -165,4 +183,5 @@ class Drawing:
         """What the report says of the other value, where it has no timing."""
         other = report.sections[not value].kind
         word = str(not value).lower()
-        return {"refuted": f"; by no timing is it {word}", "unknown": f"; whether it can be {word} isn't known"}.get(other, "")
+        said = {"refuted": f"; by no timing is it {word}", "unknown": f"; whether it can be {word} isn't known"}
+        return said.get(other, "")

@@ -4,6 +4,7 @@ from __future__ import annotations
 
 import argparse
 import re
+from collections import Counter
 from typing import Dict, List, NamedTuple, Pattern, Sequence, Tuple
 
 from ask.cautions import cautions_of_names
@@ -23,12 +24,16 @@ def add_words(commands: argparse._SubParsersAction, common: argparse.ArgumentPar
     """Adds the words of the command."""
     words = commands.add_parser(
         "each", parents=[common], allow_abbrev=False, help="one formula for each matching name, in one table",
-        description="Checks a formula for each name of the log that a regular expression matches as a whole. In the "
-        "template {} stands for the name that matches, and {1}, {2} and so on for the expression's groups. An expression "
-        "with \\. in it is matched with HOST.NAME, any other with names alone. Hosts of another name are no obstacle. "
-        "The status is the first of 3, 1, 2, 4, 124 and 0 that a formula has, or that of a refusal.",
+        description="Checks a formula for each name of the log that a regular expression matches as a whole. In "
+        "the template {} stands for the name that matches, and {1}, {2} and so on for the expression's groups. An "
+        "expression with \\. in it is matched with HOST.NAME, any other with names alone. The status is the first of "
+        "3, 1, 2, 4, 124 and 0 that a formula has, or that of a refusal.",
     )
-    words.add_argument("template", metavar="TEMPLATE", help="a file, or the formula itself, as 'G ({1}.{2}_asked -> F[0,260] app.{2}_done)'")
+    words.add_argument(
+        "template",
+        metavar="TEMPLATE",
+        help="a file, or the formula itself, as 'G ({1}.{2}_asked -> F[0,260] app.{2}_done)'",
+    )
     words.add_argument("log", metavar="LOG")
     words.add_argument("--over", metavar="REGEX", required=True, help="the names, as '(\\w+)\\.(\\w+)_asked'")
     words.add_argument("--conflicts", metavar="N", help="of the search for each value, as for the program")
@@ -57,7 +62,9 @@ def do(arguments: argparse.Namespace) -> Answer:
         raise Trouble(USAGE, f"{arguments.over} matches no name of {source.name} as a whole")
     lines = [line_of(program, template, source, log, options, name, groups) for name, groups in matches.items()]
     status = next(status for status in ORDER if any(line.status == status for line in lines))
-    return Answer(status, shown(lines), {"lines": [line._asdict() for line in lines], "runs": run_facts(program.runs)})
+    return Answer(
+        status, shown(lines), {"lines": [line._asdict() for line in lines], "runs": run_facts(program.runs)},
+    )
 
 
 def pattern_of(text: str) -> Pattern:
@@ -101,7 +108,9 @@ def filled(template: str, name: str, groups: Sequence[str]) -> str:
 
 
 def line_of(
-    program: Program, template: Source, source: Source, log: Log, options: Sequence[str], name: str, groups: Sequence[str]
+    program: Program, template: Source, source: Source, log: Log, options: Sequence[str], name: str, groups: Sequence[
+        str
+    ]
 ) -> Line:
     """The line of a name."""
     text = " ".join(filled(text_of_source(template), name, groups).split())
@@ -120,7 +129,8 @@ def line_of(
 def shown(lines: Sequence[Line]) -> List[str]:
     """The table, how often each verdict is there, and the warnings."""
     rows = [[line.name, SHOWN[line.status], str(line.status), line.formula] for line in lines]
-    counts = [f"{sum(line.status == status for line in lines)} {SHOWN[status]}" for status in sorted(SHOWN) if any(line.status == status for line in lines)]
+    statuses = Counter(line.status for line in lines)
+    counts = [f"{statuses[status]} {SHOWN[status]}" for status in sorted(statuses)]
     text = table(["name", "verdict", "status", "formula"], rows, left=(0, 1, 3))
     text.append(bold(f"{counted(len(lines), 'formula')}: {', '.join(counts)}."))
     return text + [f"Warning: {line.name}: {warning}." for line in lines for warning in line.warnings]

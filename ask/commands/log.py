@@ -13,7 +13,7 @@ from ask.logs import MOST_HOSTS, MOST_ROWS, MOST_SKEW, MOST_STAMP, NO_HOST_NAMES
 from ask.stamps import (
     UNITS, UNIT_WORDS, Stamp, duration_in_units, finest_unit, in_units, loses_digits, stamp_of,
 )
-from ask.texts import Source, Trouble, read_source, write_text
+from ask.texts import Trouble, read_source, write_text
 from ask.words import USAGE, Answer, counted, listed
 
 
@@ -28,17 +28,51 @@ def add_words(commands: argparse._SubParsersAction, common: argparse.ArgumentPar
     )
     words.add_argument("files", nargs="+", metavar="FILE")
     words.add_argument("--unit", choices=list(UNITS), help="of the log; else the coarsest that keeps all digits")
-    words.add_argument("--skew", action="append", default=[], metavar="[HOST=]D", help="how far each stamp of a host may be off, as 5ms or, in units, 5")
-    words.add_argument("--gap", action="append", default=[], metavar="[HOST=]D", help="the least distance of two rows of a host on end; else 0")
-    words.add_argument("--host", default="host", metavar="KEY[,KEY]", help="the key of the host; several are joined with _")
+    words.add_argument(
+        "--skew",
+        action="append",
+        default=[],
+        metavar="[HOST=]D",
+        help="how far each stamp of a host may be off, as 5ms or, in units, 5",
+    )
+    words.add_argument(
+        "--gap",
+        action="append",
+        default=[],
+        metavar="[HOST=]D",
+        help="the least distance of two rows of a host on end; else 0",
+    )
+    words.add_argument(
+        "--host", default="host", metavar="KEY[,KEY]", help="the key of the host; several are joined with _",
+    )
     for key in ("time", "name", "kind", "id"):
         words.add_argument(f"--{key}", default=key, metavar="KEY", help=f"the key of the {key}; else {key}")
-    words.add_argument("--row", action="append", default=[], metavar="EVENT=KIND:NAME[,..]", help="the rows that an event becomes, by its name; {KEY} in NAME is a field. Other events without a kind become notes")
-    words.add_argument("--only", action="append", default=[], metavar="ID", help="keep rows with this id alone; may be given again")
-    words.add_argument("--from", dest="begin", metavar="STAMP", help="leave out rows with earlier stamps; what they set is carried in")
+    words.add_argument(
+        "--row",
+        action="append",
+        default=[],
+        metavar="EVENT=KIND:NAME[,..]",
+        help=(
+            "the rows that an event becomes, by its name; {KEY} in NAME is a field. Other events without a kind "
+            "become notes"
+        ),
+    )
+    words.add_argument(
+        "--only", action="append", default=[], metavar="ID", help="keep rows with this id alone; may be given again",
+    )
+    words.add_argument(
+        "--from",
+        dest="begin",
+        metavar="STAMP",
+        help="leave out rows with earlier stamps; what they set is carried in",
+    )
     words.add_argument("--to", dest="end", metavar="STAMP", help="leave out rows with later stamps")
     words.add_argument("--carry", action="store_true", help="with --only, carry in what left-out rows before it set")
-    words.add_argument("--notes", metavar="NOTES", help="the file for what was changed: the unit, the maps of names, what was carried in")
+    words.add_argument(
+        "--notes",
+        metavar="NOTES",
+        help="the file for what was changed: the unit, the maps of names, what was carried in",
+    )
     words.set_defaults(do=do)
 
 
@@ -104,7 +138,9 @@ def row_table(words: Sequence[str]) -> Rows:
         event, equals, rest = word.partition("=")
         parts = [tuple(part.split(":", 1)) for part in rest.split(",")]
         if not equals or any(len(part) != 2 or part[0] not in ROW_KINDS or not part[1] for part in parts):
-            raise Trouble(USAGE, f"--row {word}: it is EVENT=KIND:NAME[,KIND:NAME], with a KIND of {', '.join(ROW_KINDS)}")
+            raise Trouble(
+                USAGE, f"--row {word}: it is EVENT=KIND:NAME[,KIND:NAME], with a KIND of {', '.join(ROW_KINDS)}",
+            )
         rows[event] = [(part[0], part[1]) for part in parts]
     return rows
 
@@ -121,16 +157,24 @@ def making_of(events: Sequence[Event], wanted: Optional[str]) -> Making:
     for event, stamp in zip(events, stamps):
         moment = stamp.seconds if is_whole else in_units(stamp, unit)
         if abs(moment) > MOST_STAMP:
-            raise Trouble(WRONG, f"{event.where}: the stamp {event.stamp} is {moment} in units, and at most 4*10^18: choose a coarser --unit")
+            raise Trouble(
+                WRONG,
+                f"{event.where}: the stamp {event.stamp} is {moment} in units, and at most 4*10^18: choose a "
+                "coarser --unit",
+            )
         making.lines.append(Line(event.host, moment, event.kind, event.name, event.id))
     if is_whole:
-        making.notes.append(f"unit: {UNIT_WORDS[unit]}, as --unit says" if unit else "unit: that of the stamps, which are whole numbers")
+        making.notes.append(
+            f"unit: {UNIT_WORDS[unit]}, as --unit says" if unit else "unit: that of the stamps, which are whole numbers"
+        )
         return making
     since = "since 1970-01-01T00:00:00Z" if any(s.kind == "iso" for s in stamps) else "of the seconds in the file"
     making.notes.append(f"unit: {UNIT_WORDS[unit]} {since}")
     cut = sum(loses_digits(stamp, unit) for stamp in stamps)
     if cut:
-        making.notes.append(f"digits below a unit are cut off in {counted(cut, 'stamp')}: the skew has to cover one unit more")
+        making.notes.append(
+            f"digits below a unit are cut off in {counted(cut, 'stamp')}: the skew has to cover one unit more"
+        )
     bare = sum(not stamp.has_zone for stamp in stamps)
     if bare:
         making.notes.append(f"{counted(bare, 'stamp')} without a zone {'is' if bare == 1 else 'are'} taken as UTC")
@@ -141,7 +185,9 @@ def read_stamp(text: str, where: str) -> Stamp:
     """The stamp that a text is."""
     stamp = stamp_of(text)
     if stamp is None:
-        raise Trouble(WRONG, f"{where}: the stamp {text!r} is no whole number, no number of seconds and no ISO 8601 time")
+        raise Trouble(
+            WRONG, f"{where}: the stamp {text!r} is no whole number, no number of seconds and no ISO 8601 time",
+        )
     return stamp
 
 
@@ -175,7 +221,9 @@ def cut_window(making: Making, arguments: argparse.Namespace) -> None:
     if left_out:
         making.notes.append(f"{counted(left_out, 'row')} outside the window left out")
     if begin is not None or end is not None:
-        making.notes.append("rows near the edge of a window by time may have happened on its other side, within their skew")
+        making.notes.append(
+            "rows near the edge of a window by time may have happened on its other side, within their skew"
+        )
 
 
 def limit_of(text: Optional[str], making: Making) -> Optional[int]:
@@ -216,7 +264,9 @@ def spread_carried(making: Making, hosts: "Dict[str, LogHost]") -> None:
         if line.is_carried:
             line.stamp -= left[line.host] * hosts[line.host].gap
             left[line.host] -= 1
-            making.notes.append(f"carried in: {line.host} {line.name} was set before the window, and is a `set` row at {line.stamp}")
+            making.notes.append(
+                f"carried in: {line.host} {line.name} was set before the window, and is a `set` row at {line.stamp}"
+            )
 
 
 def free_receives(making: Making) -> None:
@@ -244,7 +294,8 @@ def hosts_of(making: Making, declared: Sequence[HostRecord], arguments: argparse
     """The hosts in the order of their first rows, by their names in the files."""
     names = list(dict.fromkeys(line.host for line in making.lines))
     mapped = name_map(names, NO_HOST_NAMES)
-    skews, gaps = durations(arguments.skew, "--skew", names, making.unit), durations(arguments.gap, "--gap", names, making.unit)
+    skews = durations(arguments.skew, "--skew", names, making.unit)
+    gaps = durations(arguments.gap, "--gap", names, making.unit)
     of_files = declared_limits(declared, making)
     hosts = {}
     for name in names:
@@ -252,23 +303,31 @@ def hosts_of(making: Making, declared: Sequence[HostRecord], arguments: argparse
         skew = skews.get(name, skews.get(None, skew) if skew is None else skew)
         gap = gaps.get(name, gaps.get(None, gap))
         if skew is None:
-            raise Trouble(USAGE, f"how far may the stamps of {name} be off? Say it by --skew {name}=D, or by --skew D for all hosts")
+            raise Trouble(
+                USAGE,
+                f"how far may the stamps of {name} be off? Say it by --skew {name}=D, or by --skew D for all "
+                "hosts",
+            )
         hosts[name] = LogHost(mapped[name], skew, gap)
     if len(hosts) > MOST_HOSTS:
-        raise Trouble(WRONG, f"{counted(len(hosts), 'host')}; at most 64: cut a window by --only or by --from and --to")
+        raise Trouble(
+            WRONG, f"{counted(len(hosts), 'host')}; at most 64: cut a window by --only or by --from and --to",
+        )
     making.notes += [f"host: {name!r} is {host.name}" for name, host in hosts.items() if name != host.name]
     return hosts
 
 
-def durations(words: Sequence[str], option: str, hosts: Sequence[str], unit: Optional[str]) -> Dict[Optional[str], int]:
+def durations(
+    words: Sequence[str], option: str, hosts: Sequence[str], unit: Optional[str]
+) -> Dict[Optional[str], int]:
     """The durations that an option gives to hosts, and to all others under None."""
     found: Dict[Optional[str], int] = {}
     for word in words:
         host, equals, text = word.rpartition("=")
         duration = duration_in_units(text, unit)
         if duration is None or duration > MOST_SKEW:
-            raise Trouble(USAGE, f"{option} {word}: it is a number of units up to 10^18"
-                                 + (", since the unit of the stamps isn't named" if unit is None else f", or a duration as 5{unit}"))
+            more = ", since the unit of the stamps isn't named" if unit is None else f", or a duration as 5{unit}"
+            raise Trouble(USAGE, f"{option} {word}: it is a number of units up to 10^18{more}")
         if equals and host not in hosts:
             raise Trouble(USAGE, f"{option} {word}: there is no host {host}. The hosts: {listed(hosts)}")
         found[host if equals else None] = duration
@@ -286,7 +345,9 @@ def declared_limits(declared: Sequence[HostRecord], making: Making) -> Dict[str,
         if skew is None or gap is None:
             raise Trouble(WRONG, f"{record.where}: a skew or gap of {record.name} is no duration")
         if found.setdefault(record.name, (skew, gap)) != (skew, gap):
-            raise Trouble(WRONG, f"{record.where}: the host {record.name} is declared before with another skew or gap")
+            raise Trouble(
+                WRONG, f"{record.where}: the host {record.name} is declared before with another skew or gap",
+            )
     return found
 
 
@@ -295,7 +356,11 @@ def log_text(making: Making, hosts: Dict[str, LogHost]) -> List[str]:
     mapped = name_map([line.name for line in making.lines])
     making.notes += [f"name: {name!r} is {short}" for name, short in mapped.items() if name != short]
     if len(making.lines) > MOST_ROWS:
-        raise Trouble(WRONG, f"{counted(len(making.lines), 'row')}; at most 1,024: cut a window by --only or by --from and --to (docs/real-logs.md)")
+        raise Trouble(
+            WRONG,
+            f"{counted(len(making.lines), 'row')}; at most 1,024: cut a window by --only or by --from and --to "
+            "(docs/real-logs.md)",
+        )
     text = ["kind,host,time,name"]
     text += [f"host,{host.name},{host.skew},{host.gap}" for host in hosts.values()]
     return text + [f"{line.kind},{hosts[line.host].name},{line.stamp},{mapped[line.name]}" for line in making.lines]

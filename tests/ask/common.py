@@ -12,7 +12,7 @@ ROOT = Path(__file__).resolve().parent.parent.parent
 sys.path[:0] = [str(ROOT), str(ROOT / "tests" / "reference")]
 PATIENCE = 60  # seconds that one run may take
 
-from ask.main import main  # noqa: E402
+from ask.main import main
 
 
 @contextlib.contextmanager

@@ -3,7 +3,7 @@
 import random
 import unittest
 
-import common  # noqa: F401
+import common  # sets the path
 import formats
 import generate
 import reference

@@ -2,7 +2,7 @@
 
 import unittest
 
-import common  # noqa: F401
+import common  # sets the path
 
 from ask.events import name_map
 from ask.stamps import duration_in_units, finest_unit, in_units, loses_digits, stamp_of
