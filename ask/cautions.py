@@ -4,13 +4,14 @@ from __future__ import annotations
 
 from typing import Iterator, List, NamedTuple, Optional
 
-from ask.formulas import Tree, beyond_the_end, propositions, subtrees, text_of
+from ask.formulas import Tree, beyond_the_end, parts_written, propositions, subtrees, text_of
 from ask.logs import Log
 from ask.program import Run, Stopped
 from ask.question import VERDICTS, Question, text_of_source
 from ask.texts import place_of
-from ask.words import lines_words, listed
+from ask.words import lines_words, listed, shortened
 
+MOST_PARTS = 4000  # of a formula that is made of another one
 KINDS = ("unset", "no-proposition", "never", "end", "unasked")
 
 
@@ -67,9 +68,10 @@ def cautions_of_implications(question: Question, tree: Tree) -> Iterator[Caution
     for left, whole in implications.items():
         run = run_of(question, f"F ({left})")
         if run is None or run.status not in VERDICTS or b"\ntrue unknown " in run.output:
-            yield unasked(f"whether {left} is ever true", run)
+            yield unasked(f"whether {shortened(left, 120)} is ever true", run)
         elif run.status == 1:
-            yield Caution("never", f"{left} is never true by any timing, so {whole} is true for nothing", run.words)
+            what = f"{shortened(left, 120)} is never true by any timing"
+            yield Caution("never", f"{what}, so {shortened(whole, 120)} is true for nothing", run.words)
 
 
 def run_of(question: Question, text: str) -> Optional[Run]:
@@ -93,11 +95,16 @@ def cautions_of_the_end(question: Question, log: Log, tree: Tree, status: int) -
     for value, status_of_other in ((False, 0), (True, 1)):
         if status not in (1 - value, 2):
             continue
-        text = text_of(beyond_the_end(tree, wanted=not value))
+        word = str(value).lower()
+        changed = beyond_the_end(tree, wanted=not value)
+        if parts_written(changed) > MOST_PARTS:
+            what = f"whether the formula is {word} only for want of rows after the last one"
+            yield Caution("unasked", f"{what} isn't known: the formula that asks it is too long")
+            continue
+        text = text_of(changed)
         if text == text_of(tree):
             continue
         run = run_of(question, text)
-        word = str(value).lower()
         if run is None or run.status not in VERDICTS or f"\n{word} unknown ".encode() in run.output:
             yield unasked(f"whether the formula is {word} only for want of rows after the last one", run)
         elif run.status == status_of_other:

@@ -8,9 +8,10 @@ from typing import Callable, List, Optional, Sequence, Set
 from ask.formulas import NO_BOUND, Tree, interval_text, propositions, text_of
 from ask.logs import Log, change_rows
 from ask.question import Question
-from ask.words import lines_words
+from ask.words import lines_words, shortened
 
-DEEPEST = 8  # parts within parts that are explained
+DEEPEST = 5  # parts within parts that are explained
+MOST_SENTENCES = 12
 
 
 @dataclass
@@ -55,12 +56,14 @@ class Timing:
 
 def explained(timing: Timing, tree: Tree, value: bool) -> List[str]:
     """Sentences on why a formula has its value at the first position of a timing."""
-    return steps(timing, tree, 0, value, 0)
+    return steps(timing, tree, 0, value, 0)[:MOST_SENTENCES]
 
 
 def steps(timing: Timing, tree: Tree, place: int, value: bool, depth: int) -> List[str]:
     """Sentences on why a part has its value at a position."""
-    if depth >= DEEPEST or not tree.parts:
+    if depth >= DEEPEST:
+        return []
+    if not tree.parts:
         return state_words(timing, tree, place, value)
     if tree.form == "!":
         return steps(timing, tree.parts[0], place, not value, depth + 1)
@@ -97,7 +100,13 @@ def steps_of_connective(timing: Timing, tree: Tree, place: int, value: bool, dep
     return steps(timing, right, place, value, depth + 1)
 
 
+def shown(tree: Tree) -> str:
+    """A formula as sentences have it, the beginning of it where it is long."""
+    return shortened(text_of(tree), 120)
+
+
 def is_forward(tree: Tree) -> bool:
+    """Whether a form looks at later positions."""
     return tree.form in ("F", "G", "U")
 
 
@@ -111,10 +120,10 @@ def steps_of_some(timing: Timing, tree: Tree, place: int, depth: int) -> List[st
     if found is None:
         return []
     verb = "fails" if is_negated else "holds"
-    line = f"{text_of(child)} {verb} {timing.place_words(found)}"
+    line = f"{shown(child)} {verb} {timing.place_words(found)}"
     if place:
         away = f", {distance_words(timing, place, found)}" if found != place else ""
-        line = f"{text_of(tree)} {verb} {timing.place_words(place)}, as {line}{away}"
+        line = f"{shown(tree)} {verb} {timing.place_words(place)}, as {line}{away}"
     return [line] + steps(timing, child, found, not is_negated, depth + 1)
 
 
@@ -139,8 +148,8 @@ def steps_of_all(timing: Timing, tree: Tree, place: int, value: bool) -> List[st
     interval = interval_text(tree.interval)
     here = timing.positions[place]
     if value:
-        return [f"{child} holds at each position {interval_words(tree)} {here}"]
-    line = f"{child} holds at no position {interval_words(tree)} {here}"
+        return [f"{shown(tree.parts[0])} holds at each position {interval_words(tree)} {here}"]
+    line = f"{shown(tree.parts[0])} holds at no position {interval_words(tree)} {here}"
     if not interval:
         return [line]
     found = nearest(timing, sign, tree.interval[0], child, place)
@@ -190,17 +199,17 @@ def steps_of_until(timing: Timing, tree: Tree, place: int, value: bool, depth: i
 
         found = timing.least_place(place, is_there, is_forward(tree))
         way = "before" if sign == "F" else "after"
-        return [f"{text_of(right)} holds {timing.place_words(found)}, and {text_of(left)} at each position {way} that"]
+        return [f"{shown(right)} holds {timing.place_words(found)}, and {shown(left)} at each position {way} that"]
     lines = []
     failing = nearest(timing, sign, "0", f"!({text_of(left)})", place)
     if failing is not None:
-        lines.append(f"{text_of(left)} fails {timing.place_words(failing)}")
+        lines.append(f"{shown(left)} fails {timing.place_words(failing)}")
         lines += steps(timing, left, failing, False, depth + 1)
     if found is None:
-        lines.append(f"{text_of(right)} holds at no position {interval_words(tree)} {timing.positions[place]}")
+        lines.append(f"{shown(right)} holds at no position {interval_words(tree)} {timing.positions[place]}")
     else:
         away = distance_words(timing, place, found)
-        lines.append(f"{text_of(right)} first holds {timing.place_words(found)}, {away}")
+        lines.append(f"{shown(right)} first holds {timing.place_words(found)}, {away}")
     return lines
 
 

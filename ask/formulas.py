@@ -7,7 +7,7 @@ from __future__ import annotations
 
 import re
 from dataclasses import dataclass
-from typing import Iterator, List, NamedTuple, Optional, Tuple
+from typing import Dict, Iterator, List, NamedTuple, Optional, Tuple
 
 TOKEN = re.compile(r"([0-9]+|\?)|([a-z][a-z0-9_]*)|(->|[()\[\],.!&|USFGOH])")
 BLANKS = " \t\r\n"
@@ -212,6 +212,18 @@ def text_of(tree: Tree) -> str:
     if len(tree.parts) == 1:
         return ("!" if tree.form == "!" else sign + " ") + enclosed(tree.parts[0])
     return f"{enclosed(tree.parts[0])} {sign} {enclosed(tree.parts[1])}"
+
+
+def parts_written(tree: Tree) -> int:
+    """How many parts the text of a tree has, where equal parts may be one in memory."""
+    counts: Dict[int, int] = {}
+
+    def count(part: Tree) -> int:
+        if id(part) not in counts:
+            counts[id(part)] = 1 + sum(count(inner) for inner in part.parts)
+        return counts[id(part)]
+
+    return count(tree)
 
 
 def enclosed(tree: Tree) -> str:

@@ -92,12 +92,19 @@ function bent(a, y, b, z) {
 function placeLabels() {
   const free = new Map();
   for (const {mark, text, shift} of labels) {
-    const x = at(mark.x);
+    const x = at(mark.x), wide = Number(text.dataset.wide);
+    const isLeft = x + wide > left + width + right && x <= left + width + right;
+    const begin = isLeft ? x + 3 - wide : x - 3;
     let level = 0;
     const key = () => `${text.dataset.lane} ${level}`;
-    while (level < levels && x - 3 < (free.get(key()) ?? -Infinity)) level++;
+    while (level < levels && begin < (free.get(key()) ?? -Infinity)) level++;
     const isShown = level < levels;
-    if (isShown) { free.set(key(), x + Number(text.dataset.wide) + 4); text.setAttribute("y", -8 - 11 * level); }
+    if (isShown) {
+      free.set(key(), begin + wide + 7);
+      text.setAttribute("y", -8 - 11 * level);
+      text.setAttribute("x", isLeft ? 3 : -3);
+      text.setAttribute("text-anchor", isLeft ? "end" : "start");
+    }
     text.classList.toggle("off", !isShown);
     if (!shift) continue;
     const half = letter * shift.textContent.length / 2, lane = text.dataset.lane;

@@ -284,13 +284,14 @@ def draw_rows(canvas: Canvas, log: Log, panel: Panel, scale: Scale, lanes: Seque
         if shift:
             canvas.line("moved", (stamp, at), (lane.middle, lane.middle))
             canvas.parts.append(mark(stamp, lane.middle, '<circle class="stamp" r="2.6"/>'))
-        level = levels[event]
-        off = " off" if level is None else ""
+        level, is_left = levels[event] or (0, False)
+        off = " off" if levels[event] is None else ""
+        anchor = "end" if is_left else "start"
         label = f"{row.kind} {row.name}"
         parts = f'<circle class="row" r="4"/><title>{escape(title)}</title>'
         parts += (
-            f'<text class="label{off}" data-lane="{number}.{row.host}" data-wide="{LETTER * len(label):g}" x="-3" '
-            f'y="{-8 - 11 * (level or 0)}">{escape(label)}</text>'
+            f'<text class="label{off}" data-lane="{number}.{row.host}" data-wide="{LETTER * len(label):g}" '
+            f'x="{3 if is_left else -3}" y="{-8 - 11 * level}" text-anchor="{anchor}">{escape(label)}</text>'
         )
         off = "" if has_room[event] else " off"
         parts += f'<text class="shift{off}" x="0" y="15" text-anchor="middle">{signed(shift)}</text>' if shift else ""
@@ -303,18 +304,20 @@ def mark(at: float, height: float, parts: str) -> str:
     return f'<g class="x" data-x="{at:g}" data-y="{height:g}" transform="{move}">{parts}</g>'
 
 
-def label_levels(log: Log, panel: Panel, scale: Scale) -> List[Optional[int]]:
-    """At which height the label of each row has room, None where at none."""
+def label_levels(log: Log, panel: Panel, scale: Scale) -> List[Optional[Tuple[int, bool]]]:
+    """At which height the label of each row has room, None where at none, and whether it is left of the row."""
     free: Dict[Tuple[int, int], float] = {}
-    levels: List[Optional[int]] = [None] * len(log.rows)
+    levels: List[Optional[Tuple[int, bool]]] = [None] * len(log.rows)
     for event in sorted(range(len(log.rows)), key=lambda event: panel.times[event]):
         row = log.rows[event]
         at = scale.at(panel.times[event])
         wide = LETTER * (len(row.kind) + 1 + len(row.name))
+        is_left = at + wide > PLOT + RIGHT
+        begin = at + 3 - wide if is_left else at - 3
         for level in range(LABEL_LEVELS):
-            if at - 3 >= free.get((row.host, level), -100.0):
-                levels[event] = level
-                free[row.host, level] = at + wide + 4
+            if begin >= free.get((row.host, level), -LEFT):
+                levels[event] = level, is_left
+                free[row.host, level] = begin + wide + 7
                 break
     return levels
 

@@ -18,6 +18,7 @@ ROOT = Path(__file__).resolve().parent.parent
 BUILT = ROOT / "crates" / "skewcheck" / "out" / "skewcheck"
 NOT_THERE = 69  # the status where there is no program, which is also that of ./skewcheck
 STOPPED = 124  # the status where a run took longer than --seconds allows, which is also that of timeout
+MOST_SHOWN = 400  # letters of the words of a run
 PATIENCE = 1.0  # seconds after which a run is spoken of
 
 
@@ -54,7 +55,7 @@ class Program:
             status, output = self.finish(words, [file.fileno() for file in files], shown)
         if status < 0:
             raise Trouble(NOT_THERE, f"{self.path} was ended by signal {-status}, at: {shown}")
-        run = Run(shown, status, output)
+        run = Run(shown if len(shown) <= MOST_SHOWN else shown[: MOST_SHOWN - 2] + "..", status, output)
         self.runs.append(run)
         return run
 

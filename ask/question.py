@@ -10,7 +10,7 @@ from ask.logs import Log, read_log
 from ask.program import NOT_THERE, Program, Run
 from ask.reports import Report, Unreadable, read_report
 from ask.texts import Source, Trouble, is_existing_file, read_source
-from ask.words import TYPED, refusal
+from ask.words import TYPED, refusal, shortened
 
 VERDICTS = {0: "true", 1: "false", 2: "either", 3: "no timing", 4: "unknown"}
 
@@ -62,8 +62,8 @@ def text_of_source(formula: Source) -> str:
 
 
 def shown_formula(formula: Source) -> str:
-    """A formula on one line."""
-    return " ".join(text_of_source(formula).split())
+    """A formula on one line, the beginning of it where it is long."""
+    return shortened(" ".join(text_of_source(formula).split()), 300)
 
 
 def accepted_log(source: Source) -> Log:

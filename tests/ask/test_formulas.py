@@ -7,7 +7,7 @@ import common  # sets the path
 import formats
 import generate
 
-from ask.formulas import beyond_the_end, grows_truer, propositions, read_formula, text_of
+from ask.formulas import beyond_the_end, grows_truer, parts_written, propositions, read_formula, text_of
 
 
 def shape_of_reference(tree):
@@ -72,6 +72,12 @@ class Readings(unittest.TestCase):
             ("O[0,5] a.p", True, "O[0,5] a.p"),
         ):
             self.assertEqual(text_of(beyond_the_end(read_formula(text), wanted)), made)
+
+    def test_untils_in_untils_are_counted_before_they_are_written(self):
+        text = "a.p"
+        for _ in range(150):
+            text = f"(({text}) U[0,3] b.q)"
+        self.assertGreater(parts_written(beyond_the_end(read_formula(text), True)), 2**100)
 
     def test_where_a_greater_number_helps(self):
         for text, directions in (
