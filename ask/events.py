@@ -68,7 +68,7 @@ def fields_of_json(source: Source, data: bytes) -> Iterator[Tuple[Fields, str]]:
             continue
         where = f"{source.name}, line {number}"
         try:
-            found = json.loads(line)
+            found = json.loads(line, parse_float=str, parse_int=str)  # with all digits as they are written
         except (ValueError, RecursionError) as error:
             raise Trouble(WRONG, f"{where}: this is no JSON: {error}") from None
         if not isinstance(found, dict):
@@ -81,8 +81,8 @@ def flat(found: Dict[str, Any], before: str = "") -> Iterator[Tuple[str, str]]:
     for key, value in found.items():
         if isinstance(value, dict):
             yield from flat(value, f"{before}{key}.")
-        elif isinstance(value, (str, int, float)) and not isinstance(value, bool):
-            yield before + key, str(value)
+        elif isinstance(value, str):
+            yield before + key, value
         elif value is not None:
             yield before + key, json.dumps(value)
 

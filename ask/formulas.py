@@ -16,6 +16,7 @@ PREFIX = 5  # how tightly `!`, F, G, O and H bind
 RIGHTWARD = ("->", "U", "S")
 TIMED = ("F", "G", "O", "H", "U", "S")
 NO_BOUND = ("0", "inf")
+MOST_DIGITS = 19  # of a number that the program accepts
 
 
 class Token(NamedTuple):
@@ -61,6 +62,8 @@ def tokens_of(text: str) -> Optional[List[Token]]:
             continue
         found = TOKEN.match(text, place)
         if not found:
+            return None
+        if found.group(1) and len(found.group(1)) > MOST_DIGITS:
             return None
         kind = "number" if found.group(1) else "word" if found.group(2) else found.group()
         tokens.append(Token(kind, found.group(), place, found.end()))

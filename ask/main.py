@@ -3,6 +3,7 @@
 from __future__ import annotations
 
 import argparse
+import io
 import json
 import os
 import sys
@@ -69,18 +70,15 @@ def parser() -> Parser:
 
 def main(words: Sequence[str]) -> int:
     """Does what the words say, and gives the status."""
+    for stream in (sys.stdout, sys.stderr):
+        if isinstance(stream, io.TextIOWrapper):
+            stream.reconfigure(errors="backslashreplace")  # names of files may have any bytes
     try:
         return finished(words)
     except Trouble as trouble:
-        if "--json" in words:
-            print(json.dumps({"status": trouble.status, "refusal": trouble.message}, indent=2, ensure_ascii=False))
-        print(f"ask: {trouble.message}", file=sys.stderr)
-        if trouble.status == USAGE:
-            print(f"usage: ask {words[0]} --help says how", file=sys.stderr)
-        return trouble.status
+        return refused(words, trouble.status, trouble.message)
     except Stopped:
-        print("ask: stopped, since a run took longer than --seconds allows", file=sys.stderr)
-        return STOPPED
+        return refused(words, STOPPED, "stopped, since a run took longer than --seconds allows")
     except BrokenPipeError:
         os.dup2(os.open(os.devnull, os.O_WRONLY), sys.stdout.fileno())
         return 75
@@ -93,6 +91,16 @@ def main(words: Sequence[str]) -> int:
     except OSError as error:
         print(f"ask: {error}", file=sys.stderr)
         return 74
+
+
+def refused(words: Sequence[str], status: int, message: str) -> int:
+    """Says why there is no answer, and gives the status."""
+    if "--json" in words:
+        print(json.dumps({"status": status, "refusal": message}, indent=2, ensure_ascii=False))
+    print(f"ask: {message}", file=sys.stderr)
+    if status == USAGE:
+        print(f"usage: ask {words[0]} --help says how", file=sys.stderr)
+    return status
 
 
 def finished(words: Sequence[str]) -> int:

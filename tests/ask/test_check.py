@@ -14,7 +14,7 @@ import reference
 
 from ask.program import find_program
 
-CASES = 150
+CASES = 100
 
 
 def generated():

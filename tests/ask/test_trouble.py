@@ -1,5 +1,6 @@
 """What is wrong is said in plain words, with its status, and never by a traceback."""
 
+import json
 import os
 import random
 import tempfile
@@ -27,7 +28,8 @@ class Words(unittest.TestCase):
                       ["each", "F a.{7}", "set.csv", "--over", ".*"], ["each", "F a.p", "set.csv", "--over", "("],
                       ["each", "F a.p", "set.csv", "--over", "nothing"], ["log", "set.csv", "--skew", "x"],
                       ["log", "set.csv", "--row", "x"], ["draw", "set.csv", "--report", "x", "--times", "y"],
-                      ["deadline", "F[0,?] a.p & G[0,?] a.p", "set.csv"], ["check", "-", "-"], ["log", "-", "-"], ["check", "a.p", "set.csv", "--nothing"]):
+                      ["deadline", "F[0,?] a.p & G[0,?] a.p", "set.csv"], ["check", "-", "-"], ["log", "-", "-"],
+                      ["deadline", "F[9,?] a.p & F[?,3] a.p", "set.csv"], ["check", "a.p", "set.csv", "--nothing"]):
             self.told(words, 64, "usage:")
 
     def test_help(self):
@@ -57,6 +59,14 @@ class Words(unittest.TestCase):
         self.told(["draw", "answered.csv", "--report", "answered.csv"], 5, "no report")
         self.told(["draw", "apart.csv", "--report", "answered_within_8.report"], 5, "isn't a report on this log")
         self.told(["draw", "answered.csv", "--times", "overlap.times"], 68, "line 3")
+
+    def test_numbers_of_many_digits(self):
+        self.told(["deadline", f"F[{'9' * 5000},?] a.p", "set.csv"], 65, "10^18")
+        self.told(["check", f"F[0,{'9' * 5000}] a.p", "set.csv"], 65, "10^18")
+
+    def test_refusals_as_json(self):
+        ended, text, _ = asked(["check", "a.p", "missing.csv", "--json"])
+        self.assertEqual((ended, json.loads(text)["status"]), (74, 74))
 
     def test_warnings_may_be_errors(self):
         words = ["check", "heartbeat.formula", "heartbeat_notes.csv"]
@@ -94,6 +104,8 @@ class Words(unittest.TestCase):
 
     def test_as_a_process_of_its_own(self):
         self.assertEqual(asked_apart(["check"])[0], 64)
+        ended, _, said = asked_apart(["check", b"a.p", b"\xff.csv"])
+        self.assertEqual((ended, "Traceback" in said, "No such file" in said), (74, False, True))
         ended, text, said = asked_apart(["check", "-", "examples/answered.csv"], text=b"G (a.req -> F[0,9] b.ack)")
         self.assertEqual((ended, text[:5], said), (0, "True:", ""))
 
