@@ -170,13 +170,17 @@ class Drawing:
             return [self.contradiction(report.walk)]
         panels = []
         for value, section in report.sections.items():
-            word = str(value).lower()
             if section.kind == "witness":
                 times = brought_nearer(nearer, self.log(), section.times, value) if nearer else section.times
-                panels.append(
-                    Panel(f"A timing in which the formula is {word}{self.other_words(report, value)}", times)
-                )
+                panels.append(Panel(self.title(report, value), times))
         return panels or [Panel("By the stamps", self.log().stamps())]
+
+    def title(self, report: Report, value: bool) -> str:
+        """What a timing of a report shows; without a formula that is the report's own word."""
+        word = str(value).lower()
+        if not self.formula:
+            return f"An admissible timing in which, the report says, its formula is {word}"
+        return f"A timing in which the formula is {word}{self.other_words(report, value)}"
 
     @staticmethod
     def other_words(report: Report, value: bool) -> str:
