@@ -3,7 +3,7 @@
 from __future__ import annotations
 
 import argparse
-from typing import Any, Dict, List, Optional, Tuple
+from typing import Any, Dict, Optional, Tuple
 
 from ask.commands.check import refuse_wrong_conflicts
 from ask.formulas import Tree, grows_truer, read_formula, subtrees

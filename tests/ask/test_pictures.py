@@ -8,8 +8,6 @@ from common import ROOT, asked
 from ask.logs import read_log
 from ask.picture import stretches, ticks
 
-SPACE = "{http://www.w3.org/2000/svg}"
-
 
 def drawn(*words):
     """The picture that words make."""
