@@ -13,10 +13,12 @@ import argparse
 import json
 import re
 import sys
-from datetime import datetime, timedelta, timezone
+
+sys.dont_write_bytecode = True  # leaves no compiled files beside the sources
+
+from stamps import Row, add_options, milliseconds, print_records
 
 ID_BYTES = 12  # of a request's id that are kept: a name has 32 bytes at most, and the id alone has 32
-BEGINNING = datetime(1970, 1, 1, tzinfo=timezone.utc)
 FIELDS = ("time", "service", "thread", "event", "request")
 
 # The rows that an event becomes: their kinds and names, R being the request.
@@ -25,15 +27,6 @@ EVENTS = {
     "done": (("clear", "works"), ("set", "done")),
     "answered": (("send", "R_back"),),
 }
-
-
-def milliseconds(text):
-    """A time in milliseconds since 1970; what is below a millisecond is cut off."""
-    try:
-        moment = datetime.fromisoformat(text.replace("Z", "+00:00"))
-    except ValueError:
-        sys.exit(f"{text}: a time as 2023-11-14T22:13:30.003Z is asked for")
-    return (moment - BEGINNING) // timedelta(milliseconds=1)
 
 
 def name_of(text):

@@ -34,7 +34,10 @@ class Update(NamedTuple):
 
 def milliseconds(text):
     """A moment in milliseconds since 1970; what is below a millisecond is cut off."""
-    moment = datetime.fromisoformat(text.replace("Z", "+00:00"))
+    try:
+        moment = datetime.fromisoformat(text.replace("Z", "+00:00"))
+    except ValueError:
+        sys.exit(f"{text}: a time as 2023-11-14T22:13:30.003Z is asked for")
     return (moment - BEGINNING) // timedelta(milliseconds=1)
 
 
