@@ -16,7 +16,7 @@ HUGE_NUMBER = b"9" * 5000
 
 # The share of logs that may be of version 2, which the words of a comparison may set. It is nothing as long as the
 # program doesn't read them.
-second_share = 0
+second_share = 0.4
 
 
 def chance(draw, share):
