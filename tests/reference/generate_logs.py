@@ -14,8 +14,7 @@ EVENT_KINDS = [b"set", b"set", b"set", b"clear", b"clear", b"note", b"send", b"r
 GREATEST = 10**18
 HUGE_NUMBER = b"9" * 5000
 
-# The share of logs that may be of version 2, which the words of a comparison may set. It is nothing as long as the
-# program doesn't read them.
+# The share of logs that may be of version 2, which the words of a comparison may set.
 second_share = 0.4
 
 
