@@ -246,16 +246,17 @@ def log_fault_words(number: str, record: Record, records: Sequence[Record]) -> "
     """What is wrong with a record, and with which of its fields."""
     fields = record.fields + [""] * 4
     version = HEADERS.get(tuple(records[0].fields), 1)
-    kinds = ", ".join(KINDS[version])
+    kinds = ", ".join(kind for kind in KINDS[version] if kind != "pulse")
     if number == "1":
-        if fields[0] == "skewlog2":
-            return "this is a log of version 2, which the program doesn't know", 0
         line = shown_text(",".join(record.fields).encode())
-        return f"the first line has to be kind,host,time,name, and is {shortened(line)}", 0
+        return f"the first line has to be kind,host,time,name or skewlog2,host,time,name, and is {shortened(line)}", 0
     if number == "2":
         return f"a record has four fields, and this one has {len(record.fields)}", 0
     if number == "3":
-        return f"there is no kind {shortened(fields[0])!r}. The kinds: {kinds}", 0
+        if fields[0] == "pulse":
+            return "the program doesn't read a pulse yet: a set and a clear, or a note, say nearly the same", 0
+        hint = ". The first line skewlog2,host,time,name allows it" if fields[0] in KINDS[2] else ""
+        return f"there is no kind {shortened(fields[0])!r}. The kinds: {kinds}{hint}", 0
     if number == "4":
         return f"{shortened(fields[1])!r} is no host's name: {name_rule()}, and none is named true, false or inf", 1
     if number == "5":

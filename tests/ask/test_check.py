@@ -10,6 +10,7 @@ from pathlib import Path
 from common import PATIENCE, asked
 import formats
 import generate
+import logs
 import reference
 
 from ask.program import find_program
@@ -45,7 +46,7 @@ class AgainstProgramAndReference(unittest.TestCase):
         facts = json.loads(text)
         self.assertEqual("refusal" in facts, status >= 64)
         if status < 3:
-            self.check_values(facts, formats.read_formula(formula), formats.read_log(log), status)
+            self.check_values(facts, formats.read_formula(formula), logs.read_log(log), status)
         return status
 
     def check_values(self, facts, tree, log, status):
