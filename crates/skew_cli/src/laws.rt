@@ -1,5 +1,5 @@
 ghost use Rattle.demo_log.specs.DemoLog.{SeedsAreConsistent, SeedsHaveLogs};
-ghost use Rattle.skew_cli.specs.DemoLaws.{DemosAreExact, DemosAreJudged};
+ghost use Rattle.skew_cli.specs.DemoLaws.{DemoUnknownIsBounded, DemosAreExact, DemosAreJudged};
 ghost use Rattle.skew_cli.specs.Laws.{AcceptedFilesAreTrue, ChecksAreAccepted, ChecksAreExact, ChecksAreJudged, UnknownIsBounded, WitnessesAreReplayed};
 
 use log_read::logs_are_valid;
@@ -59,3 +59,11 @@ pub fn demos_are_exact()
     ensures judged { DemosAreJudged }
     ensures exact { DemosAreExact }
 {}
+
+/// `demo` leaves a value unknown only where its conflicts are fewer than three to the number of atoms of the rules, and unit
+/// propagation over the rules alone doesn't refute the value.
+pub fn demo_unknown_is_bounded()
+    ensures { DemoUnknownIsBounded }
+{
+    spent_conflicts_are_bounded();
+}

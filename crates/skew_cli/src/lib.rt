@@ -11,8 +11,8 @@ mod report_file;
 
 pub use demo_log::{MAX_SEED, demo_log};
 pub use laws::{
-    accepted_files_are_true, checks_are_accepted, checks_are_exact, demos_are_exact,
-    unknown_is_bounded, witnesses_are_replayed,
+    accepted_files_are_true, checks_are_accepted, checks_are_exact, demo_unknown_is_bounded,
+    demos_are_exact, unknown_is_bounded, witnesses_are_replayed,
 };
 pub use limits::{REPORT_LIMIT, limits_are_numbers};
 pub use program::run;
