@@ -28,6 +28,7 @@ ROOT = Path(__file__).resolve().parent.parent
 sys.path.insert(0, str(ROOT / "tests" / "reference"))
 
 import formats
+import logs
 from families import FAMILIES
 from size import size_of
 
@@ -90,7 +91,7 @@ def rows_of_table(name, family, numbers, folder, patience):
         for file, text in (("f", formula), ("l", log)):
             Path(folder, file).write_bytes(text)
         checked = taken([name, "check", "f", "l"], folder, patience)
-        size = size_of(formats.read_formula(formula), formats.read_log(log))
+        size = size_of(formats.read_formula(formula), logs.read_log(log))
         was_seen = checked.seconds >= SHORTEST_SEEN
         memory = f"{checked.memory / MEBIBYTE:.1f}" if was_seen else "-"
         row = [family.title, rows, size, f"{checked.seconds:.3f}", memory, checked.status]

@@ -13,11 +13,11 @@ sys.dont_write_bytecode = True  # leaves no compiled files beside the sources
 
 sys.path.insert(0, str(Path(__file__).resolve().parent.parent / "tests" / "reference"))
 
-import formats
+import logs
 
 SKEW = 5  # how far a clock may be off where a family says nothing else
 QUIET = 10_000_000  # when the notes begin, long after all else
-ROWS_OF_CHAIN = 2 * formats.HOST_LIMIT  # each host of a chain has two
+ROWS_OF_CHAIN = 2 * logs.HOST_LIMIT  # each host of a chain has two
 
 
 # Logs of groups
@@ -262,7 +262,7 @@ class Family(NamedTuple):
     log: Callable  # the text of the log of so many rows
     formula: Callable  # and of the formula that is asked of it
     least: int = 4  # rows
-    most: int = formats.ROW_LIMIT
+    most: int = logs.ROW_LIMIT
 
 
 def always(text):
