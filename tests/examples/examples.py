@@ -2,7 +2,7 @@
 
 Run as: python3 examples.py PROGRAM [--write]
 
-examples/runs.txt lists the runs of check and audit. Each report that check
+examples/runs.txt lists the runs of check, audit and trim. Each report that check
 writes there has to be the one that is kept, and is audited with the same files:
 by the program, and by the second audit in tests/reference. Then the runs of
 many_rows.py have to end as it says. Then each command of
@@ -88,7 +88,7 @@ def differences_of_runs(program, is_written):
             (EXAMPLES / run.report).write_bytes(outcome.output)
         elif outcome.output != run.output:
             yield f"{title}: it writes {outcome.output!r}, not {run.report or run.output!r}"
-        if run.report:
+        if run.report and run.words[0] == "check":
             yield from differences_of_audits(program, run)
 
 

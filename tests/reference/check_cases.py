@@ -383,6 +383,60 @@ def faulty_texts():
 # Words, limits and files
 
 
+def trims():
+    """Reports that are trimmed, that have nothing to trim, and that can't be."""
+    shown, empty = FACT, b"learn 0 3 line 1 rule 11 rule 24 0"
+    first = b"learn 1 +first 0 1 rule 11"
+    loose = (first, shown, b"learn 0 3 line 2 rule 11 rule 24 0")
+    table = [
+        ("a line that nothing names", (shown, WHOLE), OF_TRUE),
+        ("the first line of three isn't needed", loose, of_false(shown, empty)),
+        ("lines behind one another", (shown, empty), of_false(shown, empty)),
+        ("a line behind the empty one", (WHOLE, shown), of_false(shown)),
+    ]
+    for title, lines, short in table:
+        yield trim(title, of_false(*lines), 0, short)
+        yield trim("twice", short, 0, short)
+        yield audit("the trimmed report", b"true", ONE_NOTE, short,
+                    "accepted" if short != of_false(shown) else "refused false at line 0")
+    untrimmed = [
+        (b"learn 0 1 line 1", 1), (b"learn 0 1 line 0", 1), (b"learn 0 1 line 2", 1),
+        (shown + b"\nlearn 0 2 line 1 line 3\n" + WHOLE, 2),
+        (b"cycle 1 high 0\n" + shown + b"\nlearn 0 1 line 3", 3),
+    ]
+    for text, line in untrimmed:
+        report = of_false(*text.split(b"\n"))
+        yield trim("a hint that names no earlier line", report, 5, b"refused false at line %d\n" % line)
+        unknown = report.replace(b"refuted", b"unknown")
+        yield trim("an unknown section isn't touched", unknown, 0, unknown)
+    none = changed((5, b"false refuted 0\n"), (6, b""))
+    yield trim("no line", none, 5, b"refused false at line 0\n")
+    both = changed((3, b"true refuted 1\n"), (4, b"learn 0 1 line 7\n"), (5, b"false refuted 0\n"),
+                   (6, b""))
+    yield trim("the true section is told first", both, 5, b"refused true at line 1\n")
+    kept = changed((5, b"false unknown 2\n"), (6, shown + b"\n" + shown + b"\n"))
+    yield trim("an unknown section isn't touched", kept, 0, kept)
+    walk = b"skewcheck 1\nevents 1\ninconsistent 2\nhigh 0\nlow 0\nend\n"
+    yield trim("a walk isn't touched", walk, 0, walk)
+    yield trim("no report", OF_TRUE[:-1], 5, b"refused report at line 7\n")
+    yield Case("a report that isn't there", ["trim", "r"], {"f": OF_TRUE}, 74, (b"",))
+    yield Case("from the input", ["trim", "-"], {"-": OF_TRUE}, 0, (OF_TRUE,))
+    yield Case("a name that looks like an option", ["trim", "--", "-x"], {"-x": OF_TRUE}, 0, (OF_TRUE,))
+    for line in ("trim", "trim r r", "trim -x", "trim --conflicts 5 r", "trim r --conflicts=5"):
+        yield Case("no command", line.split(), {"r": OF_TRUE}, 64, (b"refused words\n",))
+
+
+def trim(title, report, status, output):
+    """A trim of a report."""
+    return Case(title, ["trim", "r"], {"r": report}, status, (output,))
+
+
+def of_false(*lines):
+    """The report on true with these lines in the section for false."""
+    text = b"".join(line + b"\n" for line in lines)
+    return changed((5, b"false refuted %d\n" % len(lines)), (6, text))
+
+
 def words():
     """Lists of words with numbers of conflicts, and files on the standard input."""
     files = {"f": b"a.req", "l": NO_SKEW, "r": report_of_request()}
@@ -502,6 +556,6 @@ def fixed_cases():
     """All cases of this module."""
     groups = (
         verdicts, budgets, shut_logs, audits_of_true, audits_of_unknown, audits_of_shut_logs,
-        audits_of_many_rows, faulty_texts, words, orders_of_tests,
+        audits_of_many_rows, faulty_texts, trims, words, orders_of_tests,
     )
     return [case for group in groups for case in group()]

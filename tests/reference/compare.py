@@ -2,8 +2,9 @@
 
 Run as: python3 compare.py PROGRAM [--cases N] [--seed S] [--only KIND]
 
-Each report that check writes is audited by the program too, as it is and
-broken, and each of its witnesses is replayed.
+Each report that check writes is audited and trimmed by the program too, as it
+is and broken, what is trimmed is audited and trimmed again, and each of its
+witnesses is replayed.
 
 It stops at the first difference, prints that case in full and ends with 1.
 """
@@ -32,7 +33,7 @@ from tables import add_second
 PATIENCE = 60  # seconds that one run of the program may take
 
 KINDS = {**generate.KINDS, **invent_reports.KINDS}
-SHARES = {"times": 10, "order": 15, "replay": 40, "check": 15, "audit": 15, "words": 5}
+SHARES = {"times": 10, "order": 15, "replay": 40, "check": 15, "audit": 15, "trim": 5, "words": 5}
 
 
 class Outcome(NamedTuple):

@@ -17,6 +17,7 @@ import logs
 import meanings
 import program
 import reports
+import trimming
 from derivations import Cycle, Step
 from generate import Case
 from generate_logs import chance
@@ -357,6 +358,10 @@ def follow_ups(draw, case, output):
     audited = ["audit", f"--conflicts={wanted.conflicts}", "f", "l", "r"]
     right = cases.Case("accepted", audited, {**files, "r": output}, 0, (b"accepted\n",))
     yield "the audit", right
+    yield "the trim", Case(["trim", "r"], {"r": output})
+    short = reports.report_text(trimming.trimmed_report(report))
+    yield "the audit of the trimmed", right._replace(files={**files, "r": short})
+    yield "the trim of the trimmed", cases.Case("short", ["trim", "r"], {"r": short}, 0, (short,))
     for value, part in zip((True, False), SECTIONS):
         section = getattr(report, part, None)
         if isinstance(section, Witness):
@@ -369,6 +374,14 @@ def follow_ups(draw, case, output):
     for place in range(BROKEN_COPIES):
         broken = {**files, "r": broken_text(draw, question, report)}
         yield f"the audit of broken copy {place}", Case(audited, broken)
+        yield f"the trim of broken copy {place}", Case(["trim", "r"], {"r": broken["r"]})
 
 
-KINDS = {"check": check_case, "audit": audit_case}
+def trim_case(draw):
+    """A case of trim, with a report that mostly is broken."""
+    case = audit_case(draw)
+    files = {name: data for name, data in case.files.items() if name == "r"}
+    return Case(["trim", "r"], files)
+
+
+KINDS = {"check": check_case, "audit": audit_case, "trim": trim_case}

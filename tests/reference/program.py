@@ -9,6 +9,7 @@ from typing import NamedTuple, Optional
 import formats
 import reference
 import reports
+import trimming
 from formats import (
     FORMULA_LIMIT,
     FormulaFault,
@@ -27,7 +28,7 @@ from logs import LOG_LIMIT, Log, LogFault, read_log
 from size import size_of
 
 # The commands of the program, each with its number of operands: files, or a seed.
-COMMANDS = {"times": 1, "replay": 3, "order": 1, "check": 2, "audit": 3, "demo": 1}
+COMMANDS = {"times": 1, "replay": 3, "order": 1, "check": 2, "audit": 3, "trim": 1, "demo": 1}
 # Those that take the option on conflicts.
 SEARCHES = ("check", "audit")
 OPTION = "--conflicts"
@@ -151,6 +152,8 @@ def answer(words, held):
             return order_answer(log) if command.name == "order" else Judged("times", log)
         if command.name == "replay":
             return replay_answer(files, *command.operands)
+        if command.name == "trim":
+            return trim_answer(files, *command.operands)
         if command.name == "check":
             return check_answer(files, command.conflicts, *command.operands)
         return audit_answer(files, command.conflicts, *command.operands)
@@ -250,6 +253,15 @@ def audit_answer(files, conflicts, formula_name, log_name, report_name):
     if place is not None:
         raise Refusal(5, f"refused {place.part} at line {place.line}")
     return Exact(0, b"accepted\n")
+
+
+def trim_answer(files, report_name):
+    """The text of the trimmed report, or the Refusal of the first section that can't be trimmed."""
+    report = report_from(files, report_name)
+    place = trimming.untrimmed_place(report)
+    if place is not None:
+        raise Refusal(5, f"refused {place.part} at line {place.line}")
+    return Exact(0, reports.report_text(trimming.trimmed_report(report)))
 
 
 def demo_answer(seed):

@@ -51,7 +51,7 @@ def check_fixed_cases(draw):
             for status, other in ((case.status ^ 1, output), (case.status, output + b"\n")):
                 check(judge.complaint(case.words, case.files, other, status), case, other)
             count += 1
-    print(f"{count} answers of check and audit by hand")
+    print(f"{count} answers of check, audit and trim by hand")
 
 
 def own_outputs(draw, case):

@@ -51,7 +51,7 @@ module _ (place : ℕ → ℕ) (low : (n : ℕ) → place n ≤ n) where
     once = is.once;
   }
 
-guarded : {A : Type 0} (b : Bool) (o : Option A) (y : A) → (if b then o else None) ≡ Some y → (b ≡ true) × (o ≡ Some y)
+pub guarded : {A : Type 0} (b : Bool) (o : Option A) (y : A) → (if b then o else None) ≡ Some y → (b ≡ true) × (o ≡ Some y)
 guarded false o y is = let never : ⊥ = cc in absurd never
 guarded true o y is = (refl, is)
 

@@ -3,3 +3,4 @@ mod Looks
 mod Marking
 mod Copying
 mod Kept
+mod Refuting

@@ -11,3 +11,6 @@ mod ChecksExact
 mod AcceptedAgain
 mod DemoJudged
 mod DemosExact
+mod TrimmedAgain
+mod ShortReports
+mod TrimSteps

@@ -5,7 +5,7 @@ use Rattle.skew_answers.specs.declared.status.Status.{Status}
 use Rattle.skew_answers.specs.declared.status.Status.TheVariants as status
 use Rattle.skew_answers.specs.Statuses.{IsAnswer, IsRefusal}
 use Rattle.skew_answers.specs.Texts.{line}
-use Rattle.skew_words.specs.Words.{Audit, Check, Command, Demo, Order, Replay, Times, Word, command_of}
+use Rattle.skew_words.specs.Words.{Audit, Check, Command, Demo, Order, Replay, Times, Trim, Word, command_of}
 use Rattle.skew_commands.specs.declared.limits.TheConstants.{LOG_LIMIT, TIMES_LIMIT}
 use Rattle.skew_commands.specs.declared.refusal.Named.TheVariants as named
 use Rattle.skew_commands.specs.Reads.{Agree}
@@ -20,6 +20,7 @@ use Rattle.skew_cli.specs.AuditOutcome.{AuditOfLog, AuditOfReport, AuditOutcome}
 use Rattle.skew_cli.specs.CheckOutcome.{CheckOfLog, CheckOutcome}
 use Rattle.skew_cli.specs.Outcome.{CommandOutcome, Ends, HasOutcome, HasPossible, IsPossible, IsPossibleOf, Outcome}
 use Rattle.skew_cli.specs.ReportTests.{OnReport, OnSize}
+use Rattle.skew_cli.specs.TrimOutcome.{TrimOfReport, TrimOutcome}
 
 -- what is due may be said in a weaker way
 pub Ends-weaker : (D E : List ℕ → Status → Type 0) (old now : List ℕ) (s : Status) → ((b : List ℕ) (t : Status) → D b t → E b t) → Ends D old now s → Ends E old now s
@@ -46,12 +47,16 @@ module _ (held files : Files) (agree : Agree held files) (out : List ℕ) (s : S
       same-question held files agree out s formula log (AuditOfLog held conflicts report) (AuditOfLog files conflicts report)
       (same-third held files agree out s report REPORT_LIMIT named.Report (λ f l bytes. OnReport bytes (λ r. OnSize f l (AuditOfReport conflicts f l r))))
 
+  same-trim : (name : Word) → TrimOutcome held name out s → TrimOutcome files name out s
+  same-trim name = same-file held files agree out s name REPORT_LIMIT named.Report (λ bytes. OnReport bytes TrimOfReport) (λ bytes. OnReport bytes TrimOfReport) (λ bytes h. h)
+
   same-command : (c : Command) → CommandOutcome c held out s → CommandOutcome c files out s
   same-command (Times log) = same-times log
   same-command (Replay formula log times) = same-replay formula log times
   same-command (Order log) = same-order log
   same-command (Check conflicts formula log) = same-check conflicts formula log
   same-command (Audit conflicts formula log report) = same-audit conflicts formula log report
+  same-command (Trim name) = same-trim name
   same-command (Demo seed) = λ h. h
 
 -- the outcome of a command, for files that agree with those that are held

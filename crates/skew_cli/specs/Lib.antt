@@ -2,9 +2,11 @@ pub mod ReportTests
 pub mod CheckOutcome
 pub mod AuditOutcome
 pub mod DemoOutcome
+pub mod TrimOutcome
 pub mod Outcome
 pub mod Laws
 pub mod DemoLaws
+pub mod TrimLaws
 pub use Rattle.skew_commands.specs.Refusals
 pub use Rattle.skew_commands.specs.Stops
 pub use Rattle.skew_commands.specs.Tests
@@ -31,6 +33,8 @@ pub use Rattle.mtl_parse.specs.FormulaOf
 pub use Rattle.mtl_parse.specs.Places
 pub use Rattle.times_read.specs.TimesOf
 pub use Rattle.mtl_encode.specs.Size
+pub use Rattle.proof_trim.specs.Needed
+pub use Rattle.proof_trim.specs.Trimmed
 pub use Rattle.report_text.specs.ReportText
 pub use Rattle.report_text.specs.ReportOf
 pub use Rattle.verdict.specs.Right

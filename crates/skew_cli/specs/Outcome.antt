@@ -6,7 +6,7 @@ use Rattle.skew_answers.specs.declared.status.Status.{Status}
 use Rattle.skew_answers.specs.declared.status.Status.TheVariants as status
 use Rattle.skew_answers.specs.Statuses.{IsAnswer}
 use Rattle.skew_answers.specs.Texts.{line}
-use Rattle.skew_words.specs.Words.{Audit, Check, Command, Demo, Order, Replay, Times, Word, command_of}
+use Rattle.skew_words.specs.Words.{Audit, Check, Command, Demo, Order, Replay, Times, Trim, Word, command_of}
 use Rattle.skew_commands.specs.Possible.{OfSomeLog, OfSomeQuestion, OfSomeThird}
 use Rattle.skew_commands.specs.Reads.{HoldsQuestion, HoldsThird, NoThird}
 use Rattle.skew_commands.specs.TimesOutcome.{TimesOutcome}
@@ -15,6 +15,7 @@ use Rattle.skew_commands.specs.OrderOutcome.{OrderOutcome}
 use Rattle.skew_cli.specs.CheckOutcome.{CheckOutcome}
 use Rattle.skew_cli.specs.AuditOutcome.{AuditOutcome}
 use Rattle.skew_cli.specs.DemoOutcome.{DemoOutcome}
+use Rattle.skew_cli.specs.TrimOutcome.{OfSomeReport, TrimOutcome}
 
 -- one line, with its status
 abbrev pub Says : List ℕ → Status → List ℕ → Status → Type 0
@@ -35,6 +36,10 @@ due_of_nothing Given = record { outcome = λ files. Given; possible = Given; hol
 abbrev pub due_of_log : (Files → Word → List ℕ → Status → Type 0) → Word → Due
 due_of_log Given log = record { outcome = λ files. Given files log; possible = OfSomeLog Given; holds = λ files. IsSome (file_of files log) }
 
+-- of one that reads a report
+abbrev pub due_of_report : (Files → Word → List ℕ → Status → Type 0) → Word → Due
+due_of_report Given name = record { outcome = λ files. Given files name; possible = OfSomeReport Given; holds = λ files. IsSome (file_of files name) }
+
 -- of one that reads a formula and a log
 abbrev pub due_of_question : (Files → Word → Word → List ℕ → Status → Type 0) → Word → Word → Due
 due_of_question Given formula log = record { outcome = λ files. Given files formula log; possible = OfSomeQuestion Given; holds = λ files. HoldsQuestion files formula log NoThird }
@@ -51,6 +56,7 @@ due_for (Replay formula log times) = due_of_third ReplayOutcome formula log time
 due_for (Order log) = due_of_log OrderOutcome log
 due_for (Check conflicts formula log) = due_of_question (λ files. CheckOutcome files conflicts) formula log
 due_for (Audit conflicts formula log report) = due_of_third (λ files. AuditOutcome files conflicts) formula log report
+due_for (Trim name) = due_of_report TrimOutcome name
 due_for (Demo seed) = due_of_nothing (DemoOutcome seed)
 
 -- what a command gives, where the files that it comes to read are held

@@ -1,9 +1,11 @@
 ghost use Rattle.demo_log.specs.DemoLog.{SeedsAreConsistent, SeedsHaveLogs};
 ghost use Rattle.skew_cli.specs.DemoLaws.{DemoUnknownIsBounded, DemosAreExact, DemosAreJudged};
 ghost use Rattle.skew_cli.specs.Laws.{AcceptedFilesAreTrue, ChecksAreAccepted, ChecksAreExact, ChecksAreJudged, UnknownIsBounded, WitnessesAreReplayed};
+ghost use Rattle.skew_cli.specs.TrimLaws.{AcceptedCanTrim, TrimsAreAccepted};
 
 use log_read::logs_are_valid;
 use mtl_parse::texts_are_unambiguous;
+use proof_trim::trims_keep_refuting;
 use report_text::{bytes_are_unambiguous, texts_read_back};
 use verdict::{audits_are_exact, right_reports_are_accepted, spent_conflicts_are_bounded};
 
@@ -66,4 +68,14 @@ pub fn demo_unknown_is_bounded()
     ensures { DemoUnknownIsBounded }
 {
     spent_conflicts_are_bounded();
+}
+
+/// A report that `audit` accepts can be trimmed, and trimmed it is accepted too, with the same formula, log and number of
+/// conflicts.
+pub fn trims_are_accepted()
+    ensures can { AcceptedCanTrim }
+    ensures accepted { TrimsAreAccepted }
+{
+    trims_keep_refuting();
+    audits_are_exact();
 }

@@ -8,11 +8,12 @@ mod laws;
 mod limits;
 mod program;
 mod report_file;
+mod trim;
 
 pub use demo_log::{MAX_SEED, demo_log};
 pub use laws::{
     accepted_files_are_true, checks_are_accepted, checks_are_exact, demo_unknown_is_bounded,
-    demos_are_exact, unknown_is_bounded, witnesses_are_replayed,
+    demos_are_exact, trims_are_accepted, unknown_is_bounded, witnesses_are_replayed,
 };
 pub use limits::{REPORT_LIMIT, limits_are_numbers};
 pub use program::run;

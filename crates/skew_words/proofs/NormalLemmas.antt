@@ -42,6 +42,10 @@ unfolding clap_on_literals
 read-audit None formula log report = record { taken = refl; found = refl }
 read-audit (Some text) formula log report = record { taken = refl; found = refl }
 
+read-trim : (report : Word) → IsRead verb.Trim None (report ∷ [])
+unfolding clap_on_literals
+read-trim report = record { taken = refl; found = refl }
+
 read-demo : (seed : Word) → IsRead verb.Demo None (seed ∷ [])
 unfolding clap_on_literals
 read-demo seed = record { taken = refl; found = refl }
@@ -53,10 +57,12 @@ read-row verb.Replay None ws fits some = let (formula, log, times, is) = three-i
 read-row verb.Order None ws fits some = let (log, is) = one-is ws (fits-length (row_of verb.Order).operands ws fits) in rw is (read-order log)
 read-row verb.Check conflicts ws fits some = let (formula, log, is) = two-is ws (fits-length (row_of verb.Check).operands ws fits) in rw is (read-check conflicts formula log)
 read-row verb.Audit conflicts ws fits some = let (formula, log, report, is) = three-is ws (fits-length (row_of verb.Audit).operands ws fits) in rw is (read-audit conflicts formula log report)
+read-row verb.Trim None ws fits some = let (report, is) = one-is ws (fits-length (row_of verb.Trim).operands ws fits) in rw is (read-trim report)
 read-row verb.Demo None ws fits some = let (seed, is) = one-is ws (fits-length (row_of verb.Demo).operands ws fits) in rw is (read-demo seed)
 read-row verb.Times (Some text) ws fits some = let never : ⊥ = cc in absurd never
 read-row verb.Replay (Some text) ws fits some = let never : ⊥ = cc in absurd never
 read-row verb.Order (Some text) ws fits some = let never : ⊥ = cc in absurd never
+read-row verb.Trim (Some text) ws fits some = let never : ⊥ = cc in absurd never
 read-row verb.Demo (Some text) ws fits some = let never : ⊥ = cc in absurd never
 
 -- what is spoken fits its row

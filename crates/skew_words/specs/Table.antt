@@ -27,11 +27,12 @@ row_of verb.Replay = record { word = codes "replay"; operands = operand.Formula 
 row_of verb.Order = record { word = codes "order"; operands = operand.Log ∷ []; takes_conflicts = false }
 row_of verb.Check = record { word = codes "check"; operands = operand.Formula ∷ operand.Log ∷ []; takes_conflicts = true }
 row_of verb.Audit = record { word = codes "audit"; operands = operand.Formula ∷ operand.Log ∷ operand.Report ∷ []; takes_conflicts = true }
+row_of verb.Trim = record { word = codes "trim"; operands = operand.Report ∷ []; takes_conflicts = false }
 row_of verb.Demo = record { word = codes "demo"; operands = operand.Seed ∷ []; takes_conflicts = false }
 
 -- the first words
 abbrev pub verbs : List Verb
-verbs = verb.Times ∷ verb.Replay ∷ verb.Order ∷ verb.Check ∷ verb.Audit ∷ verb.Demo ∷ []
+verbs = verb.Times ∷ verb.Replay ∷ verb.Order ∷ verb.Check ∷ verb.Audit ∷ verb.Trim ∷ verb.Demo ∷ []
 
 -- the first word that a word is, if it is one
 abbrev pub verb_named : Word → Option Verb

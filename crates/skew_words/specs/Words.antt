@@ -16,6 +16,7 @@ pub data Command : Type 0 where
   Order : (log : Word) → Command
   Check : (conflicts : ℕ) → (formula : Word) → (log : Word) → Command
   Audit : (conflicts : ℕ) → (formula : Word) → (log : Word) → (report : Word) → Command
+  Trim : (report : Word) → Command
   Demo : (seed : ℕ) → Command
 
 -- a word that begins with `-` and is not `-` alone
@@ -93,6 +94,7 @@ command_from verb.Replay n (formula ∷ log ∷ times ∷ []) = Some (Replay for
 command_from verb.Order n (log ∷ []) = Some (Order log)
 command_from verb.Check n (formula ∷ log ∷ []) = Some (Check n formula log)
 command_from verb.Audit n (formula ∷ log ∷ report ∷ []) = Some (Audit n formula log report)
+command_from verb.Trim n (report ∷ []) = Some (Trim report)
 command_from verb.Demo n (seed ∷ []) = option_map Demo (seed_of seed)
 command_from v n operands = None
 

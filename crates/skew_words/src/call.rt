@@ -28,6 +28,10 @@ pub enum Call<'a> {
         log: &'a str,
         report: &'a str,
     },
+    /// A report with the needed lines of its refuted sections alone.
+    Trim {
+        report: &'a str,
+    },
     /// The truth values of the demo's formula over all timings of the log of a seed.
     Demo {
         seed: u64,

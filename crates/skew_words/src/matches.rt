@@ -123,6 +123,9 @@ fn call_in<'a>(verb: Verb, matches: &ArgMatches<'a>) -> Option<Call<'a>>
             log: value(matches, Operand::Log)?,
             report: value(matches, Operand::Report)?,
         }),
+        Verb::Trim => Some(Call::Trim {
+            report: value(matches, Operand::Report)?,
+        }),
         Verb::Demo => Some(Call::Demo {
             seed: seed(value(matches, Operand::Seed)?)?,
         }),

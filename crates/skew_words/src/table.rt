@@ -14,15 +14,17 @@ pub enum Verb {
     Order,
     Check,
     Audit,
+    Trim,
     Demo,
 }
 
-const VERBS: [Verb; 6] = [
+const VERBS: [Verb; 7] = [
     Verb::Times,
     Verb::Replay,
     Verb::Order,
     Verb::Check,
     Verb::Audit,
+    Verb::Trim,
     Verb::Demo,
 ];
 
@@ -130,6 +132,11 @@ impl Verb {
                 word: "audit",
                 operands: &[Operand::Formula, Operand::Log, Operand::Report],
                 takes_conflicts: true,
+            },
+            Verb::Trim => Row {
+                word: "trim",
+                operands: &[Operand::Report],
+                takes_conflicts: false,
             },
             Verb::Demo => Row {
                 word: "demo",

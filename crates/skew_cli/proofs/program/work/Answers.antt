@@ -14,3 +14,9 @@ returns-in-Audit-clause-outcome g c = rw c.in-Audit.is c.audit.ensures.outcome
 
 pub returns-in-Audit-clause-possible : goal.returns-in-Audit-clause-possible
 returns-in-Audit-clause-possible g c = rw c.in-Audit.is c.audit.ensures.possible
+
+pub returns-in-Trim-clause-outcome : goal.returns-in-Trim-clause-outcome
+returns-in-Trim-clause-outcome g c = rw c.in-Trim.is c.trim.ensures.outcome
+
+pub returns-in-Trim-clause-possible : goal.returns-in-Trim-clause-possible
+returns-in-Trim-clause-possible g c = rw c.in-Trim.is c.trim.ensures.possible
