@@ -1,12 +1,18 @@
--- A log of version 1 admits what it admitted.
-use Rattle.std.proofs.Common.{◌≡◌, ◌∙◌, sym, refl, ap, ℕ, Option, Some, None, pos}
-use Rattle.std.specs.Prelude.{slice_get, option_map, option_and_then}
+-- A log of version 1 admits what it admitted, and its propositions have the states that they had.
+use Rattle.std.proofs.Common.{◌≡◌, ◌∙◌, sym, refl, ap, ℕ, suc, zero, ◌+◌, ◌==◌, ◌&&◌, Bool, true, false, List, [], length, Option, Some, None, pos}
+use Rattle.std.specs.Prelude.{bytes_eq, slice_get, filter, option_map, option_and_then}
+use Rattle.std.specs.List.{range_with_len}
 use Rattle.std.specs.Option.{option_map_or}
+use Rattle.std.proofs.Math.Bool.{and-false}
+use Rattle.mt_model.specs.declared.log.Act.{Act}
+use Rattle.mt_model.specs.declared.log.Act.TheVariants.{Set, Clear, Send, Recv, Note, Pulse}
 use Rattle.mt_model.specs.declared.log.Host.{Host}
+use Rattle.mt_model.specs.declared.log.Row.{Row}
 use Rattle.mt_model.specs.declared.limits.TheConstants.{MIN_DELAY}
-use Rattle.mt_model.specs.Log.{Logged}
+use Rattle.mt_model.specs.Log.{Logged, is_pulse}
+use Rattle.mt_model.specs.State.{is_pulse_at, is_pulse_of, is_pulsed, pulses_of}
 use Rattle.mt_model.specs.Timing.{declared_gap, declared_skew, gap_of, host_of, least_delay, most_delay, resync_of, skew_of}
-use Rattle.mt_model.specs.VersionOne.{HasNoLatency, IsVersionOne, VersionOneIsKept}
+use Rattle.mt_model.specs.VersionOne.{HasNoLatency, HasNoPulses, IsVersionOne, StatesOfVersionOneAreKept, VersionOneIsKept}
 use Rattle.mt_model.proofs.Resyncs.{at-place}
 
 module _ (log : Logged) (old : IsVersionOne log) where
@@ -53,3 +59,31 @@ kept log t old = (
     extra = ok.extra;
   },
 )
+
+-- an act that is no pulse pulses no proposition
+no-pulse_of : (name : List ℕ) (act : Act) → is_pulse act ≡ false → is_pulse_of name act ≡ false
+no-pulse_of name (Set n) none = refl
+no-pulse_of name (Clear n) none = refl
+no-pulse_of name (Send m) none = refl
+no-pulse_of name (Recv m) none = refl
+no-pulse_of name (Note n) none = refl
+no-pulse_of name (Pulse n) none = absurd (cc)
+
+-- a test that no number passes leaves none
+none-pass : (test : ℕ → Bool) → ((e : ℕ) → test e ≡ false) → (n a : ℕ) → filter test (range_with_len a n) ≡ []
+none-pass test fails zero a = refl
+none-pass test fails (suc n) a = rw (fails a) (none-pass test fails n (a + 1))
+
+module _ (log : Logged) (none : HasNoPulses log) (host : ℕ) (name : List ℕ) where
+  no-pulse_in : (o : Option Row) (e : ℕ) → slice_get log.rows e ≡ o → option_map_or (λ r. is_pulse_of name r.act) o false ≡ false
+  no-pulse_in None e found = refl
+  no-pulse_in (Some r) e found = no-pulse_of name r.act (at-place (λ r. is_pulse r.act ≡ false) log.rows e r none found)
+
+  no-pulse_at : (e : ℕ) → is_pulse_at log host name e ≡ false
+  no-pulse_at e = rw (no-pulse_in (slice_get log.rows e) e refl) (and-false (host_of log e == host))
+
+  no-pulses : pulses_of log host name ≡ []
+  no-pulses = none-pass (is_pulse_at log host name) no-pulse_at (length log.rows) 0
+
+pub states_kept : StatesOfVersionOneAreKept
+states_kept log t instant host name none = rw (no-pulses log none host name) refl

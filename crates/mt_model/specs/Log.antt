@@ -1,11 +1,11 @@
 -- Logs, and when one is valid.
-use Rattle.std.specs.Prelude.{◌≡◌, ◌≢◌, ℕ, ◌<◌, ◌≤◌, List, [], ◌∷◌, ◌++◌, length, map, All, AllPairs, Any, IfSome, Option, Some, None, true, false, ℤ, pos, ◌+ℤ◌, ◌≤ℤ◌}
+use Rattle.std.specs.Prelude.{◌≡◌, ◌≢◌, ℕ, ◌<◌, ◌≤◌, List, [], ◌∷◌, ◌++◌, length, map, All, AllPairs, Any, IfSome, Option, Some, None, Bool, true, false, ℤ, pos, ◌+ℤ◌, ◌≤ℤ◌}
 use Rattle.mt_model.specs.declared.log.Host.{Host}
 use Rattle.mt_model.specs.declared.log.Row.{Row}
 use Rattle.mt_model.specs.declared.resync.Resync.{Resync}
 use Rattle.mt_model.specs.declared.log.Extra.{Extra}
 use Rattle.mt_model.specs.declared.log.Act.{Act}
-use Rattle.mt_model.specs.declared.log.Act.TheVariants.{Set, Clear, Send, Recv, Note}
+use Rattle.mt_model.specs.declared.log.Act.TheVariants.{Set, Clear, Send, Recv, Note, Pulse}
 use Rattle.mt_model.specs.declared.limits.TheConstants.{MAX_HOSTS, MAX_ROWS, MAX_EXTRAS, MAX_LOCAL, MAX_SKEW, MAX_WRITTEN_SKEW, MAX_GAP, MIN_DELAY, MAX_DELAY, MAX_EXTRA}
 use Rattle.mt_model.specs.Name.{is_name, is_reserved}
 
@@ -31,6 +31,7 @@ name_in (Clear n) = n
 name_in (Send m) = m
 name_in (Recv m) = m
 name_in (Note n) = n
+name_in (Pulse n) = n
 
 -- the message that an act sends
 abbrev pub sent_by : Act → Option (List ℕ)
@@ -39,6 +40,7 @@ sent_by (Recv m) = None
 sent_by (Set n) = None
 sent_by (Clear n) = None
 sent_by (Note n) = None
+sent_by (Pulse n) = None
 
 -- the message that an act receives
 abbrev pub received_by : Act → Option (List ℕ)
@@ -47,6 +49,16 @@ received_by (Send m) = None
 received_by (Set n) = None
 received_by (Clear n) = None
 received_by (Note n) = None
+received_by (Pulse n) = None
+
+-- whether an act is a pulse
+abbrev pub is_pulse : Act → Bool
+is_pulse (Pulse n) = true
+is_pulse (Set n) = false
+is_pulse (Clear n) = false
+is_pulse (Send m) = false
+is_pulse (Recv m) = false
+is_pulse (Note n) = false
 
 -- from -n to n
 pub record IsWithin (n x : ℤ) : Type 0 where

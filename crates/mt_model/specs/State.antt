@@ -1,9 +1,10 @@
 -- The state of a proposition at an instant.
-use Rattle.std.specs.Prelude.{ℕ, ◌==◌, List, length, Bool, true, false, Option, Some, None, is_none, if◌then◌else◌, option_map, option_and_then, find, position, reverse, slice_get, bytes_eq, ℤ, int_le}
+use Rattle.std.specs.Prelude.{ℕ, ◌==◌, ◌&&◌, ◌||◌, List, length, Bool, true, false, Option, Some, None, is_none, if◌then◌else◌, option_map, option_and_then, find, filter, position, reverse, slice_get, bytes_eq, ℤ, int_le}
 use Rattle.std.specs.Option.{option_map_or}
-use Rattle.std.specs.List.{filter_map, position_from, range_with_len}
+use Rattle.std.specs.List.{filter_map, list_any, position_from, range_with_len}
+use Rattle.std.specs.Ordering.{int_eq}
 use Rattle.mt_model.specs.declared.log.Act.{Act}
-use Rattle.mt_model.specs.declared.log.Act.TheVariants.{Set, Clear, Send, Recv, Note}
+use Rattle.mt_model.specs.declared.log.Act.TheVariants.{Set, Clear, Send, Recv, Note, Pulse}
 use Rattle.mt_model.specs.Form.{Form, propositions_of}
 use Rattle.mt_model.specs.Log.{Logged}
 use Rattle.mt_model.specs.Timing.{host_of, time_of}
@@ -15,6 +16,16 @@ effect_of name (Clear n) = if bytes_eq n name then Some false else None
 effect_of name (Send m) = None
 effect_of name (Recv m) = None
 effect_of name (Note n) = None
+effect_of name (Pulse n) = None
+
+-- whether an act pulses the proposition
+abbrev pub is_pulse_of : List ℕ → Act → Bool
+is_pulse_of name (Pulse n) = bytes_eq n name
+is_pulse_of name (Set n) = false
+is_pulse_of name (Clear n) = false
+is_pulse_of name (Send m) = false
+is_pulse_of name (Recv m) = false
+is_pulse_of name (Note n) = false
 
 -- a row that changes a proposition, and whether it sets it
 pub record Change : Type 0 where
@@ -36,9 +47,21 @@ changes_of log host name = filter_map (change_at log host name) (range_with_len 
 abbrev pub last_change : Logged → List ℤ → ℤ → ℕ → List ℕ → Option Change
 last_change log t instant host name = find (λ c. int_le (time_of t c.row) instant) (reverse (changes_of log host name))
 
--- the state of a host's proposition at an instant: true where there is such a change and it sets the proposition
+-- whether row e pulses a host's proposition
+abbrev pub is_pulse_at : Logged → ℕ → List ℕ → ℕ → Bool
+is_pulse_at log host name e = host_of log e == host && option_map_or (λ r. is_pulse_of name r.act) (slice_get log.rows e) false
+
+-- the rows that pulse a host's proposition, in the order of the log
+abbrev pub pulses_of : Logged → ℕ → List ℕ → List ℕ
+pulses_of log host name = filter (is_pulse_at log host name) (range_with_len 0 (length log.rows))
+
+-- whether one of them has just this instant as its true time
+abbrev pub is_pulsed : Logged → List ℤ → ℤ → ℕ → List ℕ → Bool
+is_pulsed log t instant host name = list_any (λ e. int_eq (time_of t e) instant) (pulses_of log host name)
+
+-- the state of a host's proposition at an instant: true where a pulse has this instant; else where there is such a change and it sets the proposition
 abbrev pub state : Logged → List ℤ → ℤ → ℕ → List ℕ → Bool
-state log t instant host name = option_map_or (λ c. c.sets) (last_change log t instant host name) false
+state log t instant host name = is_pulsed log t instant host name || option_map_or (λ c. c.sets) (last_change log t instant host name) false
 
 -- the place of the host of a name among the hosts
 abbrev pub host_named : Logged → List ℕ → Option ℕ

@@ -1,9 +1,11 @@
--- Which timings a log of version 1 admits, whose clocks have one skew and one gap each, and whose messages have no latency.
-use Rattle.std.specs.Prelude.{◌≡◌, ◌↔◌, ℕ, ◌<◌, List, [], length, All, Some, None, slice_get, ℤ, pos, ◌+ℤ◌, ◌-ℤ◌, ◌≤ℤ◌}
+-- Which timings a log of version 1 admits, whose clocks have one skew and one gap each, and whose messages have no latency; and the states that its propositions have, which are set and cleared alone.
+use Rattle.std.specs.Prelude.{◌≡◌, ◌↔◌, ℕ, ◌<◌, List, [], length, All, Some, None, Bool, false, slice_get, ℤ, pos, ◌+ℤ◌, ◌-ℤ◌, ◌≤ℤ◌}
+use Rattle.std.specs.Option.{option_map_or}
 use Rattle.mt_model.specs.declared.log.Host.{Host}
 use Rattle.mt_model.specs.declared.log.Extra.{Extra}
 use Rattle.mt_model.specs.declared.limits.TheConstants.{MIN_DELAY}
-use Rattle.mt_model.specs.Log.{Logged}
+use Rattle.mt_model.specs.Log.{Logged, is_pulse}
+use Rattle.mt_model.specs.State.{last_change, state}
 use Rattle.mt_model.specs.Timing.{Admissible, declared_gap, declared_skew, local_of, previous_row, send_of, time_of}
 
 -- what a host receives takes at least 1, and no more is said of it
@@ -32,3 +34,15 @@ pub record Admissible1 (log : Logged) (t : List ℤ) : Type 0 where
 -- a log without resyncs and latencies admits the timings that it admitted in version 1, and no others
 abbrev pub VersionOneIsKept : Type 0
 VersionOneIsKept = (log : Logged) (t : List ℤ) → IsVersionOne log → Admissible log t ↔ Admissible1 log t
+
+-- no act is a pulse
+abbrev pub HasNoPulses : Logged → Type 0
+HasNoPulses log = All (λ r. is_pulse r.act ≡ false) log.rows
+
+-- the state of a host's proposition at an instant: true where there is such a change and it sets the proposition
+abbrev pub state1 : Logged → List ℤ → ℤ → ℕ → List ℕ → Bool
+state1 log t instant host name = option_map_or (λ c. c.sets) (last_change log t instant host name) false
+
+-- in a log without pulses a proposition has the states that it had in version 1
+abbrev pub StatesOfVersionOneAreKept : Type 0
+StatesOfVersionOneAreKept = (log : Logged) (t : List ℤ) (instant : ℤ) (host : ℕ) (name : List ℕ) → HasNoPulses log → state log t instant host name ≡ state1 log t instant host name

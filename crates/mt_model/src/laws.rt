@@ -3,7 +3,7 @@ ghost use Rattle.mt_model.specs.Bounds.{BoundsAreAdmissible, UnbrokenIsAdmissibl
 ghost use Rattle.mt_model.specs.Laws.{ConflictExcludesTimings, PreviousRowIsLast};
 ghost use Rattle.mt_model.specs.Limits.{FormulaLimits, LogLimits};
 ghost use Rattle.mt_model.specs.TruthLaws.{PositionsAreTimes, TruthByRows, TruthIsTheTable, ValuesHaveTimings};
-ghost use Rattle.mt_model.specs.VersionOne.{VersionOneIsKept};
+ghost use Rattle.mt_model.specs.VersionOne.{StatesOfVersionOneAreKept, VersionOneIsKept};
 
 /// Where bounds of a log form a closed walk of negative sum, the log admits no timing.
 pub fn conflict_excludes_timings()
@@ -27,9 +27,11 @@ pub fn unbroken_is_admissible()
 {}
 
 /// A log without resyncs and latencies admits the timings that each host's one skew and gap and the
-/// delay 1 of each message allow, and no others.
+/// delay 1 of each message allow, and no others. Without pulses a proposition is true where the last
+/// row that sets or clears it sets it.
 pub fn version_one_is_kept()
-    ensures { VersionOneIsKept }
+    ensures timings { VersionOneIsKept }
+    ensures states { StatesOfVersionOneAreKept }
 {}
 
 /// The positions of a timing are the true times of the rows, each once, rising.

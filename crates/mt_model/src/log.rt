@@ -34,6 +34,8 @@ pub enum Act {
     Recv(Name),
     /// An event without effect.
     Note(Name),
+    /// A proposition of the host is true at this row's instant.
+    Pulse(Name),
 }
 
 /// One event of a log: on which host, at what time by its clock, and what happened.
@@ -96,6 +98,7 @@ impl Act {
             Act::Send(name) => Ok(Act::Send(name.copy(alloc)?)),
             Act::Recv(name) => Ok(Act::Recv(name.copy(alloc)?)),
             Act::Note(name) => Ok(Act::Note(name.copy(alloc)?)),
+            Act::Pulse(name) => Ok(Act::Pulse(name.copy(alloc)?)),
         }
     }
 
@@ -108,7 +111,8 @@ impl Act {
             | Act::Clear(name)
             | Act::Send(name)
             | Act::Recv(name)
-            | Act::Note(name) => name,
+            | Act::Note(name)
+            | Act::Pulse(name) => name,
         }
     }
 
@@ -118,7 +122,7 @@ impl Act {
     {
         match self {
             Act::Send(message) => Some(message),
-            Act::Set(_) | Act::Clear(_) | Act::Recv(_) | Act::Note(_) => None,
+            Act::Set(_) | Act::Clear(_) | Act::Recv(_) | Act::Note(_) | Act::Pulse(_) => None,
         }
     }
 
@@ -128,7 +132,7 @@ impl Act {
     {
         match self {
             Act::Recv(message) => Some(message),
-            Act::Set(_) | Act::Clear(_) | Act::Send(_) | Act::Note(_) => None,
+            Act::Set(_) | Act::Clear(_) | Act::Send(_) | Act::Note(_) | Act::Pulse(_) => None,
         }
     }
 }
