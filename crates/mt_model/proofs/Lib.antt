@@ -18,3 +18,4 @@ mod HappenedBefore
 mod GreaterSkews
 mod WorkedCases
 mod ClockCases
+mod PulseCases

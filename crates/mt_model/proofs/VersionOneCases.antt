@@ -1,6 +1,6 @@
 -- A log of version 1 admits what it admitted, and its propositions have the states that they had.
-use Rattle.std.proofs.Common.{◌≡◌, ◌∙◌, sym, refl, ap, ℕ, suc, zero, ◌+◌, ◌==◌, ◌&&◌, Bool, true, false, List, [], length, Option, Some, None, pos}
-use Rattle.std.specs.Prelude.{bytes_eq, slice_get, filter, option_map, option_and_then}
+use Rattle.std.proofs.Common.{◌≡◌, ◌∙◌, sym, refl, ap, ℕ, suc, zero, ◌+◌, ◌==◌, Bool, false, List, [], length, Option, Some, None, pos}
+use Rattle.std.specs.Prelude.{slice_get, filter, option_map, option_and_then}
 use Rattle.std.specs.List.{range_with_len}
 use Rattle.std.specs.Option.{option_map_or}
 use Rattle.std.proofs.Math.Bool.{and-false}
@@ -10,7 +10,7 @@ use Rattle.mt_model.specs.declared.log.Host.{Host}
 use Rattle.mt_model.specs.declared.log.Row.{Row}
 use Rattle.mt_model.specs.declared.limits.TheConstants.{MIN_DELAY}
 use Rattle.mt_model.specs.Log.{Logged, is_pulse}
-use Rattle.mt_model.specs.State.{is_pulse_at, is_pulse_of, is_pulsed, pulses_of}
+use Rattle.mt_model.specs.State.{is_pulse_at, is_pulse_of, pulses_of}
 use Rattle.mt_model.specs.Timing.{declared_gap, declared_skew, gap_of, host_of, least_delay, most_delay, resync_of, skew_of}
 use Rattle.mt_model.specs.VersionOne.{HasNoLatency, HasNoPulses, IsVersionOne, StatesOfVersionOneAreKept, VersionOneIsKept}
 use Rattle.mt_model.proofs.Resyncs.{at-place}
