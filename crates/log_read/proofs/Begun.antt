@@ -40,7 +40,7 @@ four_pass false false true d w x y z h = cc
 four_pass false false false true w x y z h = cc
 four_pass false false false false w x y z h = (refl, refl, refl, refl)
 
-either_none : (a b : Bool) → (a || b) ≡ false → (a ≡ false) × (b ≡ false)
+pub either_none : (a b : Bool) → (a || b) ≡ false → (a ≡ false) × (b ≡ false)
 either_none true b h = cc
 either_none false b h = (refl, h)
 
@@ -100,6 +100,7 @@ name_in-act_of event.Clear name = refl
 name_in-act_of event.Send name = refl
 name_in-act_of event.Recv name = refl
 name_in-act_of event.Note name = refl
+name_in-act_of event.Pulse name = refl
 
 -- resyncs of a log stay so in one of more hosts and rows
 resyncs-more : (hosts rows more_hosts more_rows : ℕ) (rs : List Resync) → hosts ≤ more_hosts → rows ≤ more_rows → AreResyncs hosts rows rs → AreResyncs more_hosts more_rows rs
@@ -210,6 +211,7 @@ not_sent rows event.Set name r k d new act within same = absurd (cc (ap sent_by 
 not_sent rows event.Clear name r k d new act within same = absurd (cc (ap sent_by (sym act), same.second))
 not_sent rows event.Recv name r k d new act within same = absurd (cc (ap sent_by (sym act), same.second))
 not_sent rows event.Note name r k d new act within same = absurd (cc (ap sent_by (sym act), same.second))
+not_sent rows event.Pulse name r k d new act within same = absurd (cc (ap sent_by (sym act), same.second))
 
 -- a row that has no fault may be added
 pub begun_row : (place : ℕ) (log : Listing) (r : Row) (e : EventKind) (host local name : List ℕ) → IsBegun log → event_fault place log.hosts log.rows e host local name ≡ None

@@ -90,6 +90,7 @@ row-matched all hosts (Some (kind.Event event.Set)) host local name r matched h 
 row-matched all hosts (Some (kind.Event event.Clear)) host local name r matched h = rw ((row_read hosts event.Clear host local name r h).act) tt
 row-matched all hosts (Some (kind.Event event.Send)) host local name r matched h = rw ((row_read hosts event.Send host local name r h).act) tt
 row-matched all hosts (Some (kind.Event event.Note)) host local name r matched h = rw ((row_read hosts event.Note host local name r h).act) tt
+row-matched all hosts (Some (kind.Event event.Pulse)) host local name r matched h = rw ((row_read hosts event.Pulse host local name r h).act) tt
 
 row_in-matched : (all : List Row) (hosts : List Host) (q : Record) (r : Row) → is_unmatched all q ≡ false → row_in hosts q ≡ Some r → IfSome (received_by r.act) (IsSent all)
 row_in-matched all hosts [] r matched h = cc

@@ -14,6 +14,7 @@ use Rattle.log_read.specs.declared.version.Version.TheVariants as version
 use Rattle.log_read.specs.declared.kind.Kind.{Kind}
 use Rattle.log_read.specs.declared.kind.Kind.TheVariants as kind
 use Rattle.log_read.specs.declared.kind.EventKind.{EventKind}
+use Rattle.log_read.specs.declared.kind.EventKind.TheVariants as event
 use Rattle.log_read.specs.Records.{Listing, Record, host_by, host_in, host_with, hosts_in, kind_of, latencies_in, latency_by, latency_in, latency_with, listed, resync_by, resync_in, resync_with, resyncs_after, row_by, row_in, row_with, rows_after}
 use Rattle.log_read.specs.LogOf.{event_fault, fault_by, fault_of, host_fault, known_in, latency_fault, resync_fault}
 use Rattle.log_read.specs.Reading.{Adds, with_record}
@@ -32,6 +33,7 @@ four_items (w ∷ x ∷ y ∷ z ∷ v ∷ vs) a b c d least most p q r s = absur
 known-is : (v : Version) (k : Option Kind) (x : Kind) → known_in v k ≡ Some x → k ≡ Some x
 known-is version.One None x h = absurd (cc)
 known-is version.One (Some kind.Host) x h = h
+known-is version.One (Some (kind.Event event.Pulse)) x h = absurd (cc)
 known-is version.One (Some (kind.Event e)) x h = h
 known-is version.One (Some kind.Resync) x h = absurd (cc)
 known-is version.One (Some kind.Latency) x h = absurd (cc)

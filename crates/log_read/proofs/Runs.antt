@@ -2,7 +2,6 @@
 use Rattle.std.proofs.Common.{◌≡◌, ◌∙◌, sym, ap, refl, ℕ, ◌+◌, List, [], ◌∷◌, ◌++◌, length, Option, Some, None, append_assoc}
 use Rattle.std.proofs.lemmas.List.{append-nil}
 use Rattle.log_read.specs.declared.fault.LogFault.{LogFault}
-use Rattle.log_read.specs.declared.kind.EventKind.{EventKind}
 use Rattle.log_read.specs.declared.kind.Kind.TheVariants as kind
 use Rattle.log_read.specs.declared.version.Version.{Version}
 use Rattle.log_read.specs.declared.version.Version.TheVariants as version
@@ -47,11 +46,7 @@ runs-append v l middle l' xs ys one two = record {
   lists = λ before is. ap listed (sym (append_assoc before xs ys)) ∙ two.lists (before ++ xs) (one.lists before is);
 }
 
--- hosts and events are known in both versions
+-- hosts are known in both versions
 pub known-host : (v : Version) → known_in v (Some kind.Host) ≡ Some kind.Host
 known-host version.One = refl
 known-host version.Two = refl
-
-pub known-event : (v : Version) (e : EventKind) → known_in v (Some (kind.Event e)) ≡ Some (kind.Event e)
-known-event version.One e = refl
-known-event version.Two e = refl

@@ -16,6 +16,7 @@ use Rattle.log_read.specs.declared.version.Version.{Version}
 use Rattle.log_read.specs.declared.version.Version.TheVariants as version
 use Rattle.log_read.specs.declared.kind.Kind.{Kind}
 use Rattle.log_read.specs.declared.kind.Kind.TheVariants as kind
+use Rattle.log_read.specs.declared.kind.EventKind.TheVariants as event
 use Rattle.log_read.specs.LogOf.{fault_by, fault_of, first_fault, is_unmatched, known_in, log_of_records, log_under, log_under_header, no_event, or_else, unless, version_of}
 use Rattle.log_read.specs.Reading.{IsBegun, IsLatency, with_record}
 use Rattle.log_read.specs.Records.{Listing, Record, host_by, host_with, kind_of, latency_by, latency_with, listed, log_from, resync_by, resync_with, row_by, row_with}
@@ -61,6 +62,7 @@ module _ (place : ℕ) (l : Listing) (begun : IsBegun l) where
   known-begun : (v : Version) (k : Option Kind) (a b c : List ℕ) → fault_by place l (known_in v k) a b c ≡ None → IsBegun (Next k a b c)
   known-begun version.One None a b c clear = absurd (cc)
   known-begun version.One (Some kind.Host) a b c clear = kind-begun (Some kind.Host) a b c clear
+  known-begun version.One (Some (kind.Event event.Pulse)) a b c clear = absurd (cc)
   known-begun version.One (Some (kind.Event e)) a b c clear = kind-begun (Some (kind.Event e)) a b c clear
   known-begun version.One (Some kind.Resync) a b c clear = absurd (cc)
   known-begun version.One (Some kind.Latency) a b c clear = absurd (cc)

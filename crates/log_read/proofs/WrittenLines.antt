@@ -44,6 +44,7 @@ word-plain (act.Clear name) = refl
 word-plain (act.Send name) = refl
 word-plain (act.Recv name) = refl
 word-plain (act.Note name) = refl
+word-plain (act.Pulse name) = refl
 
 -- the host at a place has a name
 named : (hosts : List Host) (i : ℕ) → All IsWritable hosts → i < length hosts → is_name (host_name hosts i) ≡ true

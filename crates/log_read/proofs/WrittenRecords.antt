@@ -28,6 +28,7 @@ kind_in (act.Clear name) = event.Clear
 kind_in (act.Send name) = event.Send
 kind_in (act.Recv name) = event.Recv
 kind_in (act.Note name) = event.Note
+kind_in (act.Pulse name) = event.Pulse
 
 -- the word of an act is of that kind
 pub kind_of-word : (a : Act) → kind_of (act_word a) ≡ Some (kind.Event (kind_in a))
@@ -36,6 +37,7 @@ kind_of-word (act.Clear name) = refl
 kind_of-word (act.Send name) = refl
 kind_of-word (act.Recv name) = refl
 kind_of-word (act.Note name) = refl
+kind_of-word (act.Pulse name) = refl
 
 pub act_of-kind : (a : Act) → act_of (kind_in a) (name_in a) ≡ a
 act_of-kind (act.Set name) = refl
@@ -43,6 +45,7 @@ act_of-kind (act.Clear name) = refl
 act_of-kind (act.Send name) = refl
 act_of-kind (act.Recv name) = refl
 act_of-kind (act.Note name) = refl
+act_of-kind (act.Pulse name) = refl
 
 -- a host that a text can state
 pub record IsWritable (h : Host) : Type 0 where

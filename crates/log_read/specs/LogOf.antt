@@ -37,6 +37,7 @@ version_of header =
 abbrev pub known_in : Version → Option Kind → Option Kind
 known_in version.One None = None
 known_in version.One (Some kind.Host) = Some kind.Host
+known_in version.One (Some (kind.Event event.Pulse)) = None
 known_in version.One (Some (kind.Event e)) = Some (kind.Event e)
 known_in version.One (Some kind.Resync) = None
 known_in version.One (Some kind.Latency) = None
@@ -66,6 +67,7 @@ sends_again event.Set rows name = false
 sends_again event.Clear rows name = false
 sends_again event.Recv rows name = false
 sends_again event.Note rows name = false
+sends_again event.Pulse rows name = false
 
 -- the first test that an event record fails, after these hosts and rows
 abbrev pub event_fault : ℕ → List Host → List Row → EventKind → List ℕ → List ℕ → List ℕ → Option LogFault

@@ -4,12 +4,12 @@ use Rattle.std.specs.Option.{option_map_or}
 use Rattle.std.specs.List.{flat_map, join_with_byte, list_any}
 use Rattle.std.specs.Fmt.{decimal, signed_decimal}
 use Rattle.mt_model.specs.declared.log.Act.{Act}
-use Rattle.mt_model.specs.declared.log.Act.TheVariants.{Set, Clear, Send, Recv, Note}
+use Rattle.mt_model.specs.declared.log.Act.TheVariants.{Set, Clear, Send, Recv, Note, Pulse}
 use Rattle.mt_model.specs.declared.log.Host.{Host}
 use Rattle.mt_model.specs.declared.log.Row.{Row}
 use Rattle.mt_model.specs.declared.resync.Resync.{Resync}
 use Rattle.mt_model.specs.declared.limits.TheConstants.{MIN_DELAY}
-use Rattle.mt_model.specs.Log.{Logged, IsLog, IsPlain, name_in}
+use Rattle.mt_model.specs.Log.{Logged, IsLog, IsPlain, is_pulse, name_in}
 use Rattle.log_read.specs.declared.version.Version.{Version}
 use Rattle.log_read.specs.declared.version.Version.TheVariants as version
 use Rattle.log_read.specs.Records.{Record}
@@ -28,6 +28,7 @@ act_word (Clear name) = codes "clear"
 act_word (Send name) = codes "send"
 act_word (Recv name) = codes "recv"
 act_word (Note name) = codes "note"
+act_word (Pulse name) = codes "pulse"
 
 -- the name of the host at a place
 abbrev pub host_name : List Host → ℕ → List ℕ
@@ -37,9 +38,13 @@ host_name hosts place = option_map_or (λ (h : Host). h.name) (slice_get hosts p
 abbrev pub has_latency : Host → Bool
 has_latency h = not (h.least == MIN_DELAY) || is_some h.most
 
--- the version that states a log: the second one where there is a resync or a latency
+-- the act of a row is a pulse
+abbrev pub has_pulse : Row → Bool
+has_pulse r = is_pulse r.act
+
+-- the version that states a log: the second one where there is a resync, a latency or a pulse
 abbrev pub version_for : Logged → Version
-version_for log = if (length log.resyncs == 0) && not (list_any has_latency log.hosts) then version.One else version.Two
+version_for log = if (length log.resyncs == 0) && not (list_any has_latency log.hosts) && not (list_any has_pulse log.rows) then version.One else version.Two
 
 -- the fields `kind` or `skewlog2`, `host`, `time`, `name`
 abbrev pub header : Version → Record

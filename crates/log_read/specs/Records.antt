@@ -28,6 +28,7 @@ kind_of word =
     else if bytes_eq word (codes "send") then Some (kind.Event event.Send)
     else if bytes_eq word (codes "recv") then Some (kind.Event event.Recv)
     else if bytes_eq word (codes "note") then Some (kind.Event event.Note)
+    else if bytes_eq word (codes "pulse") then Some (kind.Event event.Pulse)
     else if bytes_eq word (codes "resync") then Some kind.Resync
     else if bytes_eq word (codes "latency") then Some kind.Latency
     else None
@@ -39,6 +40,7 @@ act_of event.Clear name = act.Clear name
 act_of event.Send name = act.Send name
 act_of event.Recv name = act.Recv name
 act_of event.Note name = act.Note name
+act_of event.Pulse name = act.Pulse name
 
 -- the place of the host of that name among hosts
 abbrev pub place_of_host : List Host → List ℕ → Option ℕ

@@ -56,7 +56,8 @@ fn repeats(kind: EventKind, rows: &[Row], message: &[u8]) -> bool
 {
     match kind {
         EventKind::Send => sent(rows, message),
-        EventKind::Set | EventKind::Clear | EventKind::Recv | EventKind::Note => false,
+        EventKind::Set | EventKind::Clear | EventKind::Recv | EventKind::Note | EventKind::Pulse =>
+            false,
     }
 }
 

@@ -11,6 +11,7 @@ pub enum EventKind {
     Send,
     Recv,
     Note,
+    Pulse,
 }
 
 /// What a record tells: it declares a host, gives an event, resynchronises a host or states the latency
@@ -40,6 +41,8 @@ impl Kind {
             Some(Kind::Event(EventKind::Recv))
         } else if word == b"note".as_slice() {
             Some(Kind::Event(EventKind::Note))
+        } else if word == b"pulse".as_slice() {
+            Some(Kind::Event(EventKind::Pulse))
         } else if word == b"resync".as_slice() {
             Some(Kind::Resync)
         } else if word == b"latency".as_slice() {
@@ -61,6 +64,7 @@ impl EventKind {
             EventKind::Send => Act::Send(name),
             EventKind::Recv => Act::Recv(name),
             EventKind::Note => Act::Note(name),
+            EventKind::Pulse => Act::Pulse(name),
         }
     }
 }

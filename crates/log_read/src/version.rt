@@ -2,9 +2,10 @@ ghost use Rattle.std.specs.Prelude.{◌≡◌};
 ghost use Rattle.log_read.specs.LogOf.{is_header, known_in, version_of as version_told};
 
 use crate::fields::Fields;
-use crate::kind::Kind;
+use crate::kind::{EventKind, Kind};
 
-/// The version of a log file, which its header tells. The second one knows resyncs and latencies.
+/// The version of a log file, which its header tells. The second one knows resyncs, latencies and
+/// pulses.
 #[derive(Clone, Copy)]
 pub enum Version {
     One,
@@ -18,6 +19,7 @@ impl Version {
     {
         match (self, kind) {
             (Version::One, Some(Kind::Resync | Kind::Latency)) => None,
+            (Version::One, Some(Kind::Event(EventKind::Pulse))) => None,
             _ => kind,
         }
     }

@@ -2,7 +2,7 @@ ghost use Rattle.std.specs.Prelude.{◌≡◌, [], ◌∷◌, ◌++◌, ◌<◌,
 ghost use Rattle.std.specs.List.{flat_map, list_any};
 ghost use Rattle.mt_model.specs.Log.{IsPlain, log_with};
 ghost use Rattle.log_read.specs.LogOf.{log_of};
-ghost use Rattle.log_read.specs.LogText.{TextsReadBack, act_word, has_latency, header, host_fields, latency_fields, line_of, log_text, resync_fields, resyncs_at, row_fields, rows_from, version_for};
+ghost use Rattle.log_read.specs.LogText.{TextsReadBack, act_word, has_latency, has_pulse, header, host_fields, latency_fields, line_of, log_text, resync_fields, resyncs_at, row_fields, rows_from, version_for};
 
 use crate::version::Version;
 use mt_model::{Act, Host, Log, MIN_DELAY, Resync, Row};
@@ -17,6 +17,7 @@ fn word_of(act: &Act) -> &'static [u8]
         Act::Send(_) => b"send",
         Act::Recv(_) => b"recv",
         Act::Note(_) => b"note",
+        Act::Pulse(_) => b"pulse",
     }
 }
 
@@ -181,10 +182,22 @@ fn any_delays(hosts: &[Host]) -> bool
     hosts.iter().any(delays)
 }
 
-fn version_of(hosts: &[Host], resyncs: &[Resync]) -> Version
-    ensures { result ≡ version_for (log_with hosts.now [] resyncs.now) }
+fn is_pulse(row: &Row) -> bool
+    ensures { result ≡ has_pulse row.now }
 {
-    if resyncs.len() == 0 && !any_delays(hosts) {
+    matches!(row.act, Act::Pulse(_))
+}
+
+fn any_pulses(rows: &[Row]) -> bool
+    ensures { result ≡ list_any has_pulse rows.now }
+{
+    rows.iter().any(is_pulse)
+}
+
+fn version_of(hosts: &[Host], rows: &[Row], resyncs: &[Resync]) -> Version
+    ensures { result ≡ version_for (log_with hosts.now rows.now resyncs.now) }
+{
+    if resyncs.len() == 0 && !any_delays(hosts) && !any_pulses(rows) {
         Version::One
     } else {
         Version::Two
@@ -212,7 +225,7 @@ fn text_of(
     ensures { IfOk result (λ v. v.items ≡ log_text (log_with hosts.now rows.now resyncs.now)) }
 {
     let mut text = Vec::new(alloc);
-    push_header(&mut text, version_of(hosts, resyncs))?;
+    push_header(&mut text, version_of(hosts, rows, resyncs))?;
     push_hosts(alloc, &mut text, hosts)?;
     push_latencies(alloc, &mut text, hosts)?;
     push_rows(alloc, &mut text, hosts, rows, resyncs)?;
@@ -222,9 +235,9 @@ fn text_of(
 /// The text of a log: the header, then a line for each host, for each latency and for each row, each
 /// resync directly before the row that its place names, or last.
 ///
-/// The header is `kind,host,time,name`, or `skewlog2,host,time,name` where there is a resync or a latency.
-/// Fields are separated by one comma and never quoted, each line ends with one newline byte, and
-/// numbers are decimal.
+/// The header is `kind,host,time,name`, or `skewlog2,host,time,name` where there is a resync, a latency
+/// or a pulse. Fields are separated by one comma and never quoted, each line ends with one newline byte,
+/// and numbers are decimal.
 pub fn write_log(alloc: Global, log: &Log) -> Result<Vec<u8>, AllocError>
     requires { IsPlain log.now }
     ensures text { IfOk result (λ v. v.items ≡ log_text log.now) }
