@@ -5,6 +5,7 @@ pub mod SearchLemmas
 pub mod Members
 pub mod FrameLemmas
 pub mod PositionLemmas
+pub mod PulseLemmas
 pub mod TruthLemmas
 mod BrokenBounds
 pub mod Conflicts

@@ -14,10 +14,10 @@ neither false n o is = (refl, is)
 
 module _ (test : ℕ → Bool) where
   -- the test passes at a, which is below n, and at no number between them
-  record IsLastPassed (n a : ℕ) : Type 0 where
-    below : a < n
-    passes : test a ≡ true
-    none_between : (k : ℕ) → a < k → k < n → test k ≡ false
+  pub record IsLastPassed (n a : ℕ) : Type 0 where
+    pub below : a < n
+    pub passes : test a ≡ true
+    pub none_between : (k : ℕ) → a < k → k < n → test k ≡ false
 
   -- a test that fails at n as well
   one_more : (n a : ℕ) → test n ≡ false → IsLastPassed n a → IsLastPassed (suc n) a
@@ -30,14 +30,14 @@ module _ (test : ℕ → Bool) where
     ];
   }
 
-  last_found : (n a : ℕ) → last_below test n ≡ Some a → IsLastPassed n a
+  pub last_found : (n a : ℕ) → last_below test n ≡ Some a → IsLastPassed n a
   last_found zero a is = absurd (cc)
   last_found (suc n) a is = elim (either (test n) n (last_below test n) a is) [
     | inl here ↦ rw (← here.1) (record { below = omega arith; passes = here.0; none_between = λ k after before. absurd (omega arith) })
     | inr there ↦ one_more n a there.0 (last_found n a there.1)
   ]
 
-  last_absent : (n : ℕ) → last_below test n ≡ None → (k : ℕ) → k < n → test k ≡ false
+  pub last_absent : (n : ℕ) → last_below test n ≡ None → (k : ℕ) → k < n → test k ≡ false
   last_absent zero is k low = absurd (omega arith)
   last_absent (suc n) is k low =
       let both = neither (test n) n (last_below test n) is in
