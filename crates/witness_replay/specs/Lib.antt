@@ -4,6 +4,7 @@ pub mod Columns
 pub mod Timelines
 pub mod Sweeps
 pub mod LatestChanges
+pub mod LatestPulses
 pub mod Tables
 pub use Rattle.mt_model.specs.Log
 pub use Rattle.mt_model.specs.Timing

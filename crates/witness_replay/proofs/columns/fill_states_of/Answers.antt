@@ -1,11 +1,11 @@
-use Rattle.std.proofs.Common.{◌≡◌, ◌∙◌, sym, ◌<◌, length, arith}
+use Rattle.std.proofs.Common.{◌≡◌, ◌∙◌, ap, sym, ◌<◌, length, arith}
 use Rattle.std.proofs.lemmas.Int.{ints}
 use Rattle.mt_model.specs.State.{state}
 use Rattle.mt_model.specs.Timing.{time_of}
 use Rattle.formula_arena.specs.declared.direction.Direction.TheVariants.{Ahead}
 use Rattle.witness_replay.specs.Timelines.{moment_at, row_met}
 use Rattle.witness_replay.proofs.FilledLemmas.{filled-on}
-use Rattle.witness_replay.proofs.LatestLemmas.{state-latest}
+use Rattle.witness_replay.proofs.LatestLemmas.{pulse-within, state-latest}
 use Rattle.witness_replay.proofs.TimelineLemmas.{met-each, met-in, timed}
 use Rattle.witness_replay.proofs.columns.fill_states_of.Goals as goal
 
@@ -19,9 +19,12 @@ loop-place-preserved c =
     let latest = c.advanced-latest.ensures in
     let (_, timed-here) = timed Ahead t ms c.requires.timeline p in_ in
     let value : c.state.result ≡ state log t (time_of t (moment_at ms p).row) c.args.host c.args.name.now =
-    c.state.ensures ∙ sym (rw timed-here at (state-latest log t ms c.requires.count c.requires.timeline c.args.host c.args.name.now (moment_at ms p).time c.advanced-latest.result latest.within latest.by latest.after latest.latest)) in
+    c.state.ensures
+    ∙ sym (state-latest log t ms c.requires.count c.requires.timeline c.args.host c.args.name.now (moment_at ms p).time c.advanced-latest.result latest.within latest.by latest.after latest.latest latest.pulse)
+    ∙ ap (λ u. state log t u c.args.host c.args.name.now) timed-here in
     record {
       latest = latest.latest;
+      pulse = latest.pulse;
       within = latest.within;
       by = λ k after within j less.
           let up = c.requires.timeline.rising p k (omega (arith, after)) within in
@@ -30,6 +33,11 @@ loop-place-preserved c =
       filled = filled-on (row_met Ahead ms) (λ e. state log t (time_of t e) c.args.host c.args.name.now) p c.loop-place.column c.state.result
           (let met = met-in Ahead t ms c.requires.timeline p in_ in omega arith) value c.loop-place.invariant.filled;
     }
+
+pub state-requires-clause-pulse_in : goal.state-requires-clause-pulse_in
+state-requires-clause-pulse_in c =
+    let latest = c.advanced-latest.ensures in
+    pulse-within c.args.log.now c.args.moments.now c.args.host c.args.name.now c.advanced-latest.result.places c.advanced-latest.result.pulse latest.within latest.pulse
 
 pub returns : goal.returns
 returns c = record {
