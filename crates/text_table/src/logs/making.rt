@@ -20,6 +20,7 @@ fn act_words(act: &Act) -> (&'static str, &Name) {
         Act::Send(name) => ("send", name),
         Act::Recv(name) => ("recv", name),
         Act::Note(name) => ("note", name),
+        Act::Pulse(name) => ("pulse", name),
     }
 }
 

@@ -1,8 +1,8 @@
 //! The parts of which logs are made:
 //!
 //! - `host`: a host by its name, skew and gap, and maybe its least and greatest delay. `set`, `clear`, `send`, `recv`,
-//!   `note`: a row by the place of its host, its local time and a name. `resync`: a resync by the rows before it, the
-//!   place of its host, its skew and gap.
+//!   `note`, `pulse`: a row by the place of its host, its local time and a name. `resync`: a resync by the rows before
+//!   it, the place of its host, its skew and gap.
 //! - `line`: a line of a text; `empty`: the text has no line.
 //! - `record`: a record by its fields, with `,` between two.
 
@@ -75,6 +75,7 @@ fn act_of(alloc: Global, word: &str, name: &str) -> Option<Act> {
         "send" => Some(Act::Send(name)),
         "recv" => Some(Act::Recv(name)),
         "note" => Some(Act::Note(name)),
+        "pulse" => Some(Act::Pulse(name)),
         _ => None,
     }
 }
