@@ -39,7 +39,7 @@ VersionOneIsKept = (log : Logged) (t : List ℤ) → IsVersionOne log → Admiss
 abbrev pub HasNoPulses : Logged → Type 0
 HasNoPulses log = All (λ r. is_pulse r.act ≡ false) log.rows
 
--- the state of a host's proposition at an instant: true where there is such a change and it sets the proposition
+-- the state of a host's proposition at an instant, without pulses: true where there is a last change up to it and that one sets the proposition
 abbrev pub state1 : Logged → List ℤ → ℤ → ℕ → List ℕ → Bool
 state1 log t instant host name = option_map_or (λ c. c.sets) (last_change log t instant host name) false
 

@@ -1,9 +1,9 @@
 -- The state of a proposition, from the last change and the last pulse among the rows up to an instant.
 use borrow.Author.Count.{below_more}
-use Rattle.std.proofs.Common.{◌≡◌, ◌∙◌, sym, ap, refl, ℕ, ◌+◌, ◌-◌, ◌<◌, ◌≤◌, Bool, true, false, ◌&&◌, ◌||◌, List, length, Option, Some, None, arith, ℤ, ◌≤ℤ◌, inl, inr}
-use Rattle.std.specs.Prelude.{int_le, is_some, nat_lt, IfSome, MatchOption}
+use Rattle.std.proofs.Common.{◌≡◌, ◌∙◌, sym, ap, refl, ℕ, suc, ◌+◌, ◌-◌, ◌<◌, ◌≤◌, Bool, true, false, ◌&&◌, ◌||◌, List, length, Option, Some, None, arith, ℤ, ◌≤ℤ◌, inl, inr}
+use Rattle.std.specs.Prelude.{int_le, is_some, nat_lt, IfSome}
 use Rattle.std.specs.Option.{option_map_or}
-use Rattle.std.proofs.lemmas.Bool.{and_from, cases_Bool, cases_lt, lt-ltb, ltb-false}
+use Rattle.std.proofs.lemmas.Bool.{and_from, cases_Bool, cases_lt, lt-ltb}
 use Rattle.std.proofs.lemmas.Bool.Decides.{Decides-int_eq}
 use Rattle.std.proofs.lemmas.Int.{ints}
 use Rattle.mt_model.specs.Log.{Logged}
@@ -13,7 +13,7 @@ use Rattle.mt_model.proofs.PulseLemmas.{pulsed-row, row-pulsed}
 use Rattle.mt_model.specs.State.{Change, change_at, is_pulsed, state}
 use Rattle.mt_model.specs.Timing.{time_of}
 use Rattle.formula_arena.specs.declared.direction.Direction.TheVariants.{Ahead}
-use Rattle.witness_replay.specs.LatestChanges.{AreAfter, AreBy, IsLastOf, IsLatest, changes_at, is_change, state_after}
+use Rattle.witness_replay.specs.LatestChanges.{AreAfter, AreBy, IsLastChange, IsLastOf, IsLatest, changes_at, is_change, state_after}
 use Rattle.witness_replay.specs.LatestPulses.{is_pulsed_at, last_pulse, pulses_at}
 use Rattle.witness_replay.specs.Timelines.{AreRising, IsTimeline, moment_at}
 use Rattle.witness_replay.specs.declared.states.Latest.{Latest}
@@ -29,20 +29,25 @@ after-rest moments instant places rising ends = λ k from within. elim (cases_Bo
   | inr late ↦ let up = rising places k from within in grind (arith, ints)
 ]
 
--- one more place is taken in, whose row doesn't decide
-pub latest-kept : (log : Logged) (moments : List Moment) (host : ℕ) (name : List ℕ) (places : ℕ) (row pulse next : Option ℕ) → IsLatest log moments host name (record { places = places; row = row; pulse = pulse })
-    → (option_map_or (λ r. nat_lt r (moment_at moments places).row) row true && is_change log host name (moment_at moments places).row) ≡ false → IsLatest log moments host name (record { places = places + 1; row = row; pulse = next })
-latest-kept log moments host name places None pulse next none fails = below_more (λ k. changes_at log moments host name k ≡ false) places none fails
-latest-kept log moments host name places (Some r) pulse next some fails = record {
-  place = some.place;
-  within = let low = some.within in omega arith;
-  there = some.there;
-  passed = some.passed;
-  last = below_more (λ k. is_change log host name (moment_at moments k).row ≡ true → (moment_at moments k).row ≤ r) places some.last (λ is. elim (cases_Bool (nat_lt r (moment_at moments places).row)) [
-    | inl later ↦ let both = and_from (nat_lt r (moment_at moments places).row) (is_change log host name (moment_at moments places).row) later is in absurd (cc)
-    | inr before ↦ ltb-false r (moment_at moments places).row before
-  ]);
+-- one more place is taken in, whose row does nothing to the proposition
+pub latest-passed : (log : Logged) (moments : List Moment) (host : ℕ) (name : List ℕ) (latest : Latest) → IsLatest log moments host name latest
+    → changes_at log moments host name latest.places ≡ false → pulses_at log moments host name latest.places ≡ false
+    → IsLatest log moments host name (record { places = latest.places + 1; row = latest.row; sets = latest.sets; pulse = latest.pulse })
+latest-passed log moments host name latest is unchanged unpulsed = record {
+  change = kept latest.row is.change;
+  sets = is.sets;
+  pulse = is.pulse ∙ sym (let next : latest.places + 1 ≡ suc latest.places = omega arith in rw (next, unpulsed) refl);
 }
+  where
+    kept : (row : Option ℕ) → IsLastChange log moments host name latest.places row → IsLastChange log moments host name (latest.places + 1) row
+    kept None none = below_more (λ k. changes_at log moments host name k ≡ false) latest.places none unchanged
+    kept (Some r) some = record {
+      place = some.place;
+      within = let low = some.within in omega arith;
+      there = some.there;
+      passed = some.passed;
+      last = below_more (λ k. changes_at log moments host name k ≡ true → (moment_at moments k).row ≤ r) latest.places some.last (λ is. absurd (cc));
+    }
 
 not-some : {X : Type 0} (o : Option X) → is_some o ≡ false → o ≡ None
 not-some None h = refl
@@ -85,14 +90,14 @@ module _ (log : Logged) (t : List ℤ) (moments : List Moment) (count : length t
           | inr none ↦ not-some (change_at log host name e) none
         ]))
 
-    left-latest : IsLatest log moments host name latest → state_before log t instant host name (length log.rows) ≡ state_after log host name latest.row
+    left-latest : IsLastChange log moments host name latest.places latest.row → state_before log t instant host name (length log.rows) ≡ state_after log host name latest.row
     left-latest is = go latest.row is
       where
         found : (r : ℕ) (made : Option Change) → change_at log host name r ≡ made → is_some made ≡ true → IsLastOf (is_change log host name) moments latest.places r → state_before log t instant host name (length log.rows) ≡ option_map_or (λ c. c.sets) made false
         found r None made is some = absurd (cc)
         found r (Some c) made is some = last-state r c some made
 
-        go : (row : Option ℕ) → MatchOption row ((k : ℕ) → k < latest.places → changes_at log moments host name k ≡ false) (IsLastOf (is_change log host name) moments latest.places) → state_before log t instant host name (length log.rows) ≡ state_after log host name row
+        go : (row : Option ℕ) → IsLastChange log moments host name latest.places row → state_before log t instant host name (length log.rows) ≡ state_after log host name row
         go None none = state_before-never log t instant host name (length log.rows) (λ e less early.
             let (k, k_in, here) = taken e (omega (arith, count, less)) early in
             not-some (change_at log host name e) (rw here at (none k k_in)))
@@ -136,11 +141,10 @@ module _ (log : Logged) (t : List ℤ) (moments : List Moment) (count : length t
         let (row_in, is) = timed Ahead t moments timeline p (let low = last.below in omega (arith, low, within, timeline.full)) in
         row-pulsed log t instant host name (moment_at moments p).row (omega (arith, count, row_in)) last.passes (sym is ∙ (Decides-int_eq (moment_at moments p).time instant).0 h)
 
-    pub state-latest : IsLatest log moments host name latest → latest.pulse ≡ last_pulse log moments host name latest.places
-        → state log t instant host name ≡ (is_pulsed_at moments instant latest.pulse || state_after log host name latest.row)
-    state-latest is pulse =
-        let pulsed = same_bool (is_pulsed log t instant host name) (is_pulsed_at moments instant latest.pulse) (pulsed-then latest.pulse pulse) (pulsed-from latest.pulse pulse) in
-        ap (λ b. b || state_before log t instant host name (length log.rows)) pulsed ∙ ap (λ b. is_pulsed_at moments instant latest.pulse || b) (left-latest is)
+    pub state-latest : IsLatest log moments host name latest → state log t instant host name ≡ (is_pulsed_at moments instant latest.pulse || latest.sets)
+    state-latest is =
+        let pulsed = same_bool (is_pulsed log t instant host name) (is_pulsed_at moments instant latest.pulse) (pulsed-then latest.pulse is.pulse) (pulsed-from latest.pulse is.pulse) in
+        ap (λ b. b || state_before log t instant host name (length log.rows)) pulsed ∙ ap (λ b. is_pulsed_at moments instant latest.pulse || b) (left-latest is.change ∙ sym is.sets)
 
 -- the last pulse is at one of the first places
 pub pulse-within : (log : Logged) (moments : List Moment) (host : ℕ) (name : List ℕ) (places : ℕ) (pulse : Option ℕ) → places ≤ length moments → pulse ≡ last_pulse log moments host name places → IfSome pulse (λ p. p < length moments)

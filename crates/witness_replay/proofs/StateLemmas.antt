@@ -1,4 +1,4 @@
--- The state of a proposition by the rows before a row.
+-- What the changes among the rows before a row make of a proposition.
 use Rattle.std.proofs.Common.{◌≡◌, ◌∙◌, sym, ap, refl, ℕ, zero, suc, ◌+◌, Bool, true, false, cond, List, [], ◌∷◌, ◌++◌, Option, Some, None, ◌<◌, inl, inr, arith, ℤ}
 use Rattle.std.specs.Prelude.{◌==◌, find, reverse, option_and_then, option_map, slice_get, int_le, IfSome}
 use Rattle.std.specs.List.{cons_option, filter_map, range_with_len}

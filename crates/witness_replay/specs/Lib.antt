@@ -3,8 +3,9 @@ pub mod Directions
 pub mod Columns
 pub mod Timelines
 pub mod Sweeps
-pub mod LatestChanges
+pub mod Effects
 pub mod LatestPulses
+pub mod LatestChanges
 pub mod Tables
 pub use Rattle.mt_model.specs.Log
 pub use Rattle.mt_model.specs.Timing

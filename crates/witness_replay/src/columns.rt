@@ -40,7 +40,7 @@ fn fill_states_of(
     let mut latest = Latest::new();
     for place in 0..times.len() {
         latest = latest.advanced(log, moments, host, name, place);
-        column[moments[place].row] = latest.state(log, moments, host, name, place);
+        column[moments[place].row] = latest.state(moments, place);
     }
 }
 

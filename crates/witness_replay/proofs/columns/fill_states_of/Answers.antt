@@ -20,11 +20,10 @@ loop-place-preserved c =
     let (_, timed-here) = timed Ahead t ms c.requires.timeline p in_ in
     let value : c.state.result ≡ state log t (time_of t (moment_at ms p).row) c.args.host c.args.name.now =
     c.state.ensures
-    ∙ sym (state-latest log t ms c.requires.count c.requires.timeline c.args.host c.args.name.now (moment_at ms p).time c.advanced-latest.result latest.within latest.by latest.after latest.latest latest.pulse)
+    ∙ sym (state-latest log t ms c.requires.count c.requires.timeline c.args.host c.args.name.now (moment_at ms p).time c.advanced-latest.result latest.within latest.by latest.after latest.latest)
     ∙ ap (λ u. state log t u c.args.host c.args.name.now) timed-here in
     record {
       latest = latest.latest;
-      pulse = latest.pulse;
       within = latest.within;
       by = λ k after within j less.
           let up = c.requires.timeline.rising p k (omega (arith, after)) within in
@@ -37,7 +36,7 @@ loop-place-preserved c =
 pub state-requires-clause-pulse_in : goal.state-requires-clause-pulse_in
 state-requires-clause-pulse_in c =
     let latest = c.advanced-latest.ensures in
-    pulse-within c.args.log.now c.args.moments.now c.args.host c.args.name.now c.advanced-latest.result.places c.advanced-latest.result.pulse latest.within latest.pulse
+    pulse-within c.args.log.now c.args.moments.now c.args.host c.args.name.now c.advanced-latest.result.places c.advanced-latest.result.pulse latest.within latest.latest.pulse
 
 pub returns : goal.returns
 returns c = record {

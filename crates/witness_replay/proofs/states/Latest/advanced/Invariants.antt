@@ -1,13 +1,11 @@
-use Rattle.std.proofs.Common.{◌≡◌, ◌≤◌, ◌-◌, length}
+use Rattle.std.proofs.Common.{◌≤◌, ◌-◌, length}
 use Rattle.witness_replay.specs.LatestChanges.{AreBy, IsLatest}
-use Rattle.witness_replay.specs.LatestPulses.{last_pulse}
 use Rattle.witness_replay.specs.Timelines.{moment_at}
 use Rattle.witness_replay.proofs.states.Latest.advanced.Given as goal
 
 abbrev pub invariant-loop-latest : goal.invariant-loop-latest
 invariant-loop-latest l = record {
   latest : IsLatest l.log l.moments l.host l.name l.latest;
-  pulse : l.latest.pulse ≡ last_pulse l.log l.moments l.host l.name l.latest.places;
   within : l.latest.places ≤ length l.moments;
   by : AreBy l.moments (moment_at l.moments l.place).time l.latest.places;
 }

@@ -1,6 +1,8 @@
-use Rattle.std.proofs.Common.{◌∙◌, sym}
-use Rattle.witness_replay.proofs.LatestLemmas.{latest-kept}
+use Rattle.std.proofs.Common.{ap, sym}
+use Rattle.std.specs.Prelude.{is_some}
+use Rattle.witness_replay.proofs.LatestLemmas.{latest-passed}
 use Rattle.witness_replay.proofs.states.Latest.extended.Goals as goal
 
-pub returns-else-decides-clause-latest : goal.returns-else-decides-clause-latest
-returns-else-decides-clause-latest c = latest-kept c.args.log.now c.args.moments.now c.args.host c.args.name.now c.args.self.places c.args.self.row c.args.self.pulse c.next_pulse-pulse.result c.requires.latest (sym c.decides.ensures ∙ c.if-decides.false)
+pub returns-in-None-clause-latest : goal.returns-in-None-clause-latest
+returns-in-None-clause-latest c =
+    latest-passed c.args.log.now c.args.moments.now c.args.host c.args.name.now c.args.self c.requires.latest (ap is_some (sym c.in-None.ensures.change)) (sym c.in-None.ensures.pulse)
