@@ -75,8 +75,8 @@ impl Latest {
         }
     }
 
-    // Whether a row stands in the log after the last change, where there is one.
-    fn is_before(self, row: usize) -> bool
+    // Whether a row that changes the proposition decides: it stands in the log after the last one that did.
+    fn decides(self, row: usize) -> bool
         ensures { result ≡ option_map_or (λ r. nat_lt r row) self.row true }
     {
         self.row.is_none_or(|last| last < row)
@@ -94,7 +94,7 @@ impl Latest {
         let places = self.places + 1;
         match row_effect(log, host, name, row) {
             Some(Effect::Changes(sets)) => {
-                if self.is_before(row) {
+                if self.decides(row) {
                     Latest {
                         places,
                         row: Some(row),
