@@ -1,9 +1,9 @@
 -- Where the atoms of a list stand, by chains of those in one bucket.
 use Rattle.std.specs.Prelude.{◌≡◌, ℕ, ◌+◌, ◌*◌, ◌%◌, ◌<◌, ◌≤◌, min, if◌then◌else◌, List, length, Some, slice_get, slice_index, int_lt, pos, unsigned_abs}
 use Rattle.axiom_rules.specs.declared.atom_index.AtomIndex.{AtomIndex}
-use Rattle.axiom_rules.specs.declared.atom_index.TheConstants.{EVENT, FAR, GAP, NODE, SPAN}
+use Rattle.axiom_rules.specs.declared.atom_index.TheConstants.{EVENT, FAR, GAP, NODE, SAME, SPAN}
 use Rattle.axiom_rules.specs.declared.literal.Atom.{Atom}
-use Rattle.axiom_rules.specs.declared.literal.Atom.TheVariants.{Order, Node, First, Wit, Span, Gap}
+use Rattle.axiom_rules.specs.declared.literal.Atom.TheVariants.{Order, Node, First, Same, Wit, Span, Gap}
 use Rattle.axiom_rules.specs.Atoms.{AreOnce, IsVar}
 
 -- a number for an atom
@@ -11,6 +11,7 @@ abbrev pub number_of : Atom → ℕ
 number_of (Order e f c) = NODE * min (unsigned_abs c) FAR + (if int_lt (pos 0) c then EVENT * f + e else EVENT * e + f)
 number_of (Node k e) = NODE * k + e
 number_of (First e) = e
+number_of (Same e x) = EVENT * e + x + SAME
 number_of (Wit k i j) = NODE * k + EVENT * i + j
 number_of (Span k i j) = NODE * k + EVENT * i + j + SPAN
 number_of (Gap k i m) = NODE * k + EVENT * i + m + GAP

@@ -1,15 +1,15 @@
 -- The clause of a rule, by its number and its arguments.
 use Rattle.std.specs.Prelude.{ℕ, zero, suc, ◌==◌, nat_lt, Bool, true, false, ◌&&◌, if◌then◌else◌, List, [], ◌∷◌, length, count_by, Option, Some, None, Result, Err, slice_get, slice_index_or}
-use Rattle.std.specs.Option.{option_flatten, option_map_or}
+use Rattle.std.specs.Option.{option_map_or}
 use Rattle.axiom_rules.specs.declared.fault.RuleFault.{RuleFault}
 use Rattle.axiom_rules.specs.declared.fault.RuleFault.TheVariants.{NoRule, Range}
 use Rattle.axiom_rules.specs.declared.literal.Literal.{Literal}
 use Rattle.axiom_rules.specs.declared.rule.Argument.{Argument}
-use Rattle.axiom_rules.specs.declared.rule.Argument.TheVariants.{ANode, AnEvent, AChange, Unused}
+use Rattle.axiom_rules.specs.declared.rule.Argument.TheVariants.{ANode, AnEvent, AChange, APulse, Unused}
 use Rattle.axiom_rules.specs.declared.rule.Rule.{Rule}
 use Rattle.axiom_rules.specs.Parts.{Written, clause_of_written}
 use Rattle.axiom_rules.specs.Sought.{Sought}
-use Rattle.axiom_rules.specs.Rules.{rule_1, rule_2, rule_3, rule_4, rule_5, rule_6, rule_7, rule_8, rule_9, rule_10, rule_11, rule_12, rule_13, rule_14, rule_15, rule_16, rule_17, rule_18, rule_19, rule_20, rule_21, rule_22, rule_23, rule_24, rule_28}
+use Rattle.axiom_rules.specs.Rules.{rule_1, rule_2, rule_3, rule_4, rule_5, rule_6, rule_7, rule_8, rule_9, rule_10, rule_11, rule_12, rule_13, rule_14, rule_15, rule_16, rule_17, rule_18, rule_19, rule_20, rule_21, rule_22, rule_23, rule_24, rule_25, rule_26, rule_27, rule_28}
 
 -- a row of the table: what the four arguments are, and what is written for them
 pub record Row : Type 0 where
@@ -30,7 +30,7 @@ of_event write = record { arguments = AnEvent ∷ Unused ∷ Unused ∷ Unused �
 abbrev pub of_events : (Sought → ℕ → ℕ → Written) → Row
 of_events write = record { arguments = AnEvent ∷ AnEvent ∷ Unused ∷ Unused ∷ []; writes = λ s args. write s (arg args 0) (arg args 1) }
 
--- rows of a node and an event, two or three events, an event and a change
+-- rows of a node and an event, two or three events, an event and a change, an event and a pulse
 abbrev pub of_node_event : (Sought → ℕ → ℕ → Written) → Row
 of_node_event write = record { arguments = ANode ∷ AnEvent ∷ Unused ∷ Unused ∷ []; writes = λ s args. write s (arg args 0) (arg args 1) }
 
@@ -43,36 +43,41 @@ of_node_three_events write = record { arguments = ANode ∷ AnEvent ∷ AnEvent 
 abbrev pub of_node_event_change : (Sought → ℕ → ℕ → ℕ → Written) → Row
 of_node_event_change write = record { arguments = ANode ∷ AnEvent ∷ AChange ∷ Unused ∷ []; writes = λ s args. write s (arg args 0) (arg args 1) (arg args 2) }
 
--- the rows by their numbers, which count from 1; None where no rule has the number
-abbrev pub rows : List (Option Row)
+abbrev pub of_node_event_pulse : (Sought → ℕ → ℕ → ℕ → Written) → Row
+of_node_event_pulse write = record { arguments = ANode ∷ AnEvent ∷ APulse ∷ Unused ∷ []; writes = λ s args. write s (arg args 0) (arg args 1) (arg args 2) }
+
+-- the rows by their numbers, which count from 1
+abbrev pub rows : List Row
 rows =
-    Some (of_node_event rule_1) ∷ Some (of_node_event_change rule_2) ∷ Some (of_node_event rule_3) ∷ Some (of_node_event rule_4) ∷ Some (of_node_event rule_5) ∷ Some (of_node_event rule_6) ∷ Some (of_node_event rule_7) ∷ Some (of_node_event rule_8)
-    ∷ Some (of_events rule_9) ∷ Some (of_event rule_10) ∷ Some (of_nothing rule_11)
-    ∷ Some (of_node_events rule_12) ∷ Some (of_node_events rule_13) ∷ Some (of_node_events rule_14) ∷ Some (of_node_events rule_15) ∷ Some (of_node_events rule_16) ∷ Some (of_node_event rule_17) ∷ Some (of_node_events rule_18)
-    ∷ Some (of_node_three_events rule_19) ∷ Some (of_node_events rule_20) ∷ Some (of_node_three_events rule_21) ∷ Some (of_node_events rule_22) ∷ Some (of_node_events rule_23) ∷ Some (of_event rule_24)
-    ∷ None ∷ None ∷ None ∷ Some (of_node_events rule_28) ∷ []
+    of_node_event rule_1 ∷ of_node_event_change rule_2 ∷ of_node_event rule_3 ∷ of_node_event rule_4 ∷ of_node_event rule_5 ∷ of_node_event rule_6 ∷ of_node_event rule_7 ∷ of_node_event rule_8
+    ∷ of_events rule_9 ∷ of_event rule_10 ∷ of_nothing rule_11
+    ∷ of_node_events rule_12 ∷ of_node_events rule_13 ∷ of_node_events rule_14 ∷ of_node_events rule_15 ∷ of_node_events rule_16 ∷ of_node_event rule_17 ∷ of_node_events rule_18
+    ∷ of_node_three_events rule_19 ∷ of_node_events rule_20 ∷ of_node_three_events rule_21 ∷ of_node_events rule_22 ∷ of_node_events rule_23 ∷ of_event rule_24
+    ∷ of_events rule_25 ∷ of_events rule_26 ∷ of_node_event_pulse rule_27 ∷ of_node_events rule_28 ∷ []
 
 -- the row of a number
 abbrev pub row_of : ℕ → Option Row
 row_of zero = None
-row_of (suc n) = option_flatten (slice_get rows n)
+row_of (suc n) = slice_get rows n
 
 -- whether an argument is used
 abbrev pub is_used : Argument → Bool
 is_used ANode = true
 is_used AnEvent = true
 is_used AChange = true
+is_used APulse = true
 is_used Unused = false
 
 -- how many arguments the rule of a number uses, which are its first ones; none where there is no such rule
 abbrev pub argument_count : ℕ → ℕ
 argument_count number = option_map_or (λ row. count_by is_used row.arguments) (row_of number) 0
 
--- a node or an event is there, and an argument that is not used is 0; a change is looked for by the rule
+-- a node or an event is there, and an argument that is not used is 0; a change or a pulse is looked for by the rule
 abbrev pub is_there : Sought → Argument → ℕ → Bool
 is_there s ANode k = nat_lt k (length s.trees)
 is_there s AnEvent e = nat_lt e (length s.log.rows)
 is_there s AChange place = true
+is_there s APulse place = true
 is_there s Unused n = n == 0
 
 -- each argument is there

@@ -1,6 +1,7 @@
 -- What an atom means in a timing, and which literals and clauses hold there.
 use Rattle.std.specs.Prelude.{ℕ, List, length, Bool, false, not, ◌&&◌, if◌then◌else◌, ℤ, ◌-ℤ◌, int_le}
 use Rattle.std.specs.List.{list_all, list_any, range_with_len}
+use Rattle.std.specs.Ordering.{int_eq}
 use Rattle.mt_model.specs.declared.tree.Interval.{Interval}
 use Rattle.mt_model.specs.Form.{Form, Until, Since}
 use Rattle.mt_model.specs.Frame.{Frame, span, witness}
@@ -13,7 +14,7 @@ use Rattle.formula_arena.specs.declared.direction.Direction.TheVariants.{Ahead, 
 use Rattle.formula_arena.specs.Directions.{is_near, met}
 use Rattle.formula_arena.specs.Nodes.{tree_at}
 use Rattle.axiom_rules.specs.declared.literal.Atom.{Atom}
-use Rattle.axiom_rules.specs.declared.literal.Atom.TheVariants.{Order, Node, First, Wit, Span, Gap}
+use Rattle.axiom_rules.specs.declared.literal.Atom.TheVariants.{Order, Node, First, Same, Wit, Span, Gap}
 use Rattle.axiom_rules.specs.declared.literal.Literal.{Literal}
 
 -- z is from x on, and f fails there and holds from x on up to there
@@ -39,6 +40,7 @@ module _ (log : Logged) (t : List ℤ) (trees : List Form) where
   means (Order e f c) = int_le (time_of t e -ℤ time_of t f) c
   means (Node k e) = true_at (tree_at trees k) (place_of t e)
   means (First e) = list_all (λ x. int_le (time_of t e) (time_of t x)) (range_with_len 0 (length t))
+  means (Same e x) = int_eq (time_of t e) (time_of t x)
   means (Span k i j) = passes (λ direction I f g. span (met direction positions) (true_at f) (place_of t i) (place_of t j)) (tree_at trees k)
   means (Wit k i j) = passes (λ direction I f g. witness (met direction positions) (is_near direction positions I) (true_at f) (true_at g) (place_of t i) (place_of t j)) (tree_at trees k)
   means (Gap k i m) = passes (λ direction I f g. gap (met direction positions) (true_at f) (place_of t i) (place_of t m)) (tree_at trees k)

@@ -6,7 +6,7 @@ use Rattle.mt_model.specs.Timing.{Admissible}
 use Rattle.mt_model.specs.Truth.{truth}
 use Rattle.formula_arena.specs.Nodes.{nodes_of}
 use Rattle.axiom_rules.specs.declared.literal.Atom.{Atom}
-use Rattle.axiom_rules.specs.declared.literal.Atom.TheVariants.{Order, Node, First, Wit, Span, Gap}
+use Rattle.axiom_rules.specs.declared.literal.Atom.TheVariants.{Order, Node, First, Same, Wit, Span, Gap}
 use Rattle.axiom_rules.specs.declared.literal.Literal.{Literal}
 use Rattle.axiom_rules.specs.declared.rule.Rule.{Rule}
 use Rattle.axiom_rules.specs.declared.rule.TheConstants.{MAX_RULE}
@@ -30,17 +30,18 @@ HasAtomsOnce c = AllPairs (λ l m. l.atom ≢ m.atom) c
 abbrev pub ClausesHaveAtomsOnce : Type 0
 ClausesHaveAtomsOnce = (s : Sought) (rule : Rule) (c : List Literal) → clause_of s rule ≡ Ok c → HasAtomsOnce c
 
--- an order atom is over two rows of the log, the smaller first
+-- an order atom is over two rows of the log, the smaller first, and so is an atom of one instant
 abbrev pub IsOfRows : Sought → Atom → Type 0
 IsOfRows s (Order e f c) = (e < f) × (f < length s.log.rows)
 IsOfRows s (Node k e) = Unit {0}
 IsOfRows s (First e) = Unit {0}
+IsOfRows s (Same e x) = (e < x) × (x < length s.log.rows)
 IsOfRows s (Wit k i j) = Unit {0}
 IsOfRows s (Span k i j) = Unit {0}
 IsOfRows s (Gap k i m) = Unit {0}
 
 -- a rule that has a clause: its number is at most the greatest one, and the arguments that it doesn't use are 0; the clause has
--- at most as many literals as the log has rows, and five, and its order atoms are over rows of the log
+-- at most as many literals as the log has rows, and five, and its order atoms and those of one instant are over rows of the log
 pub record IsWithinTable (s : Sought) (rule : Rule) (c : List Literal) : Type 0 where
   pub number : rule.number ≤ MAX_RULE
   pub unused : All (λ n. n ≡ 0) (drop (argument_count rule.number) rule.args)

@@ -1,12 +1,12 @@
 -- What rules write, part by part, and the clause of it.
-use Rattle.std.specs.Prelude.{ℕ, ◌==◌, Bool, false, not, ◌||◌, if◌then◌else◌, List, [], ◌∷◌, filter, Option, Some, None, Result, Ok, Err, ℤ, pos, ◌-ℤ◌, neg_ℤ, int_le}
+use Rattle.std.specs.Prelude.{ℕ, ◌==◌, Bool, true, false, not, ◌||◌, if◌then◌else◌, List, [], ◌∷◌, filter, Option, Some, None, Result, Ok, Err, ℤ, pos, ◌-ℤ◌, neg_ℤ, int_le}
 use Rattle.std.specs.List.{filter_map, list_any}
 use Rattle.axiom_rules.specs.declared.fault.RuleFault.{RuleFault}
 use Rattle.axiom_rules.specs.declared.fault.RuleFault.TheVariants.{Trivial}
 use Rattle.axiom_rules.specs.declared.literal.Literal.{Literal}
 use Rattle.axiom_rules.specs.declared.part.Part.{Part}
 use Rattle.axiom_rules.specs.declared.part.Part.TheVariants.{Says, Known}
-use Rattle.axiom_rules.specs.Literals.{has_literal, negated, order_literal, same_literal}
+use Rattle.axiom_rules.specs.Literals.{has_literal, negated, no, one_instant, order_literal, same_literal, yes}
 
 -- t_e - t_f <= c; of one event twice it is known
 abbrev pub order : ℕ → ℕ → ℤ → Part
@@ -23,6 +23,14 @@ not_after e f = order e f (pos 0)
 -- not t_e <= t_f
 abbrev pub after : ℕ → ℕ → Part
 after e f = not_order e f (pos 0)
+
+-- t_e = t_x; of one event twice it is known
+abbrev pub same : ℕ → ℕ → Part
+same e x = if e == x then Known true else Says (yes (one_instant e x))
+
+-- not t_e = t_x
+abbrev pub not_same : ℕ → ℕ → Part
+not_same e x = if e == x then Known false else Says (no (one_instant e x))
 
 abbrev pub literal_in : Part → Option Literal
 literal_in (Says l) = Some l

@@ -1,8 +1,11 @@
 -- The rules: what each takes and what it writes.
-use Rattle.std.specs.Prelude.{ℕ, ◌+◌, false, if◌then◌else◌, List, [], ◌∷◌, length, map, Option, Some, None, Ok, Err, slice_get, ℤ, pos, neg_ℤ}
+use Rattle.std.specs.Prelude.{ℕ, ◌+◌, Bool, true, false, ◌||◌, nat_lt, if◌then◌else◌, List, [], ◌∷◌, length, map, Option, Some, None, Ok, Err, slice_get, ℤ, pos, neg_ℤ}
 use Rattle.std.specs.List.{range_with_len}
 use Rattle.std.specs.Option.{option_map_or}
 use Rattle.mt_model.specs.declared.tree.Interval.{Interval}
+use Rattle.mt_model.specs.declared.log.Act.{Act}
+use Rattle.mt_model.specs.declared.log.Act.TheVariants as act
+use Rattle.mt_model.specs.Log.{Logged}
 use Rattle.mt_model.specs.State.{Change}
 use Rattle.formula_arena.specs.declared.direction.Direction.{Direction}
 use Rattle.formula_arena.specs.declared.direction.Direction.TheVariants.{Ahead, Behind}
@@ -12,9 +15,9 @@ use Rattle.axiom_rules.specs.declared.literal.Atom.TheVariants.{Node, First, Wit
 use Rattle.axiom_rules.specs.declared.part.Part.{Part}
 use Rattle.axiom_rules.specs.declared.part.Part.TheVariants.{Says, Known}
 use Rattle.axiom_rules.specs.Literals.{no, yes}
-use Rattle.axiom_rules.specs.NodeShapes.{changes_in, is_constant, operand_in, reach_in, shape_at, sides_in}
+use Rattle.axiom_rules.specs.NodeShapes.{is_constant, operand_in, proposition_in, reach_in, shape_at, sides_in}
 use Rattle.axiom_rules.specs.Sought.{Sought}
-use Rattle.axiom_rules.specs.Parts.{Written, after, not_after, not_order, order}
+use Rattle.axiom_rules.specs.Parts.{Written, after, not_after, not_order, not_same, order, same}
 
 -- an atom holds, and it does not
 abbrev pub is : Atom → Part
@@ -66,14 +69,31 @@ is_not_up_to direction b i j = not_met_order direction j i (pos b)
 abbrev pub has_come : List Change → ℕ → ℕ → Part
 has_come changes place e = option_map_or (λ c. not_after c.row e) (slice_get changes place) (Known false)
 
-module _ (s : Sought) where
-  -- a proposition that is true has been changed
-  abbrev pub rule_1 : ℕ → ℕ → Written
-  rule_1 k e = of_kind (changes_in (shape_at s k)) (λ changes. Ok (is_not (Node k e) ∷ has_come changes 0 e ∷ []))
+-- event e is at the instant of a pulse: a part for each of these pulse rows
+abbrev pub at_pulses : List ℕ → ℕ → List Part
+at_pulses pulses e = map (λ u. same u e) pulses
 
-  -- from a change on up to the next one, a proposition is what the change makes it
+-- an act is a pulse, of whatever proposition
+abbrev pub is_pulse : Act → Bool
+is_pulse (act.Pulse n) = true
+is_pulse _ = false
+
+-- a row is a pulse row, of whatever proposition
+abbrev pub is_pulse_row : Logged → ℕ → Bool
+is_pulse_row log e = option_map_or (λ r. is_pulse r.act) (slice_get log.rows e) false
+
+-- what is written of two events one of which is a pulse row
+abbrev pub of_pulse : Logged → ℕ → ℕ → Written → Written
+of_pulse log e x written = if is_pulse_row log e || is_pulse_row log x then written else Err NoRule
+
+module _ (s : Sought) where
+  -- a proposition that is true has been changed, or is pulsed
+  abbrev pub rule_1 : ℕ → ℕ → Written
+  rule_1 k e = of_kind (proposition_in (shape_at s k)) (λ rows. Ok (is_not (Node k e) ∷ has_come rows.changes 0 e ∷ at_pulses rows.pulses e))
+
+  -- from a change on up to the next one, a proposition is what the change makes it; where that clears it, it may be pulsed
   abbrev pub rule_2 : ℕ → ℕ → ℕ → Written
-  rule_2 k e place = of_kind (changes_in (shape_at s k)) (λ changes. option_map_or (λ c. Ok (after c.row e ∷ has_come changes (place + 1) e ∷ Says (record { atom = Node k e; positive = c.sets }) ∷ [])) (slice_get changes place) (Err Range))
+  rule_2 k e place = of_kind (proposition_in (shape_at s k)) (λ rows. option_map_or (λ c. Ok (after c.row e ∷ has_come rows.changes (place + 1) e ∷ Says (record { atom = Node k e; positive = c.sets }) ∷ at_pulses (if c.sets then [] else rows.pulses) e)) (slice_get rows.changes place) (Err Range))
 
   abbrev pub rule_3 : ℕ → ℕ → Written
   rule_3 k e = if is_constant (shape_at s k) then Ok (is (Node k e) ∷ []) else Err Kind
@@ -154,6 +174,18 @@ module _ (s : Sought) where
   -- at a first event the root has the value sought
   abbrev pub rule_24 : ℕ → Written
   rule_24 e = Ok (is_not (First e) ∷ Says (record { atom = Node s.root e; positive = s.value }) ∷ [])
+
+  -- of two events at one instant, where one of them is a pulse row, neither is after the other, ..
+  abbrev pub rule_25 : ℕ → ℕ → Written
+  rule_25 e x = of_pulse s.log e x (Ok (not_same e x ∷ not_after e x ∷ []))
+
+  -- .. and where neither is after the other, they are at one instant
+  abbrev pub rule_26 : ℕ → ℕ → Written
+  rule_26 e x = if nat_lt e x then of_pulse s.log e x (Ok (same e x ∷ after e x ∷ after x e ∷ [])) else Err Kind
+
+  -- at the instant of a pulse its proposition is true
+  abbrev pub rule_27 : ℕ → ℕ → ℕ → Written
+  rule_27 k e place = of_kind (proposition_in (shape_at s k)) (λ rows. option_map_or (λ u. Ok (not_same u e ∷ is (Node k e) ∷ [])) (slice_get rows.pulses place) (Err Range))
 
   -- what is near and has the right side is a witness where the left side is `true`
   abbrev pub rule_28 : ℕ → ℕ → ℕ → Written

@@ -18,7 +18,7 @@ reach_over Behind I f g = Since I f g
 -- the tree of a shape over the trees before it
 abbrev pub tree_over : List Form → Shape → Form
 tree_over trees shape.True = True
-tree_over trees (shape.Prop host name changes) = Prop host name
+tree_over trees (shape.Prop host name rows) = Prop host name
 tree_over trees (shape.Not a) = Not (tree_at trees a)
 tree_over trees (shape.And a b) = And (tree_at trees a) (tree_at trees b)
 tree_over trees (shape.Reach r) = reach_over r.direction r.interval (tree_at trees r.left) (tree_at trees r.right)
@@ -35,7 +35,7 @@ trees_of shapes = trees_after [] shapes
 -- a shape names only nodes before node k
 abbrev pub IsOver : ℕ → Shape → Type 0
 IsOver k shape.True = Unit {0}
-IsOver k (shape.Prop host name changes) = Unit {0}
+IsOver k (shape.Prop host name rows) = Unit {0}
 IsOver k (shape.Not a) = a < k
 IsOver k (shape.And a b) = (a < k) × (b < k)
 IsOver k (shape.Reach r) = (r.left < k) × (r.right < k)

@@ -26,10 +26,12 @@ const NODE: u64 = 0x1b87_3593;
 // Constants that are as great as this fall into one bucket.
 const FAR: u128 = 0xffff;
 
-// By what spans and gaps are apart from witnesses.
+// By what spans and gaps are apart from witnesses, and pairs of events at one instant from orders.
 const SPAN: u64 = 0x1234_5678;
 
 const GAP: u64 = 0x3456_789a;
+
+const SAME: u64 = 0x5678_9abc;
 
 // A number for an atom. Atoms of which only the last event differs have numbers that follow one another, so that what
 // is looked up one after another stands near in memory: bounds from one event to others, which are by more than 0 where
@@ -44,6 +46,7 @@ fn number_of(atom: Atom) -> u64
         }
         Atom::Node { k, e } => NODE * k as u64 + e as u64,
         Atom::First { e } => e as u64,
+        Atom::Same { e, x } => EVENT * e as u64 + x as u64 + SAME,
         Atom::Wit { k, i, j } => NODE * k as u64 + EVENT * i as u64 + j as u64,
         Atom::Span { k, i, j } => NODE * k as u64 + EVENT * i as u64 + j as u64 + SPAN,
         Atom::Gap { k, i, m } => NODE * k as u64 + EVENT * i as u64 + m as u64 + GAP,

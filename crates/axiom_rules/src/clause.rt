@@ -1,6 +1,6 @@
 //! Clauses that grow out of the parts that a rule writes.
 
-ghost use Rattle.std.specs.Prelude.{◌≡◌, ◌++◌, [], ◌∷◌, map, true, OnOk};
+ghost use Rattle.std.specs.Prelude.{◌≡◌, ◌<◌, ◌++◌, [], ◌∷◌, map, true, AllPairs, OnOk};
 ghost use Rattle.std.specs.List.{list_all, range_with_len};
 ghost use Rattle.axiom_rules.specs.Adding.{Answers, with_literal, with_part, with_parts};
 ghost use Rattle.axiom_rules.specs.Each.{AreBefore, IsNew, is_other, part_at};
@@ -9,20 +9,22 @@ ghost use Rattle.axiom_rules.specs.Parts.{clause_of_parts};
 
 use crate::RuleFault;
 use crate::literal::{Atom, Literal};
-use crate::part::{Part, after, is};
+use crate::part::{Part, after, is, same};
 use smallvec::SmallVec;
 use std::alloc::{AllocError, Global};
 
 /// The literals of a clause.
 pub type Clause = SmallVec<Literal, 8, Global>;
 
-/// A part that a rule writes for each event.
+/// A part that a rule writes for each event, or for each of some.
 #[derive(Clone, Copy)]
 pub enum Each {
     /// Event e is after it.
     After { e: u32 },
     /// It is a first event.
     First,
+    /// It is at one instant with event e.
+    Same { e: u32 },
     /// It is a witness of node k at event i.
     Wit { k: u32, i: u32 },
     /// It is a gap of node k from event i on.
@@ -37,6 +39,7 @@ impl Each {
         match self {
             Each::After { e } => after(e, x),
             Each::First => is(Atom::First { e: x }),
+            Each::Same { e } => same(x, e),
             Each::Wit { k, i } => is(Atom::Wit { k, i, j: x }),
             Each::Gap { k, i } => is(Atom::Gap { k, i, m: x }),
         }
@@ -119,6 +122,18 @@ fn add_each(clause: &mut Clause, events: u32, each: Each) -> Result<(), RuleFaul
     Ok(())
 }
 
+// Adds a part for each of these events to a clause without literals of that kind.
+fn add_each_of(clause: &mut Clause, events: &[u32], each: Each) -> Result<(), RuleFault>
+    requires rising { AllPairs (λ x y. x < y) events.now }
+    requires others { AreBefore each 0 clause.old.items }
+    ensures { Answers (with_parts clause.old.items (map (part_at each) events.now)) result clause.new.items }
+{
+    for x in events {
+        add_new(clause, each.at(*x))?;
+    }
+    Ok(())
+}
+
 /// Makes a clause that of parts.
 #[tactic(auto, using(crate::proofs::AddingLemmas::clause_grows))]
 pub fn write(clause: &mut Clause, parts: &[Part]) -> Result<(), RuleFault>
@@ -143,4 +158,21 @@ pub fn write_each(
     clause.clear();
     add_all(clause, parts)?;
     add_each(clause, events, each)
+}
+
+/// Makes a clause that of parts and a part for each of these events, in a time that grows with their number.
+#[tactic(auto, using(crate::proofs::AddingLemmas::clause_fault))]
+pub fn write_each_of(
+    clause: &mut Clause,
+    parts: &[Part],
+    events: &[u32],
+    each: Each,
+) -> Result<(), RuleFault>
+    requires rising { AllPairs (λ x y. x < y) events.now }
+    requires others { list_all (is_other each) parts.now ≡ true }
+    ensures { Answers (clause_of_parts (parts.now ++ map (part_at each) events.now)) result clause.new.items }
+{
+    clause.clear();
+    add_all(clause, parts)?;
+    add_each_of(clause, events, each)
 }

@@ -4,13 +4,14 @@ use thiserror::Error;
 /// Why a rule has no clause.
 #[derive(Clone, Copy, Debug, PartialEq, Eq, Error)]
 pub enum RuleFault {
-    /// There is no rule of this number, or the rule asks for an upper bound that the interval lacks.
+    /// There is no rule of this number, or the rule asks for an upper bound that the interval lacks, or for a
+    /// pulse and neither event is one.
     #[error("no rule of this number")]
     NoRule,
-    /// A node, an event or a change that isn't there, or an unused argument that isn't 0.
+    /// A node, an event, a change or a pulse that isn't there, or an unused argument that isn't 0.
     #[error("an argument that is out of range")]
     Range,
-    /// A node of another kind than the rule is about.
+    /// A node of another kind than the rule is about, or events in another order.
     #[error("a node of another kind")]
     Kind,
     /// The clause is true whatever the timing.

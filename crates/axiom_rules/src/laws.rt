@@ -20,7 +20,8 @@ pub fn clauses_have_atoms_once()
 {}
 
 /// A rule that has a clause has a number of the table and 0 for each argument that it doesn't use. Its clause has
-/// at most five literals more than the log has rows, and its order atoms are over rows of the log.
+/// at most five literals more than the log has rows, and its order atoms and those of one instant are over rows of
+/// the log.
 pub fn rules_are_within_table()
     ensures { RulesAreWithinTable }
 {}

@@ -8,6 +8,7 @@ mod fault;
 mod laws;
 mod literal;
 mod part;
+mod proposition;
 mod reach;
 mod rule;
 mod rules;

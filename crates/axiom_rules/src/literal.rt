@@ -1,6 +1,6 @@
 ghost use Rattle.std.specs.Prelude.{◌≡◌, ◌≢◌};
 ghost use Rattle.mt_model.specs.Log.{IsWithin};
-ghost use Rattle.axiom_rules.specs.Literals.{negated as negated_literal, order_literal as literal_of_order};
+ghost use Rattle.axiom_rules.specs.Literals.{negated as negated_literal, one_instant as atom_of_one_instant, order_literal as literal_of_order};
 
 use mt_model::MAX_ORDER;
 
@@ -13,6 +13,8 @@ pub enum Atom {
     Node { k: u32, e: u32 },
     /// No event is earlier than e.
     First { e: u32 },
+    /// `t_e = t_x`, where e is the smaller event.
+    Same { e: u32, x: u32 },
     /// Event j is a witness of the until or since node k at event i: at a distance in its interval, with
     /// its right side true there, and its left side from event i on up to there.
     Wit { k: u32, i: u32, j: u32 },
@@ -73,5 +75,17 @@ pub fn order_literal(e: u32, f: u32, c: i128) -> Literal
             },
             positive: false,
         }
+    }
+}
+
+/// The one atom that means `t_e = t_x`, for two different events.
+pub fn one_instant(e: u32, x: u32) -> Atom
+    requires apart { e ≢ x }
+    ensures atom { result ≡ atom_of_one_instant e x }
+{
+    if e < x {
+        Atom::Same { e, x }
+    } else {
+        Atom::Same { e: x, x: e }
     }
 }

@@ -1,9 +1,9 @@
 ghost use Rattle.std.specs.Prelude.{◌≡◌, ◌^◌, pos, ◌-ℤ◌, neg_ℤ};
 ghost use Rattle.mt_model.specs.Log.{IsWithin};
-ghost use Rattle.axiom_rules.specs.Parts.{after as after_part, not_after as not_after_part, not_order as not_order_part, order as order_part};
+ghost use Rattle.axiom_rules.specs.Parts.{after as after_part, not_after as not_after_part, not_order as not_order_part, not_same as not_same_part, order as order_part, same as same_part};
 ghost use Rattle.axiom_rules.specs.Rules.{is as is_part, is_not as is_not_part};
 
-use crate::literal::{Atom, Literal, order_literal};
+use crate::literal::{Atom, Literal, one_instant, order_literal};
 use mt_model::MAX_ORDER;
 
 /// A part of what a rule writes: a literal, or a constant that is known from the rule's arguments.
@@ -74,4 +74,26 @@ pub fn after(e: u32, f: u32) -> Part
     ensures { result ≡ after_part e f }
 {
     order(f, e, -1)
+}
+
+/// Events e and x are at one instant.
+pub fn same(e: u32, x: u32) -> Part
+    ensures { result ≡ same_part e x }
+{
+    if e == x {
+        Part::Known(true)
+    } else {
+        is(one_instant(e, x))
+    }
+}
+
+/// They aren't.
+pub fn not_same(e: u32, x: u32) -> Part
+    ensures { result ≡ not_same_part e x }
+{
+    if e == x {
+        Part::Known(false)
+    } else {
+        is_not(one_instant(e, x))
+    }
 }

@@ -19,6 +19,7 @@ pub enum Argument {
     ANode,
     AnEvent,
     AChange,
+    APulse,
     Unused,
 }
 
@@ -57,6 +58,13 @@ const NODE_EVENT_CHANGE: [Argument; 4] = [
     Argument::Unused,
 ];
 
+const NODE_EVENT_PULSE: [Argument; 4] = [
+    Argument::ANode,
+    Argument::AnEvent,
+    Argument::APulse,
+    Argument::Unused,
+];
+
 const NODE_EVENTS: [Argument; 4] = [
     Argument::ANode,
     Argument::AnEvent,
@@ -74,36 +82,36 @@ const NODE_THREE_EVENTS: [Argument; 4] = [
 /// The greatest number that a rule has.
 pub const MAX_RULE: u8 = 28;
 
-// What the arguments of rule 1 are, of rule 2 and so on, where there is one of the number.
-const ARGUMENTS: [Option<[Argument; 4]>; MAX_RULE as usize] = [
-    Some(NODE_EVENT),
-    Some(NODE_EVENT_CHANGE),
-    Some(NODE_EVENT),
-    Some(NODE_EVENT),
-    Some(NODE_EVENT),
-    Some(NODE_EVENT),
-    Some(NODE_EVENT),
-    Some(NODE_EVENT),
-    Some(EVENTS),
-    Some(EVENT),
-    Some(NOTHING),
-    Some(NODE_EVENTS),
-    Some(NODE_EVENTS),
-    Some(NODE_EVENTS),
-    Some(NODE_EVENTS),
-    Some(NODE_EVENTS),
-    Some(NODE_EVENT),
-    Some(NODE_EVENTS),
-    Some(NODE_THREE_EVENTS),
-    Some(NODE_EVENTS),
-    Some(NODE_THREE_EVENTS),
-    Some(NODE_EVENTS),
-    Some(NODE_EVENTS),
-    Some(EVENT),
-    None,
-    None,
-    None,
-    Some(NODE_EVENTS),
+// What the arguments of rule 1 are, of rule 2 and so on.
+const ARGUMENTS: [[Argument; 4]; MAX_RULE as usize] = [
+    NODE_EVENT,
+    NODE_EVENT_CHANGE,
+    NODE_EVENT,
+    NODE_EVENT,
+    NODE_EVENT,
+    NODE_EVENT,
+    NODE_EVENT,
+    NODE_EVENT,
+    EVENTS,
+    EVENT,
+    NOTHING,
+    NODE_EVENTS,
+    NODE_EVENTS,
+    NODE_EVENTS,
+    NODE_EVENTS,
+    NODE_EVENTS,
+    NODE_EVENT,
+    NODE_EVENTS,
+    NODE_THREE_EVENTS,
+    NODE_EVENTS,
+    NODE_THREE_EVENTS,
+    NODE_EVENTS,
+    NODE_EVENTS,
+    EVENT,
+    EVENTS,
+    EVENTS,
+    NODE_EVENT_PULSE,
+    NODE_EVENTS,
 ];
 
 /// What the arguments of the rule of a number are, where there is one.
@@ -113,7 +121,7 @@ pub fn arguments_of(number: u8) -> Option<[Argument; 4]>
     if number == 0 {
         None
     } else {
-        ARGUMENTS.get(number as usize - 1).copied().flatten()
+        ARGUMENTS.get(number as usize - 1).copied()
     }
 }
 

@@ -1,4 +1,4 @@
-ghost use Rattle.std.specs.Prelude.{◌≡◌, ◌<◌, ◌+◌, ◌⊎◌, ℕ, List, [], length, Some, None, IfOk, IfErr, OnOk, OnErr, Ok, Err, is_some, option_copied};
+ghost use Rattle.std.specs.Prelude.{◌≡◌, ◌<◌, ◌+◌, ◌⊎◌, ℕ, List, [], length, Some, None, AllPairs, IfOk, IfErr, OnOk, OnErr, Ok, Err, is_some, option_copied};
 ghost use Rattle.std.specs.Option.{option_map_or};
 ghost use Rattle.mt_model.specs.Form.{Form};
 ghost use Rattle.formula_arena.specs.Nodes.{nodes_of};
@@ -6,18 +6,19 @@ ghost use Rattle.axiom_rules.specs.Adding.{Answers, Gives};
 ghost use Rattle.axiom_rules.specs.Clauses.{are_there as are_there_in, clause_of as clause_of_rule, is_there as is_there_in, written_by};
 ghost use Rattle.axiom_rules.specs.Sought.{sought_of};
 ghost use Rattle.axiom_rules.specs.Parts.{clause_of_written};
-ghost use Rattle.axiom_rules.specs.NodeShapes.{changes_in, is_constant as is_constant_shape, operand_in, reach_in, shape_at, sides_in};
+ghost use Rattle.axiom_rules.specs.NodeShapes.{changes_in, is_constant as is_constant_shape, operand_in, proposition_in, pulses_in, reach_in, shape_at, sides_in};
 ghost use Rattle.axiom_rules.specs.Rules as written;
 
 use crate::RuleFault;
-use crate::clause::{Clause, Each, write, write_each};
+use crate::clause::{Clause, Each, write, write_each, write_each_of};
 use crate::literal::{Atom, Literal};
-use crate::part::{Part, after, is, is_not, not_after};
+use crate::part::{Part, after, is, is_not, not_after, not_same, same};
+use crate::proposition::{ChangeRow, PropositionRows};
 use crate::reach::Reach;
 use crate::rule::{Argument, Rule, arguments_of};
-use crate::shape::{ChangeRow, Shape, shapes};
+use crate::shape::{Shape, shapes};
 use formula_arena::Arena;
-use mt_model::{Log, NodeId};
+use mt_model::{Act, Log, NodeId};
 use std::alloc::{AllocError, Global};
 use std::marker::Model;
 
@@ -113,13 +114,14 @@ impl Rules {
         matches!(self.shape(k), Some(Shape::True))
     }
 
-    // The changes of a proposition.
-    fn changes(&self, k: u32) -> Result<&[ChangeRow], RuleFault>
-        ensures found { IfOk result (λ changes. changes_in (shape_at self.now k) ≡ Some changes.now) }
-        ensures kind { IfErr result (λ fault. (fault ≡ RuleFault.Kind) × (changes_in (shape_at self.now k) ≡ None)) }
+    // The rows that tell of a proposition.
+    fn proposition(&self, k: u32) -> Result<&PropositionRows, RuleFault>
+        ensures found { IfOk result (λ rows. proposition_in (shape_at self.now k) ≡ Some rows.now) }
+        ensures rising { IfOk result (λ rows. AllPairs (λ u v. u < v) rows.now.pulses) }
+        ensures kind { IfErr result (λ fault. (fault ≡ RuleFault.Kind) × (proposition_in (shape_at self.now k) ≡ None)) }
     {
         match self.shape(k) {
-            Some(Shape::Prop { changes, .. }) => Ok(changes.as_slice()),
+            Some(Shape::Prop { rows, .. }) => Ok(rows),
             _ => Err(RuleFault::Kind),
         }
     }
@@ -130,9 +132,31 @@ impl Rules {
     {
         // What a log is, how many rows it has is known with.
         let _ = self.log.rows();
-        match self.changes(k) {
-            Ok(changes) => changes.len() as u32,
-            Err(_) => 0,
+        match self.shape(k) {
+            Some(Shape::Prop { rows, .. }) => rows.changes.len() as u32,
+            _ => 0,
+        }
+    }
+
+    /// How many pulse rows the proposition of a number has, and 0 where there is no such node or it is none. Takes no memory.
+    pub fn pulse_count(&self, k: u32) -> u32
+        ensures count { result ≡ option_map_or (λ pulses. length pulses) (pulses_in (shape_at self.now k)) 0 }
+    {
+        // What a log is, how many rows it has is known with.
+        let _ = self.log.rows();
+        match self.shape(k) {
+            Some(Shape::Prop { rows, .. }) => rows.pulses.len() as u32,
+            _ => 0,
+        }
+    }
+
+    /// Whether there is an event of that number and it is a pulse, of whatever proposition. Takes no memory.
+    pub fn is_pulse(&self, e: u32) -> bool
+        ensures pulse { result ≡ written.is_pulse_row self.now.log e }
+    {
+        match self.log.rows().get(e as usize) {
+            Some(row) => matches!(row.act, Act::Pulse(_)),
+            None => false,
         }
     }
 
@@ -186,32 +210,37 @@ impl Rules {
         matches!(self.shape(k), Some(Shape::Reach(_)))
     }
 
-    // A proposition that is true has been changed.
+    // A proposition that is true has been changed, or is pulsed.
     fn rule_1(&self, k: u32, e: u32, out: &mut Clause) -> Result<(), RuleFault>
         ensures { Gives (written.rule_1 self.now k e) result out.new.items }
     {
-        let changes = self.changes(k)?;
-        write(out, &[is_not(Atom::Node { k, e }), has_come(changes, 0, e)])
+        let rows = self.proposition(k)?;
+        let come = has_come(rows.changes.as_slice(), 0, e);
+        let parts = [is_not(Atom::Node { k, e }), come];
+        write_each_of(out, &parts, rows.pulses.as_slice(), Each::Same { e })
     }
 
-    // From a change on up to the next one, a proposition is what the change makes it.
+    // From a change on up to the next one, a proposition is what the change makes it; where that clears it, it may be pulsed.
     fn rule_2(&self, k: u32, e: u32, place: u32, out: &mut Clause) -> Result<(), RuleFault>
         ensures { Gives (written.rule_2 self.now k e place) result out.new.items }
     {
-        let changes = self.changes(k)?;
+        let rows = self.proposition(k)?;
+        let changes = rows.changes.as_slice();
         let change = changes.get(place as usize).ok_or(RuleFault::Range)?;
         let literal = Literal {
             atom: Atom::Node { k, e },
             positive: change.sets(),
         };
-        write(
-            out,
-            &[
-                after(change.row(), e),
-                has_come(changes, place as usize + 1, e),
-                Part::Says(literal),
-            ],
-        )
+        let parts = [
+            after(change.row(), e),
+            has_come(changes, place as usize + 1, e),
+            Part::Says(literal),
+        ];
+        if change.sets() {
+            write(out, &parts)
+        } else {
+            write_each_of(out, &parts, rows.pulses.as_slice(), Each::Same { e })
+        }
     }
 
     // `true` is true.
@@ -465,6 +494,43 @@ impl Rules {
         write(out, &[is_not(Atom::First { e }), Part::Says(literal)])
     }
 
+    // Of two events at one instant neither is after the other, where one of them is a pulse.
+    fn rule_25(&self, e: u32, x: u32, out: &mut Clause) -> Result<(), RuleFault>
+        ensures { Gives (written.rule_25 self.now e x) result out.new.items }
+    {
+        if self.is_pulse(e) || self.is_pulse(x) {
+            write(out, &[not_same(e, x), not_after(e, x)])
+        } else {
+            Err(RuleFault::NoRule)
+        }
+    }
+
+    // Where neither is after the other, they are at one instant.
+    fn rule_26(&self, e: u32, x: u32, out: &mut Clause) -> Result<(), RuleFault>
+        ensures { Gives (written.rule_26 self.now e x) result out.new.items }
+    {
+        if e >= x {
+            Err(RuleFault::Kind)
+        } else if self.is_pulse(e) || self.is_pulse(x) {
+            write(out, &[same(e, x), after(e, x), after(x, e)])
+        } else {
+            Err(RuleFault::NoRule)
+        }
+    }
+
+    // At the instant of a pulse its proposition is true.
+    fn rule_27(&self, k: u32, e: u32, place: u32, out: &mut Clause) -> Result<(), RuleFault>
+        ensures { Gives (written.rule_27 self.now k e place) result out.new.items }
+    {
+        let rows = self.proposition(k)?;
+        let pulse = *rows
+            .pulses
+            .as_slice()
+            .get(place as usize)
+            .ok_or(RuleFault::Range)?;
+        write(out, &[not_same(pulse, e), is(Atom::Node { k, e })])
+    }
+
     // What is near and has the right side is a witness where the left side is `true`.
     fn rule_28(&self, k: u32, i: u32, j: u32, out: &mut Clause) -> Result<(), RuleFault>
         ensures { Gives (written.rule_28 self.now k i j) result out.new.items }
@@ -492,7 +558,7 @@ impl Rules {
         match argument {
             Argument::ANode => (n as usize) < self.nodes(),
             Argument::AnEvent => n < self.events(),
-            Argument::AChange => true,
+            Argument::AChange | Argument::APulse => true,
             Argument::Unused => n == 0,
         }
     }
@@ -553,6 +619,9 @@ impl Rules {
             22 => self.rule_22(k, i, j, out),
             23 => self.rule_23(k, i, j, out),
             24 => self.rule_24(k, out),
+            25 => self.rule_25(k, i, out),
+            26 => self.rule_26(k, i, out),
+            27 => self.rule_27(k, i, j, out),
             28 => self.rule_28(k, i, j, out),
             _ => Err(RuleFault::NoRule),
         }
