@@ -9,7 +9,7 @@ use Rattle.mt_model.proofs.Members.{Among, any_some, same_bool, some_any}
 use Rattle.axiom_rules.specs.declared.fault.RuleFault.{RuleFault}
 use Rattle.axiom_rules.specs.declared.fault.RuleFault.TheVariants.{Trivial}
 use Rattle.axiom_rules.specs.declared.literal.Atom.{Atom}
-use Rattle.axiom_rules.specs.declared.literal.Atom.TheVariants.{Order, Node, First, Wit, Span, Gap}
+use Rattle.axiom_rules.specs.declared.literal.Atom.TheVariants.{Order, Node, First, Same, Wit, Span, Gap}
 use Rattle.axiom_rules.specs.declared.literal.Literal.{Literal}
 use Rattle.axiom_rules.specs.declared.part.Part.{Part}
 use Rattle.axiom_rules.specs.declared.part.Part.TheVariants.{Says, Known}
@@ -23,6 +23,7 @@ pub atom-itself : (a : Atom) → same_atom a a ≡ true
 atom-itself (Order e f c) = from_3 _ _ _ (eq-eqb e e refl) (eq-eqb f f refl) ((Decides-int_eq c c).1 refl)
 atom-itself (Node k e) = and_from _ _ (eq-eqb k k refl) (eq-eqb e e refl)
 atom-itself (First e) = eq-eqb e e refl
+atom-itself (Same e x) = and_from _ _ (eq-eqb e e refl) (eq-eqb x x refl)
 atom-itself (Wit k i j) = from_3 _ _ _ (eq-eqb k k refl) (eq-eqb i i refl) (eq-eqb j j refl)
 atom-itself (Span k i j) = from_3 _ _ _ (eq-eqb k k refl) (eq-eqb i i refl) (eq-eqb j j refl)
 atom-itself (Gap k i j) = from_3 _ _ _ (eq-eqb k k refl) (eq-eqb i i refl) (eq-eqb j j refl)

@@ -1,19 +1,20 @@
--- A clause that grows by a part for each event.
-use Rattle.std.proofs.Common.{◌≡◌, ◌∙◌, sym, ap, refl, subst, ℕ, suc, ◌+◌, ◌-◌, ◌<◌, ◌≤◌, ◌==◌, Bool, true, false, if◌then◌else◌, List, [], ◌∷◌, ◌++◌, map, Some, Ok, inl, inr, arith, ℤ, pos, ◌-ℤ◌, neg_ℤ}
-use Rattle.std.specs.Prelude.{◌≢◌, nat_lt, int_le, is_none}
+-- A clause that grows by a part for each event, or for each of some.
+use Rattle.std.proofs.Common.{◌≡◌, ◌∙◌, sym, ap, refl, subst, ℕ, suc, ◌+◌, ◌-◌, ◌<◌, ◌≤◌, ◌==◌, Bool, true, false, if◌then◌else◌, List, [], ◌∷◌, ◌++◌, drop, length, map, Some, Ok, inl, inr, arith, ℤ, pos, ◌-ℤ◌, neg_ℤ}
+use Rattle.std.specs.Prelude.{◌≢◌, AllPairs, nat_lt, int_le, is_none, slice_index}
 use Rattle.std.specs.List.{AllByRecursion, list_all, range_with_len}
 use Rattle.std.proofs.lemmas.Bool.{and_parts, cases_Bool, eq-eqb}
+use Rattle.std.proofs.lemmas.List.{drop_more}
 use Rattle.mt_model.proofs.Members.{Among}
 use Rattle.axiom_rules.specs.declared.clause.Each.{Each}
 use Rattle.axiom_rules.specs.declared.clause.Each.TheVariants as each
-use Rattle.axiom_rules.specs.declared.literal.Atom.TheVariants.{Order, First, Wit, Gap}
+use Rattle.axiom_rules.specs.declared.literal.Atom.TheVariants.{Order, First, Same, Wit, Gap}
 use Rattle.axiom_rules.specs.declared.literal.Literal.{Literal}
 use Rattle.axiom_rules.specs.declared.part.Part.{Part}
 use Rattle.axiom_rules.specs.declared.part.Part.TheVariants.{Says, Known}
 use Rattle.axiom_rules.specs.Adding.{with_part, with_parts}
 use Rattle.axiom_rules.specs.Each.{AreBefore, IsNew, event_in, is_other, part_at}
 use Rattle.axiom_rules.specs.Literals.{has_literal, negated, no, same_literal, yes}
-use Rattle.axiom_rules.specs.Parts.{after, clause_of_parts}
+use Rattle.axiom_rules.specs.Parts.{after, clause_of_parts, order, same}
 use Rattle.axiom_rules.proofs.AddingLemmas.{clause_grows}
 use Rattle.axiom_rules.proofs.PartLemmas.{literals_same}
 use Rattle.axiom_rules.proofs.PartsMade.{OfParts, of-clause}
@@ -25,6 +26,13 @@ each-more each c d x events part less is added =
     let n : events - x ≡ suc (events - (x + 1)) = omega arith in
     let here : with_part c (part_at each x) ≡ Ok d = rw (← is) added in
     rw (n, here) refl
+
+-- the part of the event at a place first, then those of the events after it
+pub each-more-of : (each : Each) (c d : List Literal) (events : List ℕ) (i : ℕ) (part : Part) → i < length events → part ≡ part_at each (slice_index events i) → with_part c part ≡ Ok d
+    → with_parts d (map (part_at each) (drop (i + 1) events)) ≡ with_parts c (map (part_at each) (drop i events))
+each-more-of each c d events i part low is added =
+    let here : with_part c (part_at each (slice_index events i)) ≡ Ok d = rw (← is) added in
+    rw (drop_more events i 0 low, here) refl
 
 -- a literal whose atom the clause lacks doesn't stand in it
 lacks : (c : List Literal) (l : Literal) → AllByRecursion (λ m. m.atom ≢ l.atom) c → has_literal c l ≡ false
@@ -50,9 +58,18 @@ after-event e x l is = go (x == e) (nat_lt x e) refl is
     go false true apart is = let same : yes (Order x e c) ≡ l = cc in rw (← same) (rw apart refl)
     go false false apart is = let same : no (Order e x (neg_ℤ c -ℤ pos 1)) ≡ l = cc in rw (← same) (rw (eq-eqb e e refl) refl)
 
+same-event : (e x : ℕ) (l : Literal) → same x e ≡ Says l → event_in (each.Same e) l.atom ≡ Some x
+same-event e x l is = go (x == e) (nat_lt x e) refl is
+  where
+    go : (equal less : Bool) → x == e ≡ equal → (let p : Part = (if equal then Known true else Says (yes (if less then Same x e else Same e x))) in p) ≡ Says l → event_in (each.Same e) l.atom ≡ Some x
+    go true less apart is = absurd (cc)
+    go false true apart is = let one : yes (Same x e) ≡ l = cc in rw (← one) (rw apart refl)
+    go false false apart is = let one : yes (Same e x) ≡ l = cc in rw (← one) (rw (eq-eqb e e refl) refl)
+
 part-event : (each : Each) (x : ℕ) (l : Literal) → part_at each x ≡ Says l → event_in each l.atom ≡ Some x
 part-event (each.After e) x l is = after-event e x l is
 part-event each.First x l is = let same : yes (First x) ≡ l = cc in rw (← same) refl
+part-event (each.Same e) x l is = same-event e x l is
 part-event (each.Wit k i) x l is = let same : yes (Wit k i x) ≡ l = cc in rw (← same) refl
 part-event (each.Gap k i) x l is = let same : yes (Gap k i x) ≡ l = cc in rw (← same) refl
 
@@ -106,3 +123,29 @@ others-before each parts start c others empty is =
     all-from _ c (λ l in_ y at.
     let none = of-clause (λ a. is_none (event_in each a) ≡ true) parts c l clause (others-all each parts others) in_ in
     let no : is_none (Some y) ≡ true = subst (λ o. is_none o ≡ true) at none in absurd (cc))
+
+-- no literal is written for any of the events from a place on
+abbrev pub AreBeforeRest : Each → List ℕ → ℕ → List Literal → Type 0
+AreBeforeRest each events i c = (j : ℕ) → i ≤ j → j < length events → AreBefore each (slice_index events j) c
+
+pub before-rest : (each : Each) (events : List ℕ) (c : List Literal) → AreBefore each 0 c → AreBeforeRest each events 0 c
+before-rest each events c before j from low = before-more each 0 (slice_index events j) c (omega arith) before
+
+-- with the part of the event at a place added, of those after it
+pub rest-added : (each : Each) (events : List ℕ) (i : ℕ) (c d : List Literal) (p : Part) → AllPairs (λ x y. x < y) events → i < length events → p ≡ part_at each (slice_index events i) → with_part c p ≡ Ok d
+    → AreBeforeRest each events i c → AreBeforeRest each events (i + 1) d
+rest-added each events i c d p rising here is added before j from low =
+    let x = slice_index events i in
+    let now = before i (omega arith) here in
+    let upto = part-added each x c d p is (part-new each x c p is now) added now in
+    let less : x < slice_index events j = rising i j 0 (omega (arith, from)) low in
+    before-more each (x + 1) (slice_index events j) d (omega (arith, less)) upto
+
+-- an order isn't written for an event at one instant
+pub order-other : (e f x : ℕ) (c : ℤ) → is_other (each.Same e) (order f x c) ≡ true
+order-other e f x c = go (f == x) (nat_lt f x)
+  where
+    go : (equal less : Bool) → is_other (each.Same e) (let p : Part = (if equal then Known (int_le (pos 0) c) else Says (if less then yes (Order f x c) else no (Order x f (neg_ℤ c -ℤ pos 1)))) in p) ≡ true
+    go true less = refl
+    go false true = refl
+    go false false = refl

@@ -1,5 +1,5 @@
 -- A clause holds where a part of what is written does.
-use Rattle.std.proofs.Common.{◌≡◌, ◌∙◌, ap, refl, ℕ, Bool, true, false, not, ◌||◌, if◌then◌else◌, List, [], ◌∷◌, Ok, Err, ◌⊎◌, inl, inr, ℤ, pos, ◌-ℤ◌, ◌≤ℤ◌, neg_ℤ, arith}
+use Rattle.std.proofs.Common.{◌≡◌, ◌∙◌, sym, ap, refl, ℕ, Bool, true, false, not, ◌||◌, if◌then◌else◌, List, [], ◌∷◌, Ok, Err, ◌⊎◌, inl, inr, ℤ, pos, ◌-ℤ◌, ◌≤ℤ◌, neg_ℤ, arith}
 use Rattle.std.specs.Ordering.{int_eq}
 use Rattle.std.specs.Prelude.{◌==◌, int_le, filter, map, Result}
 use Rattle.std.specs.List.{list_any}
@@ -10,18 +10,19 @@ use Rattle.mt_model.proofs.Members.{same_bool}
 use Rattle.axiom_rules.specs.declared.fault.RuleFault.{RuleFault}
 use Rattle.axiom_rules.specs.declared.fault.RuleFault.TheVariants.{Trivial}
 use Rattle.axiom_rules.specs.declared.literal.Atom.{Atom}
-use Rattle.axiom_rules.specs.declared.literal.Atom.TheVariants.{Order, Node, First, Wit, Span, Gap}
+use Rattle.axiom_rules.specs.declared.literal.Atom.TheVariants.{Order, Node, First, Same, Wit, Span, Gap}
 use Rattle.axiom_rules.specs.declared.literal.Literal.{Literal}
 use Rattle.axiom_rules.specs.declared.part.Part.{Part}
 use Rattle.axiom_rules.specs.declared.part.Part.TheVariants.{Says, Known}
 use Rattle.axiom_rules.specs.Literals.{same_atom, same_literal}
-use Rattle.axiom_rules.specs.Parts.{clause_of_parts, each_once, is_true, literals_in, not_order, opposes_itself, order}
+use Rattle.axiom_rules.specs.Parts.{clause_of_parts, each_once, is_true, literals_in, not_order, not_same, opposes_itself, order, same}
 use Rattle.axiom_rules.proofs.BoolLemmas.{and_3}
 
 pub atoms_same : (a b : Atom) → same_atom a b ≡ true → a ≡ b
 atoms_same (Order e f c) (Order g h d) is = let p = and_3 (e == g) (f == h) (int_eq c d) is in cc (eqb-true e g p.0, eqb-true f h p.1, (Decides-int_eq c d).0 p.2)
 atoms_same (Node k e) (Node l f) is = let p = and_parts (k == l) (e == f) is in cc (eqb-true k l p.0, eqb-true e f p.1)
 atoms_same (First e) (First f) is = cc (eqb-true e f is)
+atoms_same (Same e x) (Same f y) is = let p = and_parts (e == f) (x == y) is in cc (eqb-true e f p.0, eqb-true x y p.1)
 atoms_same (Wit k i j) (Wit l g h) is = let p = and_3 (k == l) (i == g) (j == h) is in cc (eqb-true k l p.0, eqb-true i g p.1, eqb-true j h p.2)
 atoms_same (Span k i j) (Span l g h) is = let p = and_3 (k == l) (i == g) (j == h) is in cc (eqb-true k l p.0, eqb-true i g p.1, eqb-true j h p.2)
 atoms_same (Gap k i j) (Gap l g h) is = let p = and_3 (k == l) (i == g) (j == h) is in cc (eqb-true k l p.0, eqb-true i g p.1, eqb-true j h p.2)
@@ -125,7 +126,7 @@ module _ (v : Atom → Bool) (time : ℕ → ℤ) (agrees : (e f : ℕ) (c : ℤ
   -- an order literal says what it is written for
   pub order-says : (e f : ℕ) (c : ℤ) → part_holds v (order e f c) ≡ int_le (time e -ℤ time f) c
   order-says e f c = elim (cases_order e f) [
-    | inl same ↦ let q = eq-eqb e f same in rw (q, same) (constant (time f) c)
+    | inl equal ↦ let q = eq-eqb e f equal in rw (q, same) (constant (time f) c)
     | inr (inl less) ↦ let q = ne_eqb e f (λ s. absurd (omega arith)) in let p = lt-ltb e f less in rw (q, p) (agrees e f c)
     | inr (inr more) ↦ let q = ne_eqb e f (λ s. absurd (omega arith)) in let p = le-ltb e f (omega arith) in rw (q, p) (ap not (agrees f e (neg_ℤ c -ℤ pos 1)) ∙ (ap not (negated_is (time e) (time f) c) ∙ twice (int_le (time e -ℤ time f) c)))
   ]
@@ -135,3 +136,23 @@ module _ (v : Atom → Bool) (time : ℕ → ℤ) (agrees : (e f : ℕ) (c : ℤ
 
   pub not_order-says : (e f : ℕ) (c : ℤ) → part_holds v (not_order e f c) ≡ not (int_le (time e -ℤ time f) c)
   not_order-says e f c = order-says f e (neg_ℤ c -ℤ pos 1) ∙ negated_is (time e) (time f) c
+
+-- two times are equal the one way where they are the other way
+pub equal_turned : (x y : ℤ) → int_eq x y ≡ int_eq y x
+equal_turned x y = same_bool _ _ (λ h. (Decides-int_eq y x).1 (sym ((Decides-int_eq x y).0 h))) (λ h. (Decides-int_eq x y).1 (sym ((Decides-int_eq y x).0 h)))
+
+module _ (v : Atom → Bool) (time : ℕ → ℤ) (agrees : (e x : ℕ) → v (Same e x) ≡ int_eq (time e) (time x)) where
+  -- what is written of two events at one instant says that they are
+  pub same-says : (e x : ℕ) → part_holds v (same e x) ≡ int_eq (time e) (time x)
+  same-says e x = elim (cases_order e x) [
+    | inl equal ↦ let q = eq-eqb e x equal in rw (q, equal) (sym ((Decides-int_eq (time x) (time x)).1 refl))
+    | inr (inl less) ↦ let q = ne_eqb e x (λ s. absurd (omega arith)) in let p = lt-ltb e x less in rw (q, p) (agrees e x)
+    | inr (inr more) ↦ let q = ne_eqb e x (λ s. absurd (omega arith)) in let p = le-ltb e x (omega arith) in rw (q, p) (agrees x e ∙ equal_turned (time x) (time e))
+  ]
+
+  pub not_same-says : (e x : ℕ) → part_holds v (not_same e x) ≡ not (int_eq (time e) (time x))
+  not_same-says e x = elim (cases_order e x) [
+    | inl equal ↦ let q = eq-eqb e x equal in rw (q, equal) (sym (ap not ((Decides-int_eq (time x) (time x)).1 refl)))
+    | inr (inl less) ↦ let q = ne_eqb e x (λ s. absurd (omega arith)) in let p = lt-ltb e x less in rw (q, p) (ap not (agrees e x))
+    | inr (inr more) ↦ let q = ne_eqb e x (λ s. absurd (omega arith)) in let p = le-ltb e x (omega arith) in rw (q, p) (ap not (agrees x e ∙ equal_turned (time x) (time e)))
+  ]

@@ -2,18 +2,18 @@
 use Rattle.std.proofs.Common.{◌≡◌, refl, subst, ℕ, zero, suc, ◌+◌, ◌<◌, Bool, true, false, if◌then◌else◌, List, [], ◌∷◌, length, Option, Some, None, Ok, Err, arith}
 use Rattle.std.specs.Prelude.{slice_get}
 use Rattle.std.specs.List.{AllByRecursion}
-use Rattle.std.specs.Option.{option_flatten, option_map_or}
+use Rattle.std.specs.Option.{option_map_or}
 use Rattle.std.proofs.lemmas.Bool.{and_parts}
 use Rattle.std.proofs.lemmas.Bool.Decides.{nat_tests}
 use Rattle.axiom_rules.specs.declared.fault.RuleFault.TheVariants.{NoRule, Range}
 use Rattle.axiom_rules.specs.declared.literal.Literal.{Literal}
 use Rattle.axiom_rules.specs.declared.part.Part.{Part}
 use Rattle.axiom_rules.specs.declared.rule.Argument.{Argument}
-use Rattle.axiom_rules.specs.declared.rule.Argument.TheVariants.{ANode, AnEvent, AChange, Unused}
+use Rattle.axiom_rules.specs.declared.rule.Argument.TheVariants.{ANode, AnEvent, AChange, APulse, Unused}
 use Rattle.axiom_rules.specs.declared.rule.Rule.{Rule}
-use Rattle.axiom_rules.specs.Clauses.{Row, are_there, clause_of, is_there, of_event, of_events, of_node_event, of_node_event_change, of_node_events, of_node_three_events, of_nothing, row_of, rows}
+use Rattle.axiom_rules.specs.Clauses.{Row, are_there, clause_of, is_there, of_event, of_events, of_node_event, of_node_event_change, of_node_event_pulse, of_node_events, of_node_three_events, of_nothing, row_of, rows}
 use Rattle.axiom_rules.specs.Parts.{Written, clause_of_parts, clause_of_written}
-use Rattle.axiom_rules.specs.Rules.{rule_1, rule_2, rule_3, rule_4, rule_5, rule_6, rule_7, rule_8, rule_9, rule_10, rule_11, rule_12, rule_13, rule_14, rule_15, rule_16, rule_17, rule_18, rule_19, rule_20, rule_21, rule_22, rule_23, rule_24, rule_28}
+use Rattle.axiom_rules.specs.Rules.{rule_1, rule_2, rule_3, rule_4, rule_5, rule_6, rule_7, rule_8, rule_9, rule_10, rule_11, rule_12, rule_13, rule_14, rule_15, rule_16, rule_17, rule_18, rule_19, rule_20, rule_21, rule_22, rule_23, rule_24, rule_25, rule_26, rule_27, rule_28}
 use Rattle.axiom_rules.specs.Sought.{Sought}
 
 -- a rule that has a clause has a row, its arguments are there, and the clause is that of what the row writes
@@ -48,30 +48,27 @@ holds-at P (y ∷ xs) (suc n) x h there = holds-at P xs n x h.1 there
 
 module _ (P : ℕ → Row → Type 0) where
   -- something is so of each row and its number, the first number being this one
-  abbrev pub AreFrom : ℕ → List (Option Row) → Type 0
+  abbrev pub AreFrom : ℕ → List Row → Type 0
   AreFrom n [] = Unit {0}
-  AreFrom n (None ∷ more) = AreFrom (suc n) more
-  AreFrom n (Some row ∷ more) = P n row × AreFrom (suc n) more
+  AreFrom n (row ∷ more) = P n row × AreFrom (suc n) more
 
-  is-from : (first n number : ℕ) (table : List (Option Row)) (row : Row) → AreFrom first table → option_flatten (slice_get table n) ≡ Some row → number ≡ first + n → P number row
+  is-from : (first n number : ℕ) (table : List Row) (row : Row) → AreFrom first table → slice_get table n ≡ Some row → number ≡ first + n → P number row
   is-from first n number [] row h there is = absurd (cc)
-  is-from first zero number (None ∷ more) row h there is = absurd (cc)
-  is-from first zero number (Some x ∷ more) row h there is = let same : x ≡ row = cc in let e : first ≡ number = omega (arith, is) in subst (P number) same (subst (λ m. P m x) e h.0)
-  is-from first (suc n) number (None ∷ more) row h there is = is-from (suc first) n number more row h there (omega (arith, is))
-  is-from first (suc n) number (Some x ∷ more) row h there is = is-from (suc first) n number more row h.1 there (omega (arith, is))
+  is-from first zero number (x ∷ more) row h there is = let same : x ≡ row = cc in let e : first ≡ number = omega (arith, is) in subst (P number) same (subst (λ m. P m x) e h.0)
+  is-from first (suc n) number (x ∷ more) row h there is = is-from (suc first) n number more row h.1 there (omega (arith, is))
 
   -- what is so of each row of the table is so of that of a number
   pub row-case : AreFrom 1 rows → (number : ℕ) (row : Row) → row_of number ≡ Some row → P number row
   row-case h zero row there = absurd (cc)
   row-case h (suc n) row there = is-from 1 n (suc n) rows row h there (omega arith)
 
--- what is so of the rows of each shape, and of the one on changes, is so of each row of the table
+-- what is so of the rows of each shape, and of those on changes and on pulses, is so of each row of the table
 pub shape-case : (P : Row → Type 0) → ((w : Sought → Written) → P (of_nothing w)) → ((w : Sought → ℕ → Written) → P (of_event w)) → ((w : Sought → ℕ → ℕ → Written) → P (of_events w))
     → ((w : Sought → ℕ → ℕ → Written) → P (of_node_event w)) → ((w : Sought → ℕ → ℕ → ℕ → Written) → P (of_node_events w)) → ((w : Sought → ℕ → ℕ → ℕ → ℕ → Written) → P (of_node_three_events w))
-    → P (of_node_event_change rule_2) → (number : ℕ) (row : Row) → row_of number ≡ Some row → P row
-shape-case P nothing event events node two three change = row-case (λ n row. P row) (
+    → P (of_node_event_change rule_2) → P (of_node_event_pulse rule_27) → (number : ℕ) (row : Row) → row_of number ≡ Some row → P row
+shape-case P nothing event events node two three change pulse = row-case (λ n row. P row) (
   node rule_1,
-  (change, (node rule_3, (node rule_4, (node rule_5, (node rule_6, (node rule_7, (node rule_8, (events rule_9, (event rule_10, (nothing rule_11, (two rule_12, (two rule_13, (two rule_14, (two rule_15, (two rule_16, (node rule_17, (two rule_18, (three rule_19, (two rule_20, (three rule_21, (two rule_22, (two rule_23, (event rule_24, (two rule_28, tt)))))))))))))))))))))))),
+  (change, (node rule_3, (node rule_4, (node rule_5, (node rule_6, (node rule_7, (node rule_8, (events rule_9, (event rule_10, (nothing rule_11, (two rule_12, (two rule_13, (two rule_14, (two rule_15, (two rule_16, (node rule_17, (two rule_18, (three rule_19, (two rule_20, (three rule_21, (two rule_22, (two rule_23, (event rule_24, (events rule_25, (events rule_26, (pulse, (two rule_28, tt))))))))))))))))))))))))))),
 )
 
 -- four arguments that are there
@@ -122,6 +119,11 @@ module _ (s : Sought) (Q : Written → Type 0) where
   pub row-of-change : (w : Sought → ℕ → ℕ → ℕ → Written) → ((k e place : ℕ) → k < length s.trees → e < length s.log.rows → Q (w s k e place)) → OfRow (of_node_event_change w)
   row-of-change w each args there =
       let (a, b, c, d, are, in-a, in-b, in-c, in-d) = four s ANode AnEvent AChange Unused args there in
+      rw are (each a b c (node-there a in-a) (event-there b in-b))
+
+  pub row-of-pulse : (w : Sought → ℕ → ℕ → ℕ → Written) → ((k e place : ℕ) → k < length s.trees → e < length s.log.rows → Q (w s k e place)) → OfRow (of_node_event_pulse w)
+  row-of-pulse w each args there =
+      let (a, b, c, d, are, in-a, in-b, in-c, in-d) = four s ANode AnEvent APulse Unused args there in
       rw are (each a b c (node-there a in-a) (event-there b in-b))
 
   pub row-of-two : (w : Sought → ℕ → ℕ → ℕ → Written) → ((k i j : ℕ) → k < length s.trees → i < length s.log.rows → j < length s.log.rows → Q (w s k i j)) → OfRow (of_node_events w)

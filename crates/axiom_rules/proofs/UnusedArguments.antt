@@ -1,16 +1,17 @@
 -- The arguments that a rule with a clause doesn't use are 0, and no rule has a greater number than the last row.
 use Rattle.std.proofs.Common.{◌≡◌, refl, ℕ, zero, suc, ◌<◌, ◌≤◌, true, List, [], ◌∷◌, length, drop, Option, Some, None, Ok, arith}
 use Rattle.std.specs.Prelude.{All, count_by, slice_get}
-use Rattle.std.specs.Option.{option_flatten, option_map_or}
+use Rattle.std.specs.Option.{option_map_or}
 use Rattle.std.proofs.lemmas.Bool.{eqb-true}
 use Rattle.std.proofs.lemmas.List.Elements.{All-nil, All-cons}
+use Rattle.std.proofs.lemmas.Option.{slice_get_within}
 use Rattle.axiom_rules.specs.declared.literal.Literal.{Literal}
-use Rattle.axiom_rules.specs.declared.rule.Argument.TheVariants.{ANode, AnEvent, AChange, Unused}
+use Rattle.axiom_rules.specs.declared.rule.Argument.TheVariants.{ANode, AnEvent, AChange, APulse, Unused}
 use Rattle.axiom_rules.specs.declared.rule.Rule.{Rule}
 use Rattle.axiom_rules.specs.declared.rule.TheConstants.{MAX_RULE}
-use Rattle.axiom_rules.specs.Clauses.{Row, are_there, argument_count, clause_of, is_there, is_used, of_event, of_events, of_node_event, of_node_event_change, of_node_events, of_node_three_events, of_nothing, row_of, rows}
+use Rattle.axiom_rules.specs.Clauses.{Row, are_there, argument_count, clause_of, is_there, is_used, of_event, of_events, of_node_event, of_node_event_change, of_node_event_pulse, of_node_events, of_node_three_events, of_nothing, row_of, rows}
 use Rattle.axiom_rules.specs.Parts.{Written}
-use Rattle.axiom_rules.specs.Rules.{rule_2}
+use Rattle.axiom_rules.specs.Rules.{rule_2, rule_27}
 use Rattle.axiom_rules.specs.Sought.{Sought}
 use Rattle.axiom_rules.proofs.RowCases.{four, shape-case, written-by}
 
@@ -62,6 +63,11 @@ module _ (s : Sought) where
       let (a, b, c, d, are, in-a, in-b, in-c, in-d) = four s ANode AnEvent AChange Unused args there in
       rw are (one-left d in-d)
 
+  pulse-filled : (w : Sought → ℕ → ℕ → ℕ → Written) → IsFilled (of_node_event_pulse w)
+  pulse-filled w args there =
+      let (a, b, c, d, are, in-a, in-b, in-c, in-d) = four s ANode AnEvent APulse Unused args there in
+      rw are (one-left d in-d)
+
   two-filled : (w : Sought → ℕ → ℕ → ℕ → Written) → IsFilled (of_node_events w)
   two-filled w args there =
       let (a, b, c, d, are, in-a, in-b, in-c, in-d) = four s ANode AnEvent AnEvent Unused args there in
@@ -76,18 +82,13 @@ module _ (s : Sought) where
   pub unused-zero : (rule : Rule) (c : List Literal) → clause_of s rule ≡ Ok c → All IsZero (drop (argument_count rule.number) rule.args)
   unused-zero rule c is =
       let w = written-by s rule c is in
-      let filled = shape-case IsFilled nothing-filled event-filled events-filled node-filled two-filled three-filled (change-filled rule_2) rule.number w.row w.at rule.args w.there in
+      let filled = shape-case IsFilled nothing-filled event-filled events-filled node-filled two-filled three-filled (change-filled rule_2) (pulse-filled rule_27) rule.number w.row w.at rule.args w.there in
       rw w.at filled
-
-within : (table : List (Option Row)) (n : ℕ) (row : Row) → option_flatten (slice_get table n) ≡ Some row → n < length table
-within [] n row there = absurd (cc)
-within (x ∷ more) zero row there = omega arith
-within (x ∷ more) (suc n) row there = let ih = within more n row there in omega (arith, ih)
 
 -- a number that has a row is at most that of the last one
 pub number-low : (number : ℕ) (row : Row) → row_of number ≡ Some row → number ≤ MAX_RULE
 number-low zero row at = omega arith
-number-low (suc n) row at = let low : n < MAX_RULE = within rows n row at in omega (arith, low)
+number-low (suc n) row at = let low : n < MAX_RULE = slice_get_within rows n row at in omega (arith, low)
 
 -- no rule uses more than four arguments
 pub at-most-four : (number : ℕ) → argument_count number ≤ 4
@@ -95,4 +96,4 @@ at-most-four number = go (row_of number) refl
   where
     go : (o : Option Row) → row_of number ≡ o → option_map_or (λ row. count_by is_used row.arguments) o 0 ≤ 4
     go None at = omega arith
-    go (Some row) at = shape-case (λ row. count_by is_used row.arguments ≤ 4) (λ w. omega arith) (λ w. omega arith) (λ w. omega arith) (λ w. omega arith) (λ w. omega arith) (λ w. omega arith) (omega arith) number row at
+    go (Some row) at = shape-case (λ row. count_by is_used row.arguments ≤ 4) (λ w. omega arith) (λ w. omega arith) (λ w. omega arith) (λ w. omega arith) (λ w. omega arith) (λ w. omega arith) (omega arith) (omega arith) number row at

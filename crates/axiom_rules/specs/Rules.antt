@@ -3,9 +3,7 @@ use Rattle.std.specs.Prelude.{ℕ, ◌+◌, Bool, true, false, ◌||◌, nat_lt,
 use Rattle.std.specs.List.{range_with_len}
 use Rattle.std.specs.Option.{option_map_or}
 use Rattle.mt_model.specs.declared.tree.Interval.{Interval}
-use Rattle.mt_model.specs.declared.log.Act.{Act}
-use Rattle.mt_model.specs.declared.log.Act.TheVariants as act
-use Rattle.mt_model.specs.Log.{Logged}
+use Rattle.mt_model.specs.Log.{Logged, is_pulse}
 use Rattle.mt_model.specs.State.{Change}
 use Rattle.formula_arena.specs.declared.direction.Direction.{Direction}
 use Rattle.formula_arena.specs.declared.direction.Direction.TheVariants.{Ahead, Behind}
@@ -72,11 +70,6 @@ has_come changes place e = option_map_or (λ c. not_after c.row e) (slice_get ch
 -- event e is at the instant of a pulse: a part for each of these pulse rows
 abbrev pub at_pulses : List ℕ → ℕ → List Part
 at_pulses pulses e = map (λ u. same u e) pulses
-
--- an act is a pulse, of whatever proposition
-abbrev pub is_pulse : Act → Bool
-is_pulse (act.Pulse n) = true
-is_pulse _ = false
 
 -- a row is a pulse row, of whatever proposition
 abbrev pub is_pulse_row : Logged → ℕ → Bool

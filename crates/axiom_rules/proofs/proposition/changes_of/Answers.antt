@@ -1,7 +1,7 @@
 use Rattle.std.proofs.Common.{◌∙◌, sym}
 use Rattle.axiom_rules.proofs.ShapeLemmas.{changes-none, changes-some}
-use Rattle.axiom_rules.proofs.shape.changes_of.Goals.{in-Some+in_ok-push, in_default}
-use Rattle.axiom_rules.proofs.shape.changes_of.Goals as goal
+use Rattle.axiom_rules.proofs.proposition.changes_of.Goals.{in-Some+in_ok-push, in_default}
+use Rattle.axiom_rules.proofs.proposition.changes_of.Goals as goal
 
 pub loop-e-preserved : goal.loop-e-preserved
 loop-e-preserved c = elim c.match-change.branch [
