@@ -65,10 +65,10 @@ changes-count h (e ∷ rows) =
 
 module _ (s : Sought) where
   -- a proposition has at most one change for each row, and one pulse, and its pulses rise
-  record AreRowsOf (rows : PropositionRows) : Type 0 where
-    few_changes : length rows.changes ≤ length s.log.rows
-    few_pulses : length rows.pulses ≤ length s.log.rows
-    rising : AllPairs (λ u v. u < v) rows.pulses
+  pub record AreRowsOf (rows : PropositionRows) : Type 0 where
+    pub few_changes : length rows.changes ≤ length s.log.rows
+    pub few_pulses : length rows.pulses ≤ length s.log.rows
+    pub rising : AllPairs (λ u v. u < v) rows.pulses
 
   of-named : (host name : List ℕ) → AreRowsOf (rows_named s.log host name)
   of-named host name = record { few_changes = changes (host_named s.log host); few_pulses = pulses (host_named s.log host); rising = rise (host_named s.log host) }
@@ -86,7 +86,7 @@ module _ (s : Sought) where
       pulses (Some h) = pulses-few s.log h name
 
       rise : (o : Option ℕ) → AllPairs (λ u v. u < v) (option_map_or (λ h. pulses_of s.log h name) o [])
-      rise None i j d less low = absurd (omega (arith, low))
+      rise None = λ i j d less low. absurd (omega (arith, low))
       rise (Some h) = pulses-rise s.log h name
 
   pub proposition-rows : (k : ℕ) (rows : PropositionRows) → proposition_in (shape_at s k) ≡ Some rows → AreRowsOf rows

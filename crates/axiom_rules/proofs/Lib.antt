@@ -12,6 +12,7 @@ mod EachLemmas
 pub mod Lookups
 mod RowLemmas
 pub mod RowCases
+pub mod PulseLemmas
 pub mod ChangeCases
 pub mod UnusedArguments
 pub mod OnceLemmas
@@ -23,3 +24,4 @@ pub mod IndexLemmas
 pub mod ShapeLemmas
 pub mod RulesHold
 mod WorkedCases
+mod PulseCases

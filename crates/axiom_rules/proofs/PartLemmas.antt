@@ -126,7 +126,7 @@ module _ (v : Atom → Bool) (time : ℕ → ℤ) (agrees : (e f : ℕ) (c : ℤ
   -- an order literal says what it is written for
   pub order-says : (e f : ℕ) (c : ℤ) → part_holds v (order e f c) ≡ int_le (time e -ℤ time f) c
   order-says e f c = elim (cases_order e f) [
-    | inl equal ↦ let q = eq-eqb e f equal in rw (q, same) (constant (time f) c)
+    | inl equal ↦ let q = eq-eqb e f equal in rw (q, equal) (constant (time f) c)
     | inr (inl less) ↦ let q = ne_eqb e f (λ s. absurd (omega arith)) in let p = lt-ltb e f less in rw (q, p) (agrees e f c)
     | inr (inr more) ↦ let q = ne_eqb e f (λ s. absurd (omega arith)) in let p = le-ltb e f (omega arith) in rw (q, p) (ap not (agrees f e (neg_ℤ c -ℤ pos 1)) ∙ (ap not (negated_is (time e) (time f) c) ∙ twice (int_le (time e -ℤ time f) c)))
   ]

@@ -1,10 +1,10 @@
 -- The pulse rows of a proposition: they rise, and its state where it is pulsed.
-use Rattle.std.proofs.Common.{◌≡◌, ◌∙◌, sym, ap, ℕ, zero, suc, ◌+◌, ◌<◌, ◌≤◌, ◌==◌, Bool, true, false, cond, List, [], ◌∷◌, ◌++◌, length, Some, arith, ℤ}
-use Rattle.std.specs.Prelude.{◌&&◌, AllPairs, filter, slice_get, slice_index_or}
+use Rattle.std.proofs.Common.{◌≡◌, ◌∙◌, sym, ap, ℕ, zero, suc, ◌+◌, ◌<◌, ◌≤◌, ◌==◌, Bool, true, false, List, [], ◌∷◌, ◌++◌, length, Some, arith}
+use Rattle.std.specs.Prelude.{AllPairs, filter, slice_get}
 use Rattle.std.specs.List.{AllByRecursion, list_any, range_with_len}
 use Rattle.std.specs.Option.{option_map_or}
-use Rattle.std.specs.Ordering.{int_eq}
 use Rattle.std.proofs.lemmas.Bool.{and_parts, cases_Bool, or_left, or_right}
+use Rattle.std.proofs.lemmas.List.{append-nil}
 use Rattle.std.proofs.lemmas.List.Elements.{filter-append}
 use Rattle.std.proofs.lemmas.List.FromFn.{get_or-range_with_len, length-range_with_len}
 use Rattle.std.proofs.lemmas.List.Kept.{AllPairs-filter}
@@ -14,7 +14,7 @@ use Rattle.mt_model.specs.declared.log.Act.TheVariants.{Set, Clear, Send, Recv, 
 use Rattle.mt_model.specs.declared.log.Row.{Row}
 use Rattle.mt_model.specs.Log.{Logged, is_pulse}
 use Rattle.mt_model.specs.State.{is_pulse_at, is_pulse_of, pulses_of}
-use Rattle.mt_model.specs.Timing.{host_of, time_of}
+use Rattle.mt_model.specs.Timing.{host_of}
 use Rattle.axiom_rules.specs.Rules.{is_pulse_row}
 use Rattle.axiom_rules.proofs.ShapeLemmas.{range-more}
 
@@ -70,14 +70,21 @@ filter-short p (x ∷ xs) = elim (cases_Bool (p x)) [
 pub pulses-few : (log : Logged) (host : ℕ) (name : List ℕ) → length (pulses_of log host name) ≤ length log.rows
 pulses-few log host name = omega (arith, filter-short (is_pulse_at log host name) (range_with_len 0 (length log.rows)), length-range_with_len 0 (length log.rows))
 
--- the pulses among one row more
-pub filter-more : (p : ℕ → Bool) (k : ℕ) → filter p (range_with_len 0 (k + 1)) ≡ filter p (range_with_len 0 k) ++ cond (p k) (k ∷ []) []
+-- the numbers that pass among one more
+filter-more : (p : ℕ → Bool) (k : ℕ) → filter p (range_with_len 0 (k + 1)) ≡ filter p (range_with_len 0 k) ++ filter p (k ∷ [])
 filter-more p k =
     let e : 0 + k ≡ k = omega arith in
-    ap (filter p) (range-more 0 k) ∙ filter-append p (range_with_len 0 k) ((0 + k) ∷ []) ∙ rw e (ap (λ zs. filter p (range_with_len 0 k) ++ zs) (last (p k)))
-  where
-    last : (b : Bool) → cond b (k ∷ []) [] ≡ cond b (k ∷ []) []
-    last b = refl
+    ap (filter p) (range-more 0 k) ∙ filter-append p (range_with_len 0 k) ((0 + k) ∷ []) ∙ rw e refl
+
+pub pulses-some : (p : ℕ → Bool) (k : ℕ) (old new : List ℕ) → old ≡ filter p (range_with_len 0 k) → p k ≡ true → new ≡ old ++ k ∷ [] → new ≡ filter p (range_with_len 0 (k + 1))
+pulses-some p k old new is passes more =
+    let last : filter p (k ∷ []) ≡ k ∷ [] = rw passes refl in
+    more ∙ ap (λ us. us ++ k ∷ []) is ∙ sym (filter-more p k ∙ ap (λ us. filter p (range_with_len 0 k) ++ us) last)
+
+pub pulses-none : (p : ℕ → Bool) (k : ℕ) (old new : List ℕ) → old ≡ filter p (range_with_len 0 k) → p k ≡ false → new ≡ old → new ≡ filter p (range_with_len 0 (k + 1))
+pulses-none p k old new is fails same =
+    let last : filter p (k ∷ []) ≡ [] = rw fails refl in
+    same ∙ is ∙ sym (filter-more p k ∙ ap (λ us. filter p (range_with_len 0 k) ++ us) last ∙ append-nil (filter p (range_with_len 0 k)))
 
 -- an event of a list at a place that passes
 pub passes-at : (p : ℕ → Bool) (us : List ℕ) (place u : ℕ) → slice_get us place ≡ Some u → p u ≡ true → list_any p us ≡ true

@@ -4,15 +4,16 @@ use Rattle.std.specs.Prelude.{◌↔◌, int_le, nat_lt, option_and_then, slice_
 use Rattle.std.specs.List.{list_any, range_with_len}
 use Rattle.std.specs.Option.{option_map_or}
 use Rattle.std.proofs.lemmas.Int.{ints}
-use Rattle.std.proofs.lemmas.Bool.{and_parts, cases_Bool}
-use Rattle.std.proofs.lemmas.Bool.Decides.{nat_tests}
+use Rattle.std.proofs.lemmas.Bool.{and_parts, cases_Bool, or_left, or_right}
+use Rattle.std.proofs.lemmas.Bool.Decides.{Decides-int_eq, nat_tests}
+use Rattle.std.specs.Ordering.{int_eq}
 use Rattle.std.proofs.lemmas.Option.{get_or_from_slice_get, slice_get_read}
 use Rattle.mt_model.specs.declared.tree.Interval.{Interval}
 use Rattle.mt_model.specs.Before.{BeforeIsNotLater}
 use Rattle.mt_model.specs.Form.{Form, True, False, Prop, Not, And, Or, Implies, Until, Since, Eventually, Always, Once, Historically}
 use Rattle.mt_model.specs.Frame.{Frame, span, witness}
 use Rattle.mt_model.specs.Log.{Logged, IsLog}
-use Rattle.mt_model.specs.State.{Change, changes_of, host_named}
+use Rattle.mt_model.specs.State.{Change, changes_of, host_named, pulses_of}
 use Rattle.mt_model.specs.Timing.{Admissible, time_of}
 use Rattle.mt_model.specs.Truth.{rows_in, truth}
 use Rattle.mt_model.proofs.Members.{all_each, any_some, each_all, some_any}
@@ -31,22 +32,24 @@ use Rattle.axiom_rules.specs.declared.part.Part.{Part}
 use Rattle.axiom_rules.specs.declared.part.Part.TheVariants.{Says, Known}
 use Rattle.axiom_rules.specs.declared.reach.Reach.{Reach}
 use Rattle.axiom_rules.specs.declared.rule.Rule.{Rule}
-use Rattle.axiom_rules.specs.Clauses.{Row, clause_of, of_event, of_events, of_node_event, of_node_event_change, of_node_events, of_node_three_events, row_of}
+use Rattle.axiom_rules.specs.Clauses.{Row, clause_of, of_event, of_events, of_node_event, of_node_event_change, of_node_event_pulse, of_node_events, of_node_three_events, row_of}
 use Rattle.axiom_rules.specs.Holds.{clause_holds, gap, means}
 use Rattle.axiom_rules.specs.Laws.{RulesHold}
 use Rattle.axiom_rules.specs.Parts.{Written, after, not_after}
+use Rattle.axiom_rules.specs.Parts as part
 use Rattle.axiom_rules.specs.Rules as rule
 use Rattle.axiom_rules.specs.Shapes.{reach_over}
 use Rattle.axiom_rules.specs.Sought.{Sought}
-use Rattle.axiom_rules.specs.NodeShapes.{changes_in, is_constant, operand_in, reach_in, sides_in, number_of, shape_of, shape_at}
-use Rattle.axiom_rules.specs.Rules.{of_kind, for_each_event, has_come, is, is_not, is_not_up_to}
+use Rattle.axiom_rules.specs.NodeShapes.{is_constant, operand_in, proposition_in, reach_in, sides_in, number_of, shape_of, shape_at}
+use Rattle.axiom_rules.specs.Rules.{at_pulses, of_kind, of_pulse, for_each_event, has_come, is, is_not, is_not_up_to, is_pulse_row}
 use Rattle.axiom_rules.proofs.BoolLemmas.{any_1, any_2, any_3, any_4, any_5, any_rest, apart, failing, not_false, was_true}
 use Rattle.axiom_rules.proofs.ChangeLemmas.{Falls, changes-fall, first-none, first_passes, is_by, last-at}
 use Rattle.axiom_rules.proofs.FrameRules.{gap_parts, gap_without_span, reached, reaches_from, span_at, span_from, span_to_gap, witness_from, witness_parts}
 use Rattle.axiom_rules.proofs.MeaningLemmas.{F, at_row, from, is_from-says, is_not_from-says, is_not_up_to-says, is_up_to-says, means-gap, means-node, means-reaches, means-span, means-wit, met_after-says, near-ahead, near-parts, not_met_after-says, row_at, told, up_to}
 use Rattle.axiom_rules.proofs.Orders.{first_of, order-met, order-rows}
-use Rattle.axiom_rules.proofs.PartLemmas.{any-map, clause_from_parts, not_after_is, not_order-says, order-says, part_holds}
-use Rattle.axiom_rules.proofs.RowCases.{OfRow, row-case, row-of-change, row-of-event, row-of-events, row-of-node, row-of-nothing, row-of-three, row-of-two, written-by}
+use Rattle.axiom_rules.proofs.PartLemmas.{any-map, clause_from_parts, not_after_is, not_order-says, not_same-says, order-says, part_holds, same-says}
+use Rattle.axiom_rules.proofs.PulseLemmas.{any-agrees, passes-at}
+use Rattle.axiom_rules.proofs.RowCases.{OfRow, row-case, row-of-change, row-of-event, row-of-events, row-of-node, row-of-nothing, row-of-pulse, row-of-three, row-of-two, written-by}
 use Rattle.axiom_rules.proofs.ShapeLemmas.{index_or-there}
 use Rattle.axiom_rules.proofs.TimingLemmas.{times-rise}
 use Rattle.axiom_rules.proofs.TreeLemmas.{child-number}
@@ -78,6 +81,24 @@ and-both x false z is = any_3 x true (not z) (λ a b. absurd (cc))
 of-sense : (sense value : Bool) → value ≡ sense → (if sense then value else not value) ≡ true
 of-sense true value is = is
 of-sense false value is = rw is refl
+
+-- what is true without a change is pulsed
+only-pulsed : (value pulsed changed : Bool) → value ≡ true → value ≡ (pulsed || changed) → changed ≡ false → pulsed ≡ true
+only-pulsed value true changed is state none = refl
+only-pulsed value false changed is state none = absurd (apart value is (state ∙ none))
+
+-- of two times that are equal neither is after the other, and of two that aren't one is
+equal-le : (x y : ℤ) → int_eq x y ≡ true → int_le x y ≡ true
+equal-le x y is = let same : x ≡ y = (Decides-int_eq x y).0 is in rw same (itself y)
+  where
+    itself : (y : ℤ) → int_le y y ≡ true
+    itself y = grind (arith, ints)
+
+apart-times : (x y : ℤ) → int_eq x y ≡ false → int_le x y ≡ true → int_le y x ≡ false
+apart-times x y differ le = elim (cases_Bool (int_le y x)) [
+  | inl ge ↦ let same : x ≡ y = omega (arith, ints) in absurd (apart (int_eq x y) ((Decides-int_eq x y).1 same) differ)
+  | inr fails ↦ fails
+]
 
 below-of : (m n : ℕ) → nat_lt m n ≡ true → m < n
 below-of m n h = grind (arith, nat_tests)
@@ -359,6 +380,58 @@ module _ (log : Logged) (t : List ℤ) (trees : List Form) (root : ℕ) (value :
     right_23 : (k i m : ℕ) → k < length trees → i < length t → m < length t → Right (rule.rule_23 s k i m)
     right_23 k i m low a c = by_reach k (λ u. Ok (is_not (Gap k i m) ∷ is_not (Node u.left m) ∷ [])) low (λ direction I f g l r at left right. parts_23 k low direction I f g l r at left right i m a c)
 
+    same-at : (e x : ℕ) → part_holds M (part.same e x) ≡ int_eq (time_of t e) (time_of t x)
+    same-at e x = same-says M (time_of t) (λ e x. refl) e x
+
+    not_same-at : (e x : ℕ) → part_holds M (part.not_same e x) ≡ not (int_eq (time_of t e) (time_of t x))
+    not_same-at e x = not_same-says M (time_of t) (λ e x. refl) e x
+
+    of_pulse-right : (pulse : Bool) (parts : List Part) → list_any (part_holds M) parts ≡ true → Right (if pulse then Ok parts else Err NoRule)
+    of_pulse-right true parts h = h
+    of_pulse-right false parts h = tt
+
+    right_25 : (e x : ℕ) → e < length t → x < length t → Right (rule.rule_25 s e x)
+    right_25 e x a b = of_pulse-right (is_pulse_row log e || is_pulse_row log x) (part.not_same e x ∷ not_after e x ∷ [])
+        (any_2 _ _ (λ no. not_after-says e x ∙ equal-le (time_of t e) (time_of t x) (was_true _ (sym (not_same-at e x) ∙ no))))
+
+    right_26 : (e x : ℕ) → e < length t → x < length t → Right (rule.rule_26 s e x)
+    right_26 e x a b = go (nat_lt e x)
+      where
+        go : (less : Bool) → Right (if less then of_pulse log e x (Ok (part.same e x ∷ after e x ∷ after x e ∷ [])) else Err Kind)
+        go true = of_pulse-right (is_pulse_row log e || is_pulse_row log x) (part.same e x ∷ after e x ∷ after x e ∷ [])
+            (any_3 _ _ _ (λ differ early. after-says x e ∙ not_false _ (apart-times (time_of t e) (time_of t x) (sym (same-at e x) ∙ differ) (was_true _ (sym (after-says e x) ∙ early)))))
+        go false = tt
+
+    -- what tells the state of a proposition at a row
+    abbrev pulsed : ℕ → ℕ → List ℕ → Bool
+    pulsed e h name = list_any (λ u. int_eq (time_of t u) (time_of t e)) (pulses_of log h name)
+
+    abbrev changed : ℕ → ℕ → List ℕ → Bool
+    changed e h name = option_map_or (λ (c : Change). c.sets) (find (λ c. int_le (time_of t c.row) (time_of t e)) (reverse (changes_of log h name))) false
+
+    abbrev stated : ℕ → List ℕ → Option ℕ → Bool
+    stated e name h = option_map_or (λ h. pulsed e h name || changed e h name) h false
+
+    pulses-say : (us : List ℕ) (e : ℕ) → list_any (part_holds M) (at_pulses us e) ≡ list_any (λ u. int_eq (time_of t u) (time_of t e)) us
+    pulses-say us e = any-map (part_holds M) (λ u. part.same u e) us ∙ any-agrees (λ u. part_holds M (part.same u e)) (λ u. int_eq (time_of t u) (time_of t e)) us (λ u. same-at u e)
+
+    right_27 : (k e place : ℕ) → k < length trees → e < length t → Right (rule.rule_27 s k e place)
+    right_27 k e place low in_ = subst (λ o. Right (of_kind (proposition_in o) (λ rows. option_map_or (λ u. Ok (part.not_same u e ∷ is (Node k e) ∷ [])) (slice_get rows.pulses place) (Err Range)))) (shape-there k low) (go (tree_at trees k) refl)
+      where
+        at_pulse : (h : ℕ) (name : List ℕ) → M (Node k e) ≡ (pulsed e h name || changed e h name) → (o : Option ℕ) → slice_get (pulses_of log h name) place ≡ o → Right (option_map_or (λ u. Ok (part.not_same u e ∷ is (Node k e) ∷ [])) o (Err Range))
+        at_pulse h name state None there = tt
+        at_pulse h name state (Some u) there = any_2 _ _ (λ no.
+            let here : int_eq (time_of t u) (time_of t e) ≡ true = was_true _ (sym (not_same-at u e) ∙ no) in
+            state ∙ or_left (pulsed e h name) (changed e h name) (passes-at (λ u. int_eq (time_of t u) (time_of t e)) (pulses_of log h name) place u there here))
+
+        named : (name : List ℕ) (h : Option ℕ) → M (Node k e) ≡ stated e name h → Right (option_map_or (λ u. Ok (part.not_same u e ∷ is (Node k e) ∷ [])) (slice_get (option_map_or (λ h. pulses_of log h name) h []) place) (Err Range))
+        named name None state = tt
+        named name (Some h) state = at_pulse h name state (slice_get (pulses_of log h name) place) refl
+
+        go : (tree : Form) → tree_at trees k ≡ tree → Right (of_kind (proposition_in (shape_of log trees tree)) (λ rows. option_map_or (λ u. Ok (part.not_same u e ∷ is (Node k e) ∷ [])) (slice_get rows.pulses place) (Err Range)))
+        go (Prop host name) at = named name (host_named log host) (node-is k e (Prop host name) in_ at)
+        go _ at = tt
+
     module _ (valid : IsLog log) (ok : Admissible log t) (law : BeforeIsNotLater) where
       falls : (host : ℕ) (name : List ℕ) (instant : ℤ) → Falls (is_by t instant) (changes_of log host name)
       falls host name instant = changes-fall log host name t instant (length log.rows) (λ e f within less own. times-rise law log t valid ok e f within less own) 0 (length log.rows) (omega arith)
@@ -371,40 +444,42 @@ module _ (log : Logged) (t : List ℤ) (trees : List Form) (root : ℕ) (value :
           go (Some c) = not_after-says c.row e
 
       right_1 : (k e : ℕ) → k < length trees → e < length t → Right (rule.rule_1 s k e)
-      right_1 k e low in_ = subst (λ o. Right (of_kind (changes_in o) (λ changes. Ok (is_not (Node k e) ∷ has_come changes 0 e ∷ [])))) (shape-there k low) (go (tree_at trees k) refl)
+      right_1 k e low in_ = subst (λ o. Right (of_kind (proposition_in o) (λ rows. Ok (is_not (Node k e) ∷ has_come rows.changes 0 e ∷ at_pulses rows.pulses e)))) (shape-there k low) (go (tree_at trees k) refl)
         where
-          named : (host name : List ℕ) (h : Option ℕ) → M (Node k e) ≡ option_map_or (λ h. option_map_or (λ (c : Change). c.sets) (find (λ c. int_le (time_of t c.row) (time_of t e)) (reverse (changes_of log h name))) false) h false
-              → list_any (part_holds M) (is_not (Node k e) ∷ has_come (option_map_or (λ h. changes_of log h name) h []) 0 e ∷ []) ≡ true
-          named host name None state = any_2 (not (M (Node k e))) false (λ no. absurd (apart (M (Node k e)) (was_true _ no) state))
-          named host name (Some h) state = any_2 (not (M (Node k e))) (part_holds M (has_come (changes_of log h name) 0 e)) (λ no. has_come-says (changes_of log h name) 0 e ∙ (elim (cases_Bool (first_passes (is_by t (time_of t e)) (changes_of log h name))) [
-            | inl come ↦ come
-            | inr none ↦
-                let nothing = first-none (is_by t (time_of t e)) (changes_of log h name) (falls h name (time_of t e)) none in
-                absurd (apart (M (Node k e)) (was_true _ no) (state ∙ ap (λ o. option_map_or (λ (c : Change). c.sets) o false) nothing))
-          ]))
+          named : (name : List ℕ) (h : Option ℕ) → M (Node k e) ≡ stated e name h → list_any (part_holds M) (is_not (Node k e) ∷ has_come (option_map_or (λ h. changes_of log h name) h []) 0 e ∷ at_pulses (option_map_or (λ h. pulses_of log h name) h []) e) ≡ true
+          named name None state = any_rest (not (M (Node k e))) _ (λ no. absurd (apart (M (Node k e)) (was_true _ no) state))
+          named name (Some h) state = any_rest (not (M (Node k e))) _ (λ no. any_rest (part_holds M (has_come (changes_of log h name) 0 e)) _ (λ none.
+              let first : first_passes (is_by t (time_of t e)) (changes_of log h name) ≡ false = sym (has_come-says (changes_of log h name) 0 e) ∙ none in
+              let nothing = first-none (is_by t (time_of t e)) (changes_of log h name) (falls h name (time_of t e)) first in
+              pulses-say (pulses_of log h name) e ∙ only-pulsed (M (Node k e)) (pulsed e h name) (changed e h name) (was_true _ no) state (ap (λ o. option_map_or (λ (c : Change). c.sets) o false) nothing)))
 
-          go : (tree : Form) → tree_at trees k ≡ tree → Right (of_kind (changes_in (shape_of log trees tree)) (λ changes. Ok (is_not (Node k e) ∷ has_come changes 0 e ∷ [])))
-          go (Prop host name) at = named host name (host_named log host) (node-is k e (Prop host name) in_ at)
+          go : (tree : Form) → tree_at trees k ≡ tree → Right (of_kind (proposition_in (shape_of log trees tree)) (λ rows. Ok (is_not (Node k e) ∷ has_come rows.changes 0 e ∷ at_pulses rows.pulses e)))
+          go (Prop host name) at = named name (host_named log host) (node-is k e (Prop host name) in_ at)
           go _ at = tt
 
       right_2 : (k e place : ℕ) → k < length trees → e < length t → Right (rule.rule_2 s k e place)
-      right_2 k e place low in_ = subst (λ o. Right (of_kind (changes_in o) (λ changes. option_map_or (λ c. Ok (after c.row e ∷ has_come changes (place + 1) e ∷ Says (record { atom = Node k e; positive = c.sets }) ∷ [])) (slice_get changes place) (Err Range)))) (shape-there k low) (go (tree_at trees k) refl)
+      right_2 k e place low in_ = subst (λ o. Right (of_kind (proposition_in o) (λ rows. option_map_or (λ c. Ok (after c.row e ∷ has_come rows.changes (place + 1) e ∷ Says (record { atom = Node k e; positive = c.sets }) ∷ at_pulses (if c.sets then [] else rows.pulses) e)) (slice_get rows.changes place) (Err Range)))) (shape-there k low) (go (tree_at trees k) refl)
         where
-          at_change : (h : ℕ) (name : List ℕ) → M (Node k e) ≡ option_map_or (λ (c : Change). c.sets) (find (λ c. int_le (time_of t c.row) (time_of t e)) (reverse (changes_of log h name))) false
-              → (o : Option Change) → slice_get (changes_of log h name) place ≡ o → Right (option_map_or (λ c. Ok (after c.row e ∷ has_come (changes_of log h name) (place + 1) e ∷ Says (record { atom = Node k e; positive = c.sets }) ∷ [])) o (Err Range))
+          -- what the change makes of the proposition, or a pulse where it clears it
+          made : (h : ℕ) (name : List ℕ) (sets : Bool) → M (Node k e) ≡ (pulsed e h name || changed e h name) → changed e h name ≡ sets → list_any (part_holds M) (Says (record { atom = Node k e; positive = sets }) ∷ at_pulses (if sets then [] else pulses_of log h name) e) ≡ true
+          made h name true state is = any_1 (M (Node k e)) (state ∙ or_right (pulsed e h name) (changed e h name) is)
+          made h name false state is = any_rest (not (M (Node k e))) _ (λ no. pulses-say (pulses_of log h name) e ∙ only-pulsed (M (Node k e)) (pulsed e h name) (changed e h name) (was_true _ no) state is)
+
+          at_change : (h : ℕ) (name : List ℕ) → M (Node k e) ≡ (pulsed e h name || changed e h name) → (o : Option Change) → slice_get (changes_of log h name) place ≡ o
+              → Right (option_map_or (λ c. Ok (after c.row e ∷ has_come (changes_of log h name) (place + 1) e ∷ Says (record { atom = Node k e; positive = c.sets }) ∷ at_pulses (if c.sets then [] else pulses_of log h name) e)) o (Err Range))
           at_change h name state None there = tt
-          at_change h name state (Some c) there = any_3 _ _ _ (λ begun next.
+          at_change h name state (Some c) there = any_rest (part_holds M (after c.row e)) _ (λ begun. any_rest (part_holds M (has_come (changes_of log h name) (place + 1) e)) _ (λ next.
               let by : int_le (time_of t c.row) (time_of t e) ≡ true = was_true _ (sym (after-says c.row e) ∙ begun) in
               let last = last-at (is_by t (time_of t e)) (changes_of log h name) (falls h name (time_of t e)) place c there by (sym (has_come-says (changes_of log h name) (place + 1) e) ∙ next) in
-              of-sense c.sets (M (Node k e)) (state ∙ ap (λ o. option_map_or (λ (c : Change). c.sets) o false) last))
+              made h name c.sets state (ap (λ o. option_map_or (λ (c : Change). c.sets) o false) last)))
 
-          named : (host name : List ℕ) (h : Option ℕ) → M (Node k e) ≡ option_map_or (λ h. option_map_or (λ (c : Change). c.sets) (find (λ c. int_le (time_of t c.row) (time_of t e)) (reverse (changes_of log h name))) false) h false
-              → Right (option_map_or (λ c. Ok (after c.row e ∷ has_come (option_map_or (λ h. changes_of log h name) h []) (place + 1) e ∷ Says (record { atom = Node k e; positive = c.sets }) ∷ [])) (slice_get (option_map_or (λ h. changes_of log h name) h []) place) (Err Range))
-          named host name None state = tt
-          named host name (Some h) state = at_change h name state (slice_get (changes_of log h name) place) refl
+          named : (name : List ℕ) (h : Option ℕ) → M (Node k e) ≡ stated e name h
+              → Right (option_map_or (λ c. Ok (after c.row e ∷ has_come (option_map_or (λ h. changes_of log h name) h []) (place + 1) e ∷ Says (record { atom = Node k e; positive = c.sets }) ∷ at_pulses (if c.sets then [] else option_map_or (λ h. pulses_of log h name) h []) e)) (slice_get (option_map_or (λ h. changes_of log h name) h []) place) (Err Range))
+          named name None state = tt
+          named name (Some h) state = at_change h name state (slice_get (changes_of log h name) place) refl
 
-          go : (tree : Form) → tree_at trees k ≡ tree → Right (of_kind (changes_in (shape_of log trees tree)) (λ changes. option_map_or (λ c. Ok (after c.row e ∷ has_come changes (place + 1) e ∷ Says (record { atom = Node k e; positive = c.sets }) ∷ [])) (slice_get changes place) (Err Range)))
-          go (Prop host name) at = named host name (host_named log host) (node-is k e (Prop host name) in_ at)
+          go : (tree : Form) → tree_at trees k ≡ tree → Right (of_kind (proposition_in (shape_of log trees tree)) (λ rows. option_map_or (λ c. Ok (after c.row e ∷ has_come rows.changes (place + 1) e ∷ Says (record { atom = Node k e; positive = c.sets }) ∷ at_pulses (if c.sets then [] else rows.pulses) e)) (slice_get rows.changes place) (Err Range)))
+          go (Prop host name) at = named name (host_named log host) (node-is k e (Prop host name) in_ at)
           go _ at = tt
 
       right_24 : (e : ℕ) → e < length t → truth log t 0 (tree_at trees root) ≡ value → Right (rule.rule_24 s e)
@@ -436,6 +511,9 @@ module _ (log : Logged) (t : List ℤ) (trees : List Form) (root : ℕ) (value :
 
       node_event_change : (write : Sought → ℕ → ℕ → ℕ → Written) → ((k e place : ℕ) → k < length trees → e < length t → Right (write s k e place)) → RowHolds (of_node_event_change write)
       node_event_change write h = row-of-change s Right write (λ k e place low-k low-e. h k e place low-k (in-timing e low-e))
+
+      node_event_pulse : (write : Sought → ℕ → ℕ → ℕ → Written) → ((k e place : ℕ) → k < length trees → e < length t → Right (write s k e place)) → RowHolds (of_node_event_pulse write)
+      node_event_pulse write h = row-of-pulse s Right write (λ k e place low-k low-e. h k e place low-k (in-timing e low-e))
 
       some-rows : 0 < length t
       some-rows = omega (arith, count, valid.some_rows)
@@ -482,7 +560,7 @@ module _ (log : Logged) (t : List ℤ) (trees : List Form) (root : ℕ) (value :
                                             (λ g. node_three_events rule.rule_19 right_19),
                                             (
                                               (λ g. node_events rule.rule_20 right_20),
-                                              ((λ g. node_three_events rule.rule_21 right_21), ((λ g. node_events rule.rule_22 right_22), ((λ g. node_events rule.rule_23 right_23), ((λ g. one_event rule.rule_24 (λ e in_. right_24 e in_ (g refl))), ((λ g. node_events rule.rule_28 right_28), tt))))),
+                                              ((λ g. node_three_events rule.rule_21 right_21), ((λ g. node_events rule.rule_22 right_22), ((λ g. node_events rule.rule_23 right_23), ((λ g. one_event rule.rule_24 (λ e in_. right_24 e in_ (g refl))), ((λ g. two_events rule.rule_25 right_25), ((λ g. two_events rule.rule_26 right_26), ((λ g. node_event_pulse rule.rule_27 right_27), ((λ g. node_events rule.rule_28 right_28), tt)))))))),
                                             ),
                                           ),
                                         ),

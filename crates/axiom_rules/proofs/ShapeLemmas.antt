@@ -32,7 +32,7 @@ index_or-there (x ∷ xs) zero d low = refl
 index_or-there (x ∷ xs) (suc k) d low = index_or-there xs k d (omega arith)
 
 -- the numbers below k + 1 are those below k, and k
-range-more : (a k : ℕ) → range_with_len a (k + 1) ≡ range_with_len a k ++ (a + k) ∷ []
+pub range-more : (a k : ℕ) → range_with_len a (k + 1) ≡ range_with_len a k ++ (a + k) ∷ []
 range-more a zero = let e : a + 0 ≡ a = omega arith in rw e refl
 range-more a (suc k) =
     let ih = range-more (a + 1) k in

@@ -1,6 +1,6 @@
 -- The arguments that a rule with a clause doesn't use are 0, and no rule has a greater number than the last row.
-use Rattle.std.proofs.Common.{◌≡◌, refl, ℕ, zero, suc, ◌<◌, ◌≤◌, true, List, [], ◌∷◌, length, drop, Option, Some, None, Ok, arith}
-use Rattle.std.specs.Prelude.{All, count_by, slice_get}
+use Rattle.std.proofs.Common.{◌≡◌, refl, ℕ, zero, suc, ◌<◌, ◌≤◌, true, List, [], ◌∷◌, drop, Option, Some, None, Ok, arith}
+use Rattle.std.specs.Prelude.{All, count_by}
 use Rattle.std.specs.Option.{option_map_or}
 use Rattle.std.proofs.lemmas.Bool.{eqb-true}
 use Rattle.std.proofs.lemmas.List.Elements.{All-nil, All-cons}

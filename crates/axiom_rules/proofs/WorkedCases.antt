@@ -44,8 +44,12 @@ single_kind = refl
 single_range : single_clause 3 (1 ∷ 0 ∷ 0 ∷ 0 ∷ []) ≡ Err Range
 single_range = refl
 
-single_no_rule : single_clause 25 (0 ∷ 0 ∷ 0 ∷ 0 ∷ []) ≡ Err NoRule
+single_no_rule : single_clause 29 (0 ∷ 0 ∷ 0 ∷ 0 ∷ []) ≡ Err NoRule
 single_no_rule = refl
+
+-- no row is a pulse
+no_pulse : single_clause 25 (0 ∷ 0 ∷ 0 ∷ 0 ∷ []) ≡ Err NoRule
+no_pulse = refl
 
 -- there is no rule 0, and the number is tested before the arguments
 no_rule_0 : single_clause 0 (9 ∷ 9 ∷ 9 ∷ 9 ∷ []) ≡ Err NoRule

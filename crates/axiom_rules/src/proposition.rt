@@ -62,7 +62,8 @@ fn effect(act: &Act, name: &Name) -> Option<bool>
     match act {
         Act::Set(changed) if changed.bytes() == name.bytes() => Some(true),
         Act::Clear(changed) if changed.bytes() == name.bytes() => Some(false),
-        Act::Set(_) | Act::Clear(_) | Act::Send(_) | Act::Recv(_) | Act::Note(_) | Act::Pulse(_) => None,
+        Act::Set(_) | Act::Clear(_) | Act::Send(_) | Act::Recv(_) | Act::Note(_) | Act::Pulse(_) =>
+            None,
     }
 }
 

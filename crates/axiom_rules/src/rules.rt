@@ -1,11 +1,13 @@
-ghost use Rattle.std.specs.Prelude.{◌≡◌, ◌<◌, ◌+◌, ◌⊎◌, ℕ, List, [], length, Some, None, AllPairs, IfOk, IfErr, OnOk, OnErr, Ok, Err, is_some, option_copied};
+ghost use Rattle.std.specs.Prelude.{◌≡◌, ◌<◌, ◌+◌, ◌++◌, ◌⊎◌, if◌then◌else◌, true, ℕ, List, [], length, Some, None, AllPairs, IfOk, IfErr, OnOk, OnErr, Ok, Err, is_some, option_copied};
+ghost use Rattle.std.specs.List.{list_all};
 ghost use Rattle.std.specs.Option.{option_map_or};
 ghost use Rattle.mt_model.specs.Form.{Form};
 ghost use Rattle.formula_arena.specs.Nodes.{nodes_of};
 ghost use Rattle.axiom_rules.specs.Adding.{Answers, Gives};
 ghost use Rattle.axiom_rules.specs.Clauses.{are_there as are_there_in, clause_of as clause_of_rule, is_there as is_there_in, written_by};
 ghost use Rattle.axiom_rules.specs.Sought.{sought_of};
-ghost use Rattle.axiom_rules.specs.Parts.{clause_of_written};
+ghost use Rattle.axiom_rules.specs.Each.{is_other};
+ghost use Rattle.axiom_rules.specs.Parts.{clause_of_parts, clause_of_written};
 ghost use Rattle.axiom_rules.specs.NodeShapes.{changes_in, is_constant as is_constant_shape, operand_in, proposition_in, pulses_in, reach_in, shape_at, sides_in};
 ghost use Rattle.axiom_rules.specs.Rules as written;
 
@@ -55,6 +57,27 @@ fn has_come(changes: &[ChangeRow], place: usize, e: u32) -> Part
         Some(change) => not_after(change.row(), e),
         None => Part::Known(false),
     }
+}
+
+// The pulses that count after a change: where it sets the proposition, none does.
+fn pulses_after<'a>(change: &ChangeRow, pulses: &'a [u32]) -> &'a [u32]
+    ensures pulses { result.now ≡ if change.now.sets then [] else pulses.now }
+{
+    if change.sets() { &pulses[..0] } else { pulses }
+}
+
+// Writes parts, and for each pulse that event e is at its instant.
+fn write_at_pulses(
+    out: &mut Clause,
+    parts: &[Part],
+    pulses: &[u32],
+    e: u32,
+) -> Result<(), RuleFault>
+    requires rising { AllPairs (λ u v. u < v) pulses.now }
+    requires others { list_all (is_other (Each.Same e)) parts.now ≡ true }
+    ensures { Answers (clause_of_parts (parts.now ++ written.at_pulses pulses.now e)) result out.new.items }
+{
+    write_each_of(out, parts, pulses, Each::Same { e })
 }
 
 impl Rules {
@@ -217,7 +240,7 @@ impl Rules {
         let rows = self.proposition(k)?;
         let come = has_come(rows.changes.as_slice(), 0, e);
         let parts = [is_not(Atom::Node { k, e }), come];
-        write_each_of(out, &parts, rows.pulses.as_slice(), Each::Same { e })
+        write_at_pulses(out, &parts, rows.pulses.as_slice(), e)
     }
 
     // From a change on up to the next one, a proposition is what the change makes it; where that clears it, it may be pulsed.
@@ -236,11 +259,8 @@ impl Rules {
             has_come(changes, place as usize + 1, e),
             Part::Says(literal),
         ];
-        if change.sets() {
-            write(out, &parts)
-        } else {
-            write_each_of(out, &parts, rows.pulses.as_slice(), Each::Same { e })
-        }
+        let pulses = pulses_after(change, rows.pulses.as_slice());
+        write_at_pulses(out, &parts, pulses, e)
     }
 
     // `true` is true.

@@ -5,8 +5,8 @@ use Rattle.axiom_rules.proofs.AddingLemmas.{clause_more}
 use Rattle.axiom_rules.proofs.EachLemmas.{others-before}
 use Rattle.axiom_rules.proofs.clause.write_each_of.Goals as goal
 
-pub add_each_of-requires-others : goal.add_each_of-requires-others
-add_each_of-requires-others c = others-before c.args.each c.args.parts.now c.clear.new.self.items c.add_all.new.clause.items c.requires.others c.clear.ensures.items c.in_ok-add_all.ensures
+pub add_each_of-requires-clause-others : goal.add_each_of-requires-clause-others
+add_each_of-requires-clause-others c = others-before c.args.each c.args.parts.now c.clear.new.self.items c.add_all.new.clause.items c.requires.others c.clear.ensures.items c.in_ok-add_all.ensures
 
 pub returns : goal.returns
 returns c = subst (λ r. Answers r c.add_each_of.result c.add_each_of.new.clause.items)
