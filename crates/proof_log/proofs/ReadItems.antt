@@ -1,5 +1,5 @@
 -- What is read at the front of words is what they write.
-use Rattle.std.proofs.Common.{◌≡◌, ◌∙◌, sym, ap, subst, refl, arith, lit≤, ℕ, zero, suc, ◌^◌, ◌<◌, ◌≤◌, Bool, true, false, List, [], ◌∷◌, ◌++◌, append_assoc, length, take, drop, None, ℤ, pos, ◌-ℤ◌, neg_ℤ, codes, ◌==◌}
+use Rattle.std.proofs.Common.{◌≡◌, ◌∙◌, sym, ap, subst, refl, arith, lit≤, ℕ, zero, suc, ◌^◌, ◌<◌, ◌≤◌, Bool, true, false, List, [], ◌∷◌, ◌++◌, append_assoc, length, take, drop, Some, None, ℤ, pos, ◌-ℤ◌, neg_ℤ, codes, ◌==◌}
 use Rattle.std.specs.Prelude.{All, IfSome, nat_lt, if◌then◌else◌, option_and_then}
 use Rattle.std.specs.Fmt.{decimal, signed_decimal}
 use Rattle.std.specs.List.{flat_map}
@@ -23,8 +23,8 @@ use Rattle.axiom_rules.proofs.UnusedArguments.{at-most-four}
 use Rattle.proof_log.specs.declared.item.Constraint.{Constraint}
 use Rattle.proof_log.specs.declared.line.Hint.TheVariants as hint
 use Rattle.proof_log.specs.LinesText.{Word, atom_words, hint_words, literal_words, number_words, order_words, rule_words, signed_word, step_words}
-use Rattle.proof_log.specs.Reading.{Reading, argument_in, arguments_in, atom_in, bound_in, byte_in, constraint_in, counted_in, hint_in, items_in, literal_in, literal_of, literal_with, made, number_in, rule_in, signed_in, step_in, step_of, three_in, two_in}
-use Rattle.proof_log.specs.Spelled.{IsNumber, IsOrder, IsSpelledAtom, IsSpelledHint, IsSpelledLiteral, IsSpelledRule, IsSpelledStep}
+use Rattle.proof_log.specs.Reading.{Reading, argument_in, arguments_in, atom_in, bound_in, byte_in, constraint_in, counted_in, hint_in, items_in, literal_in, literal_of, literal_with, made, number_in, rising_in, rule_in, signed_in, step_in, step_of, three_in, two_in}
+use Rattle.proof_log.specs.Spelled.{IsNumber, IsOrder, IsSameAtom, IsSpelledAtom, IsSpelledHint, IsSpelledLiteral, IsSpelledRule, IsSpelledStep}
 use Rattle.proof_log.proofs.Giving.{IsRead, gives-after, gives-if, gives-made, gives-map, gives-named, gives-then, gives-weaker}
 
 -- the words of a number, of two, of three and of a constraint without its name
@@ -42,6 +42,9 @@ constraint_words x = decimal x.e ∷ decimal x.f ∷ signed_decimal x.c ∷ []
 
 abbrev pub AreTwo : ℕ × ℕ → Type 0
 AreTwo n = IsNumber n.0 × IsNumber n.1
+
+abbrev pub AreRising : ℕ × ℕ → Type 0
+AreRising n = IsSameAtom n.0 n.1
 
 abbrev pub AreThree : ℕ × ℕ × ℕ → Type 0
 AreThree n = IsNumber n.0 × IsNumber n.1 × IsNumber n.2
@@ -70,6 +73,17 @@ two-read ws = gives-then (λ a. made (λ n. (a.0, n)) (number_in a.1)) (number_i
     second : (a : ℕ × List Word) → IsRead one_word IsNumber ws a → IfSome (made (λ n. (a.0, n)) (number_in a.1)) (IsRead two_words AreTwo ws)
     second a r =
         gives-made (λ n. (a.0, n)) (number_in a.1) (IsRead one_word IsNumber a.1) (IsRead two_words AreTwo ws) (λ n rest q. record { valid = (r.valid, q.valid); words_are = r.words_are ∙ ap (λ t. decimal a.0 ∷ t) q.words_are }) (number-read a.1)
+
+rising-read : (ws : List Word) → IfSome (rising_in ws) (IsRead two_words AreRising ws)
+rising-read ws = gives-then (λ a. if nat_lt a.0.0 a.0.1 then Some a else None) (two_in ws) (IsRead two_words AreTwo ws) (IsRead two_words AreRising ws) step (two-read ws)
+  where
+    smaller : (a b : ℕ) → nat_lt a b ≡ true → a < b
+    smaller a b test = grind (arith, nat_tests)
+
+    step : (a : (ℕ × ℕ) × List Word) → IsRead two_words AreTwo ws a → IfSome (if nat_lt a.0.0 a.0.1 then Some a else None) (IsRead two_words AreRising ws)
+    step a r =
+        gives-if (nat_lt a.0.0 a.0.1) (Some a) None (IsRead two_words AreRising ws)
+        (λ less. record { valid = record { smaller_first = smaller a.0.0 a.0.1 less; second = r.valid.1 }; words_are = r.words_are }) (λ none. tt)
 
 three-read : (ws : List Word) → IfSome (three_in ws) (IsRead three_words AreThree ws)
 three-read ws = gives-then (λ a. made (λ n. (a.0.0, a.0.1, n)) (number_in a.1)) (two_in ws) (IsRead two_words AreTwo ws) (IsRead three_words AreThree ws) third (two-read ws)
@@ -115,9 +129,10 @@ atom-read : (positive : Bool) (name : Word) (ws : List Word) → IfSome (atom_in
 atom-read positive name ws =
     gives-named name (codes "node") _ _ P (λ is. gives-after (signed (codes "node")) (λ n. atom.Node n.0 n.1) two_words AreTwo words Valid (two_in ws) (signed name) ws (λ n. refl) (λ n v. v) (ap signed is) (two-read ws))
     (gives-named name (codes "first") _ _ P (λ is. gives-after (signed (codes "first")) atom.First one_word IsNumber words Valid (number_in ws) (signed name) ws (λ n. refl) (λ n v. v) (ap signed is) (number-read ws))
+    (gives-named name (codes "same") _ _ P (λ is. gives-after (signed (codes "same")) (λ n. atom.Same n.0 n.1) two_words AreRising words Valid (rising_in ws) (signed name) ws (λ n. refl) (λ n v. v) (ap signed is) (rising-read ws))
     (gives-named name (codes "wit") _ _ P (λ is. gives-after (signed (codes "wit")) (λ n. atom.Wit n.0 n.1 n.2) three_words AreThree words Valid (three_in ws) (signed name) ws (λ n. refl) (λ n v. v) (ap signed is) (three-read ws))
     (gives-named name (codes "span") _ _ P (λ is. gives-after (signed (codes "span")) (λ n. atom.Span n.0 n.1 n.2) three_words AreThree words Valid (three_in ws) (signed name) ws (λ n. refl) (λ n v. v) (ap signed is) (three-read ws))
-    (gives-named name (codes "gap") _ _ P (λ is. gives-after (signed (codes "gap")) (λ n. atom.Gap n.0 n.1 n.2) three_words AreThree words Valid (three_in ws) (signed name) ws (λ n. refl) (λ n v. v) (ap signed is) (three-read ws)) tt))))
+    (gives-named name (codes "gap") _ _ P (λ is. gives-after (signed (codes "gap")) (λ n. atom.Gap n.0 n.1 n.2) three_words AreThree words Valid (three_in ws) (signed name) ws (λ n. refl) (λ n v. v) (ap signed is) (three-read ws)) tt)))))
   where
     signed : Word → Word
     signed v = signed_word positive v

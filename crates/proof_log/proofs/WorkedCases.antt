@@ -80,6 +80,11 @@ order_text : line_text (line.Learn (order_literal 2 5 (pos 7) ∷ order_literal 
 unfolding digits
 order_text = refl
 
+-- an atom of one instant has its smaller event first
+same_text : line_text (line.Learn (yes (atom.Same 1 3) ∷ no (atom.Same 0 2) ∷ []) (rule 25 (3 ∷ 1 ∷ 0 ∷ 0 ∷ []) ∷ rule 26 (1 ∷ 3 ∷ 0 ∷ 0 ∷ []) ∷ rule 27 (0 ∷ 1 ∷ 2 ∷ 0 ∷ []) ∷ [])) ≡ codes "learn 2 +same 1 3 -same 0 2 3 rule 25 3 1 rule 26 1 3 rule 27 0 1 2\n"
+unfolding digits
+same_text = refl
+
 -- a rule of a number that the table lacks has no arguments
 no_such_rule : line_text (line.Learn [] (rule 255 (0 ∷ 0 ∷ 0 ∷ 0 ∷ []) ∷ rule 0 (0 ∷ 0 ∷ 0 ∷ 0 ∷ []) ∷ hint.Line 4294967295 ∷ [])) ≡ codes "learn 0 3 rule 255 rule 0 line 4294967295\n"
 unfolding digits

@@ -23,8 +23,8 @@ use Rattle.proof_log.specs.declared.item.Constraint.{Constraint}
 use Rattle.proof_log.specs.declared.line.Hint.{Hint}
 use Rattle.proof_log.specs.declared.line.Hint.TheVariants as hint
 use Rattle.proof_log.specs.LinesText.{Word, atom_words, hint_words, literal_words, number_words, order_words, rule_words, step_words}
-use Rattle.proof_log.specs.Reading.{Reading, argument_in, arguments_in, bound_in, byte_in, constraint_in, counted_in, hint_in, items_in, literal_in, literal_of, literal_with, made, number_in, rule_in, step_in, step_of, three_in, two_in}
-use Rattle.proof_log.specs.Spelled.{IsNumber, IsOrder, IsSpelledAtom, IsSpelledHint, IsSpelledLiteral, IsSpelledRule, IsSpelledStep, used_arguments}
+use Rattle.proof_log.specs.Reading.{Reading, argument_in, arguments_in, bound_in, byte_in, constraint_in, counted_in, hint_in, items_in, literal_in, literal_of, literal_with, made, number_in, rising_in, rule_in, step_in, step_of, three_in, two_in}
+use Rattle.proof_log.specs.Spelled.{IsNumber, IsOrder, IsSameAtom, IsSpelledAtom, IsSpelledHint, IsSpelledLiteral, IsSpelledRule, IsSpelledStep, used_arguments}
 use Rattle.proof_log.proofs.Giving.{made-back}
 use Rattle.proof_log.proofs.ReadItems.{bound-twice}
 
@@ -46,6 +46,11 @@ bound-written c rest is = with_rest rest _ c (signed-printed MAX_ORDER c (omega 
 two-written : (a b : ℕ) (rest : List Word) → IsNumber a → IsNumber b → two_in (decimal a ∷ decimal b ∷ rest) ≡ Some ((a, b), rest)
 two-written a b rest ia ib =
     ap (option_and_then (λ (x : ℕ × List Word). made (λ (n : ℕ). (x.0, n)) (number_in x.1))) (number-written a (decimal b ∷ rest) ia) ∙ made-back (λ (n : ℕ). (a, n)) (number_in (decimal b ∷ rest)) b rest (number-written b rest ib)
+
+rising-written : (e x : ℕ) (rest : List Word) → IsSameAtom e x → rising_in (decimal e ∷ decimal x ∷ rest) ≡ Some ((e, x), rest)
+rising-written e x rest is =
+    let test : nat_lt e x ≡ true = let less = is.smaller_first in grind (arith, nat_tests) in
+    ap (option_and_then (λ (a : (ℕ × ℕ) × List Word). if nat_lt a.0.0 a.0.1 then Some a else None)) (two-written e x rest (omega (arith, is.smaller_first, is.second)) is.second) ∙ (rw test refl)
 
 three-written : (a b c : ℕ) (rest : List Word) → IsNumber a → IsNumber b → IsNumber c → three_in (decimal a ∷ decimal b ∷ decimal c ∷ rest) ≡ Some ((a, b, c), rest)
 three-written a b c rest ia ib ic =
@@ -99,6 +104,8 @@ atom-written true (atom.Node k e) rest is = made-back (literal_with true) (made 
 atom-written false (atom.Node k e) rest is = made-back (literal_with false) (made (λ n. atom.Node n.0 n.1) (two_in (decimal k ∷ decimal e ∷ rest))) (atom.Node k e) rest (made-back (λ n. atom.Node n.0 n.1) (two_in (decimal k ∷ decimal e ∷ rest)) (k, e) rest (two-written k e rest is.0 is.1))
 atom-written true (atom.First e) rest is = made-back (literal_with true) (made atom.First (number_in (decimal e ∷ rest))) (atom.First e) rest (made-back atom.First (number_in (decimal e ∷ rest)) e rest (number-written e rest is))
 atom-written false (atom.First e) rest is = made-back (literal_with false) (made atom.First (number_in (decimal e ∷ rest))) (atom.First e) rest (made-back atom.First (number_in (decimal e ∷ rest)) e rest (number-written e rest is))
+atom-written true (atom.Same e x) rest is = made-back (literal_with true) (made (λ n. atom.Same n.0 n.1) (rising_in (decimal e ∷ decimal x ∷ rest))) (atom.Same e x) rest (made-back (λ n. atom.Same n.0 n.1) (rising_in (decimal e ∷ decimal x ∷ rest)) (e, x) rest (rising-written e x rest is))
+atom-written false (atom.Same e x) rest is = made-back (literal_with false) (made (λ n. atom.Same n.0 n.1) (rising_in (decimal e ∷ decimal x ∷ rest))) (atom.Same e x) rest (made-back (λ n. atom.Same n.0 n.1) (rising_in (decimal e ∷ decimal x ∷ rest)) (e, x) rest (rising-written e x rest is))
 atom-written true (atom.Wit k i j) rest is = made-back (literal_with true) (made (λ n. atom.Wit n.0 n.1 n.2) (three_in (decimal k ∷ decimal i ∷ decimal j ∷ rest))) (atom.Wit k i j) rest (made-back (λ n. atom.Wit n.0 n.1 n.2) (three_in (decimal k ∷ decimal i ∷ decimal j ∷ rest)) (k, i, j) rest (three-written k i j rest is.0 is.1 is.2))
 atom-written false (atom.Wit k i j) rest is = made-back (literal_with false) (made (λ n. atom.Wit n.0 n.1 n.2) (three_in (decimal k ∷ decimal i ∷ decimal j ∷ rest))) (atom.Wit k i j) rest (made-back (λ n. atom.Wit n.0 n.1 n.2) (three_in (decimal k ∷ decimal i ∷ decimal j ∷ rest)) (k, i, j) rest (three-written k i j rest is.0 is.1 is.2))
 atom-written true (atom.Span k i j) rest is = made-back (literal_with true) (made (λ n. atom.Span n.0 n.1 n.2) (three_in (decimal k ∷ decimal i ∷ decimal j ∷ rest))) (atom.Span k i j) rest (made-back (λ n. atom.Span n.0 n.1 n.2) (three_in (decimal k ∷ decimal i ∷ decimal j ∷ rest)) (k, i, j) rest (three-written k i j rest is.0 is.1 is.2))

@@ -66,6 +66,7 @@ abbrev pub is_in_range : Sought → Atom → Bool
 is_in_range s (atom.Order e f c) = is_event s e && is_event s f
 is_in_range s (atom.Node k e) = is_node s k && is_event s e
 is_in_range s (atom.First e) = is_event s e
+is_in_range s (atom.Same e x) = is_event s e && is_event s x
 is_in_range s (atom.Wit k i j) = is_reach s k && is_event s i && is_event s j
 is_in_range s (atom.Span k i j) = is_reach s k && is_event s i && is_event s j
 is_in_range s (atom.Gap k i m) = is_reach s k && is_event s i && is_event s m

@@ -59,6 +59,7 @@ abbrev pub atom_words : Bool → Atom → List Word
 atom_words positive (atom.Order e f c) = order_literal_words positive e f c
 atom_words positive (atom.Node k e) = signed_word positive (codes "node") ∷ decimal k ∷ decimal e ∷ []
 atom_words positive (atom.First e) = signed_word positive (codes "first") ∷ decimal e ∷ []
+atom_words positive (atom.Same e x) = signed_word positive (codes "same") ∷ decimal e ∷ decimal x ∷ []
 atom_words positive (atom.Wit k i j) = signed_word positive (codes "wit") ∷ decimal k ∷ decimal i ∷ decimal j ∷ []
 atom_words positive (atom.Span k i j) = signed_word positive (codes "span") ∷ decimal k ∷ decimal i ∷ decimal j ∷ []
 atom_words positive (atom.Gap k i m) = signed_word positive (codes "gap") ∷ decimal k ∷ decimal i ∷ decimal m ∷ []

@@ -51,6 +51,10 @@ bound_in (w ∷ ws) = option_map (λ c. (c, ws)) (signed_up_to MAX_ORDER w)
 abbrev pub two_in : List Word → Reading (ℕ × ℕ)
 two_in ws = option_and_then (λ a. made (λ n. (a.0, n)) (number_in a.1)) (number_in ws)
 
+-- two numbers, the smaller first
+abbrev pub rising_in : List Word → Reading (ℕ × ℕ)
+rising_in ws = option_and_then (λ a. if nat_lt a.0.0 a.0.1 then Some a else None) (two_in ws)
+
 -- three numbers
 abbrev pub three_in : List Word → Reading (ℕ × ℕ × ℕ)
 three_in ws = option_and_then (λ a. made (λ n. (a.0.0, a.0.1, n)) (number_in a.1)) (two_in ws)
@@ -84,6 +88,7 @@ abbrev pub atom_in : Word → List Word → Reading Atom
 atom_in name ws =
     if bytes_eq name (codes "node") then made (λ n. atom.Node n.0 n.1) (two_in ws)
     else if bytes_eq name (codes "first") then made atom.First (number_in ws)
+    else if bytes_eq name (codes "same") then made (λ n. atom.Same n.0 n.1) (rising_in ws)
     else if bytes_eq name (codes "wit") then made (λ n. atom.Wit n.0 n.1 n.2) (three_in ws)
     else if bytes_eq name (codes "span") then made (λ n. atom.Span n.0 n.1 n.2) (three_in ws)
     else if bytes_eq name (codes "gap") then made (λ n. atom.Gap n.0 n.1 n.2) (three_in ws)

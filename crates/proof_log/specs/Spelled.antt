@@ -46,11 +46,17 @@ pub record IsOrderAtom (positive : Bool) (e f : ℕ) (c : ℤ) : Type 0 where
   pub second : IsNumber f
   pub bound : IsWithin MAX_ORDER (written_bound positive c)
 
+-- an atom of one instant has its smaller event first
+pub record IsSameAtom (e x : ℕ) : Type 0 where
+  pub smaller_first : e < x
+  pub second : IsNumber x
+
 -- the literal of a sense of an atom has a spelling
 abbrev pub IsSpelledAtom : Bool → Atom → Type 0
 IsSpelledAtom positive (atom.Order e f c) = IsOrderAtom positive e f c
 IsSpelledAtom positive (atom.Node k e) = IsNumber k × IsNumber e
 IsSpelledAtom positive (atom.First e) = IsNumber e
+IsSpelledAtom positive (atom.Same e x) = IsSameAtom e x
 IsSpelledAtom positive (atom.Wit k i j) = IsNumber k × IsNumber i × IsNumber j
 IsSpelledAtom positive (atom.Span k i j) = IsNumber k × IsNumber i × IsNumber j
 IsSpelledAtom positive (atom.Gap k i m) = IsNumber k × IsNumber i × IsNumber m

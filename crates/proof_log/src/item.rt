@@ -3,7 +3,7 @@
 ghost use Rattle.std.specs.Prelude.{◌≡◌, ◌≢◌, ◌∷◌, ◌<◌, ◌^◌, [], Some, None, MatchOption, IfSome};
 ghost use Rattle.mt_model.specs.declared.limits.TheConstants.{MAX_ORDER};
 ghost use Rattle.mt_model.specs.Log.{IsWithin};
-ghost use Rattle.proof_log.specs.Reading.{argument_in, arguments_in, atom_in, bound_in, byte_in, constraint_in, hint_in, literal_in, literal_of, made, number_in, rule_in, signed_in, step_in, step_of, three_in, two_in, words_after};
+ghost use Rattle.proof_log.specs.Reading.{argument_in, arguments_in, atom_in, bound_in, byte_in, constraint_in, hint_in, literal_in, literal_of, made, number_in, rising_in, rule_in, signed_in, step_in, step_of, three_in, two_in, words_after};
 
 use crate::line::Hint;
 use crate::word::next_word;
@@ -51,6 +51,14 @@ fn next_two(words: &[u8]) -> Option<((u32, u32), &[u8])>
     let (a, rest) = next_number(words)?;
     let (b, rest) = next_number(rest)?;
     Some(((a, b), rest))
+}
+
+// Two numbers, the smaller first.
+fn next_rising(words: &[u8]) -> Option<((u32, u32), &[u8])>
+    ensures { MatchOption result (rising_in (words_after words.now) ≡ None) (λ r. rising_in (words_after words.now) ≡ Some ((r.0.0, r.0.1), words_after r.1.now)) }
+{
+    let ((a, b), rest) = next_two(words)?;
+    if a < b { Some(((a, b), rest)) } else { None }
 }
 
 fn next_three(words: &[u8]) -> Option<((u32, u32, u32), &[u8])>
@@ -122,6 +130,9 @@ fn next_atom<'a>(name: &[u8], words: &'a [u8]) -> Option<(Atom, &'a [u8])>
     } else if name == b"first".as_slice() {
         let (e, rest) = next_number(words)?;
         Some((Atom::First { e }, rest))
+    } else if name == b"same".as_slice() {
+        let ((e, x), rest) = next_rising(words)?;
+        Some((Atom::Same { e, x }, rest))
     } else if name == b"wit".as_slice() {
         let ((k, i, j), rest) = next_three(words)?;
         Some((Atom::Wit { k, i, j }, rest))

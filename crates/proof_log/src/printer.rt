@@ -97,6 +97,7 @@ fn push_literal(alloc: Global, text: &mut Vec<u8>, literal: Literal) -> Result<(
         Atom::Order { e, f, c } => push_order(alloc, text, f, e, -c - 1),
         Atom::Node { k, e } => push_signed(alloc, text, positive, b"node", &[k, e]),
         Atom::First { e } => push_signed(alloc, text, positive, b"first", &[e]),
+        Atom::Same { e, x } => push_signed(alloc, text, positive, b"same", &[e, x]),
         Atom::Wit { k, i, j } => push_signed(alloc, text, positive, b"wit", &[k, i, j]),
         Atom::Span { k, i, j } => push_signed(alloc, text, positive, b"span", &[k, i, j]),
         Atom::Gap { k, i, m } => push_signed(alloc, text, positive, b"gap", &[k, i, m]),

@@ -2,7 +2,7 @@
 
 ghost use Rattle.std.specs.Prelude.{◌≡◌, ◌≤◌, ◌↔◌, length, drop, All, IfOk, IsTrue, ◌-ℤ◌, neg_ℤ, pos};
 ghost use Rattle.mt_model.specs.Log.{IsWithin};
-ghost use Rattle.proof_log.specs.Spelled.{IsNumber, IsOrder, IsOrderAtom, IsSpelled, IsSpelledCycle, IsSpelledHint, IsSpelledLearn, IsSpelledLiteral, IsSpelledRule, IsSpelledStep, written_bound};
+ghost use Rattle.proof_log.specs.Spelled.{IsNumber, IsOrder, IsOrderAtom, IsSameAtom, IsSpelled, IsSpelledCycle, IsSpelledHint, IsSpelledLearn, IsSpelledLiteral, IsSpelledRule, IsSpelledStep, written_bound};
 
 use crate::atoms::has_atoms_once;
 use crate::line::{Hint, Line};
@@ -51,6 +51,12 @@ fn is_order_atom(positive: bool, e: u32, f: u32, c: i128) -> bool
     e < f && is_written_bound(positive, c)
 }
 
+fn is_same_atom(e: u32, x: u32) -> bool
+    ensures { IsTrue result ↔ IsSameAtom e x }
+{
+    e < x
+}
+
 fn is_spelled_step(step: Step) -> bool
     ensures { IsTrue result ↔ IsSpelledStep step }
 {
@@ -67,6 +73,7 @@ fn is_spelled_literal(literal: Literal) -> bool
     match literal.atom {
         Atom::Order { e, f, c } => is_order_atom(literal.positive, e, f, c),
         Atom::Node { .. } | Atom::First { .. } => true,
+        Atom::Same { e, x } => is_same_atom(e, x),
         Atom::Wit { .. } | Atom::Span { .. } | Atom::Gap { .. } => true,
     }
 }
