@@ -21,7 +21,7 @@ use Rattle.skew_bounds.specs.Edges.{AreEdges, bound_at, edge_in}
 use Rattle.clause_db.specs.declared.lit.Lit.{Lit}
 use Rattle.propagate.specs.Links.{edge_in as sensed_edge, edge_of as edge_of_lit, edges_at, edges_of}
 use Rattle.axiom_rules.specs.declared.literal.Atom.{Atom}
-use Rattle.axiom_rules.specs.declared.literal.Atom.TheVariants.{Order, Node, First, Wit, Span, Gap}
+use Rattle.axiom_rules.specs.declared.literal.Atom.TheVariants.{Order, Node, First, Same, Wit, Span, Gap}
 use Rattle.skew_bounds.proofs.Settled.{closed-same, edge-at, edges_at as walked, places-of-cycle, sum-same}
 use Rattle.cdcl_core.specs.Orders.{AreLinks, IsOrderAmong, atom_at, linked, order_edges, order_step, read_lit, sensed_step}
 use Rattle.cdcl_core.specs.Walking.{lit_at, step_in}
@@ -69,6 +69,7 @@ order_has_edge log (Order e f c) false s x among has is =
     rw (← same, ← edge, there, from, to) refl
 order_has_edge log (Node k e) b s x among has is = absurd (cc)
 order_has_edge log (First e) b s x among has is = absurd (cc)
+order_has_edge log (Same e y) b s x among has is = absurd (cc)
 order_has_edge log (Wit k i j) b s x among has is = absurd (cc)
 order_has_edge log (Span k i j) b s x among has is = absurd (cc)
 order_has_edge log (Gap k i m) b s x among has is = absurd (cc)

@@ -17,7 +17,7 @@ use Rattle.skew_bounds.specs.Edges.{AreEdges, bound_at}
 use Rattle.clause_db.specs.declared.lit.Lit.{Lit}
 use Rattle.propagate.specs.Links.{edges_of}
 use Rattle.axiom_rules.specs.declared.literal.Atom.{Atom}
-use Rattle.axiom_rules.specs.declared.literal.Atom.TheVariants.{Order, Node, First, Wit, Span, Gap}
+use Rattle.axiom_rules.specs.declared.literal.Atom.TheVariants.{Order, Node, First, Same, Wit, Span, Gap}
 use Rattle.axiom_rules.specs.declared.literal.Literal.{Literal}
 use Rattle.proof_log.specs.Derivations.{negated_step}
 use Rattle.cdcl_core.specs.Orders.{IsOrderAmong, atom_at, linked, order_step, read_lit, sensed_step}
@@ -38,6 +38,7 @@ order_denied nodes (Order e f c) false s among is =
     rw (← same, le-ltb f e (let less = among.smaller_first in omega (arith, less)), back c) refl
 order_denied nodes (Node k e) b s among is = absurd (cc)
 order_denied nodes (First e) b s among is = absurd (cc)
+order_denied nodes (Same e x) b s among is = absurd (cc)
 order_denied nodes (Wit k i j) b s among is = absurd (cc)
 order_denied nodes (Span k i j) b s among is = absurd (cc)
 order_denied nodes (Gap k i m) b s among is = absurd (cc)

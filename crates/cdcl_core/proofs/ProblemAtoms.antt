@@ -17,7 +17,7 @@ use Rattle.skew_bounds.specs.Edges.{AreEdges}
 use Rattle.skew_bounds.proofs.BoundCounts.{few-bounds}
 use Rattle.formula_arena.specs.Laws.{CoresAreCores, NodesAreSubtrees}
 use Rattle.axiom_rules.specs.declared.literal.Atom.{Atom}
-use Rattle.axiom_rules.specs.declared.literal.Atom.TheVariants.{Order, Node, First, Wit, Span, Gap}
+use Rattle.axiom_rules.specs.declared.literal.Atom.TheVariants.{Order, Node, First, Same, Wit, Span, Gap}
 use Rattle.axiom_rules.specs.declared.literal.Literal.{Literal}
 use Rattle.axiom_rules.specs.declared.reach.Reach.{Reach}
 use Rattle.axiom_rules.specs.declared.rule.Rule.{Rule}
@@ -72,6 +72,7 @@ in-range-made : (s : Sought) (B : ℤ → Type 0) (a : Atom) → IsMadeOf s (IsN
 in-range-made s B (Order e f c) made = and_from (nat_lt e (length s.log.rows)) (nat_lt f (length s.log.rows)) (lt-ltb e (length s.log.rows) (omega (arith, made.0, made.1))) (lt-ltb f (length s.log.rows) made.1)
 in-range-made s B (Node k e) made = and_from (nat_lt k (length s.trees)) (nat_lt e (length s.log.rows)) (lt-ltb k (length s.trees) made.0) (lt-ltb e (length s.log.rows) made.1)
 in-range-made s B (First e) made = lt-ltb e (length s.log.rows) made
+in-range-made s B (Same e x) made = and_from (nat_lt e (length s.log.rows)) (nat_lt x (length s.log.rows)) (lt-ltb e (length s.log.rows) (omega (arith, made.0, made.1))) (lt-ltb x (length s.log.rows) made.1)
 in-range-made s B (Wit k i j) made = three-in-range s k i j made
 in-range-made s B (Span k i j) made = three-in-range s k i j made
 in-range-made s B (Gap k i m) made = three-in-range s k i m made
@@ -80,6 +81,7 @@ among-made : (s : Sought) (a : Atom) → IsMadeOf s (IsNode s) (IsWithin MAX_ORD
 among-made s (Order e f c) made = record { smaller_first = made.0; second = let low = made.1 in omega (arith, low); bound = made.2.bound; negated = made.2.negated }
 among-made s (Node k e) made = tt
 among-made s (First e) made = tt
+among-made s (Same e x) made = made.0
 among-made s (Wit k i j) made = tt
 among-made s (Span k i j) made = tt
 among-made s (Gap k i m) made = tt
@@ -119,6 +121,7 @@ order-more : (m n : ℕ) (a : Atom) → m ≤ n → IsOrderAmong m a → IsOrder
 order-more m n (Order e f c) le order = record { smaller_first = order.smaller_first; second = let second = order.second in omega (arith, second, le); bound = order.bound; negated = order.negated }
 order-more m n (Node k e) le order = tt
 order-more m n (First e) le order = tt
+order-more m n (Same e x) le order = order
 order-more m n (Wit k i j) le order = tt
 order-more m n (Span k i j) le order = tt
 order-more m n (Gap k i m_) le order = tt

@@ -15,7 +15,7 @@ use Rattle.clause_db.specs.Literals.{HasVarsOnce}
 use Rattle.propagate.specs.Links.{edges_at, edges_of}
 use Rattle.propagate.specs.Trails.{Assigned, literals}
 use Rattle.axiom_rules.specs.declared.literal.Atom.{Atom}
-use Rattle.axiom_rules.specs.declared.literal.Atom.TheVariants.{Order, Node, First, Wit, Span, Gap}
+use Rattle.axiom_rules.specs.declared.literal.Atom.TheVariants.{Order, Node, First, Same, Wit, Span, Gap}
 use Rattle.cdcl_core.specs.Orders.{AreLinks, IsOrderAmong, atom_at, linked, order_edges, sensed_step}
 use Rattle.cdcl_core.specs.Running.{IsConflicted, IsStuck}
 use Rattle.cdcl_core.specs.Walking.{AreOrders, IsHeldOrder, denied_in}
@@ -35,6 +35,7 @@ has_step (Order e f c) true some = refl
 has_step (Order e f c) false some = refl
 has_step (Node k e) b some = absurd (cc)
 has_step (First e) b some = absurd (cc)
+has_step (Same e x) b some = absurd (cc)
 has_step (Wit k i j) b some = absurd (cc)
 has_step (Span k i j) b some = absurd (cc)
 has_step (Gap k i m) b some = absurd (cc)

@@ -12,7 +12,7 @@ use Rattle.formula_arena.specs.declared.direction.Direction.TheVariants.{Ahead, 
 use Rattle.axiom_rules.specs.declared.reach.Reach.{Reach}
 use Rattle.axiom_rules.specs.declared.shape.Shape.{Shape}
 use Rattle.axiom_rules.specs.declared.shape.Shape.TheVariants as shape
-use Rattle.axiom_rules.specs.NodeShapes.{changes_named, number_of, operand_in, reach_in, shape_at, shape_of, sides_in}
+use Rattle.axiom_rules.specs.NodeShapes.{number_of, operand_in, reach_in, rows_named, shape_at, shape_of, sides_in}
 use Rattle.axiom_rules.specs.Shapes.{IsOver}
 use Rattle.axiom_rules.specs.Sought.{sought_of}
 use Rattle.axiom_rules.proofs.RulesMade.{AreNodes}
@@ -23,7 +23,7 @@ use Rattle.cdcl_core.proofs.NodeIntervals.{Pass, node-passes, since-passes, unti
 operand-low : (n : ℕ) (o : Option Shape) (a : ℕ) → ((of : Shape) → o ≡ Some of → IsOver n of) → operand_in o ≡ Some a → a < n
 operand-low n None a over is = absurd (cc)
 operand-low n (Some shape.True) a over is = absurd (cc)
-operand-low n (Some (shape.Prop host name changes)) a over is = absurd (cc)
+operand-low n (Some (shape.Prop host name rows)) a over is = absurd (cc)
 operand-low n (Some (shape.Not b)) a over is = let same : b ≡ a = cc in subst (λ x. x < n) same (over (shape.Not b) refl)
 operand-low n (Some (shape.And b c)) a over is = absurd (cc)
 operand-low n (Some (shape.Reach r)) a over is = absurd (cc)
@@ -31,7 +31,7 @@ operand-low n (Some (shape.Reach r)) a over is = absurd (cc)
 sides-low : (n : ℕ) (o : Option Shape) (sides : ℕ × ℕ) → ((of : Shape) → o ≡ Some of → IsOver n of) → sides_in o ≡ Some sides → (sides.0 < n) × (sides.1 < n)
 sides-low n None sides over is = absurd (cc)
 sides-low n (Some shape.True) sides over is = absurd (cc)
-sides-low n (Some (shape.Prop host name changes)) sides over is = absurd (cc)
+sides-low n (Some (shape.Prop host name rows)) sides over is = absurd (cc)
 sides-low n (Some (shape.Not b)) sides over is = absurd (cc)
 sides-low n (Some (shape.And b c)) sides over is = let same : (b, c) ≡ sides = cc in subst (λ (x : ℕ × ℕ). (x.0 < n) × (x.1 < n)) same (over (shape.And b c) refl)
 sides-low n (Some (shape.Reach r)) sides over is = absurd (cc)
@@ -39,7 +39,7 @@ sides-low n (Some (shape.Reach r)) sides over is = absurd (cc)
 reach-low : (n : ℕ) (o : Option Shape) (u : Reach) → ((of : Shape) → o ≡ Some of → IsOver n of) → reach_in o ≡ Some u → (u.left < n) × (u.right < n)
 reach-low n None u over is = absurd (cc)
 reach-low n (Some shape.True) u over is = absurd (cc)
-reach-low n (Some (shape.Prop host name changes)) u over is = absurd (cc)
+reach-low n (Some (shape.Prop host name rows)) u over is = absurd (cc)
 reach-low n (Some (shape.Not b)) u over is = absurd (cc)
 reach-low n (Some (shape.And b c)) u over is = absurd (cc)
 reach-low n (Some (shape.Reach r)) u over is = let same : r ≡ u = cc in subst (λ (x : Reach). (x.left < n) × (x.right < n)) same (over (shape.Reach r) refl)
@@ -60,7 +60,7 @@ module _ (cores : CoresAreCores) (law : NodesAreSubtrees) (log : Logged) (f : Fo
   shape-over : (k : ℕ) (g : Form) (of : Shape) → k < length trees → tree_at trees k ≡ g → shape_of log trees g ≡ Some of → IsOver (length trees) of
   shape-over k True of low at is = let same : shape.True ≡ of = cc in subst (IsOver (length trees)) same tt
   shape-over k False of low at is = absurd (cc)
-  shape-over k (Prop host name) of low at is = let same : shape.Prop host name (changes_named log host name) ≡ of = cc in subst (IsOver (length trees)) same tt
+  shape-over k (Prop host name) of low at is = let same : shape.Prop host name (rows_named log host name) ≡ of = cc in subst (IsOver (length trees)) same tt
   shape-over k (Not g) of low at is = let same : shape.Not (number_of trees g) ≡ of = cc in subst (IsOver (length trees)) same (child-below k (Not g) g 0 low at (omega arith) refl)
   shape-over k (And g h) of low at is =
       let same : shape.And (number_of trees g) (number_of trees h) ≡ of = cc in

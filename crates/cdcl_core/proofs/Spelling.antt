@@ -14,7 +14,7 @@ use Rattle.mt_model.specs.Log.{IsLog, IsWithin, Logged, received_by}
 use Rattle.mt_model.specs.Timing.{received_in, send_of}
 use Rattle.mt_model.specs.Walks.{Edge, HasEdges, edge_of, is_order, is_row}
 use Rattle.axiom_rules.specs.declared.literal.Atom.{Atom}
-use Rattle.axiom_rules.specs.declared.literal.Atom.TheVariants.{Order, Node, First, Wit, Span, Gap}
+use Rattle.axiom_rules.specs.declared.literal.Atom.TheVariants.{Order, Node, First, Same, Wit, Span, Gap}
 use Rattle.axiom_rules.specs.declared.literal.Literal.{Literal}
 use Rattle.proof_log.specs.Spelled.{IsNumber, IsOrder, IsSpelledAtom, IsSpelledLiteral, IsSpelledStep}
 use Rattle.cdcl_core.specs.Orders.{IsOrderAmong}
@@ -27,6 +27,7 @@ atom_spelled nodes true (Order e f c) among numbers = record { smaller_first = a
 atom_spelled nodes false (Order e f c) among numbers = record { smaller_first = among.smaller_first; second = numbers.1; bound = among.negated }
 atom_spelled nodes b (Node k e) among numbers = numbers
 atom_spelled nodes b (First e) among numbers = numbers
+atom_spelled nodes b (Same e x) among numbers = record { smaller_first = among; second = numbers.1 }
 atom_spelled nodes b (Wit k i j) among numbers = numbers
 atom_spelled nodes b (Span k i j) among numbers = numbers
 atom_spelled nodes b (Gap k i m) among numbers = numbers

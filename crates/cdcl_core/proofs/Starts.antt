@@ -20,7 +20,7 @@ use Rattle.propagate.specs.Links.{edge_in as sensed_edge}
 use Rattle.propagate.specs.Steps.{IsLinked}
 use Rattle.propagate.specs.Trails.{Assigned, IsTrail}
 use Rattle.axiom_rules.specs.declared.literal.Atom.{Atom}
-use Rattle.axiom_rules.specs.declared.literal.Atom.TheVariants.{Order, Node, First, Wit, Span, Gap}
+use Rattle.axiom_rules.specs.declared.literal.Atom.TheVariants.{Order, Node, First, Same, Wit, Span, Gap}
 use Rattle.axiom_rules.specs.declared.literal.Literal.{Literal}
 use Rattle.axiom_rules.specs.declared.rule.Rule.{Rule}
 use Rattle.axiom_rules.specs.Literals.{yes}
@@ -74,6 +74,7 @@ edges_fit nodes (Order e f c) true order = yes_edge nodes e f c order
 edges_fit nodes (Order e f c) false order = no_edge nodes e f c order
 edges_fit nodes (Node k e) b order = tt
 edges_fit nodes (First e) b order = tt
+edges_fit nodes (Same e x) b order = tt
 edges_fit nodes (Wit k i j) b order = tt
 edges_fit nodes (Span k i j) b order = tt
 edges_fit nodes (Gap k i m) b order = tt

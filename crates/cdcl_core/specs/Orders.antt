@@ -8,7 +8,7 @@ use Rattle.neg_cycle.specs.declared.system.Edge.{Edge}
 use Rattle.clause_db.specs.declared.lit.Lit.{Lit}
 use Rattle.propagate.specs.Links.{edges_at}
 use Rattle.axiom_rules.specs.declared.literal.Atom.{Atom}
-use Rattle.axiom_rules.specs.declared.literal.Atom.TheVariants.{Order, Node, First, Wit, Span, Gap}
+use Rattle.axiom_rules.specs.declared.literal.Atom.TheVariants.{Order, Node, First, Same, Wit, Span, Gap}
 use Rattle.axiom_rules.specs.declared.literal.Literal.{Literal}
 use Rattle.axiom_rules.specs.Atoms.{IsVar}
 
@@ -28,11 +28,12 @@ pub record IsOrderOf (nodes e f : ℕ) (c : ℤ) : Type 0 where
   pub bound : IsWithin MAX_ORDER c
   pub negated : IsWithin MAX_ORDER (neg_ℤ c -ℤ pos 1)
 
--- the atom, where it is an order, is one of two rows whose nodes are among so many
+-- the atom, where it is an order, is one of two rows whose nodes are among so many; one of one instant has its smaller event first
 abbrev pub IsOrderAmong : ℕ → Atom → Type 0
 IsOrderAmong nodes (Order e f c) = IsOrderOf nodes e f c
 IsOrderAmong nodes (Node k e) = Unit {0}
 IsOrderAmong nodes (First e) = Unit {0}
+IsOrderAmong nodes (Same e x) = e < x
 IsOrderAmong nodes (Wit k i j) = Unit {0}
 IsOrderAmong nodes (Span k i j) = Unit {0}
 IsOrderAmong nodes (Gap k i m) = Unit {0}
@@ -42,6 +43,7 @@ abbrev pub order_edges : Atom → Option (Edge × Edge)
 order_edges (Order e f c) = Some (record { from = e + 1; to = f + 1; bound = c }, record { from = f + 1; to = e + 1; bound = neg_ℤ c -ℤ pos 1 })
 order_edges (Node k e) = None
 order_edges (First e) = None
+order_edges (Same e x) = None
 order_edges (Wit k i j) = None
 order_edges (Span k i j) = None
 order_edges (Gap k i m) = None
@@ -52,6 +54,7 @@ sensed_step true (Order e f c) = Some (step.Order e f c)
 sensed_step false (Order e f c) = Some (step.Order f e (neg_ℤ c -ℤ pos 1))
 sensed_step _ (Node k e) = None
 sensed_step _ (First e) = None
+sensed_step _ (Same e x) = None
 sensed_step _ (Wit k i j) = None
 sensed_step _ (Span k i j) = None
 sensed_step _ (Gap k i m) = None

@@ -5,7 +5,7 @@ use Rattle.mt_model.specs.Log.{Logged, IsLog}
 use Rattle.clause_db.specs.declared.lit.Lit.{Lit}
 use Rattle.clause_db.specs.Clauses.{clause_at}
 use Rattle.axiom_rules.specs.declared.literal.Atom.{Atom}
-use Rattle.axiom_rules.specs.declared.literal.Atom.TheVariants.{Order, Node, First, Wit, Span, Gap}
+use Rattle.axiom_rules.specs.declared.literal.Atom.TheVariants.{Order, Node, First, Same, Wit, Span, Gap}
 use Rattle.axiom_rules.specs.declared.literal.Literal.{Literal}
 use Rattle.axiom_rules.specs.declared.rule.Rule.{Rule}
 use Rattle.axiom_rules.specs.Sought.{Sought, sought_of}
@@ -54,6 +54,7 @@ abbrev pub HasNumbers : Atom → Type 0
 HasNumbers (Order e f c) = IsNumber e × IsNumber f
 HasNumbers (Node k e) = IsNumber k × IsNumber e
 HasNumbers (First e) = IsNumber e
+HasNumbers (Same e x) = IsNumber e × IsNumber x
 HasNumbers (Wit k i j) = IsNumber k × IsNumber i × IsNumber j
 HasNumbers (Span k i j) = IsNumber k × IsNumber i × IsNumber j
 HasNumbers (Gap k i m) = IsNumber k × IsNumber i × IsNumber m

@@ -28,7 +28,7 @@ fn numbers_fit(atom: Atom)
 {
     match atom {
         Atom::Order { .. } | Atom::Node { .. } | Atom::First { .. } => {}
-        Atom::Wit { .. } | Atom::Span { .. } | Atom::Gap { .. } => {}
+        Atom::Same { .. } | Atom::Wit { .. } | Atom::Span { .. } | Atom::Gap { .. } => {}
     }
 }
 

@@ -32,7 +32,7 @@ pub fn order_edges(atom: Atom) -> Option<(Edge, Edge)>
                 bound: -c - 1,
             },
         )),
-        Atom::Node { .. } | Atom::First { .. } => None,
+        Atom::Node { .. } | Atom::First { .. } | Atom::Same { .. } => None,
         Atom::Wit { .. } | Atom::Span { .. } | Atom::Gap { .. } => None,
     }
 }
@@ -52,7 +52,7 @@ pub fn order_step(literal: Literal) -> Option<Step>
                 c: -c - 1,
             }
         }),
-        Atom::Node { .. } | Atom::First { .. } => None,
+        Atom::Node { .. } | Atom::First { .. } | Atom::Same { .. } => None,
         Atom::Wit { .. } | Atom::Span { .. } | Atom::Gap { .. } => None,
     }
 }

@@ -25,6 +25,7 @@ fn is_in_range(rules: &Rules, atom: Atom) -> bool
         Atom::Order { e, f, .. } => is_event(rules, e) && is_event(rules, f),
         Atom::Node { k, e } => is_node(rules, k) && is_event(rules, e),
         Atom::First { e } => is_event(rules, e),
+        Atom::Same { e, x } => is_event(rules, e) && is_event(rules, x),
         Atom::Wit { k, i, j } | Atom::Span { k, i, j } => {
             rules.is_reach(k) && is_event(rules, i) && is_event(rules, j)
         }
