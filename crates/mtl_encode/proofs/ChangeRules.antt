@@ -1,52 +1,88 @@
--- Rule 2 has a clause for the changes of its node alone.
-use Rattle.std.proofs.Common.{◌≡◌, refl, ℕ, ◌<◌, ◌≤◌, Bool, true, false, ◌&&◌, if◌then◌else◌, List, [], ◌∷◌, length, Option, Some, None, Ok, Err, arith}
-use Rattle.std.specs.Prelude.{Result, is_ok, not, slice_get, slice_index}
+-- Rule 2 has a clause for the changes of its node alone, and rule 27 for its pulses.
+use Rattle.std.proofs.Common.{◌≡◌, refl, ℕ, ◌+◌, ◌<◌, ◌≤◌, Bool, true, false, ◌&&◌, if◌then◌else◌, List, [], ◌∷◌, length, Option, Some, None, Ok, Err, arith}
+use Rattle.std.specs.Prelude.{Result, is_ok, not, option_and_then, slice_get, slice_index}
 use Rattle.std.specs.List.{flat_map, range_with_len}
 use Rattle.std.specs.Option.{option_map_or}
 use Rattle.std.proofs.lemmas.Option.{slice_get_within}
-use Rattle.mt_model.specs.State.{Change}
+use Rattle.mt_model.specs.Form.{Form}
 use Rattle.axiom_rules.specs.declared.fault.RuleFault.{RuleFault}
 use Rattle.axiom_rules.specs.declared.fault.RuleFault.TheVariants.{Range}
 use Rattle.axiom_rules.specs.declared.literal.Literal.{Literal}
 use Rattle.axiom_rules.specs.declared.part.Part.{Part}
-use Rattle.axiom_rules.specs.declared.rule.Argument.TheVariants.{ANode, AnEvent, AChange, Unused}
+use Rattle.axiom_rules.specs.declared.proposition.PropositionRows.{PropositionRows}
+use Rattle.axiom_rules.specs.declared.rule.Argument.TheVariants.{ANode, AnEvent, AChange, APulse, Unused}
 use Rattle.axiom_rules.specs.declared.rule.Rule.{Rule}
+use Rattle.axiom_rules.specs.declared.shape.Shape.{Shape}
+use Rattle.axiom_rules.specs.declared.shape.Shape.TheVariants as shape
 use Rattle.axiom_rules.specs.Clauses.{are_there, clause_of}
-use Rattle.axiom_rules.specs.NodeShapes.{changes_in, shape_at}
+use Rattle.axiom_rules.specs.NodeShapes.{changes_in, proposition_in, pulses_in, shape_at, shape_of}
 use Rattle.axiom_rules.specs.Parts.{Written, clause_of_written}
-use Rattle.axiom_rules.specs.Rules.{of_kind, rule_2}
+use Rattle.axiom_rules.specs.Rules.{of_kind, rule_2, rule_27}
 use Rattle.axiom_rules.specs.Sought.{Sought}
+use Rattle.mtl_encode.proofs.ChangeCounts.{tree-few}
 use Rattle.mtl_encode.proofs.RangeLemmas.{flat-first, flat-nothing}
+use Rattle.mtl_encode.specs.Growth.{pulse_count}
 use Rattle.mtl_encode.specs.Instances.{kept, rule_at, with_three, with_two}
 
--- a change of which something is written is there
-pub change-there : (o : Option (List Change)) (write : List Change → Change → Written) (place : ℕ) (parts : List Part)
-    → of_kind o (λ changes. option_map_or (write changes) (slice_get changes place) (Err Range)) ≡ Ok parts → (changes : List Change) × (o ≡ Some changes) × (place < length changes)
-change-there None write place parts is = absurd (cc)
-change-there (Some changes) write place parts is = (changes, refl, go (slice_get changes place) refl is)
+-- what stands at a place of a list of a node, and of which something is written, is there
+pub place-there : {X Y : Type 0} (o : Option X) (list : X → List Y) (write : X → Y → Written) (place : ℕ) (parts : List Part)
+    → of_kind o (λ x. option_map_or (write x) (slice_get (list x) place) (Err Range)) ≡ Ok parts → (x : X) × (o ≡ Some x) × (place < length (list x))
+place-there None list write place parts is = absurd (cc)
+place-there {X} {Y} (Some x) list write place parts is = (x, refl, go (slice_get (list x) place) refl is)
   where
-    go : (o : Option Change) → slice_get changes place ≡ o → option_map_or (write changes) o (Err Range) ≡ Ok parts → place < length changes
+    go : (o : Option Y) → slice_get (list x) place ≡ o → option_map_or (write x) o (Err Range) ≡ Ok parts → place < length (list x)
     go None at is = absurd (cc)
-    go (Some c) at is = slice_get_within changes place c at
+    go (Some y) at is = slice_get_within (list x) place y at
 
 -- how many changes the proposition of a number has
 abbrev pub change_count : Sought → ℕ → ℕ
 change_count s k = option_map_or (λ changes. length changes) (changes_in (shape_at s k)) 0
 
--- a change after the last one has no clause
-pub none-after : (s : Sought) (k e p d : ℕ) → change_count s k ≤ p → is_ok (clause_of s (rule_at 2 k e p d)) ≡ false
-none-after s k e p d past = there (are_there s (ANode ∷ AnEvent ∷ AChange ∷ Unused ∷ []) (k ∷ e ∷ p ∷ d ∷ []))
-  where
-    written : (w : Written) → rule_2 s k e p ≡ w → is_ok (clause_of_written w) ≡ false
-    written (Ok parts) is =
-        let (changes, are, low) = change-there (changes_in (shape_at s k)) _ p parts is in
-        let few : length changes ≤ p = rw are at past in
-        absurd (omega (arith, low, few))
-    written (Err fault) is = refl
+-- the changes and the pulses of the rows that tell of a proposition
+pub changes-are : (o : Option Shape) (rows : PropositionRows) → proposition_in o ≡ Some rows → changes_in o ≡ Some rows.changes
+changes-are None rows is = absurd (cc)
+changes-are (Some shape.True) rows is = absurd (cc)
+changes-are (Some (shape.Prop host name told)) rows is = let equal : told ≡ rows = cc in rw equal refl
+changes-are (Some (shape.Not a)) rows is = absurd (cc)
+changes-are (Some (shape.And a b)) rows is = absurd (cc)
+changes-are (Some (shape.Reach u)) rows is = absurd (cc)
 
-    there : (b : Bool) → is_ok (let r : Result (List Literal) RuleFault = (if b then clause_of_written (rule_2 s k e p) else Err Range) in r) ≡ false
-    there true = written (rule_2 s k e p) refl
-    there false = refl
+pub pulses-are : (o : Option Shape) (rows : PropositionRows) → proposition_in o ≡ Some rows → pulses_in o ≡ Some rows.pulses
+pulses-are None rows is = absurd (cc)
+pulses-are (Some shape.True) rows is = absurd (cc)
+pulses-are (Some (shape.Prop host name told)) rows is = let equal : told ≡ rows = cc in rw equal refl
+pulses-are (Some (shape.Not a)) rows is = absurd (cc)
+pulses-are (Some (shape.And a b)) rows is = absurd (cc)
+pulses-are (Some (shape.Reach u)) rows is = absurd (cc)
+
+-- they are no more than the rows of the log
+pub few-rows : (s : Sought) (k : ℕ) (rows : PropositionRows) → proposition_in (shape_at s k) ≡ Some rows → length rows.changes + length rows.pulses ≤ length s.log.rows
+few-rows s k rows = go (slice_get s.trees k)
+  where
+    go : (o : Option Form) → proposition_in (option_and_then (shape_of s.log s.trees) o) ≡ Some rows → length rows.changes + length rows.pulses ≤ length s.log.rows
+    go None is = absurd (cc)
+    go (Some f) is = rw (changes-are (shape_of s.log s.trees f) rows is, pulses-are (shape_of s.log s.trees f) rows is) at (tree-few s.log s.trees f)
+
+module _ (s : Sought) (k e p d : ℕ) where
+  -- a rule that writes nothing has no clause
+  unwritten : (there : Bool) (w : Written) → ((parts : List Part) → w ≡ Ok parts → ⊥) → is_ok (let r : Result (List Literal) RuleFault = (if there then clause_of_written w else Err Range) in r) ≡ false
+  unwritten true (Ok parts) none = absurd (none parts refl)
+  unwritten true (Err fault) none = refl
+  unwritten false w none = refl
+
+  -- a change after the last one has no clause
+  pub no-change : change_count s k ≤ p → is_ok (clause_of s (rule_at 2 k e p d)) ≡ false
+  no-change past = unwritten (are_there s (ANode ∷ AnEvent ∷ AChange ∷ Unused ∷ []) (k ∷ e ∷ p ∷ d ∷ [])) (rule_2 s k e p) (λ parts is.
+      let (rows, are, low) = place-there (proposition_in (shape_at s k)) (λ rows. rows.changes) _ p parts is in
+      let few : length rows.changes ≤ p = rw (changes-are (shape_at s k) rows are) at past in
+      absurd (omega (arith, low, few)))
+
+  -- nor has a pulse
+  pub no-pulse : pulse_count s k ≤ p → is_ok (clause_of s (rule_at 27 k e p d)) ≡ false
+  no-pulse past = unwritten (are_there s (ANode ∷ AnEvent ∷ APulse ∷ Unused ∷ []) (k ∷ e ∷ p ∷ d ∷ [])) (rule_27 s k e p) (λ parts is.
+      let (rows, are, low) = place-there (proposition_in (shape_at s k)) (λ rows. rows.pulses) _ p parts is in
+      let few : length rows.pulses ≤ p = rw (pulses-are (shape_at s k) rows are) at past in
+      absurd (omega (arith, low, few)))
 
 module _ (s : Sought) (out : Rule → Bool) where
   -- a rule that has no clause isn't kept

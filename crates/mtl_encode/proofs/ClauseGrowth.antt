@@ -1,5 +1,5 @@
 -- Clauses that grow by that of one more rule.
-use Rattle.std.proofs.Common.{◌≡◌, ◌∙◌, sym, ap, refl, ℕ, ◌+◌, ◌<◌, ◌≤◌, Bool, true, false, if◌then◌else◌, List, [], ◌∷◌, ◌++◌, length, Some, Ok, inl, inr, arith}
+use Rattle.std.proofs.Common.{◌≡◌, ◌∙◌, sym, ap, refl, ℕ, ◌+◌, ◌<◌, ◌≤◌, Bool, true, false, if◌then◌else◌, List, [], ◌∷◌, ◌++◌, length, take, Some, Ok, inl, inr, arith}
 use Rattle.std.specs.Prelude.{All, Any, slice_get, slice_index_or}
 use Rattle.std.specs.List.{flat_map, range_with_len}
 use Rattle.std.proofs.lemmas.List.{append-nil, append_assoc, get_or_append_left, length-append}
@@ -13,31 +13,34 @@ use Rattle.clause_db.specs.declared.lit.Lit.{Lit}
 use Rattle.clause_db.specs.Clauses.{clause_at}
 use Rattle.axiom_rules.specs.declared.literal.Literal.{Literal}
 use Rattle.axiom_rules.specs.declared.rule.Rule.{Rule}
-use Rattle.axiom_rules.specs.ClauseLengths.{is_of_each_event, most_literals}
-use Rattle.axiom_rules.specs.Clauses.{clause_of}
+use Rattle.axiom_rules.specs.ClauseLengths.{is_of_each_event}
+use Rattle.axiom_rules.specs.Clauses.{arg, clause_of}
 use Rattle.axiom_rules.specs.Sought.{Sought}
 use Rattle.axiom_rules.proofs.ShapeLemmas.{slice-end}
-use Rattle.axiom_rules.proofs.RulesMade.{few-by-number}
 use Rattle.mtl_encode.proofs.AtomGrowth.{Keeps, all-atoms, keeps-atoms, longer-atoms, read-kept}
+use Rattle.mtl_encode.proofs.ListedNumbers.{flat-more, part-taken}
 use Rattle.mtl_encode.proofs.RangeLemmas.{part-low, place-of}
+use Rattle.mtl_encode.proofs.RuleLengths.{few-in}
 use Rattle.mtl_encode.specs.declared.clauses.Clauses.{Clauses}
-use Rattle.mtl_encode.specs.Growth.{AreClauses, Gains, HasRoom, most_literals_of, with_atoms}
+use Rattle.mtl_encode.specs.Growth.{AreClauses, Gains, HasRoom, is_of_each_pulse, is_of_two, most_in, most_literals_of, pulse_count, with_atoms}
 use Rattle.mtl_encode.specs.Problems.{IsClauseOf, ReadsAs, StandsIn}
 
 module _ (s : Sought) where
   -- how many literals are in the clauses of rules and of further ones
   pub literals-append : (old more : List Rule) → most_literals_of s (old ++ more) ≡ most_literals_of s old + most_literals_of s more
   unfolding most_literals_of
-  literals-append old more = sum_by-append (λ rule. most_literals s rule.number) old more
+  literals-append old more = sum_by-append (most_in s) old more
 
   -- and of one rule more
-  pub literals-one : (old : List Rule) (rule : Rule) → most_literals_of s (old ++ rule ∷ []) ≡ most_literals_of s old + most_literals s rule.number
+  pub literals-one : (old : List Rule) (rule : Rule) → most_literals_of s (old ++ rule ∷ []) ≡ most_literals_of s old + most_in s rule
   unfolding most_literals_of
-  literals-one old rule = sum_by_push (λ rule. most_literals s rule.number) old rule
+  literals-one old rule = sum_by_push (most_in s) old rule
 
-  five : (each : Bool) → 5 ≤ (let most : ℕ = (if each then length s.log.rows + 5 else 5) in most)
-  five true = omega arith
-  five false = omega arith
+  some : (pulses two each : Bool) (n : ℕ) → 1 ≤ (let most : ℕ = (if pulses then n + 5 else if two then 2 else if each then length s.log.rows + 5 else 5) in most)
+  some true two each n = omega arith
+  some false true each n = omega arith
+  some false false true n = omega arith
+  some false false false n = omega arith
 
   -- there are no more rules than literals
   pub few-rules : (rules : List Rule) → length rules ≤ most_literals_of s rules
@@ -45,8 +48,8 @@ module _ (s : Sought) where
   few-rules [] = omega arith
   few-rules (rule ∷ rules) =
       let ih = few-rules rules in
-      let sum = sum_by-cons (λ rule. most_literals s rule.number) rule rules in
-      let more = five (is_of_each_event rule.number) in
+      let sum = sum_by-cons (most_in s) rule rules in
+      let more : 1 ≤ most_in s rule = some (is_of_each_pulse rule.number) (is_of_two rule.number) (is_of_each_event rule.number) (pulse_count s (arg rule.args 0)) in
       omega (arith, ih, sum, more)
 
 -- an atom that stands in the clause of a rule stands in that of one of more rules
@@ -96,7 +99,7 @@ module _ (s : Sought) (old new : Clauses) (rule : Rule) (clause : List Literal) 
 
   few-one : length new.atoms ≤ most_literals_of s new.rules
   few-one = rw (atoms, rules) (
-      let short = few-by-number s rule clause of_rule in
+      let short = few-in s rule clause of_rule in
       let most = literals-one s old.rules rule in
       omega (arith, held.few, short, longer-atoms clause old.atoms, most))
 
@@ -128,8 +131,25 @@ module _ (s : Sought) (f : ℕ → List Rule) (old mid : Clauses) (x : ℕ) (gai
   unfolding most_literals_of
   room-next n less room =
       let first = flat_map f (range_with_len 0 x) in
-      let low = part-low (λ rule. most_literals s rule.number) f x n less in
+      let low = part-low (most_in s) f x n less in
       let all = literals-append s old.rules (flat_map f (range_with_len 0 n)) in
       let before = literals-append s old.rules first in
       let here = literals-append s (old.rules ++ first) (f x) in
       rw gained.rules (omega (arith, room, low, all, before, here))
+
+-- a loop that goes through the lists of some numbers
+module _ (s : Sought) (f : ℕ → List Rule) (xs : List ℕ) (old mid : Clauses) (i d : ℕ) (low : i < length xs) (gained : Gains s old mid (flat_map f (take i xs))) where
+  -- with the list of one number more
+  pub gains-taken : (new : Clauses) → Gains s mid new (f (slice_index_or xs i d)) → Gains s old new (flat_map f (take (i + 1) xs))
+  gains-taken new more = gains-more s old mid new (flat_map f (take i xs)) (f (slice_index_or xs i d)) (flat_map f (take (i + 1) xs)) gained more (flat-more f xs i d low)
+
+  -- there is room for the list of the next number where there is for all
+  pub room-taken : HasRoom s (old.rules ++ flat_map f xs) → HasRoom s (mid.rules ++ f (slice_index_or xs i d))
+  unfolding most_literals_of
+  room-taken room =
+      let first = flat_map f (take i xs) in
+      let part = part-taken f (most_in s) xs i d low in
+      let all = literals-append s old.rules (flat_map f xs) in
+      let before = literals-append s old.rules first in
+      let here = literals-append s (old.rules ++ first) (f (slice_index_or xs i d)) in
+      rw gained.rules (omega (arith, room, part, all, before, here))

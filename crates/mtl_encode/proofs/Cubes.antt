@@ -1,6 +1,6 @@
--- Cubes as products.
-use Rattle.std.proofs.Common.{◌≡◌, ◌∙◌, sym, ap, ℕ, ◌*◌, ◌^◌}
-use Rattle.std.proofs.Math.Nat.{mul-one, mul_assoc, pow-succ', pow-zero}
+-- Squares and cubes as products, and products of two numbers of which the sum is small.
+use Rattle.std.proofs.Common.{◌≡◌, ◌∙◌, sym, ap, ℕ, ◌+◌, ◌-◌, ◌*◌, ◌^◌, ◌≤◌, ◌⊎◌, inl, inr, arith}
+use Rattle.std.proofs.Math.Nat.{add-mul, mul-add, mul-le-mul_right, mul-one, mul_assoc, mul_comm, pow-succ', pow-zero}
 
 pub cube : (r : ℕ) → r ^ 3 ≡ r * (r * (r * 1))
 cube r = pow-succ' r 2 ∙ ap (λ n. r * n) (pow-succ' r 1 ∙ ap (λ n. r * n) (pow-succ' r 0 ∙ ap (λ n. r * n) (pow-zero r)))
@@ -10,3 +10,41 @@ square r = pow-succ' r 1 ∙ ap (λ n. r * n) (pow-succ' r 0 ∙ ap (λ n. r * n
 
 pub times_cube : (k r : ℕ) → k * r * r * r ≡ k * r ^ 3
 times_cube k r = mul_assoc (k * r) r r ∙ mul_assoc k r (r * r) ∙ ap (λ n. k * n) (sym (cube r ∙ ap (λ n. r * (r * n)) (mul-one r)))
+
+-- four times a product is at most the square of the sum
+apart-low : (c d : ℕ) → 4 * (c * (c + d)) ≤ (c + (c + d)) * (c + (c + d))
+apart-low c d =
+    let first = mul-add c c d in
+    let all = add-mul c (c + d) (c + (c + d)) in
+    let left = mul-add c c (c + d) in
+    let right = mul-add (c + d) c (c + d) in
+    let low = add-mul c d c in
+    let high = add-mul c d (c + d) in
+    let last = mul-add d c d in
+    let same = mul_comm d c in
+    omega (arith, first, all, left, right, low, high, last, same)
+
+ordered : (c p : ℕ) → (c ≤ p) ⊎ (p ≤ c)
+ordered c p = grind arith
+
+product-low : (c p : ℕ) → 4 * (c * p) ≤ (c + p) * (c + p)
+product-low c p = elim (ordered c p) [
+  | inl less ↦
+      let e : c + (p - c) ≡ p = omega (arith, less) in
+      rw e at (apart-low c (p - c))
+  | inr less ↦
+      let e : p + (c - p) ≡ c = omega (arith, less) in
+      let low : 4 * (p * c) ≤ (p + c) * (p + c) = rw e at (apart-low p (c - p)) in
+      let same = mul_comm p c in
+      let sum : p + c ≡ c + p = omega arith in
+      let turned : 4 * (p * c) ≤ (c + p) * (c + p) = rw sum at low in
+      omega (arith, turned, same)
+]
+
+-- where the sum is at most 1,024
+pub product-few : (c p : ℕ) → c + p ≤ 1024 → c * (p + 5) ≤ 261 * (c + p)
+product-few c p few =
+    let square = product-low c p in
+    let low = mul-le-mul_right (c + p) few in
+    let apart = mul-add c p 5 in
+    omega (arith, square, low, apart)

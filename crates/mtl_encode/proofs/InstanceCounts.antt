@@ -3,36 +3,29 @@ use Rattle.std.proofs.Common.{◌≡◌, ap, refl, ℕ, ◌+◌, ◌*◌, ◌<�
 use Rattle.std.specs.Prelude.{◌↔◌, slice_index, sum_by}
 use Rattle.std.specs.List.{AllByRecursion, flat_map, range_with_len}
 use Rattle.std.specs.Option.{option_map_or}
-use Rattle.std.proofs.Math.Nat.{mul-le-mul_left, mul-le-mul_right}
-use Rattle.std.proofs.lemmas.List.Sums.{sum_by-append}
+use Rattle.std.proofs.Math.Nat.{mul-add, mul-le-mul_left, mul_assoc}
+use Rattle.std.proofs.lemmas.List.Sums.{sum_by-append, sum_by-le}
+use Rattle.std.proofs.lemmas.Nat.{mul-le}
 use Rattle.mt_model.specs.Form.{Form, True}
-use Rattle.mt_model.specs.State.{Change}
 use Rattle.mt_model.specs.declared.limits.TheConstants.{MAX_ROWS}
 use Rattle.formula_arena.specs.Nodes.{IsArena, tree_at}
 use Rattle.formula_arena.specs.Subtrees.{same_form}
 use Rattle.axiom_rules.specs.declared.rule.Rule.{Rule}
-use Rattle.axiom_rules.specs.ClauseLengths.{most_literals}
-use Rattle.axiom_rules.specs.NodeShapes.{changes_in, shape_at}
+use Rattle.axiom_rules.specs.NodeShapes.{changes_in, pulses_in}
 use Rattle.axiom_rules.specs.Sought.{Sought}
-use Rattle.axiom_rules.proofs.ChangeCases.{few-changes}
-use Rattle.mtl_encode.proofs.ChangeCounts.{changes-few, changes_of_tree}
-use Rattle.mtl_encode.proofs.ChangeRules.{change_count, first-thirds, none-after}
-use Rattle.mtl_encode.proofs.LiteralCounts.{most, none-within, three-within}
+use Rattle.mtl_encode.proofs.ChangeCounts.{changes_of_tree, pulses-few, pulses_of_tree, rows-few, rows_of_tree, sum-both, tree-few}
+use Rattle.mtl_encode.proofs.ChangeRules.{change_count, first-thirds, no-change, no-pulse}
+use Rattle.mtl_encode.proofs.Cubes.{product-few}
+use Rattle.mtl_encode.proofs.LiteralCounts.{none-within, one-within, three-within}
 use Rattle.mtl_encode.proofs.NodeLemmas.{shape-is}
 use Rattle.mtl_encode.proofs.RangeLemmas.{flat-places, flat-within}
 use Rattle.mtl_encode.proofs.ReachCounts.{one-event, spans, two-events}
 use Rattle.mtl_encode.proofs.SpanRules.{gap-needless, past-needless, three-nothing, within-needless}
 use Rattle.mtl_encode.specs.declared.size.TheConstants.{MAX_SIZE}
-use Rattle.mtl_encode.specs.Growth.{HasRoom, most_literals_of}
-use Rattle.mtl_encode.specs.Instances.{instances, is_of_reach, of_number, with_none, with_one, with_three, with_two}
+use Rattle.mtl_encode.specs.Growth.{HasRoom, most_in, most_literals_of, pulse_count}
+use Rattle.mtl_encode.specs.Instances.{instances, is_of_reach, of_number, rule_at, with_none, with_one, with_three, with_two}
 use Rattle.mtl_encode.specs.Needless.{Extremes, is_needless, needs_no_span}
 use Rattle.mtl_encode.specs.Size.{size_by, tree_size}
-
-product-low : (a b m n : ℕ) → a ≤ m → b ≤ n → a * b ≤ m * n
-product-low a b m n low-a low-b =
-    let first = mul-le-mul_left a low-b in
-    let second = mul-le-mul_right n low-a in
-    omega (arith, first, second)
 
 module _ (x : Extremes) (s : Sought) (same : (f g : Form) → (same_form f g ≡ true) ↔ (f ≡ g)) (arena : IsArena s.trees)
     (some_rows : 1 ≤ length s.log.rows) (few_rows : length s.log.rows ≤ MAX_ROWS) (small : size_by x (length s.log.rows) s.trees ≤ MAX_SIZE) where
@@ -46,99 +39,158 @@ module _ (x : Extremes) (s : Sought) (same : (f g : Form) → (same_form f g ≡
   rows = length s.log.rows
 
   abbrev mass : List Rule → ℕ
-  mass rules = sum_by (most s out) rules
+  mass rules = sum_by (most_in s) rules
 
-  of-node-event : (number : ℕ) → most_literals s number ≤ 5 → mass (with_none s out number (nodes ∷ rows ∷ 1 ∷ 1 ∷ [])) ≤ 2621440
+  -- no rule of a number has more literals
+  abbrev HasAtMost : ℕ → ℕ → Type 0
+  HasAtMost number m = (a b c d : ℕ) → most_in s (rule_at number a b c d) ≤ m
+
+  of-node-event : (number : ℕ) → HasAtMost number 5 → mass (with_none s out number (nodes ∷ rows ∷ 1 ∷ 1 ∷ [])) ≤ 2621440
   of-node-event number few =
       let within = none-within s out number (nodes ∷ rows ∷ 1 ∷ 1 ∷ []) 5 few in
-      let low = product-low nodes (rows * (1 * (1 * 5))) 512 5120 (omega (arith, arena.few)) (omega (arith, few_rows)) in
+      let low = mul-le nodes (rows * (1 * (1 * 5))) 512 5120 (omega (arith, arena.few)) (omega (arith, few_rows)) in
       omega (arith, within, low)
 
-  of-events : (number : ℕ) → most_literals s number ≤ 5 → mass (with_none s out number (rows ∷ rows ∷ 1 ∷ 1 ∷ [])) ≤ 5242880
+  of-events : (number : ℕ) → HasAtMost number 5 → mass (with_none s out number (rows ∷ rows ∷ 1 ∷ 1 ∷ [])) ≤ 5242880
   of-events number few =
       let within = none-within s out number (rows ∷ rows ∷ 1 ∷ 1 ∷ []) 5 few in
-      let low = product-low rows (rows * (1 * (1 * 5))) 1024 5120 (omega (arith, few_rows)) (omega (arith, few_rows)) in
+      let low = mul-le rows (rows * (1 * (1 * 5))) 1024 5120 (omega (arith, few_rows)) (omega (arith, few_rows)) in
       omega (arith, within, low)
 
-  of-event : (number : ℕ) → most_literals s number ≤ rows + 5 → mass (with_none s out number (rows ∷ 1 ∷ 1 ∷ 1 ∷ [])) ≤ 1053696
+  of-event : (number : ℕ) → HasAtMost number (rows + 5) → mass (with_none s out number (rows ∷ 1 ∷ 1 ∷ 1 ∷ [])) ≤ 1053696
   of-event number few =
       let within = none-within s out number (rows ∷ 1 ∷ 1 ∷ 1 ∷ []) (rows + 5) few in
-      let low = product-low rows (1 * (1 * (1 * (rows + 5)))) 1024 1029 (omega (arith, few_rows)) (omega (arith, few_rows)) in
+      let low = mul-le rows (1 * (1 * (1 * (rows + 5)))) 1024 1029 (omega (arith, few_rows)) (omega (arith, few_rows)) in
       omega (arith, within, low)
 
-  of-nothing : (number : ℕ) → most_literals s number ≤ rows + 5 → mass (with_none s out number (1 ∷ 1 ∷ 1 ∷ 1 ∷ [])) ≤ 1029
+  of-nothing : (number : ℕ) → HasAtMost number (rows + 5) → mass (with_none s out number (1 ∷ 1 ∷ 1 ∷ 1 ∷ [])) ≤ 1029
   of-nothing number few = let within = none-within s out number (1 ∷ 1 ∷ 1 ∷ 1 ∷ []) (rows + 5) few in omega (arith, within, few_rows)
 
-  -- rule 2, by the changes of its node
-  changes-within : (k : ℕ) → change_count s k ≤ rows
-  changes-within k = go (changes_in (shape_at s k)) refl
-    where
-      go : (o : Option (List Change)) → changes_in (shape_at s k) ≡ o → option_map_or (λ changes. length changes) o 0 ≤ rows
-      go None at = omega arith
-      go (Some changes) at = few-changes s k changes at
+  -- the changes and pulses of a node are those of its tree
+  changes-of : (k : ℕ) → k < nodes → change_count s k ≡ changes_of_tree s.log s.trees (tree_at s.trees k)
+  changes-of k low = ap (λ shape. option_map_or (λ changes. length changes) (changes_in shape) 0) (shape-is same s arena.once arena.children_first k (tree_at s.trees k) low refl)
 
-  of-change : mass (with_none s out 2 (nodes ∷ rows ∷ rows ∷ 1 ∷ [])) ≤ 5242880
-  of-change =
-      let counts : List ℕ = nodes ∷ rows ∷ rows ∷ 1 ∷ [] in
-      let within = flat-places (most s out) (with_one s out 2 counts) (changes_of_tree s.log s.trees) True (rows * 5) 0 s.trees of-one in
-      let few = mul-le-mul_left (rows * 5) (changes-few s.log s.trees arena.once) in
-      let low = product-low (rows * 5) rows 5120 1024 (omega (arith, few_rows)) few_rows in
-      omega (arith, within, few, low)
-    where
-      of-two : (k e : ℕ) → mass (with_two s out 2 (nodes ∷ rows ∷ rows ∷ 1 ∷ []) k e) ≤ change_count s k * (1 * 5)
-      of-two k e =
-          rw (first-thirds s out 2 (nodes ∷ rows ∷ rows ∷ 1 ∷ []) (change_count s k) k e (changes-within k) (λ p d past low. none-after s k e p d past))
-          (flat-within (most s out) (with_three s out 2 (nodes ∷ rows ∷ rows ∷ 1 ∷ []) k e) (1 * 5) 0 (change_count s k) (three-within s out 2 (nodes ∷ rows ∷ rows ∷ 1 ∷ []) 5 (omega arith) k e))
+  pulses-of : (k : ℕ) → k < nodes → pulse_count s k ≡ pulses_of_tree s.log s.trees (tree_at s.trees k)
+  pulses-of k low = ap (λ shape. option_map_or (λ pulses. length pulses) (pulses_in shape) 0) (shape-is same s arena.once arena.children_first k (tree_at s.trees k) low refl)
 
-      of-one : (k : ℕ) → k < nodes → mass (with_one s out 2 (nodes ∷ rows ∷ rows ∷ 1 ∷ []) (0 + k)) ≤ rows * 5 * changes_of_tree s.log s.trees (tree_at s.trees k)
+  -- rule 1, which has a literal for each pulse of its node
+  of-start : mass (with_none s out 1 (nodes ∷ rows ∷ 1 ∷ 1 ∷ [])) ≤ 3670016
+  of-start =
+      let within = flat-places (most_in s) (with_one s out 1 (nodes ∷ rows ∷ 1 ∷ 1 ∷ [])) (λ f. pulses_of_tree s.log s.trees f + 5) True rows 0 s.trees of-one in
+      let both = sum-both (pulses_of_tree s.log s.trees) (λ f. 5) s.trees in
+      let fives = sum_by-le (λ (f : Form). 5) 5 s.trees (λ k d low. omega arith) in
+      let low = mul-le rows (sum_by (λ f. pulses_of_tree s.log s.trees f + 5) s.trees) 1024 3584 few_rows (omega (arith, both, fives, pulses-few s.log s.trees arena.once, few_rows, arena.few)) in
+      omega (arith, within, low)
+    where
+      of-one : (k : ℕ) → k < nodes → mass (with_one s out 1 (nodes ∷ rows ∷ 1 ∷ 1 ∷ []) (0 + k)) ≤ rows * (pulses_of_tree s.log s.trees (tree_at s.trees k) + 5)
       of-one k low =
           let e : 0 + k ≡ k = omega arith in
-          let count : change_count s k ≡ changes_of_tree s.log s.trees (tree_at s.trees k) = ap (λ shape. option_map_or (λ changes. length changes) (changes_in shape) 0) (shape-is same s arena.once arena.children_first k (tree_at s.trees k) low refl) in
-          let all = flat-within (most s out) (with_two s out 2 (nodes ∷ rows ∷ rows ∷ 1 ∷ []) k) (change_count s k * (1 * 5)) 0 rows (of-two k) in
-          rw (e, ← count) (omega (arith, all))
+          let all = one-within s out 1 (nodes ∷ rows ∷ 1 ∷ 1 ∷ []) (pulse_count s k + 5) k (λ b c d. omega arith) in
+          let wide : 1 * (1 * (pulse_count s k + 5)) ≡ pulse_count s k + 5 = omega arith in
+          rw (e, ← pulses-of k low) (rw wide at all)
+
+  -- rule 2, by the changes of its node, with a literal for each pulse
+  of-change : mass (with_none s out 2 (nodes ∷ rows ∷ rows ∷ 1 ∷ [])) ≤ 273678336
+  of-change =
+      let within = flat-places (most_in s) (with_one s out 2 (nodes ∷ rows ∷ rows ∷ 1 ∷ [])) (rows_of_tree s.log s.trees) True (rows * 261) 0 s.trees of-one in
+      let low = mul-le (rows * 261) (sum_by (rows_of_tree s.log s.trees) s.trees) 267264 1024 (omega (arith, few_rows)) (omega (arith, rows-few s.log s.trees arena.once, few_rows)) in
+      omega (arith, within, low)
+    where
+      of-two : (k e : ℕ) → change_count s k ≤ rows → mass (with_two s out 2 (nodes ∷ rows ∷ rows ∷ 1 ∷ []) k e) ≤ change_count s k * (1 * (pulse_count s k + 5))
+      of-two k e less =
+          rw (first-thirds s out 2 (nodes ∷ rows ∷ rows ∷ 1 ∷ []) (change_count s k) k e less (λ p d past low. no-change s k e p d past))
+          (flat-within (most_in s) (with_three s out 2 (nodes ∷ rows ∷ rows ∷ 1 ∷ []) k e) (1 * (pulse_count s k + 5)) 0 (change_count s k) (three-within s out 2 (nodes ∷ rows ∷ rows ∷ 1 ∷ []) (pulse_count s k + 5) k (λ b c d. omega arith) e))
+
+      of-one : (k : ℕ) → k < nodes → mass (with_one s out 2 (nodes ∷ rows ∷ rows ∷ 1 ∷ []) (0 + k)) ≤ rows * 261 * rows_of_tree s.log s.trees (tree_at s.trees k)
+      of-one k low =
+          let e : 0 + k ≡ k = omega arith in
+          let few = tree-few s.log s.trees (tree_at s.trees k) in
+          let changes = changes-of k low in
+          let pulses = pulses-of k low in
+          let all = flat-within (most_in s) (with_two s out 2 (nodes ∷ rows ∷ rows ∷ 1 ∷ []) k) (change_count s k * (1 * (pulse_count s k + 5))) 0 rows (λ i. of-two k i (omega (arith, few, changes))) in
+          let wide : 1 * (pulse_count s k + 5) ≡ pulse_count s k + 5 = omega arith in
+          let product = mul-le-mul_left rows (product-few (change_count s k) (pulse_count s k) (omega (arith, few, changes, pulses, few_rows))) in
+          let apart = mul_assoc rows 261 (change_count s k + pulse_count s k) in
+          rw (e, ← changes, ← pulses) (omega (arith, rw wide at all, product, apart))
+
+  -- rule 27, by the pulses of its node
+  of-pulse : mass (with_none s out 27 (nodes ∷ rows ∷ rows ∷ 1 ∷ [])) ≤ 5242880
+  of-pulse =
+      let within = flat-places (most_in s) (with_one s out 27 (nodes ∷ rows ∷ rows ∷ 1 ∷ [])) (pulses_of_tree s.log s.trees) True (rows * 5) 0 s.trees of-one in
+      let low = mul-le (rows * 5) (sum_by (pulses_of_tree s.log s.trees) s.trees) 5120 1024 (omega (arith, few_rows)) (omega (arith, pulses-few s.log s.trees arena.once, few_rows)) in
+      omega (arith, within, low)
+    where
+      of-two : (k e : ℕ) → pulse_count s k ≤ rows → mass (with_two s out 27 (nodes ∷ rows ∷ rows ∷ 1 ∷ []) k e) ≤ pulse_count s k * (1 * 5)
+      of-two k e less =
+          rw (first-thirds s out 27 (nodes ∷ rows ∷ rows ∷ 1 ∷ []) (pulse_count s k) k e less (λ p d past low. no-pulse s k e p d past))
+          (flat-within (most_in s) (with_three s out 27 (nodes ∷ rows ∷ rows ∷ 1 ∷ []) k e) (1 * 5) 0 (pulse_count s k) (three-within s out 27 (nodes ∷ rows ∷ rows ∷ 1 ∷ []) 5 k (λ b c d. omega arith) e))
+
+      of-one : (k : ℕ) → k < nodes → mass (with_one s out 27 (nodes ∷ rows ∷ rows ∷ 1 ∷ []) (0 + k)) ≤ rows * 5 * pulses_of_tree s.log s.trees (tree_at s.trees k)
+      of-one k low =
+          let e : 0 + k ≡ k = omega arith in
+          let few = tree-few s.log s.trees (tree_at s.trees k) in
+          let pulses = pulses-of k low in
+          let all = flat-within (most_in s) (with_two s out 27 (nodes ∷ rows ∷ rows ∷ 1 ∷ []) k) (pulse_count s k * (1 * 5)) 0 rows (λ i. of-two k i (omega (arith, few, pulses))) in
+          let five : pulse_count s k * (1 * 5) ≡ 5 * pulse_count s k = omega arith in
+          let apart = mul_assoc rows 5 (pulse_count s k) in
+          rw (e, ← pulses) (omega (arith, rw five at all, apart))
 
   -- the rules of untils and sinces, by their sizes
   by-size : (number wide : ℕ) (counts : List ℕ) → slice_index counts 0 ≡ nodes → ((k : ℕ) → k < nodes → mass (with_one s out number counts k) ≤ wide * tree_size x rows (tree_at s.trees k))
       → mass (with_none s out number counts) ≤ wide * MAX_SIZE
   by-size number wide counts all each = rw all (
-      let within = flat-places (most s out) (with_one s out number counts) (tree_size x rows) True wide 0 s.trees (λ k low. let e : 0 + k ≡ k = omega arith in rw e (each k low)) in
+      let within = flat-places (most_in s) (with_one s out number counts) (tree_size x rows) True wide 0 s.trees (λ k low. let e : 0 + k ≡ k = omega arith in rw e (each k low)) in
       let low = mul-le-mul_left wide small in
       omega (arith, within, low))
 
-  of-pair : (number : ℕ) → is_of_reach number ≡ true → most_literals s number ≤ 5 → mass (with_none s out number (nodes ∷ rows ∷ rows ∷ 1 ∷ [])) ≤ 20971520
-  of-pair number of few = let low = by-size number 5 (nodes ∷ rows ∷ rows ∷ 1 ∷ []) refl (λ k less. two-events x s number k of few) in omega (arith, low)
+  of-pair : (number wide : ℕ) → is_of_reach number ≡ true → HasAtMost number wide → mass (with_none s out number (nodes ∷ rows ∷ rows ∷ 1 ∷ [])) ≤ wide * MAX_SIZE
+  of-pair number wide of few = by-size number wide (nodes ∷ rows ∷ rows ∷ 1 ∷ []) refl (λ k less. two-events x s number wide k of (few k))
+
+  of-two : (number : ℕ) → is_of_reach number ≡ true → HasAtMost number 2 → mass (with_none s out number (nodes ∷ rows ∷ rows ∷ 1 ∷ [])) ≤ 8388608
+  of-two number of few = let low = of-pair number 2 of few in omega (arith, low)
+
+  of-five : (number : ℕ) → is_of_reach number ≡ true → HasAtMost number 5 → mass (with_none s out number (nodes ∷ rows ∷ rows ∷ 1 ∷ [])) ≤ 20971520
+  of-five number of few = let low = of-pair number 5 of few in omega (arith, low)
 
   of-witnesses : mass (with_none s out 17 (nodes ∷ rows ∷ 1 ∷ 1 ∷ [])) ≤ 25165824
-  of-witnesses = let low = by-size 17 6 (nodes ∷ rows ∷ 1 ∷ 1 ∷ []) refl (λ k less. one-event x s some_rows 17 k refl (omega arith)) in omega (arith, low)
+  of-witnesses = let low = by-size 17 6 (nodes ∷ rows ∷ 1 ∷ 1 ∷ []) refl (λ k less. one-event x s some_rows 17 k refl (λ i c d. omega arith)) in omega (arith, low)
 
   of-gaps : mass (with_none s out 20 (nodes ∷ rows ∷ rows ∷ 1 ∷ [])) ≤ 25165824
   of-gaps =
       let low = by-size 20 6 (nodes ∷ rows ∷ rows ∷ 1 ∷ []) refl (spans x s 20 1 6
       (λ k i j free. three-nothing s out 20 (nodes ∷ rows ∷ rows ∷ 1 ∷ []) k i j (gap-needless x s k i j free))
-      (λ k i j. let within = three-within s out 20 (nodes ∷ rows ∷ rows ∷ 1 ∷ []) (rows + 5) (omega arith) k i j in omega (arith, within, some_rows)) same arena refl) in
+      (λ k i j. let within = three-within s out 20 (nodes ∷ rows ∷ rows ∷ 1 ∷ []) (rows + 5) k (λ b c d. omega arith) i j in omega (arith, within, some_rows)) same arena refl) in
       omega (arith, low)
 
-  of-span : (number : ℕ) → is_of_reach number ≡ true → most_literals s number ≤ 5 → ((k i j m : ℕ) → needs_no_span x s k i j ≡ true → out (record { number = number; args = k ∷ i ∷ j ∷ m ∷ [] }) ≡ true)
+  of-span : (number : ℕ) → is_of_reach number ≡ true → HasAtMost number 5 → ((k i j m : ℕ) → needs_no_span x s k i j ≡ true → out (record { number = number; args = k ∷ i ∷ j ∷ m ∷ [] }) ≡ true)
       → mass (with_none s out number (nodes ∷ rows ∷ rows ∷ rows ∷ [])) ≤ 20971520
   of-span number of few left =
       let low = by-size number 5 (nodes ∷ rows ∷ rows ∷ rows ∷ []) refl (spans x s number rows 5
       (λ k i j free. three-nothing s out number (nodes ∷ rows ∷ rows ∷ rows ∷ []) k i j (λ m. left k i j m free))
-      (λ k i j. let within = three-within s out number (nodes ∷ rows ∷ rows ∷ rows ∷ []) 5 few k i j in omega (arith, within)) same arena of) in
+      (λ k i j. let within = three-within s out number (nodes ∷ rows ∷ rows ∷ rows ∷ []) 5 k (few k) i j in omega (arith, within)) same arena of) in
       omega (arith, low)
 
   -- how many literals there are at most in the clauses of the rules of a number
   abbrev most_of : List ℕ
-  most_of = 0 ∷ 2621440 ∷ 5242880 ∷ 2621440 ∷ 2621440 ∷ 2621440 ∷ 2621440 ∷ 2621440 ∷ 2621440 ∷ 5242880 ∷ 1053696 ∷ 1029
-      ∷ 20971520 ∷ 20971520 ∷ 20971520 ∷ 20971520 ∷ 20971520 ∷ 25165824 ∷ 20971520 ∷ 20971520 ∷ 25165824 ∷ 20971520 ∷ 20971520 ∷ 20971520 ∷ 1053696 ∷ 0 ∷ 0 ∷ 0 ∷ 20971520 ∷ []
+  most_of = 0 ∷ 3670016 ∷ 273678336 ∷ 2621440 ∷ 2621440 ∷ 2621440 ∷ 2621440 ∷ 2621440 ∷ 2621440 ∷ 5242880 ∷ 1053696 ∷ 1029
+      ∷ 8388608 ∷ 8388608 ∷ 8388608 ∷ 8388608 ∷ 20971520 ∷ 25165824 ∷ 8388608 ∷ 20971520 ∷ 25165824 ∷ 20971520 ∷ 8388608 ∷ 8388608 ∷ 1053696 ∷ 5242880 ∷ 5242880 ∷ 5242880 ∷ 20971520 ∷ []
 
   abbrev IsFew : ℕ → Type 0
   IsFew number = mass (of_number s out number) ≤ slice_index most_of number
 
-  five : 5 ≤ 5
-  five = omega arith
-
   each-few : AllByRecursion IsFew (range_with_len 0 29)
-  each-few = (omega arith, (of-node-event 1 five, (of-change, (of-node-event 3 five, (of-node-event 4 five, (of-node-event 5 five, (of-node-event 6 five, (of-node-event 7 five, (of-node-event 8 five, (of-events 9 five, (of-event 10 (omega arith), (of-nothing 11 (omega arith), (of-pair 12 refl five, (of-pair 13 refl five, (of-pair 14 refl five, (of-pair 15 refl five, (of-pair 16 refl five, (of-witnesses, (of-pair 18 refl five, (of-span 19 refl five (λ k i j m free. within-needless x s k i j free m), (of-gaps, (of-span 21 refl five (λ k i j m free. past-needless x s k i j free m), (of-pair 22 refl five, (of-pair 23 refl five, (of-event 24 (omega arith), (omega arith, (omega arith, (omega arith, (of-pair 28 refl five, tt)))))))))))))))))))))))))))))
+  each-few = (omega arith,
+      (of-start, (of-change, (of-node-event 3 (λ a b c d. omega arith),
+      (of-node-event 4 (λ a b c d. omega arith), (of-node-event 5 (λ a b c d. omega arith), (of-node-event 6 (λ a b c d. omega arith),
+      (of-node-event 7 (λ a b c d. omega arith), (of-node-event 8 (λ a b c d. omega arith), (of-events 9 (λ a b c d. omega arith),
+      (of-event 10 (λ a b c d. omega arith), (of-nothing 11 (λ a b c d. omega arith),
+      (of-two 12 refl (λ a b c d. omega arith), (of-two 13 refl (λ a b c d. omega arith), (of-two 14 refl (λ a b c d. omega arith), (of-two 15 refl (λ a b c d. omega arith),
+      (of-five 16 refl (λ a b c d. omega arith), (of-witnesses, (of-two 18 refl (λ a b c d. omega arith),
+      (of-span 19 refl (λ a b c d. omega arith) (λ k i j m free. within-needless x s k i j free m),
+      (of-gaps,
+      (of-span 21 refl (λ a b c d. omega arith) (λ k i j m free. past-needless x s k i j free m),
+      (of-two 22 refl (λ a b c d. omega arith), (of-two 23 refl (λ a b c d. omega arith), (of-event 24 (λ a b c d. omega arith),
+      (of-events 25 (λ a b c d. omega arith), (of-events 26 (λ a b c d. omega arith), (of-pulse, (of-five 28 refl (λ a b c d. omega arith), tt)))))))))))))))))))))))))))))
 
   abbrev total : List ℕ → ℕ
   total [] = 0
@@ -149,7 +201,7 @@ module _ (x : Extremes) (s : Sought) (same : (f g : Form) → (same_form f g ≡
   flat-few (n ∷ ns) few =
       let ih = flat-few ns few.1 in
       let here = few.0 in
-      let sum = sum_by-append (most s out) (of_number s out n) (flat_map (of_number s out) ns) in
+      let sum = sum_by-append (most_in s) (of_number s out n) (flat_map (of_number s out) ns) in
       omega (arith, ih, here, sum)
 
   -- there are variables for the atoms of all of them
@@ -157,5 +209,5 @@ module _ (x : Extremes) (s : Sought) (same : (f g : Form) → (same_form f g ≡
   unfolding most_literals_of
   room-for-all =
       let few = flat-few (range_with_len 0 29) each-few in
-      let sum : total (range_with_len 0 29) ≡ 311962629 = refl in
+      let sum : total (range_with_len 0 29) ≡ 509094917 = refl in
       omega (arith, few, sum)

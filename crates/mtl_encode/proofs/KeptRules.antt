@@ -8,18 +8,17 @@ use Rattle.axiom_rules.specs.declared.fault.RuleFault.{RuleFault}
 use Rattle.axiom_rules.specs.declared.literal.Literal.{Literal}
 use Rattle.axiom_rules.specs.declared.part.Part.{Part}
 use Rattle.axiom_rules.specs.declared.rule.Argument.{Argument}
-use Rattle.axiom_rules.specs.declared.rule.Argument.TheVariants.{ANode, AnEvent, AChange, Unused}
+use Rattle.axiom_rules.specs.declared.rule.Argument.TheVariants.{ANode, AnEvent, AChange, APulse, Unused}
 use Rattle.axiom_rules.specs.declared.rule.Rule.{Rule}
 use Rattle.axiom_rules.specs.declared.rule.TheConstants.{MAX_RULE}
-use Rattle.axiom_rules.specs.Clauses.{Row, are_there, clause_of, is_there, of_event, of_events, of_node_event, of_node_event_change, of_node_events, of_node_three_events, of_nothing, row_of}
-use Rattle.axiom_rules.specs.NodeShapes.{changes_in, shape_at}
+use Rattle.axiom_rules.specs.Clauses.{Row, are_there, clause_of, is_there, of_event, of_events, of_node_event, of_node_event_change, of_node_event_pulse, of_node_events, of_node_three_events, of_nothing, row_of}
+use Rattle.axiom_rules.specs.NodeShapes.{proposition_in, shape_at}
 use Rattle.axiom_rules.specs.Parts.{Written}
-use Rattle.axiom_rules.specs.Rules.{rule_2}
+use Rattle.axiom_rules.specs.Rules.{rule_2, rule_27}
 use Rattle.axiom_rules.specs.Sought.{Sought}
-use Rattle.axiom_rules.proofs.ChangeCases.{few-changes}
 use Rattle.axiom_rules.proofs.RowCases.{four, shape-case, written-by}
 use Rattle.axiom_rules.proofs.UnusedArguments.{number-low}
-use Rattle.mtl_encode.proofs.ChangeRules.{change-there}
+use Rattle.mtl_encode.proofs.ChangeRules.{few-rows, place-there}
 use Rattle.mtl_encode.proofs.RangeLemmas.{Apart, among-at, among-flat, apart-flat, apart-pairs, flat-among, place-of}
 use Rattle.mtl_encode.specs.Instances.{count_of, instances, kept, of_number, rule_at, with_none, with_one, with_three, with_two}
 use Rattle.mtl_encode.specs.Listing.{IsKept, ListsRules}
@@ -108,49 +107,69 @@ module _ (s : Sought) where
       → (a b c d : ℕ) × (args ≡ a ∷ b ∷ c ∷ d ∷ []) × (a < slice_index (map (count_of s) row.arguments) 0) × (b < slice_index (map (count_of s) row.arguments) 1)
       × (c < slice_index (map (count_of s) row.arguments) 2) × (d < slice_index (map (count_of s) row.arguments) 3)
 
-  -- an argument that is there is below the count, where it is no change
-  below : (a : Argument) (n : ℕ) → (a ≡ AChange → ⊥) → is_there s a n ≡ true → n < count_of s a
+  -- a change or a pulse is looked for by the rule
+  abbrev is_looked_for : Argument → Bool
+  is_looked_for ANode = false
+  is_looked_for AnEvent = false
+  is_looked_for AChange = true
+  is_looked_for APulse = true
+  is_looked_for Unused = false
+
+  -- another argument that is there is below the count
+  below : (a : Argument) (n : ℕ) → is_looked_for a ≡ false → is_there s a n ≡ true → n < count_of s a
   below ANode n other is = grind (arith, nat_tests)
   below AnEvent n other is = grind (arith, nat_tests)
-  below AChange n other is = absurd (other refl)
+  below AChange n other is = absurd (cc)
+  below APulse n other is = absurd (cc)
   below Unused n other is = grind (arith, nat_tests)
 
-  no-change : (p q r t : Argument) (write : Sought → List ℕ → Written) → (p ≡ AChange → ⊥) → (q ≡ AChange → ⊥) → (r ≡ AChange → ⊥) → (t ≡ AChange → ⊥) → AreBelow (record { arguments = p ∷ q ∷ r ∷ t ∷ []; writes = write })
-  no-change p q r t write hp hq hr ht args parts is written =
+  all-there : (p q r t : Argument) (write : Sought → List ℕ → Written) → is_looked_for p ≡ false → is_looked_for q ≡ false → is_looked_for r ≡ false → is_looked_for t ≡ false → AreBelow (record { arguments = p ∷ q ∷ r ∷ t ∷ []; writes = write })
+  all-there p q r t write hp hq hr ht args parts is written =
       let (a, b, c, d, args-are, in-a, in-b, in-c, in-d) = four s p q r t args is in
       (a, b, c, d, args-are, below p a hp in-a, below q b hq in-b, below r c hr in-c, below t d ht in-d)
 
   node-event : (w : Sought → ℕ → ℕ → Written) → AreBelow (of_node_event w)
-  node-event w = no-change ANode AnEvent Unused Unused ((of_node_event w).writes) (λ h. absurd (cc)) (λ h. absurd (cc)) (λ h. absurd (cc)) (λ h. absurd (cc))
+  node-event w = all-there ANode AnEvent Unused Unused ((of_node_event w).writes) refl refl refl refl
 
   node-events : (w : Sought → ℕ → ℕ → ℕ → Written) → AreBelow (of_node_events w)
-  node-events w = no-change ANode AnEvent AnEvent Unused ((of_node_events w).writes) (λ h. absurd (cc)) (λ h. absurd (cc)) (λ h. absurd (cc)) (λ h. absurd (cc))
+  node-events w = all-there ANode AnEvent AnEvent Unused ((of_node_events w).writes) refl refl refl refl
 
   three-events : (w : Sought → ℕ → ℕ → ℕ → ℕ → Written) → AreBelow (of_node_three_events w)
-  three-events w = no-change ANode AnEvent AnEvent AnEvent ((of_node_three_events w).writes) (λ h. absurd (cc)) (λ h. absurd (cc)) (λ h. absurd (cc)) (λ h. absurd (cc))
+  three-events w = all-there ANode AnEvent AnEvent AnEvent ((of_node_three_events w).writes) refl refl refl refl
 
   two-events : (w : Sought → ℕ → ℕ → Written) → AreBelow (of_events w)
-  two-events w = no-change AnEvent AnEvent Unused Unused ((of_events w).writes) (λ h. absurd (cc)) (λ h. absurd (cc)) (λ h. absurd (cc)) (λ h. absurd (cc))
+  two-events w = all-there AnEvent AnEvent Unused Unused ((of_events w).writes) refl refl refl refl
 
   one-event : (w : Sought → ℕ → Written) → AreBelow (of_event w)
-  one-event w = no-change AnEvent Unused Unused Unused ((of_event w).writes) (λ h. absurd (cc)) (λ h. absurd (cc)) (λ h. absurd (cc)) (λ h. absurd (cc))
+  one-event w = all-there AnEvent Unused Unused Unused ((of_event w).writes) refl refl refl refl
 
   no-argument : (w : Sought → Written) → AreBelow (of_nothing w)
-  no-argument w = no-change Unused Unused Unused Unused ((of_nothing w).writes) (λ h. absurd (cc)) (λ h. absurd (cc)) (λ h. absurd (cc)) (λ h. absurd (cc))
+  no-argument w = all-there Unused Unused Unused Unused ((of_nothing w).writes) refl refl refl refl
 
   change-below : (k e place : ℕ) (parts : List Part) → rule_2 s k e place ≡ Ok parts → place < length s.log.rows
   change-below k e place parts is =
-      let (changes, are, low) = change-there (changes_in (shape_at s k)) _ place parts is in
-      omega (arith, low, few-changes s k changes are)
+      let (rows, are, low) = place-there (proposition_in (shape_at s k)) (λ rows. rows.changes) _ place parts is in
+      omega (arith, low, few-rows s k rows are)
 
   event-change : AreBelow (of_node_event_change rule_2)
   event-change args parts is written =
       let (a, b, c, d, args-are, in-a, in-b, in-c, in-d) = four s ANode AnEvent AChange Unused args is in
       let low = change-below a b c parts (rw args-are at written) in
-      (a, b, c, d, args-are, below ANode a (λ h. absurd (cc)) in-a, below AnEvent b (λ h. absurd (cc)) in-b, low, below Unused d (λ h. absurd (cc)) in-d)
+      (a, b, c, d, args-are, below ANode a refl in-a, below AnEvent b refl in-b, low, below Unused d refl in-d)
+
+  pulse-below : (k e place : ℕ) (parts : List Part) → rule_27 s k e place ≡ Ok parts → place < length s.log.rows
+  pulse-below k e place parts is =
+      let (rows, are, low) = place-there (proposition_in (shape_at s k)) (λ rows. rows.pulses) _ place parts is in
+      omega (arith, low, few-rows s k rows are)
+
+  event-pulse : AreBelow (of_node_event_pulse rule_27)
+  event-pulse args parts is written =
+      let (a, b, c, d, args-are, in-a, in-b, in-c, in-d) = four s ANode AnEvent APulse Unused args is in
+      let low = pulse-below a b c parts (rw args-are at written) in
+      (a, b, c, d, args-are, below ANode a refl in-a, below AnEvent b refl in-b, low, below Unused d refl in-d)
 
   rows-below : (number : ℕ) (row : Row) → row_of number ≡ Some row → AreBelow row
-  rows-below = shape-case AreBelow no-argument one-event two-events node-event node-events three-events event-change
+  rows-below = shape-case AreBelow no-argument one-event two-events node-event node-events three-events event-change event-pulse
 
 module _ (s : Sought) (out : Rule → Bool) where
   -- a rule that has a clause and isn't left out stands among all

@@ -1,13 +1,16 @@
 pub mod RangeLemmas
 pub mod AtomGrowth
 pub mod Cubes
+pub mod ListedNumbers
 pub mod SizeLemmas
 pub mod SizeBounds
 pub mod SizesUnique
+pub mod RuleLengths
 pub mod ClauseGrowth
 pub mod ChangeCounts
 pub mod LiteralCounts
 pub mod ChangeRules
+pub mod PulsePairs
 pub mod KeptRules
 pub mod ReachRules
 pub mod SpanRules
@@ -18,6 +21,7 @@ mod ClauseUses
 mod PartUses
 mod RuleUses
 mod ExtremeUses
+mod PulseUses
 mod StateExact
 mod NodeUses
 mod ReachExact

@@ -1,20 +1,23 @@
 -- What the rules say of constants, propositions, negations and conjunctions, and of the value sought.
 use Rattle.std.proofs.Common.{◌≡◌, ◌∙◌, sym, refl, subst, ℕ, suc, ◌+◌, ◌<◌, Bool, true, false, not, ◌&&◌, if◌then◌else◌, List, [], ◌∷◌, length, Option, Some, None, Ok, Err, inl, inr, ℤ, pos, ◌-ℤ◌, arith}
 use Rattle.std.specs.Prelude.{int_le, int_lt, slice_get}
-use Rattle.std.specs.List.{range_with_len}
+use Rattle.std.specs.List.{list_any, range_with_len}
+use Rattle.std.specs.Ordering.{int_eq}
 use Rattle.std.specs.Option.{option_map_or}
-use Rattle.std.proofs.lemmas.Bool.{cases_Bool}
+use Rattle.std.proofs.lemmas.Bool.{cases_Bool, or_left}
+use Rattle.std.proofs.lemmas.Option.{slice_get-get_or}
 use Rattle.mt_model.specs.State.{Change}
 use Rattle.mt_model.specs.Timing.{time_of}
-use Rattle.mt_model.proofs.Members.{any_some}
+use Rattle.mt_model.proofs.Members.{Among, any_some}
 use Rattle.mt_model.proofs.PositionLemmas.{below}
 use Rattle.axiom_rules.specs.declared.fault.RuleFault.TheVariants.{Kind, Range}
 use Rattle.axiom_rules.specs.declared.literal.Atom.{Atom}
 use Rattle.axiom_rules.specs.declared.literal.Atom.TheVariants.{First, Node, Order}
 use Rattle.axiom_rules.specs.declared.part.Part.TheVariants.{Known, Says}
-use Rattle.axiom_rules.specs.NodeShapes.{changes_in, is_constant, operand_in, shape_at, sides_in}
-use Rattle.axiom_rules.specs.Parts.{after, not_after}
-use Rattle.axiom_rules.specs.Rules.{has_come, is, is_not}
+use Rattle.axiom_rules.specs.declared.proposition.PropositionRows.{PropositionRows}
+use Rattle.axiom_rules.specs.NodeShapes.{is_constant, operand_in, proposition_in, shape_at, sides_in}
+use Rattle.axiom_rules.specs.Parts.{Written, after, not_after, not_same, same}
+use Rattle.axiom_rules.specs.Rules.{at_pulses, has_come, is, is_not, is_pulse_row}
 use Rattle.axiom_rules.specs.Rules as rule
 use Rattle.axiom_rules.specs.Sought.{Sought}
 use Rattle.axiom_rules.proofs.BoolLemmas.{apart, not_true}
@@ -22,11 +25,13 @@ use Rattle.axiom_rules.proofs.ChangeLemmas.{first_passes, is_by, last_of}
 use Rattle.axiom_rules.proofs.PartLemmas.{part_holds}
 use Rattle.mtl_encode.specs.Exact.{SatisfiesKept}
 use Rattle.mtl_encode.specs.Needless.{Extremes, is_needless, is_never_first}
-use Rattle.mtl_encode.proofs.ClauseUses.{is_both, is_negation, is_sense, last_of_1, last_of_2, last_of_3}
+use Rattle.mtl_encode.proofs.ClauseUses.{first_of, is_both, is_negation, is_sense, last_of_1, last_of_2, rest_of}
 use Rattle.mtl_encode.proofs.ExtremeUses.{BoundsTimes, is-after, is-not-after}
 use Rattle.mtl_encode.proofs.PartUses.{WrittenIsTrue}
-use Rattle.mtl_encode.proofs.RuleUses.{after-true, event-true, kind-true, not_after-true, of_event-true, of_events-true, of_node_event-true, of_node_event_change-true, of_nothing-true}
-use Rattle.mtl_encode.proofs.StateExact.{FollowsChanges, state-exact}
+use Rattle.mtl_encode.proofs.PulseUses.{IsPair, instant-exact, not-same, pulses-exact}
+use Rattle.mtl_encode.proofs.RangeLemmas.{place-of}
+use Rattle.mtl_encode.proofs.RuleUses.{after-true, event-true, kind-true, not_after-true, of_event-true, of_events-true, of_node_event-true, of_node_event_change-true, of_node_event_pulse-true, of_nothing-true}
+use Rattle.mtl_encode.proofs.StateExact.{FollowsChanges, pulsed-exact}
 
 module _ (s : Sought) (x : Extremes) (v : Atom → Bool) (satisfied : SatisfiesKept s (is_needless x s) v) where
   -- a node that is `true`
@@ -54,33 +59,74 @@ module _ (s : Sought) (x : Extremes) (v : Atom → Bool) (satisfied : SatisfiesK
         go None = refl
         go (Some c) = not_after-true v s.log t s.trees agrees c.row e
 
-    -- a node that is a proposition of these changes
-    pub proposition-exact : (k e : ℕ) (cs : List Change) → k < length s.trees → e < length s.log.rows → changes_in (shape_at s k) ≡ Some cs → v (Node k e) ≡ option_map_or (λ c. c.sets) (last_of (is_by t (time_of t e)) cs) false
-    proposition-exact k e cs low in_ of_changes = state-exact (is_by t (time_of t e)) (v (Node k e)) cs changed follows
-      where
-        changed : v (Node k e) ≡ true → first_passes (is_by t (time_of t e)) cs ≡ true
-        changed holds = sym (come-true cs 0 e) ∙ last_of_2 (not (v (Node k e))) (part_holds v (has_come cs 0 e))
-            (kind-true s (is_needless x s) v satisfied (changes_in (shape_at s k)) cs (λ changes. Ok (is_not (Node k e) ∷ has_come changes 0 e ∷ [])) of_changes (of_node_event-true s (is_needless x s) v satisfied 1 rule.rule_1 refl k e low in_ refl))
-            (not_true (v (Node k e)) holds)
+    -- a node that is a proposition that these rows tell of
+    module _ (k e : ℕ) (rows : PropositionRows) (low : k < length s.trees) (in_ : e < length s.log.rows) (of_rows : proposition_in (shape_at s k) ≡ Some rows)
+        (are : (u : ℕ) → Among rows.pulses u → (u < length s.log.rows) × (is_pulse_row s.log u ≡ true)) where
+      abbrev passes : Change → Bool
+      passes c = is_by t (time_of t e) c
 
-        second : (place : ℕ) (o : Option Change) (c : Change) → o ≡ Some c
-            → WrittenIsTrue v (option_map_or (λ c. Ok (after c.row e ∷ has_come cs (place + 1) e ∷ Says (record { atom = Node k e; positive = c.sets }) ∷ [])) o (Err Range))
-            → is_by t (time_of t e) c ≡ true → option_map_or (is_by t (time_of t e)) (slice_get cs (place + 1)) false ≡ false → v (Node k e) ≡ c.sets
-        second place None c there h begun next = absurd (cc)
-        second place (Some d) c there h begun next =
-            let same : d ≡ c = cc in
-            subst (λ (x : Change). v (Node k e) ≡ x.sets) same
-            (is_sense d.sets (v (Node k e)) (last_of_3 (part_holds v (after d.row e)) (part_holds v (has_come cs (place + 1) e)) (if d.sets then v (Node k e) else not (v (Node k e))) h
-            (after-true v s.log t s.trees agrees d.row e ∙ not_true _ (subst (λ (x : Change). is_by t (time_of t e) x ≡ true) (sym same) begun))
-            (come-true cs (place + 1) e ∙ next)))
+      abbrev pulsed : Bool
+      pulsed = list_any (λ u. int_eq (time_of t u) (time_of t e)) rows.pulses
 
-        follows : FollowsChanges (is_by t (time_of t e)) (v (Node k e)) cs
-        follows place c there begun next =
-            let step : place + 1 ≡ suc place = omega arith in
-            second place (slice_get cs place) c there
-            (kind-true s (is_needless x s) v satisfied (changes_in (shape_at s k)) cs (λ changes. option_map_or (λ c. Ok (after c.row e ∷ has_come changes (place + 1) e ∷ Says (record { atom = Node k e; positive = c.sets }) ∷ [])) (slice_get changes place) (Err Range)) of_changes
-            (of_node_event_change-true s (is_needless x s) v satisfied 2 rule.rule_2 refl k e place low in_ refl))
-            begun (rw step next)
+      abbrev value : Bool
+      value = v (Node k e)
+
+      -- a pulse at the event's instant makes it true
+      of-pulse : (place u : ℕ) → slice_get rows.pulses place ≡ Some u → int_eq (time_of t u) (time_of t e) ≡ true → (u < length s.log.rows) × (is_pulse_row s.log u ≡ true) → value ≡ true
+      of-pulse place u there at is =
+          let pair : IsPair s x v satisfied t agrees u e = record { low = is.0; high = in_; pulse = or_left (is_pulse_row s.log u) (is_pulse_row s.log e) is.1 } in
+          let same : part_holds v (same u e) ≡ true = instant-exact s x v satisfied t agrees u e pair ∙ at in
+          last_of_2 (part_holds v (not_same u e)) value
+          (subst (λ (o : Option ℕ). WrittenIsTrue v (option_map_or (λ u. Ok (not_same u e ∷ is (Node k e) ∷ [])) o (Err Range))) there
+          (kind-true s (is_needless x s) v satisfied (proposition_in (shape_at s k)) rows (λ rows. option_map_or (λ u. Ok (not_same u e ∷ is (Node k e) ∷ [])) (slice_get rows.pulses place) (Err Range)) of_rows
+          (of_node_event_pulse-true s (is_needless x s) v satisfied 27 rule.rule_27 refl k e place low in_ refl)))
+          (not-same v u e ∙ not_true (part_holds v (same u e)) same)
+
+      on-pulse : pulsed ≡ true → value ≡ true
+      on-pulse is =
+          let (u, among, at) = any_some (λ u. int_eq (time_of t u) (time_of t e)) rows.pulses is in
+          let (place, within, stands) = place-of rows.pulses u among in
+          of-pulse place u (slice_get-get_or rows.pulses place u within ∙ ap (λ (w : ℕ). Some w) stands) at (are u among)
+
+      -- elsewhere a proposition that is true has been changed
+      changed : pulsed ≡ false → value ≡ true → first_passes passes rows.changes ≡ true
+      changed off holds = sym (come-true rows.changes 0 e) ∙ first_of (part_holds v (has_come rows.changes 0 e)) (list_any (part_holds v) (at_pulses rows.pulses e))
+          (rest_of (not value) _
+          (kind-true s (is_needless x s) v satisfied (proposition_in (shape_at s k)) rows (λ rows. Ok (is_not (Node k e) ∷ has_come rows.changes 0 e ∷ at_pulses rows.pulses e)) of_rows (of_node_event-true s (is_needless x s) v satisfied 1 rule.rule_1 refl k e low in_ refl))
+          (not_true value holds))
+          (pulses-exact s x v satisfied t agrees e in_ rows.pulses are ∙ off)
+
+      none-else : (sets : Bool) → pulsed ≡ false → list_any (part_holds v) (at_pulses (if sets then [] else rows.pulses) e) ≡ false
+      none-else true off = refl
+      none-else false off = pulses-exact s x v satisfied t agrees e in_ rows.pulses are ∙ off
+
+      abbrev of_change : ℕ → Change → Written
+      of_change place c = Ok (after c.row e ∷ has_come rows.changes (place + 1) e ∷ Says (record { atom = Node k e; positive = c.sets }) ∷ at_pulses (if c.sets then [] else rows.pulses) e)
+
+      second : pulsed ≡ false → (place : ℕ) (o : Option Change) (c : Change) → o ≡ Some c
+          → WrittenIsTrue v (option_map_or (of_change place) o (Err Range))
+          → passes c ≡ true → option_map_or passes (slice_get rows.changes (place + 1)) false ≡ false → value ≡ c.sets
+      second off place None c there h begun next = absurd (cc)
+      second off place (Some d) c there h begun next =
+          let same : d ≡ c = cc in
+          subst (λ (x : Change). value ≡ x.sets) same
+          (is_sense d.sets value (first_of (if d.sets then value else not value) (list_any (part_holds v) (at_pulses (if d.sets then [] else rows.pulses) e))
+          (rest_of (part_holds v (has_come rows.changes (place + 1) e)) _ (rest_of (part_holds v (after d.row e)) _ h
+          (after-true v s.log t s.trees agrees d.row e ∙ not_true _ (subst (λ (x : Change). passes x ≡ true) (sym same) begun)))
+          (come-true rows.changes (place + 1) e ∙ next))
+          (none-else d.sets off)))
+
+      follows : pulsed ≡ false → FollowsChanges passes value rows.changes
+      follows off place c there begun next =
+          let step : place + 1 ≡ suc place = omega arith in
+          second off place (slice_get rows.changes place) c there
+          (kind-true s (is_needless x s) v satisfied (proposition_in (shape_at s k)) rows
+          (λ rows. option_map_or (λ c. Ok (after c.row e ∷ has_come rows.changes (place + 1) e ∷ Says (record { atom = Node k e; positive = c.sets }) ∷ at_pulses (if c.sets then [] else rows.pulses) e)) (slice_get rows.changes place) (Err Range)) of_rows
+          (of_node_event_change-true s (is_needless x s) v satisfied 2 rule.rule_2 refl k e place low in_ refl))
+          begun (rw step next)
+
+      pub proposition-exact : value ≡ pulsed || option_map_or (λ c. c.sets) (last_of passes rows.changes) false
+      proposition-exact = pulsed-exact passes value pulsed rows.changes on-pulse changed follows
 
     module _ (bounded : BoundsTimes x t (length s.log.rows)) where
       not-later : (e y : ℕ) → e < length s.log.rows → y < length s.log.rows → v (First e) ≡ true → int_le (time_of t e) (time_of t y) ≡ true

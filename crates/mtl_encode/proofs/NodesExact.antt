@@ -1,15 +1,18 @@
 -- Each node has at each event the truth value of its tree.
-use Rattle.std.proofs.Common.{◌≡◌, ◌∙◌, ap, refl, subst, ℕ, ◌<◌, Bool, true, false, not, List, [], length, Option, Some, None, ℤ, ◌-ℤ◌, arith}
+use Rattle.std.proofs.Common.{◌≡◌, ◌∙◌, ap, refl, subst, ℕ, ◌<◌, Bool, true, false, not, ◌||◌, List, [], length, Option, Some, None, ℤ, ◌-ℤ◌, arith}
 use Rattle.std.specs.Prelude.{◌↔◌, All, int_le, slice_index_or}
+use Rattle.std.specs.List.{list_any, range_with_len}
 use Rattle.std.specs.Option.{option_map_or}
+use Rattle.std.specs.Ordering.{int_eq}
 use Rattle.mt_model.specs.declared.tree.Interval.{Interval}
 use Rattle.mt_model.specs.Form.{Form, True, False, Prop, Not, And, Or, Implies, Until, Since, Eventually, Always, Once, Historically}
 use Rattle.mt_model.specs.Frame.{Frame, reaches}
-use Rattle.mt_model.specs.State.{Change, changes_of, host_named, state}
+use Rattle.mt_model.specs.State.{Change, changes_of, host_named, is_pulse_at, pulses_of, state}
 use Rattle.mt_model.specs.Timing.{time_of}
 use Rattle.mt_model.specs.Truth.{rows_in, truth_of}
 use Rattle.mt_model.proofs.FrameLemmas.{Carries, reaches_same}
 use Rattle.mt_model.proofs.Members.{Among}
+use Rattle.mt_model.proofs.PositionLemmas.{below}
 use Rattle.formula_arena.specs.Cores.{IsCore}
 use Rattle.formula_arena.specs.Nodes.{StandsBefore, tree_at}
 use Rattle.formula_arena.specs.Subtrees.{children_of, same_form}
@@ -18,15 +21,18 @@ use Rattle.formula_arena.specs.declared.direction.Direction.{Direction}
 use Rattle.formula_arena.specs.declared.direction.Direction.TheVariants.{Ahead, Behind}
 use Rattle.axiom_rules.specs.declared.literal.Atom.{Atom}
 use Rattle.axiom_rules.specs.declared.literal.Atom.TheVariants.{Gap, Node, Order, Span, Wit}
-use Rattle.axiom_rules.specs.NodeShapes.{changes_in, changes_named, is_constant, number_of, operand_in, reach_in, shape_at, shape_of, sides_in}
+use Rattle.axiom_rules.specs.NodeShapes.{is_constant, number_of, operand_in, proposition_in, pulses_named, reach_in, rows_named, shape_at, shape_of, sides_in}
+use Rattle.axiom_rules.specs.Rules.{is_pulse_row}
 use Rattle.axiom_rules.specs.Sought.{Sought}
 use Rattle.axiom_rules.proofs.ChangeLemmas.{is_by, last_of}
 use Rattle.axiom_rules.proofs.MeaningLemmas.{at_row, near-ahead, row_at}
 use Rattle.mtl_encode.specs.Exact.{SatisfiesKept}
 use Rattle.mtl_encode.specs.Needless.{Extremes, is_dead, is_needless}
 use Rattle.mtl_encode.proofs.ExtremeUses.{BoundsTimes}
+use Rattle.mtl_encode.proofs.ListedNumbers.{among-filter}
 use Rattle.mtl_encode.proofs.NodeLemmas.{IsThere, child-there, shape-is}
 use Rattle.mtl_encode.proofs.NodeUses.{conjunction-exact, constant-exact, negation-exact, proposition-exact}
+use Rattle.mtl_encode.proofs.PulsePairs.{pulse-row}
 use Rattle.mtl_encode.proofs.ReachExact.{reach-exact}
 use Rattle.mtl_encode.proofs.ReachUses.{reach-allowed}
 
@@ -55,12 +61,25 @@ module _ (s : Sought) (x : Extremes) (v : Atom → Bool) (satisfied : SatisfiesK
   is-shape : (k : ℕ) (g : Form) → k < length s.trees → tree_at s.trees k ≡ g → shape_at s k ≡ shape_of s.log s.trees g
   is-shape k g low tree = shape-is same s once children_first k g low tree
 
-  state-named : (instant : ℤ) (host name : List ℕ) (h : Option ℕ) → option_map_or (λ (c : Change). c.sets) (last_of (is_by t instant) (option_map_or (λ h. changes_of s.log h name) h [])) false ≡ option_map_or (λ h. state s.log t instant h name) h false
+  -- the pulses of a proposition are pulse rows of the log
+  pulses-named : (host name : List ℕ) (u : ℕ) → Among (pulses_named s.log host name) u → (u < length s.log.rows) × (is_pulse_row s.log u ≡ true)
+  pulses-named host name u = go (host_named s.log host)
+    where
+      go : (o : Option ℕ) → Among (option_map_or (λ h. pulses_of s.log h name) o []) u → (u < length s.log.rows) × (is_pulse_row s.log u ≡ true)
+      go None among = absurd among
+      go (Some h) among =
+          let (in_, is) = among-filter (is_pulse_at s.log h name) (range_with_len 0 (length s.log.rows)) u among in
+          (below (length s.log.rows) u in_, pulse-row s.log h name u is)
+
+  state-named : (instant : ℤ) (host name : List ℕ) (h : Option ℕ)
+      → list_any (λ u. int_eq (time_of t u) instant) (option_map_or (λ h. pulses_of s.log h name) h []) || option_map_or (λ (c : Change). c.sets) (last_of (is_by t instant) (option_map_or (λ h. changes_of s.log h name) h [])) false
+      ≡ option_map_or (λ h. state s.log t instant h name) h false
   state-named instant host name None = refl
   state-named instant host name (Some h) = refl
 
   exact-prop : (host name : List ℕ) → IsExact (Prop host name)
-  exact-prop host name k e low tree in_ = proposition-exact s x v satisfied t agrees k e (changes_named s.log host name) low in_ (ap changes_in (is-shape k (Prop host name) low tree)) ∙ state-named (time_of t e) host name (host_named s.log host)
+  exact-prop host name k e low tree in_ = proposition-exact s x v satisfied t agrees k e (rows_named s.log host name) low in_ (ap proposition_in (is-shape k (Prop host name) low tree)) (pulses-named host name)
+      ∙ state-named (time_of t e) host name (host_named s.log host)
 
   exact-not : (f : Form) → IsExact f → IsExact (Not f)
   exact-not f exact k e low tree in_ =

@@ -3,7 +3,7 @@ use Rattle.std.proofs.Common.{◌≡◌, ◌∙◌, ap, refl, ℕ, ◌+◌, ◌*
 use Rattle.std.specs.Prelude.{◌↔◌, count_by, int_le, int_lt, sum_by}
 use Rattle.std.specs.List.{range_with_len}
 use Rattle.std.specs.Option.{option_map_or}
-use Rattle.std.proofs.Math.Nat.{mul-le-mul_left, mul_assoc}
+use Rattle.std.proofs.Math.Nat.{mul-le-mul_left, mul_assoc, mul_comm}
 use Rattle.std.proofs.lemmas.Bool.{cases_Bool, or_left, or_right}
 use Rattle.std.proofs.lemmas.Int.{ints}
 use Rattle.mt_model.specs.declared.tree.Interval.{Interval}
@@ -14,15 +14,15 @@ use Rattle.formula_arena.specs.Nodes.{IsArena, tree_at}
 use Rattle.formula_arena.specs.Subtrees.{same_form}
 use Rattle.axiom_rules.specs.declared.reach.Reach.{Reach}
 use Rattle.axiom_rules.specs.declared.rule.Rule.{Rule}
-use Rattle.axiom_rules.specs.ClauseLengths.{most_literals}
 use Rattle.axiom_rules.specs.NodeShapes.{is_constant, number_of, reach_in, shape_at, shape_of}
 use Rattle.axiom_rules.specs.Sought.{Sought}
 use Rattle.mtl_encode.proofs.Cubes.{square}
-use Rattle.mtl_encode.proofs.LiteralCounts.{most, one-within}
+use Rattle.mtl_encode.proofs.LiteralCounts.{one-within}
 use Rattle.mtl_encode.proofs.NodeLemmas.{child-there, shape-is}
 use Rattle.mtl_encode.proofs.RangeLemmas.{flat-by, flat-nothing}
 use Rattle.mtl_encode.proofs.ReachRules.{no-reach, one-nothing}
-use Rattle.mtl_encode.specs.Instances.{is_of_reach, with_one, with_three, with_two}
+use Rattle.mtl_encode.specs.Growth.{most_in}
+use Rattle.mtl_encode.specs.Instances.{is_of_reach, rule_at, with_one, with_three, with_two}
 use Rattle.mtl_encode.specs.Needless.{Extremes, farthest, has_constant, is_dead, is_live, is_needless, nearest, needs_no_span}
 use Rattle.mtl_encode.specs.Size.{is_reach, is_true, live_pairs, tree_size}
 
@@ -63,7 +63,7 @@ module _ (x : Extremes) (s : Sought) where
   nodes = length s.trees
 
   abbrev mass : List Rule → ℕ
-  mass rules = sum_by (most s (is_needless x s)) rules
+  mass rules = sum_by (most_in s) rules
 
   -- an until or a since is at least as large as the square of the rows
   square-low : (f : Form) → is_reach f ≡ true → rows * rows ≤ tree_size x rows f
@@ -81,24 +81,28 @@ module _ (x : Extremes) (s : Sought) where
   square-low (Once I f) is = absurd (cc)
   square-low (Historically I f) is = absurd (cc)
 
-  -- rules of two events, each with at most five literals
-  pub two-events : (number k : ℕ) → is_of_reach number ≡ true → most_literals s number ≤ 5
-      → mass (with_one s (is_needless x s) number (nodes ∷ rows ∷ rows ∷ 1 ∷ []) k) ≤ 5 * tree_size x rows (tree_at s.trees k)
-  two-events number k of few = elim (cases_Bool (is_reach (tree_at s.trees k))) [
+  -- rules of two events, each with at most so many literals
+  pub two-events : (number wide k : ℕ) → is_of_reach number ≡ true → ((i j d : ℕ) → most_in s (rule_at number k i j d) ≤ wide)
+      → mass (with_one s (is_needless x s) number (nodes ∷ rows ∷ rows ∷ 1 ∷ []) k) ≤ wide * tree_size x rows (tree_at s.trees k)
+  two-events number wide k of few = elim (cases_Bool (is_reach (tree_at s.trees k))) [
     | inl is ↦
-        let low = one-within s (is_needless x s) number (nodes ∷ rows ∷ rows ∷ 1 ∷ []) 5 few k in
-        let square = square-low (tree_at s.trees k) is in
-        omega (arith, low, square)
+        let low = one-within s (is_needless x s) number (nodes ∷ rows ∷ rows ∷ 1 ∷ []) wide k few in
+        let square = mul-le-mul_left wide (square-low (tree_at s.trees k) is) in
+        let turned = mul_comm wide (rows * rows) in
+        let apart = mul_assoc rows rows wide in
+        let one : 1 * wide ≡ wide = omega arith in
+        let within : mass (with_one s (is_needless x s) number (nodes ∷ rows ∷ rows ∷ 1 ∷ []) k) ≤ rows * (rows * wide) = rw one at low in
+        omega (arith, within, square, turned, apart)
     | inr fails ↦ rw (one-nothing s (is_needless x s) k (no-reach s k fails) number (nodes ∷ rows ∷ rows ∷ 1 ∷ []) of) (omega arith)
   ]
 
   module _ (some_rows : 1 ≤ rows) where
     -- rules of one event, each with a literal for each event
-    pub one-event : (number k : ℕ) → is_of_reach number ≡ true → most_literals s number ≤ rows + 5
+    pub one-event : (number k : ℕ) → is_of_reach number ≡ true → ((i c d : ℕ) → most_in s (rule_at number k i c d) ≤ rows + 5)
         → mass (with_one s (is_needless x s) number (nodes ∷ rows ∷ 1 ∷ 1 ∷ []) k) ≤ 6 * tree_size x rows (tree_at s.trees k)
     one-event number k of few = elim (cases_Bool (is_reach (tree_at s.trees k))) [
       | inl is ↦
-          let low = one-within s (is_needless x s) number (nodes ∷ rows ∷ 1 ∷ 1 ∷ []) (rows + 5) few k in
+          let low = one-within s (is_needless x s) number (nodes ∷ rows ∷ 1 ∷ 1 ∷ []) (rows + 5) k few in
           let square = square-low (tree_at s.trees k) is in
           let wide : 1 * (1 * (rows + 5)) ≤ 6 * rows = omega (arith, some_rows) in
           let more = mul-le-mul_left rows wide in
@@ -124,11 +128,11 @@ module _ (x : Extremes) (s : Sought) where
       ]
 
       of-event : (i : ℕ) → mass (with_two s (is_needless x s) number counts k i) ≤ wide * rows * count_by (is_live x u.direction u.interval i) (range_with_len 0 rows)
-      of-event i = flat-by (most s (is_needless x s)) (with_three s (is_needless x s) number counts k i) (λ j. cond (is_live x u.direction u.interval i j) 1 0) (wide * rows) 0 rows (of-pair i)
+      of-event i = flat-by (most_in s) (with_three s (is_needless x s) number counts k i) (λ j. cond (is_live x u.direction u.interval i j) 1 0) (wide * rows) 0 rows (of-pair i)
 
       of-node : mass (with_one s (is_needless x s) number counts k) ≤ wide * rows * live_pairs x u.direction u.interval rows
       unfolding live_pairs
-      of-node = flat-by (most s (is_needless x s)) (with_two s (is_needless x s) number counts k) (λ i. count_by (is_live x u.direction u.interval i) (range_with_len 0 rows)) (wide * rows) 0 rows of-event
+      of-node = flat-by (most_in s) (with_two s (is_needless x s) number counts k) (λ i. count_by (is_live x u.direction u.interval i) (range_with_len 0 rows)) (wide * rows) 0 rows of-event
 
       of-constant : has_constant x s u ≡ true → with_one s (is_needless x s) number counts k ≡ []
       of-constant is = flat-nothing (with_two s (is_needless x s) number counts k) 0 rows (λ i low-i high-i.

@@ -1,4 +1,4 @@
--- The rules 12 to 23 have no clause for a node that is no until and no since.
+-- The rules 12 to 23, and 28, have no clause for a node that is no until and no since.
 use Rattle.std.proofs.Common.{◌≡◌, refl, ℕ, zero, suc, Bool, true, false, if◌then◌else◌, List, [], ◌∷◌, Option, Some, None, Err}
 use Rattle.std.specs.Prelude.{Result, is_ok, option_and_then, slice_get, slice_index}
 use Rattle.mt_model.specs.Form.{Form, True, False, Prop, Not, And, Or, Implies, Until, Since, Eventually, Always, Once, Historically}
@@ -22,7 +22,7 @@ module _ (s : Sought) (out : Rule → Bool) (k : ℕ) (none : reach_in (shape_at
   IsOfReach row = (b c d : ℕ) → row.writes s (k ∷ b ∷ c ∷ d ∷ []) ≡ Err Kind
 
   reach-rows : (number : ℕ) (row : Row) → row_of number ≡ Some row → is_of_reach number ≡ true → IsOfReach row
-  reach-rows = row-case (λ n row. is_of_reach n ≡ true → IsOfReach row) ((λ h. absurd (cc)), ((λ h. absurd (cc)), ((λ h. absurd (cc)), ((λ h. absurd (cc)), ((λ h. absurd (cc)), ((λ h. absurd (cc)), ((λ h. absurd (cc)), ((λ h. absurd (cc)), ((λ h. absurd (cc)), ((λ h. absurd (cc)), ((λ h. absurd (cc)), ((λ h b c d. rw none refl), ((λ h b c d. rw none refl), ((λ h b c d. rw none refl), ((λ h b c d. rw none refl), ((λ h b c d. rw none refl), ((λ h b c d. rw none refl), ((λ h b c d. rw none refl), ((λ h b c d. rw none refl), ((λ h b c d. rw none refl), ((λ h b c d. rw none refl), ((λ h b c d. rw none refl), ((λ h b c d. rw none refl), ((λ h. absurd (cc)), ((λ h b c d. rw none refl), tt)))))))))))))))))))))))))
+  reach-rows = row-case (λ n row. is_of_reach n ≡ true → IsOfReach row) ((λ h. absurd (cc)), ((λ h. absurd (cc)), ((λ h. absurd (cc)), ((λ h. absurd (cc)), ((λ h. absurd (cc)), ((λ h. absurd (cc)), ((λ h. absurd (cc)), ((λ h. absurd (cc)), ((λ h. absurd (cc)), ((λ h. absurd (cc)), ((λ h. absurd (cc)), ((λ h b c d. rw none refl), ((λ h b c d. rw none refl), ((λ h b c d. rw none refl), ((λ h b c d. rw none refl), ((λ h b c d. rw none refl), ((λ h b c d. rw none refl), ((λ h b c d. rw none refl), ((λ h b c d. rw none refl), ((λ h b c d. rw none refl), ((λ h b c d. rw none refl), ((λ h b c d. rw none refl), ((λ h b c d. rw none refl), ((λ h. absurd (cc)), ((λ h. absurd (cc)), ((λ h. absurd (cc)), ((λ h. absurd (cc)), ((λ h b c d. rw none refl), tt))))))))))))))))))))))))))))
 
   kept-nothing : (number b c d : ℕ) → is_of_reach number ≡ true → kept s out (rule_at number k b c d) ≡ []
   kept-nothing number b c d of = go (row_of number) refl

@@ -17,7 +17,7 @@ use Rattle.axiom_rules.specs.declared.literal.Atom.{Atom}
 use Rattle.axiom_rules.specs.declared.literal.Atom.TheVariants.{Order}
 use Rattle.axiom_rules.specs.declared.part.Part.{Part}
 use Rattle.axiom_rules.specs.declared.rule.Rule.{Rule}
-use Rattle.axiom_rules.specs.Clauses.{of_event, of_events, of_node_event, of_node_event_change, of_node_events, of_node_three_events, of_nothing, row_of}
+use Rattle.axiom_rules.specs.Clauses.{of_event, of_events, of_node_event, of_node_event_change, of_node_event_pulse, of_node_events, of_node_three_events, of_nothing, row_of}
 use Rattle.axiom_rules.specs.Holds.{means}
 use Rattle.axiom_rules.specs.Parts.{Written, after, not_after, order}
 use Rattle.axiom_rules.specs.Rules.{for_each_event, is_from, is_not_from, is_not_up_to, is_up_to, met_after, met_order, not_met_after, not_met_order, of_kind}
@@ -53,6 +53,10 @@ module _ (s : Sought) (out : Rule → Bool) (v : Atom → Bool) (satisfied : Sat
   pub of_node_event_change-true : (number : ℕ) (write : Sought → ℕ → ℕ → ℕ → Written) → row_of number ≡ Some (of_node_event_change write) → (k e place : ℕ) → IsNodeOf k → IsEventOf e → out (rule_at number k e place 0) ≡ false → WrittenIsTrue v (write s k e place)
   of_node_event_change-true number write is k e place low a kept =
       written-true v s out satisfied number (k ∷ e ∷ place ∷ 0 ∷ []) (of_node_event_change write) is (and_from _ _ (lt-ltb k (length s.trees) low) (and_from _ _ (lt-ltb e (length s.log.rows) a) refl)) kept
+
+  pub of_node_event_pulse-true : (number : ℕ) (write : Sought → ℕ → ℕ → ℕ → Written) → row_of number ≡ Some (of_node_event_pulse write) → (k e place : ℕ) → IsNodeOf k → IsEventOf e → out (rule_at number k e place 0) ≡ false → WrittenIsTrue v (write s k e place)
+  of_node_event_pulse-true number write is k e place low a kept =
+      written-true v s out satisfied number (k ∷ e ∷ place ∷ 0 ∷ []) (of_node_event_pulse write) is (and_from _ _ (lt-ltb k (length s.trees) low) (and_from _ _ (lt-ltb e (length s.log.rows) a) refl)) kept
 
   pub of_node_events-true : (number : ℕ) (write : Sought → ℕ → ℕ → ℕ → Written) → row_of number ≡ Some (of_node_events write) → (k i j : ℕ) → IsNodeOf k → IsEventOf i → IsEventOf j → out (rule_at number k i j 0) ≡ false → WrittenIsTrue v (write s k i j)
   of_node_events-true number write is k i j low a b kept =

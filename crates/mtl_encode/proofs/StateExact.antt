@@ -1,5 +1,5 @@
 -- What the rules on a proposition leave open is its state alone.
-use Rattle.std.proofs.Common.{◌≡◌, ◌∙◌, sym, ap, refl, ℕ, zero, suc, Bool, true, false, cond, List, [], ◌∷◌, Option, Some, None, inl, inr}
+use Rattle.std.proofs.Common.{◌≡◌, ◌∙◌, sym, ap, refl, ℕ, zero, suc, Bool, true, false, cond, ◌||◌, List, [], ◌∷◌, Option, Some, None, inl, inr}
 use Rattle.std.specs.Prelude.{find, reverse, slice_get}
 use Rattle.std.specs.Option.{option_map_or, option_or}
 use Rattle.std.proofs.lemmas.Bool.{cases_Bool}
@@ -40,7 +40,7 @@ module _ (p : Change → Bool) where
         go later (Some x) some b passes is = later (some ∙ is)
 
     -- the value is what the last change that passes makes it, and false where there is none
-    pub state-exact : (cs : List Change) → (value ≡ true → first_passes p cs ≡ true) → FollowsChanges cs → value ≡ option_map_or (λ c. c.sets) (last_of p cs) false
+    state-exact : (cs : List Change) → (value ≡ true → first_passes p cs ≡ true) → FollowsChanges cs → value ≡ option_map_or (λ c. c.sets) (last_of p cs) false
     state-exact cs changed follows = go (last_of p cs) refl
       where
         go : (o : Option Change) → last_of p cs ≡ o → value ≡ option_map_or (λ c. c.sets) o false
@@ -49,3 +49,9 @@ module _ (p : Change → Bool) where
           | inl holds ↦ absurd (apart (first_passes p cs) (changed holds) (none-first cs none))
           | inr fails ↦ fails
         ]
+
+    -- and where the proposition is pulsed, it is true
+    pub pulsed-exact : (pulsed : Bool) (cs : List Change) → (pulsed ≡ true → value ≡ true) → (pulsed ≡ false → value ≡ true → first_passes p cs ≡ true) → (pulsed ≡ false → FollowsChanges cs)
+        → value ≡ pulsed || option_map_or (λ c. c.sets) (last_of p cs) false
+    pulsed-exact true cs on changed follows = on refl
+    pulsed-exact false cs on changed follows = state-exact cs (changed refl) (follows refl)

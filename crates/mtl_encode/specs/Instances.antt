@@ -1,13 +1,14 @@
 -- The rules that are kept, in the order of their numbers and their arguments.
-use Rattle.std.specs.Prelude.{ℕ, ◌+◌, ◌==◌, nat_lt, Bool, not, ◌&&◌, ◌||◌, if◌then◌else◌, List, [], ◌∷◌, length, map, is_ok, slice_index}
+use Rattle.std.specs.Prelude.{ℕ, ◌+◌, ◌==◌, nat_lt, Bool, not, ◌&&◌, ◌||◌, if◌then◌else◌, List, [], ◌∷◌, filter, length, map, is_ok, slice_index}
 use Rattle.std.specs.List.{flat_map, range_with_len}
 use Rattle.std.specs.Option.{option_map_or}
 use Rattle.skew_bounds.specs.Differences.{Differences}
 use Rattle.axiom_rules.specs.declared.rule.Argument.{Argument}
-use Rattle.axiom_rules.specs.declared.rule.Argument.TheVariants.{ANode, AnEvent, AChange, Unused}
+use Rattle.axiom_rules.specs.declared.rule.Argument.TheVariants.{ANode, AnEvent, AChange, APulse, Unused}
 use Rattle.axiom_rules.specs.declared.rule.Rule.{Rule}
 use Rattle.axiom_rules.specs.declared.rule.TheConstants.{MAX_RULE}
 use Rattle.axiom_rules.specs.Clauses.{clause_of, row_of}
+use Rattle.axiom_rules.specs.Rules.{is_pulse_row}
 use Rattle.axiom_rules.specs.Sought.{Sought}
 use Rattle.mtl_encode.specs.Needless.{extremes_of, is_needless}
 
@@ -27,11 +28,20 @@ out_by d s = is_needless (extremes_of d) s
 abbrev pub is_of_reach : ℕ → Bool
 is_of_reach number = (nat_lt 11 number && nat_lt number 24) || number == 28
 
--- one more than the greatest argument of its kind; a proposition has at most one change a row
+-- whether rules of a number are about pairs of events of which one is a pulse
+abbrev pub is_of_pulses : ℕ → Bool
+is_of_pulses number = number == 25 || number == 26
+
+-- the pulse rows of the log, of whatever proposition
+abbrev pub pulse_rows : Sought → List ℕ
+pulse_rows s = filter (is_pulse_row s.log) (range_with_len 0 (length s.log.rows))
+
+-- one more than the greatest argument of its kind; a proposition has at most one change or pulse a row
 abbrev pub count_of : Sought → Argument → ℕ
 count_of s ANode = length s.trees
 count_of s AnEvent = length s.log.rows
 count_of s AChange = length s.log.rows
+count_of s APulse = length s.log.rows
 count_of s Unused = 1
 
 -- the rules of a number that are kept, with their last arguments below these counts

@@ -8,6 +8,7 @@ mod laws;
 mod listing;
 mod needless;
 mod problem;
+mod pulses;
 mod size;
 mod variables;
 mod workspace;

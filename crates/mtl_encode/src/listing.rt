@@ -4,10 +4,11 @@ ghost use Rattle.std.specs.Prelude.{◌≡◌, ◌≤◌, ◌<◌, ◌++◌, ℕ
 ghost use Rattle.axiom_rules.specs.Clauses.{clause_of};
 ghost use Rattle.axiom_rules.specs.NodeShapes.{reach_in, shape_at};
 ghost use Rattle.mtl_encode.specs.Growth.{AreClauses, Gains, HasRoom};
-ghost use Rattle.mtl_encode.specs.Instances.{count_of as count_of_argument, instances, is_of_reach as is_number_of_reach, of_number, out_by, rule_at, with_none, with_one, with_three, with_two};
+ghost use Rattle.mtl_encode.specs.Instances.{count_of as count_of_argument, instances, is_of_reach as is_number_of_reach, of_number, out_by, pulse_rows as pulse_rows_of, rule_at, with_none, with_one, with_three, with_two};
 
 use crate::clauses::Clauses;
 use crate::needless::{is_needless_throughout, needs_no_span};
+use crate::pulses::{is_of_pulses, pulse_rows};
 use crate::workspace::Workspace;
 use axiom_rules::{Argument, MAX_RULE, Rule, Rules, arguments_of};
 use skew_bounds::Tight;
@@ -20,7 +21,7 @@ fn count_of(rules: &Rules, nodes: u32, argument: Argument) -> u32
 {
     match argument {
         Argument::ANode => nodes,
-        Argument::AnEvent | Argument::AChange => rules.events(),
+        Argument::AnEvent | Argument::AChange | Argument::APulse => rules.events(),
         Argument::Unused => 1,
     }
 }
@@ -55,13 +56,16 @@ fn passes_over_span(rules: &Rules, tight: &Tight, number: u8, k: u32, i: u32, j:
     (number == 19 || number == 21) && needs_no_span(rules, tight, k, i, j)
 }
 
-// How many third arguments are gone through where the first one is this: a proposition has rules for its changes alone.
+// How many third arguments are gone through where the first one is this: a proposition has rules for its changes and its
+// pulses alone.
 fn third_count(rules: &Rules, number: u8, counts: [u32; 4], a: u32) -> u32
     ensures at_most { result ≤ slice_index counts 2 }
     ensures no_clause { (b c d : ℕ) → result ≤ c → c < slice_index counts 2 → is_ok (clause_of rules.now (rule_at number a b c d)) ≡ false }
 {
     if number == 2 {
         counts[2].min(rules.change_count(a))
+    } else if number == 27 {
+        counts[2].min(rules.pulse_count(a))
     } else {
         counts[2]
     }
@@ -94,8 +98,8 @@ impl Clauses {
         Ok(())
     }
 
-    // Adds the rules of a number with these two first arguments.
-    fn add_with_two(
+    /// Adds the rules of a number with these two first arguments.
+    pub fn add_with_two(
         &mut self,
         workspace: &mut Workspace,
         rules: &Rules,
@@ -115,8 +119,8 @@ impl Clauses {
         Ok(())
     }
 
-    // Adds the rules of a number with this first argument.
-    fn add_with_one(
+    /// Adds the rules of a number with this first argument.
+    pub fn add_with_one(
         &mut self,
         workspace: &mut Workspace,
         rules: &Rules,
@@ -167,9 +171,11 @@ impl Clauses {
         rules: &Rules,
         tight: &Tight,
         nodes: u32,
+        pulses: &[u32],
         number: u8,
     ) -> Result<(), AllocError>
         requires nodes { nodes ≡ length rules.now.trees }
+        requires pulses { pulses.now ≡ pulse_rows_of rules.now }
         requires clauses { AreClauses rules.now self.old }
         requires room { HasRoom rules.now (self.old.rules ++ of_number rules.now (out_by tight.now rules.now) number) }
         ensures { OnOk result (Gains rules.now self.old self.new (of_number rules.now (out_by tight.now rules.now) number)) }
@@ -177,7 +183,11 @@ impl Clauses {
         match arguments_of(number) {
             Some(arguments) => {
                 let counts = counts_of(rules, nodes, arguments);
-                self.add_with_none(workspace, rules, tight, number, counts)
+                if is_of_pulses(number) {
+                    self.add_pairs(workspace, rules, tight, number, counts, pulses)
+                } else {
+                    self.add_with_none(workspace, rules, tight, number, counts)
+                }
             }
             None => Ok(()),
         }
@@ -196,9 +206,10 @@ impl Clauses {
         requires room { HasRoom rules.now (self.old.rules ++ instances rules.now (out_by tight.now rules.now)) }
         ensures { OnOk result (Gains rules.now self.old self.new (instances rules.now (out_by tight.now rules.now))) }
     {
+        let pulses = pulse_rows(alloc, rules)?;
         let mut workspace = Workspace::new(alloc);
         for number in 0..MAX_RULE + 1 {
-            self.add_number(&mut workspace, rules, tight, nodes, number)?;
+            self.add_number(&mut workspace, rules, tight, nodes, &pulses, number)?;
         }
         Ok(())
     }

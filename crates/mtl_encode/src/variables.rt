@@ -20,10 +20,11 @@ pub struct RankedOrder {
     pub var: u32,
 }
 
-/// What follows from the orders: what atoms say of nodes, of which each comes after its parts, and then which events are
-/// first ones.
+/// What follows from the orders: which events are at one instant, what atoms say of nodes, of which each comes after its
+/// parts, and then which events are first ones.
 #[derive(Clone, Copy, Debug, PartialEq, Eq, PartialOrd, Ord)]
 pub enum Subject {
+    OneInstant,
     OfNode(u32),
     First,
 }
@@ -88,6 +89,7 @@ impl Ranking {
     {
         match atom {
             Atom::Order { e, f, .. } => self.add_order(apart(log, e, f), var),
+            Atom::Same { .. } => self.add_other(Subject::OneInstant, Part::Truth, var),
             Atom::Span { k, .. } => self.add_other(Subject::OfNode(k), Part::Span, var),
             Atom::Gap { k, .. } => self.add_other(Subject::OfNode(k), Part::Gap, var),
             Atom::Wit { k, .. } => self.add_other(Subject::OfNode(k), Part::Wit, var),
