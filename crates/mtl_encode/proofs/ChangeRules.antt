@@ -39,21 +39,21 @@ abbrev pub change_count : Sought → ℕ → ℕ
 change_count s k = option_map_or (λ changes. length changes) (changes_in (shape_at s k)) 0
 
 -- the changes and the pulses of the rows that tell of a proposition
-pub changes-are : (o : Option Shape) (rows : PropositionRows) → proposition_in o ≡ Some rows → changes_in o ≡ Some rows.changes
-changes-are None rows is = absurd (cc)
-changes-are (Some shape.True) rows is = absurd (cc)
-changes-are (Some (shape.Prop host name told)) rows is = let equal : told ≡ rows = cc in rw equal refl
-changes-are (Some (shape.Not a)) rows is = absurd (cc)
-changes-are (Some (shape.And a b)) rows is = absurd (cc)
-changes-are (Some (shape.Reach u)) rows is = absurd (cc)
+pub changes-told : (o : Option Shape) (rows : PropositionRows) → proposition_in o ≡ Some rows → changes_in o ≡ Some rows.changes
+changes-told None rows is = absurd (cc)
+changes-told (Some shape.True) rows is = absurd (cc)
+changes-told (Some (shape.Prop host name told)) rows is = let equal : told ≡ rows = cc in rw equal refl
+changes-told (Some (shape.Not a)) rows is = absurd (cc)
+changes-told (Some (shape.And a b)) rows is = absurd (cc)
+changes-told (Some (shape.Reach u)) rows is = absurd (cc)
 
-pub pulses-are : (o : Option Shape) (rows : PropositionRows) → proposition_in o ≡ Some rows → pulses_in o ≡ Some rows.pulses
-pulses-are None rows is = absurd (cc)
-pulses-are (Some shape.True) rows is = absurd (cc)
-pulses-are (Some (shape.Prop host name told)) rows is = let equal : told ≡ rows = cc in rw equal refl
-pulses-are (Some (shape.Not a)) rows is = absurd (cc)
-pulses-are (Some (shape.And a b)) rows is = absurd (cc)
-pulses-are (Some (shape.Reach u)) rows is = absurd (cc)
+pub pulses-told : (o : Option Shape) (rows : PropositionRows) → proposition_in o ≡ Some rows → pulses_in o ≡ Some rows.pulses
+pulses-told None rows is = absurd (cc)
+pulses-told (Some shape.True) rows is = absurd (cc)
+pulses-told (Some (shape.Prop host name told)) rows is = let equal : told ≡ rows = cc in rw equal refl
+pulses-told (Some (shape.Not a)) rows is = absurd (cc)
+pulses-told (Some (shape.And a b)) rows is = absurd (cc)
+pulses-told (Some (shape.Reach u)) rows is = absurd (cc)
 
 -- they are no more than the rows of the log
 pub few-rows : (s : Sought) (k : ℕ) (rows : PropositionRows) → proposition_in (shape_at s k) ≡ Some rows → length rows.changes + length rows.pulses ≤ length s.log.rows
@@ -61,7 +61,7 @@ few-rows s k rows = go (slice_get s.trees k)
   where
     go : (o : Option Form) → proposition_in (option_and_then (shape_of s.log s.trees) o) ≡ Some rows → length rows.changes + length rows.pulses ≤ length s.log.rows
     go None is = absurd (cc)
-    go (Some f) is = rw (changes-are (shape_of s.log s.trees f) rows is, pulses-are (shape_of s.log s.trees f) rows is) at (tree-few s.log s.trees f)
+    go (Some f) is = rw (changes-told (shape_of s.log s.trees f) rows is, pulses-told (shape_of s.log s.trees f) rows is) at (tree-few s.log s.trees f)
 
 module _ (s : Sought) (k e p d : ℕ) where
   -- a rule that writes nothing has no clause
@@ -74,14 +74,14 @@ module _ (s : Sought) (k e p d : ℕ) where
   pub no-change : change_count s k ≤ p → is_ok (clause_of s (rule_at 2 k e p d)) ≡ false
   no-change past = unwritten (are_there s (ANode ∷ AnEvent ∷ AChange ∷ Unused ∷ []) (k ∷ e ∷ p ∷ d ∷ [])) (rule_2 s k e p) (λ parts is.
       let (rows, are, low) = place-there (proposition_in (shape_at s k)) (λ rows. rows.changes) _ p parts is in
-      let few : length rows.changes ≤ p = rw (changes-are (shape_at s k) rows are) at past in
+      let few : length rows.changes ≤ p = rw (changes-told (shape_at s k) rows are) at past in
       absurd (omega (arith, low, few)))
 
   -- nor has a pulse
   pub no-pulse : pulse_count s k ≤ p → is_ok (clause_of s (rule_at 27 k e p d)) ≡ false
   no-pulse past = unwritten (are_there s (ANode ∷ AnEvent ∷ APulse ∷ Unused ∷ []) (k ∷ e ∷ p ∷ d ∷ [])) (rule_27 s k e p) (λ parts is.
       let (rows, are, low) = place-there (proposition_in (shape_at s k)) (λ rows. rows.pulses) _ p parts is in
-      let few : length rows.pulses ≤ p = rw (pulses-are (shape_at s k) rows are) at past in
+      let few : length rows.pulses ≤ p = rw (pulses-told (shape_at s k) rows are) at past in
       absurd (omega (arith, low, few)))
 
 module _ (s : Sought) (out : Rule → Bool) where

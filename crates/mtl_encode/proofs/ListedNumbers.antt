@@ -1,26 +1,11 @@
 -- Lists that go over some numbers.
 use Rattle.std.proofs.Common.{◌≡◌, ◌∙◌, sym, ap, refl, ℕ, zero, suc, ◌+◌, ◌<◌, ◌≤◌, Bool, true, false, List, [], ◌∷◌, ◌++◌, length, take, inl, inr, arith}
 use Rattle.std.specs.Prelude.{filter, slice_index_or, sum_by}
-use Rattle.std.specs.List.{flat_map, range_with_len}
+use Rattle.std.specs.List.{flat_map}
 use Rattle.std.proofs.lemmas.Bool.{cases_Bool}
 use Rattle.std.proofs.lemmas.Grind.{flat_map-append}
 use Rattle.std.proofs.lemmas.List.{append-nil, take_more}
-use Rattle.std.proofs.lemmas.List.Elements.{filter-append}
 use Rattle.std.proofs.lemmas.List.Sums.{sum_by-append}
-use Rattle.mt_model.proofs.Members.{Among}
-use Rattle.mtl_encode.proofs.Rankings.{range-next}
-
--- what passes a test stands in the list
-pub among-filter : {X : Type 0} (p : X → Bool) (xs : List X) (x : X) → Among (filter p xs) x → Among xs x × (p x ≡ true)
-among-filter p [] x among = absurd among
-among-filter p (y ∷ xs) x among = elim (cases_Bool (p y)) [
-  | inl is ↦ yes is (rw is at among)
-  | inr fails ↦ let (in_, holds) = among-filter p xs x (rw fails at among) in (inr in_, holds)
-]
-  where
-    yes : p y ≡ true → Among (y ∷ filter p xs) x → Among (y ∷ xs) x × (p x ≡ true)
-    yes is (inl here) = (inl here, rw (← here) is)
-    yes is (inr there) = let (in_, holds) = among-filter p xs x there in (inr in_, holds)
 
 module _ {X : Type 0} (f : ℕ → List X) where
   -- the numbers that fail a test may be left out where they have nothing
@@ -44,11 +29,3 @@ module _ {X : Type 0} (f : ℕ → List X) where
       let first = sum_by-append w (f x) (flat_map f (take i xs)) in
       let all = sum_by-append w (f x) (flat_map f xs) in
       omega (arith, ih, first, all)
-
--- the numbers below one more that pass a test
-module _ (p : ℕ → Bool) (v : ℕ) where
-  pub filter-yes : p v ≡ true → filter p (range_with_len 0 (v + 1)) ≡ filter p (range_with_len 0 v) ++ v ∷ []
-  filter-yes is = ap (filter p) (range-next v) ∙ filter-append p (range_with_len 0 v) (v ∷ []) ∙ (rw is refl)
-
-  pub filter-no : p v ≡ false → filter p (range_with_len 0 (v + 1)) ≡ filter p (range_with_len 0 v)
-  filter-no fails = ap (filter p) (range-next v) ∙ filter-append p (range_with_len 0 v) (v ∷ []) ∙ (rw fails (append-nil (filter p (range_with_len 0 v))))

@@ -1,5 +1,5 @@
 -- What the rules say of constants, propositions, negations and conjunctions, and of the value sought.
-use Rattle.std.proofs.Common.{◌≡◌, ◌∙◌, sym, refl, subst, ℕ, suc, ◌+◌, ◌<◌, Bool, true, false, not, ◌&&◌, if◌then◌else◌, List, [], ◌∷◌, length, Option, Some, None, Ok, Err, inl, inr, ℤ, pos, ◌-ℤ◌, arith}
+use Rattle.std.proofs.Common.{◌≡◌, ◌∙◌, sym, ap, refl, subst, ℕ, suc, ◌+◌, ◌<◌, Bool, true, false, not, ◌&&◌, ◌||◌, if◌then◌else◌, List, [], ◌∷◌, length, Option, Some, None, Ok, Err, inl, inr, ℤ, pos, ◌-ℤ◌, arith}
 use Rattle.std.specs.Prelude.{int_le, int_lt, slice_get}
 use Rattle.std.specs.List.{list_any, range_with_len}
 use Rattle.std.specs.Ordering.{int_eq}
@@ -73,18 +73,18 @@ module _ (s : Sought) (x : Extremes) (v : Atom → Bool) (satisfied : SatisfiesK
 
       -- a pulse at the event's instant makes it true
       of-pulse : (place u : ℕ) → slice_get rows.pulses place ≡ Some u → int_eq (time_of t u) (time_of t e) ≡ true → (u < length s.log.rows) × (is_pulse_row s.log u ≡ true) → value ≡ true
-      of-pulse place u there at is =
-          let pair : IsPair s x v satisfied t agrees u e = record { low = is.0; high = in_; pulse = or_left (is_pulse_row s.log u) (is_pulse_row s.log e) is.1 } in
-          let same : part_holds v (same u e) ≡ true = instant-exact s x v satisfied t agrees u e pair ∙ at in
+      of-pulse place u there at row =
+          let pair : IsPair s x v satisfied t agrees u e = record { low = row.0; high = in_; pulse = or_left (is_pulse_row s.log u) (is_pulse_row s.log e) row.1 } in
+          let at-once : part_holds v (same u e) ≡ true = instant-exact s x v satisfied t agrees u e pair ∙ at in
           last_of_2 (part_holds v (not_same u e)) value
           (subst (λ (o : Option ℕ). WrittenIsTrue v (option_map_or (λ u. Ok (not_same u e ∷ is (Node k e) ∷ [])) o (Err Range))) there
           (kind-true s (is_needless x s) v satisfied (proposition_in (shape_at s k)) rows (λ rows. option_map_or (λ u. Ok (not_same u e ∷ is (Node k e) ∷ [])) (slice_get rows.pulses place) (Err Range)) of_rows
           (of_node_event_pulse-true s (is_needless x s) v satisfied 27 rule.rule_27 refl k e place low in_ refl)))
-          (not-same v u e ∙ not_true (part_holds v (same u e)) same)
+          (not-same v u e ∙ not_true (part_holds v (same u e)) at-once)
 
       on-pulse : pulsed ≡ true → value ≡ true
-      on-pulse is =
-          let (u, among, at) = any_some (λ u. int_eq (time_of t u) (time_of t e)) rows.pulses is in
+      on-pulse holds =
+          let (u, among, at) = any_some (λ u. int_eq (time_of t u) (time_of t e)) rows.pulses holds in
           let (place, within, stands) = place-of rows.pulses u among in
           of-pulse place u (slice_get-get_or rows.pulses place u within ∙ ap (λ (w : ℕ). Some w) stands) at (are u among)
 

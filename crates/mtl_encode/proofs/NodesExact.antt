@@ -1,18 +1,17 @@
 -- Each node has at each event the truth value of its tree.
 use Rattle.std.proofs.Common.{◌≡◌, ◌∙◌, ap, refl, subst, ℕ, ◌<◌, Bool, true, false, not, ◌||◌, List, [], length, Option, Some, None, ℤ, ◌-ℤ◌, arith}
 use Rattle.std.specs.Prelude.{◌↔◌, All, int_le, slice_index_or}
-use Rattle.std.specs.List.{list_any, range_with_len}
+use Rattle.std.specs.List.{list_any}
 use Rattle.std.specs.Option.{option_map_or}
 use Rattle.std.specs.Ordering.{int_eq}
 use Rattle.mt_model.specs.declared.tree.Interval.{Interval}
 use Rattle.mt_model.specs.Form.{Form, True, False, Prop, Not, And, Or, Implies, Until, Since, Eventually, Always, Once, Historically}
 use Rattle.mt_model.specs.Frame.{Frame, reaches}
-use Rattle.mt_model.specs.State.{Change, changes_of, host_named, is_pulse_at, pulses_of, state}
+use Rattle.mt_model.specs.State.{Change, changes_of, host_named, pulses_of, state}
 use Rattle.mt_model.specs.Timing.{time_of}
 use Rattle.mt_model.specs.Truth.{rows_in, truth_of}
 use Rattle.mt_model.proofs.FrameLemmas.{Carries, reaches_same}
 use Rattle.mt_model.proofs.Members.{Among}
-use Rattle.mt_model.proofs.PositionLemmas.{below}
 use Rattle.formula_arena.specs.Cores.{IsCore}
 use Rattle.formula_arena.specs.Nodes.{StandsBefore, tree_at}
 use Rattle.formula_arena.specs.Subtrees.{children_of, same_form}
@@ -26,13 +25,13 @@ use Rattle.axiom_rules.specs.Rules.{is_pulse_row}
 use Rattle.axiom_rules.specs.Sought.{Sought}
 use Rattle.axiom_rules.proofs.ChangeLemmas.{is_by, last_of}
 use Rattle.axiom_rules.proofs.MeaningLemmas.{at_row, near-ahead, row_at}
+use Rattle.axiom_rules.proofs.PulseLemmas.{IsPulse, pulses-are}
 use Rattle.mtl_encode.specs.Exact.{SatisfiesKept}
 use Rattle.mtl_encode.specs.Needless.{Extremes, is_dead, is_needless}
 use Rattle.mtl_encode.proofs.ExtremeUses.{BoundsTimes}
-use Rattle.mtl_encode.proofs.ListedNumbers.{among-filter}
 use Rattle.mtl_encode.proofs.NodeLemmas.{IsThere, child-there, shape-is}
 use Rattle.mtl_encode.proofs.NodeUses.{conjunction-exact, constant-exact, negation-exact, proposition-exact}
-use Rattle.mtl_encode.proofs.PulsePairs.{pulse-row}
+use Rattle.mtl_encode.proofs.PulseUses.{of-each}
 use Rattle.mtl_encode.proofs.ReachExact.{reach-exact}
 use Rattle.mtl_encode.proofs.ReachUses.{reach-allowed}
 
@@ -67,9 +66,7 @@ module _ (s : Sought) (x : Extremes) (v : Atom → Bool) (satisfied : SatisfiesK
     where
       go : (o : Option ℕ) → Among (option_map_or (λ h. pulses_of s.log h name) o []) u → (u < length s.log.rows) × (is_pulse_row s.log u ≡ true)
       go None among = absurd among
-      go (Some h) among =
-          let (in_, is) = among-filter (is_pulse_at s.log h name) (range_with_len 0 (length s.log.rows)) u among in
-          (below (length s.log.rows) u in_, pulse-row s.log h name u is)
+      go (Some h) among = of-each (IsPulse s.log h name) (pulses_of s.log h name) u (pulses-are s.log h name) among
 
   state-named : (instant : ℤ) (host name : List ℕ) (h : Option ℕ)
       → list_any (λ u. int_eq (time_of t u) instant) (option_map_or (λ h. pulses_of s.log h name) h []) || option_map_or (λ (c : Change). c.sets) (last_of (is_by t instant) (option_map_or (λ h. changes_of s.log h name) h [])) false

@@ -1,15 +1,8 @@
 -- The rules on pairs of events of which one is a pulse have no clause for others.
 use Rattle.std.proofs.Common.{◌≡◌, ◌∙◌, sym, ap, refl, subst, ℕ, ◌==◌, Bool, true, false, ◌&&◌, ◌||◌, if◌then◌else◌, List, [], ◌∷◌, length, Option, Some, None, Ok, Err, inl, inr}
-use Rattle.std.specs.Prelude.{Result, is_ok, nat_lt, slice_get, slice_index}
+use Rattle.std.specs.Prelude.{Result, is_ok, nat_lt, slice_index}
 use Rattle.std.specs.List.{flat_map, range_with_len}
-use Rattle.std.specs.Option.{option_map_or}
-use Rattle.std.proofs.lemmas.Bool.{and_parts, eqb-true, or_cases}
-use Rattle.mt_model.specs.declared.log.Act.{Act}
-use Rattle.mt_model.specs.declared.log.Act.TheVariants.{Set, Clear, Send, Recv, Note, Pulse}
-use Rattle.mt_model.specs.declared.log.Row.{Row}
-use Rattle.mt_model.specs.Log.{Logged}
-use Rattle.mt_model.specs.State.{is_pulse_at, is_pulse_of}
-use Rattle.mt_model.specs.Timing.{host_of}
+use Rattle.std.proofs.lemmas.Bool.{eqb-true, or_cases}
 use Rattle.axiom_rules.specs.declared.fault.RuleFault.{RuleFault}
 use Rattle.axiom_rules.specs.declared.fault.RuleFault.TheVariants.{Range}
 use Rattle.axiom_rules.specs.declared.literal.Literal.{Literal}
@@ -17,28 +10,12 @@ use Rattle.axiom_rules.specs.declared.rule.Argument.TheVariants.{AnEvent, Unused
 use Rattle.axiom_rules.specs.declared.rule.Rule.{Rule}
 use Rattle.axiom_rules.specs.Clauses.{are_there, clause_of}
 use Rattle.axiom_rules.specs.Parts.{Written, clause_of_written}
-use Rattle.axiom_rules.specs.Rules.{is_pulse, is_pulse_row, rule_25, rule_26}
+use Rattle.axiom_rules.specs.Rules.{is_pulse_row, rule_25, rule_26}
 use Rattle.axiom_rules.specs.Sought.{Sought}
 use Rattle.mtl_encode.proofs.ChangeRules.{clauseless}
 use Rattle.mtl_encode.proofs.ListedNumbers.{flat-filtered}
 use Rattle.mtl_encode.proofs.RangeLemmas.{flat-nothing}
 use Rattle.mtl_encode.specs.Instances.{is_of_pulses, kept, pulse_rows, rule_at, with_one, with_three, with_two}
-
-pulse-act : (name : List ℕ) (act : Act) → is_pulse_of name act ≡ true → is_pulse act ≡ true
-pulse-act name (Pulse n) is = refl
-pulse-act name (Set n) is = absurd (cc)
-pulse-act name (Clear n) is = absurd (cc)
-pulse-act name (Send m) is = absurd (cc)
-pulse-act name (Recv m) is = absurd (cc)
-pulse-act name (Note n) is = absurd (cc)
-
--- a pulse of a proposition is a pulse row
-pub pulse-row : (log : Logged) (h : ℕ) (name : List ℕ) (e : ℕ) → is_pulse_at log h name e ≡ true → is_pulse_row log e ≡ true
-pulse-row log h name e is = go (slice_get log.rows e) (and_parts (host_of log e == h) _ is).1
-  where
-    go : (o : Option Row) → option_map_or (λ r. is_pulse_of name r.act) o false ≡ true → option_map_or (λ r. is_pulse r.act) o false ≡ true
-    go None is = absurd (cc)
-    go (Some r) is = pulse-act name r.act is
 
 module _ (s : Sought) where
   -- two events of which none is a pulse

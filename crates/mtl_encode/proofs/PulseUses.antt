@@ -1,7 +1,7 @@
 -- What the rules on pairs of events of which one is a pulse say: whether they are at one instant.
 use Rattle.std.proofs.Common.{◌≡◌, ◌∙◌, sym, ap, refl, subst, ℕ, ◌==◌, ◌<◌, Bool, true, false, not, ◌||◌, if◌then◌else◌, List, [], ◌∷◌, length, map, Ok, Err, inl, inr, ℤ, ◌-ℤ◌, arith}
 use Rattle.std.specs.Prelude.{int_le, nat_lt}
-use Rattle.std.specs.List.{list_any}
+use Rattle.std.specs.List.{AllByRecursion, list_any}
 use Rattle.std.specs.Ordering.{int_eq}
 use Rattle.std.proofs.lemmas.Bool.{cases_Bool, eqb-true, or_cases, or_left, or_right}
 use Rattle.std.proofs.lemmas.Bool.Decides.{Decides-int_eq, nat_tests}
@@ -20,7 +20,7 @@ use Rattle.axiom_rules.specs.Rules.{at_pulses, is_pulse_row, of_pulse}
 use Rattle.axiom_rules.specs.Rules as rule
 use Rattle.axiom_rules.specs.Sought.{Sought}
 use Rattle.axiom_rules.proofs.BoolLemmas.{not_true}
-use Rattle.axiom_rules.proofs.PartLemmas.{part_holds}
+use Rattle.axiom_rules.proofs.PartLemmas.{equal_turned, part_holds}
 use Rattle.mtl_encode.specs.Exact.{SatisfiesKept}
 use Rattle.mtl_encode.specs.Needless.{Extremes, is_needless}
 use Rattle.mtl_encode.proofs.ClauseUses.{first_of, last_of_2}
@@ -41,6 +41,12 @@ equal-times a x y low high equal = same_bool a (int_eq x y)
 
     at-least : x ≡ y → int_le y x ≡ true
     at-least same = grind (arith, ints)
+
+-- what holds of each element holds of one that stands in the list
+pub of-each : {X : Type 0} (P : X → Type 0) (xs : List X) (x : X) → AllByRecursion P xs → Among xs x → P x
+of-each P [] x all among = absurd among
+of-each P (y ∷ xs) x all (inl here) = subst P here all.0
+of-each P (y ∷ xs) x all (inr there) = of-each P xs x all.1 there
 
 module _ (v : Atom → Bool) where
   -- that two events are at one instant may be said either way round
@@ -107,9 +113,6 @@ module _ (s : Sought) (x : Extremes) (v : Atom → Bool) (satisfied : SatisfiesK
   apart-instant e f less is = equal-times (part_holds v (same e f)) (time_of t e) (time_of t f) (not-after e f is)
       (λ at. not-after f e (turned e f is) (same-turned v f e ∙ at)) (at-once e f less is)
 
-  eq-turned : (a b : ℤ) → int_eq a b ≡ int_eq b a
-  eq-turned a b = same_bool (int_eq a b) (int_eq b a) (λ is. (Decides-int_eq b a).1 (sym ((Decides-int_eq a b).0 is))) (λ is. (Decides-int_eq a b).1 (sym ((Decides-int_eq b a).0 is)))
-
   eq-itself : (a : ℤ) → int_eq a a ≡ true
   eq-itself a = (Decides-int_eq a a).1 refl
 
@@ -132,7 +135,7 @@ module _ (s : Sought) (x : Extremes) (v : Atom → Bool) (satisfied : SatisfiesK
       go : (one less : Bool) → e == f ≡ one → nat_lt e f ≡ less → part_holds v (same e f) ≡ int_eq (time_of t e) (time_of t f)
       go true less is-one is-less = itself is-one
       go false true is-one is-less = apart-instant e f (smaller is-less) is
-      go false false is-one is-less = same-turned v e f ∙ apart-instant f e (greater is-one is-less) (turned e f is) ∙ eq-turned (time_of t f) (time_of t e)
+      go false false is-one is-less = same-turned v e f ∙ apart-instant f e (greater is-one is-less) (turned e f is) ∙ equal_turned (time_of t f) (time_of t e)
 
   -- whether an event is at the instant of one of these pulses
   pub pulses-exact : (e : ℕ) → e < length s.log.rows → (pulses : List ℕ) → ((u : ℕ) → Among pulses u → (u < length s.log.rows) × (is_pulse_row s.log u ≡ true))

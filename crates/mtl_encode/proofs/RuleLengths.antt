@@ -20,7 +20,7 @@ use Rattle.axiom_rules.specs.Sought.{Sought}
 use Rattle.axiom_rules.proofs.PartsMade.{clause-short}
 use Rattle.axiom_rules.proofs.RowCases.{row-case, written-by}
 use Rattle.axiom_rules.proofs.RulesMade.{few-by-number}
-use Rattle.mtl_encode.proofs.ChangeRules.{pulses-are}
+use Rattle.mtl_encode.proofs.ChangeRules.{pulses-told}
 use Rattle.mtl_encode.specs.Growth.{is_of_each_pulse, is_of_two, most_in, pulse_count}
 
 -- so many parts are written at most
@@ -43,7 +43,7 @@ option-most n (Some x) write fault each = each x
 
 -- the pulses of a proposition, counted
 rows-counted : (o : Option Shape) (rows : PropositionRows) → proposition_in o ≡ Some rows → option_map_or (λ pulses. length pulses) (pulses_in o) 0 ≡ length rows.pulses
-rows-counted o rows is = rw (pulses-are o rows is) refl
+rows-counted o rows is = rw (pulses-told o rows is) refl
 
 at-pulses-count : (pulses : List ℕ) (e : ℕ) → length (at_pulses pulses e) ≡ length pulses
 at-pulses-count pulses e = length-map pulses (λ u. same u e)

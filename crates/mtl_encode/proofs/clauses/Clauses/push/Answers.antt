@@ -1,8 +1,8 @@
 use Rattle.std.proofs.Common.{Ok, Err, arith}
 use Rattle.std.specs.Prelude.{OnOk, Result}
-use Rattle.axiom_rules.proofs.RulesMade.{few-by-number}
 use Rattle.mtl_encode.proofs.AtomGrowth.{vars-once}
 use Rattle.mtl_encode.proofs.ClauseGrowth.{few-rules, gains-one, literals-one}
+use Rattle.mtl_encode.proofs.RuleLengths.{few-in}
 use Rattle.mtl_encode.proofs.clauses.Clauses.push.Goals as goal
 
 on-ok : {T E : Type 0} (r : Result T E) (A B : Type 0) → (A → B) → OnOk r A → OnOk r B
@@ -10,7 +10,7 @@ on-ok (Ok x) A B f a = f a
 on-ok (Err e) A B f a = tt
 
 pub write_lits-requires : goal.write_lits-requires
-write_lits-requires c = omega (arith, c.requires.clauses.few, c.requires.room, literals-one c.args.rules.now c.args.self.now.rules c.args.rule, few-by-number c.args.rules.now c.args.rule c.args.clause.now c.requires.clause)
+write_lits-requires c = omega (arith, c.requires.clauses.few, c.requires.room, literals-one c.args.rules.now c.args.self.now.rules c.args.rule, few-in c.args.rules.now c.args.rule c.args.clause.now c.requires.clause)
 
 pub add-requires-clause-room : goal.add-requires-clause-room
 add-requires-clause-room c = omega (arith, c.requires.clauses.count, c.requires.room, few-rules c.args.rules.now c.args.self.now.rules, literals-one c.args.rules.now c.args.self.now.rules c.args.rule)
