@@ -42,7 +42,7 @@ module _ (s : Sought) where
     ]
 
   -- with an event that is no pulse, the pulses are enough
-  pub pulses-enough : (out : Rule → Bool) (number : ℕ) (counts : List ℕ) (a : ℕ) → is_of_pulses number ≡ true → slice_index counts 1 ≡ length s.log.rows → is_pulse_row s.log a ≡ false
+  pulses-enough : (out : Rule → Bool) (number : ℕ) (counts : List ℕ) (a : ℕ) → is_of_pulses number ≡ true → slice_index counts 1 ≡ length s.log.rows → is_pulse_row s.log a ≡ false
       → with_one s out number counts a ≡ flat_map (with_two s out number counts a) (pulse_rows s)
   pulses-enough out number counts a of count fails =
       rw count (flat-filtered (with_two s out number counts a) (is_pulse_row s.log) nothing (range_with_len 0 (length s.log.rows)))
@@ -50,3 +50,8 @@ module _ (s : Sought) where
       nothing : (b : ℕ) → is_pulse_row s.log b ≡ false → with_two s out number counts a b ≡ []
       nothing b other = flat-nothing (with_three s out number counts a b) 0 (slice_index counts 2) (λ c low-c high-c.
           flat-nothing (λ d. kept s out (rule_at number a b c d)) 0 (slice_index counts 3) (λ d low-d high-d. clauseless s out (rule_at number a b c d) (unpaired a b c d fails other number of)))
+
+  -- and so they are where they are listed
+  pub listed-enough : (out : Rule → Bool) (number : ℕ) (counts : List ℕ) (a : ℕ) (pulses : List ℕ) (is : Bool) → is_of_pulses number ≡ true → slice_index counts 1 ≡ length s.log.rows → pulses ≡ pulse_rows s → is ≡ is_pulse_row s.log a → is ≡ false
+      → with_one s out number counts a ≡ flat_map (with_two s out number counts a) pulses
+  listed-enough out number counts a pulses is of count listed same fails = pulses-enough out number counts a of count (sym same ∙ fails) ∙ ap (flat_map (with_two s out number counts a)) (sym listed)

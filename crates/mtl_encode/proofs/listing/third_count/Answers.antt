@@ -15,5 +15,5 @@ returns-then-number-eq2-clause-no_clause c = λ b p d low high.
 pub returns-then-number-eq27-clause-no_clause : goal.returns-then-number-eq27-clause-no_clause
 returns-then-number-eq27-clause-no_clause c = λ b p d low high.
     let is : c.args.number ≡ 27 = omega (arith, c.if-number-eq27.true) in
-    let past : pulse_count c.args.rules.now c.args.a ≤ p = grind (arith, nat_tests, c.pulse_count.ensures.count, c.min-2.ensures) in
+    let past : pulse_count c.args.rules.now c.args.a ≤ p = grind (arith, nat_tests, c.pulse_count.ensures.count, c.min-then-number-eq27.ensures) in
     rw is (no-pulse c.args.rules.now c.args.a b p d past)

@@ -1,4 +1,4 @@
-use Rattle.std.proofs.Common.{◌≡◌, ◌∙◌, ap, sym, ℕ, subst, arith}
+use Rattle.std.proofs.Common.{◌≡◌, ◌∙◌, ap, sym, ℕ, length, arith}
 use Rattle.std.specs.Prelude.{filter}
 use Rattle.std.specs.List.{range_with_len}
 use Rattle.axiom_rules.specs.Rules.{is_pulse_row}
@@ -14,5 +14,5 @@ loop-e-preserved c = elim c.if-is_pulse.branch [
 
 pub returns : goal.returns
 returns c =
-    let end = omega (arith, c.loop-e-test.false, c.loop-e.auto.e-end, c.events-e-end.ensures.events) in
+    let end : c.loop-e.e ≡ length c.args.rules.now.log.rows = omega (arith, c.loop-e-test.false, c.loop-e.auto.e-end, c.events-e-end.ensures.events) in
     c.loop-e.invariant ∙ ap (λ (n : ℕ). filter (is_pulse_row c.args.rules.now.log) (range_with_len 0 n)) end
