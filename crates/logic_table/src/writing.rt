@@ -27,6 +27,7 @@ pub fn push_atom(alloc: Global, atom: Atom, out: &mut Vec<u8>) -> Option<()> {
         }
         Atom::Node { k, e } => push_items(alloc, "node", &[k, e], out),
         Atom::First { e } => push_items(alloc, "first", &[e], out),
+        Atom::Same { e, x } => push_items(alloc, "same", &[e, x], out),
         Atom::Wit { k, i, j } => push_items(alloc, "wit", &[k, i, j], out),
         Atom::Span { k, i, j } => push_items(alloc, "span", &[k, i, j], out),
         Atom::Gap { k, i, m } => push_items(alloc, "gap", &[k, i, m], out),

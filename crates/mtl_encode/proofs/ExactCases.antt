@@ -2,10 +2,10 @@
 use Rattle.std.proofs.Common.{◌≡◌, refl, ℕ, Bool, true, false, not, List, [], ◌∷◌, None, codes, pos, arith}
 use Rattle.mt_model.specs.declared.log.Act.TheVariants as act
 use Rattle.mt_model.specs.declared.log.Row.{Row}
-use Rattle.mt_model.specs.Form.{True}
+use Rattle.mt_model.specs.Form.{Prop, True}
 use Rattle.mt_model.specs.Log.{Logged, plain_log}
 use Rattle.axiom_rules.specs.declared.literal.Atom.{Atom}
-use Rattle.axiom_rules.specs.declared.literal.Atom.TheVariants.{First, Node, Order}
+use Rattle.axiom_rules.specs.declared.literal.Atom.TheVariants.{First, Node, Order, Same}
 use Rattle.axiom_rules.specs.Literals.{no, same_atom, yes}
 use Rattle.axiom_rules.specs.Occurs.{OccursInRules}
 use Rattle.axiom_rules.specs.Sought.{sought_of}
@@ -53,3 +53,25 @@ none-satisfy v satisfied =
     let first = last_of_1 (v (First 0)) (satisfied (record { number = 11; args = 0 ∷ 0 ∷ 0 ∷ 0 ∷ [] }) (yes (First 0) ∷ []) refl) in
     let fails = last_of_2 (not (v (First 0))) (not (v (Node 0 0))) (satisfied (record { number = 24; args = 0 ∷ 0 ∷ 0 ∷ 0 ∷ [] }) (no (First 0) ∷ no (Node 0 0) ∷ []) refl) (not_true (v (First 0)) first) in
     apart (v (Node 0 0)) holds (was_false (v (Node 0 0)) fails)
+
+-- A proposition that is pulsed, and a note.
+
+abbrev pulsed : Logged
+pulsed = noted (record { host = 0; local = pos 10; act = act.Pulse (codes "p") } ∷ note 11 ∷ [])
+
+-- whether they are at one instant stands in the clause by which the proposition is pulsed where it is true
+instant-occurs : OccursInRules (sought_of pulsed (Prop (codes "a") (codes "p")) true) (Same 0 1)
+instant-occurs = record {
+  rule = record { number = 1; args = 0 ∷ 1 ∷ 0 ∷ 0 ∷ [] };
+  clause = no (Node 0 1) ∷ yes (Same 0 1) ∷ [];
+  is_clause = refl;
+  stands = (1, yes (Same 0 1), omega arith, refl, refl);
+}
+
+-- truth values that satisfy the rules make the proposition true at the pulse
+pulse-holds : (v : Atom → Bool) → SatisfiesRules (sought_of pulsed (Prop (codes "a") (codes "p")) true) v → v (Node 0 0) ≡ true
+pulse-holds v satisfied = last_of_1 (v (Node 0 0)) (satisfied (record { number = 27; args = 0 ∷ 0 ∷ 0 ∷ 0 ∷ [] }) (yes (Node 0 0) ∷ []) refl)
+
+-- and where it is true at the note, they are at one instant
+note-holds : (v : Atom → Bool) → SatisfiesRules (sought_of pulsed (Prop (codes "a") (codes "p")) true) v → v (Node 0 1) ≡ true → v (Same 0 1) ≡ true
+note-holds v satisfied holds = last_of_2 (not (v (Node 0 1))) (v (Same 0 1)) (satisfied (record { number = 1; args = 0 ∷ 1 ∷ 0 ∷ 0 ∷ [] }) (no (Node 0 1) ∷ yes (Same 0 1) ∷ []) refl) (not_true (v (Node 0 1)) holds)
