@@ -1,6 +1,6 @@
 -- Each row of a log changes or pulses at most one proposition, so the changes and the pulses of distinct trees are no more than the rows.
 use Rattle.std.proofs.Common.{◌≡◌, ◌∙◌, sym, ap, refl, ℕ, zero, suc, ◌+◌, ◌==◌, ◌<◌, ◌≤◌, cond, Bool, true, false, ◌||◌, ◌&&◌, if◌then◌else◌, List, [], ◌∷◌, length, Option, Some, None, inl, inr, arith}
-use Rattle.std.specs.Prelude.{bytes_eq, count_by, filter, is_some, option_and_then, option_map, position, slice_get, slice_index_or, sum_by}
+use Rattle.std.specs.Prelude.{bytes_eq, count_by, is_some, option_and_then, option_map, position, slice_get, slice_index_or, sum_by}
 use Rattle.std.specs.List.{cons_option, filter_map, range_with_len}
 use Rattle.std.specs.Option.{option_map_or}
 use Rattle.std.proofs.lemmas.Bool.{and_parts, cases_Bool, eqb-true, false_from_ne_true, or_cases}

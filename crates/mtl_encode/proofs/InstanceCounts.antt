@@ -1,9 +1,9 @@
 -- The clauses of all rules that are kept have few literals, by the size of the problem.
-use Rattle.std.proofs.Common.{◌≡◌, ap, refl, ℕ, ◌+◌, ◌*◌, ◌<◌, ◌≤◌, Bool, true, List, [], ◌∷◌, length, Option, Some, None, arith}
+use Rattle.std.proofs.Common.{◌≡◌, ap, refl, ℕ, ◌+◌, ◌*◌, ◌<◌, ◌≤◌, Bool, true, List, [], ◌∷◌, length, arith}
 use Rattle.std.specs.Prelude.{◌↔◌, slice_index, sum_by}
 use Rattle.std.specs.List.{AllByRecursion, flat_map, range_with_len}
 use Rattle.std.specs.Option.{option_map_or}
-use Rattle.std.proofs.Math.Nat.{mul-add, mul-le-mul_left, mul_assoc}
+use Rattle.std.proofs.Math.Nat.{mul-le-mul_left, mul_assoc}
 use Rattle.std.proofs.lemmas.List.Sums.{sum_by-append, sum_by-le}
 use Rattle.std.proofs.lemmas.Nat.{mul-le}
 use Rattle.mt_model.specs.Form.{Form, True}
@@ -178,19 +178,17 @@ module _ (x : Extremes) (s : Sought) (same : (f g : Form) → (same_form f g ≡
   abbrev IsFew : ℕ → Type 0
   IsFew number = mass (of_number s out number) ≤ slice_index most_of number
 
+  -- of rule 24 and those after it, ..
+  last-few : AllByRecursion IsFew (range_with_len 24 5)
+  last-few = (of-event 24 (λ a b c d. omega arith), (of-events 25 (λ a b c d. omega arith), (of-events 26 (λ a b c d. omega arith), (of-pulse, (of-five 28 refl (λ a b c d. omega arith), tt)))))
+
+  -- .. of those of untils and sinces too, ..
+  later-few : AllByRecursion IsFew (range_with_len 12 17)
+  later-few = (of-two 12 refl (λ a b c d. omega arith), (of-two 13 refl (λ a b c d. omega arith), (of-two 14 refl (λ a b c d. omega arith), (of-two 15 refl (λ a b c d. omega arith), (of-five 16 refl (λ a b c d. omega arith), (of-witnesses, (of-two 18 refl (λ a b c d. omega arith), (of-span 19 refl (λ a b c d. omega arith) (λ k i j m free. within-needless x s k i j free m), (of-gaps, (of-span 21 refl (λ a b c d. omega arith) (λ k i j m free. past-needless x s k i j free m), (of-two 22 refl (λ a b c d. omega arith), (of-two 23 refl (λ a b c d. omega arith), last-few))))))))))))
+
+  -- .. and of all
   each-few : AllByRecursion IsFew (range_with_len 0 29)
-  each-few = (omega arith,
-      (of-start, (of-change, (of-node-event 3 (λ a b c d. omega arith),
-      (of-node-event 4 (λ a b c d. omega arith), (of-node-event 5 (λ a b c d. omega arith), (of-node-event 6 (λ a b c d. omega arith),
-      (of-node-event 7 (λ a b c d. omega arith), (of-node-event 8 (λ a b c d. omega arith), (of-events 9 (λ a b c d. omega arith),
-      (of-event 10 (λ a b c d. omega arith), (of-nothing 11 (λ a b c d. omega arith),
-      (of-two 12 refl (λ a b c d. omega arith), (of-two 13 refl (λ a b c d. omega arith), (of-two 14 refl (λ a b c d. omega arith), (of-two 15 refl (λ a b c d. omega arith),
-      (of-five 16 refl (λ a b c d. omega arith), (of-witnesses, (of-two 18 refl (λ a b c d. omega arith),
-      (of-span 19 refl (λ a b c d. omega arith) (λ k i j m free. within-needless x s k i j free m),
-      (of-gaps,
-      (of-span 21 refl (λ a b c d. omega arith) (λ k i j m free. past-needless x s k i j free m),
-      (of-two 22 refl (λ a b c d. omega arith), (of-two 23 refl (λ a b c d. omega arith), (of-event 24 (λ a b c d. omega arith),
-      (of-events 25 (λ a b c d. omega arith), (of-events 26 (λ a b c d. omega arith), (of-pulse, (of-five 28 refl (λ a b c d. omega arith), tt)))))))))))))))))))))))))))))
+  each-few = (omega arith, (of-start, (of-change, (of-node-event 3 (λ a b c d. omega arith), (of-node-event 4 (λ a b c d. omega arith), (of-node-event 5 (λ a b c d. omega arith), (of-node-event 6 (λ a b c d. omega arith), (of-node-event 7 (λ a b c d. omega arith), (of-node-event 8 (λ a b c d. omega arith), (of-events 9 (λ a b c d. omega arith), (of-event 10 (λ a b c d. omega arith), (of-nothing 11 (λ a b c d. omega arith), later-few))))))))))))
 
   abbrev total : List ℕ → ℕ
   total [] = 0

@@ -1,5 +1,5 @@
 -- The rules on pairs of events of which one is a pulse have no clause for others.
-use Rattle.std.proofs.Common.{◌≡◌, ◌∙◌, sym, ap, refl, subst, ℕ, ◌==◌, Bool, true, false, ◌&&◌, ◌||◌, if◌then◌else◌, List, [], ◌∷◌, length, Option, Some, None, Ok, Err, inl, inr}
+use Rattle.std.proofs.Common.{◌≡◌, ◌∙◌, sym, ap, refl, ℕ, ◌==◌, Bool, true, false, if◌then◌else◌, List, [], ◌∷◌, length, Err, inl, inr}
 use Rattle.std.specs.Prelude.{Result, is_ok, nat_lt, slice_index}
 use Rattle.std.specs.List.{flat_map, range_with_len}
 use Rattle.std.proofs.lemmas.Bool.{eqb-true, or_cases}
@@ -9,7 +9,7 @@ use Rattle.axiom_rules.specs.declared.literal.Literal.{Literal}
 use Rattle.axiom_rules.specs.declared.rule.Argument.TheVariants.{AnEvent, Unused}
 use Rattle.axiom_rules.specs.declared.rule.Rule.{Rule}
 use Rattle.axiom_rules.specs.Clauses.{are_there, clause_of}
-use Rattle.axiom_rules.specs.Parts.{Written, clause_of_written}
+use Rattle.axiom_rules.specs.Parts.{clause_of_written}
 use Rattle.axiom_rules.specs.Rules.{is_pulse_row, rule_25, rule_26}
 use Rattle.axiom_rules.specs.Sought.{Sought}
 use Rattle.mtl_encode.proofs.ChangeRules.{clauseless}

@@ -54,12 +54,7 @@ module _ (s : Sought) where
   IsShort n row = is_of_two n ≡ true → (args : List ℕ) → HasAtMost 2 (row.writes s args)
 
   short-rows : (number : ℕ) (row : Row) → row_of number ≡ Some row → IsShort number row
-  short-rows = row-case IsShort ((λ h. absurd (cc)), ((λ h. absurd (cc)), ((λ h. absurd (cc)), ((λ h. absurd (cc)), ((λ h. absurd (cc)), ((λ h. absurd (cc)), ((λ h. absurd (cc)), ((λ h. absurd (cc)), ((λ h. absurd (cc)), ((λ h. absurd (cc)), ((λ h. absurd (cc)),
-      ((λ h args. kind-most 2 _ _ (λ (u : Reach) is. at-most 2 _ (omega arith))), ((λ h args. kind-most 2 _ _ (λ (u : Reach) is. option-most 2 u.interval.high _ NoRule (λ b. at-most 2 _ (omega arith)))),
-      ((λ h args. kind-most 2 _ _ (λ (u : Reach) is. at-most 2 _ (omega arith))), ((λ h args. kind-most 2 _ _ (λ (u : Reach) is. at-most 2 _ (omega arith))),
-      ((λ h. absurd (cc)), ((λ h. absurd (cc)), ((λ h args. kind-most 2 _ _ (λ (u : Reach) is. at-most 2 _ (omega arith))), ((λ h. absurd (cc)), ((λ h. absurd (cc)), ((λ h. absurd (cc)),
-      ((λ h args. kind-most 2 _ _ (λ (u : Reach) is. at-most 2 _ (omega arith))), ((λ h args. kind-most 2 _ _ (λ (u : Reach) is. at-most 2 _ (omega arith))),
-      ((λ h. absurd (cc)), ((λ h. absurd (cc)), ((λ h. absurd (cc)), ((λ h. absurd (cc)), ((λ h. absurd (cc)), tt))))))))))))))))))))))))))))
+  short-rows = row-case IsShort ((λ h. absurd (cc)), ((λ h. absurd (cc)), ((λ h. absurd (cc)), ((λ h. absurd (cc)), ((λ h. absurd (cc)), ((λ h. absurd (cc)), ((λ h. absurd (cc)), ((λ h. absurd (cc)), ((λ h. absurd (cc)), ((λ h. absurd (cc)), ((λ h. absurd (cc)), ((λ h args. kind-most 2 _ _ (λ (u : Reach) is. at-most 2 _ (omega arith))), ((λ h args. kind-most 2 _ _ (λ (u : Reach) is. option-most 2 u.interval.high _ NoRule (λ b. at-most 2 _ (omega arith)))), ((λ h args. kind-most 2 _ _ (λ (u : Reach) is. at-most 2 _ (omega arith))), ((λ h args. kind-most 2 _ _ (λ (u : Reach) is. at-most 2 _ (omega arith))), ((λ h. absurd (cc)), ((λ h. absurd (cc)), ((λ h args. kind-most 2 _ _ (λ (u : Reach) is. at-most 2 _ (omega arith))), ((λ h. absurd (cc)), ((λ h. absurd (cc)), ((λ h. absurd (cc)), ((λ h args. kind-most 2 _ _ (λ (u : Reach) is. at-most 2 _ (omega arith))), ((λ h args. kind-most 2 _ _ (λ (u : Reach) is. at-most 2 _ (omega arith))), ((λ h. absurd (cc)), ((λ h. absurd (cc)), ((λ h. absurd (cc)), ((λ h. absurd (cc)), ((λ h. absurd (cc)), tt))))))))))))))))))))))))))))
 
   -- those of a proposition with a literal for each pulse
   abbrev IsOfPulses : ℕ → Row → Type 0
@@ -73,11 +68,7 @@ module _ (s : Sought) where
   second-most k e rows false p q r is = at-most (pulse_count s k + 5) (p ∷ q ∷ r ∷ at_pulses rows.pulses e) (omega (arith, rows-counted (shape_at s k) rows is, at-pulses-count rows.pulses e))
 
   pulse-rows : (number : ℕ) (row : Row) → row_of number ≡ Some row → IsOfPulses number row
-  pulse-rows = row-case IsOfPulses ((λ h args. kind-most _ _ _ (λ (rows : PropositionRows) is. first-most (arg args 0) (arg args 1) rows _ _ is)),
-      ((λ h args. kind-most _ _ _ (λ (rows : PropositionRows) is. option-most _ _ _ Range (λ (c : Change). second-most (arg args 0) (arg args 1) rows c.sets _ _ _ is))),
-      ((λ h. absurd (cc)), ((λ h. absurd (cc)), ((λ h. absurd (cc)), ((λ h. absurd (cc)), ((λ h. absurd (cc)), ((λ h. absurd (cc)), ((λ h. absurd (cc)), ((λ h. absurd (cc)), ((λ h. absurd (cc)), ((λ h. absurd (cc)), ((λ h. absurd (cc)),
-      ((λ h. absurd (cc)), ((λ h. absurd (cc)), ((λ h. absurd (cc)), ((λ h. absurd (cc)), ((λ h. absurd (cc)), ((λ h. absurd (cc)), ((λ h. absurd (cc)), ((λ h. absurd (cc)), ((λ h. absurd (cc)), ((λ h. absurd (cc)), ((λ h. absurd (cc)),
-      ((λ h. absurd (cc)), ((λ h. absurd (cc)), ((λ h. absurd (cc)), ((λ h. absurd (cc)), tt))))))))))))))))))))))))))))
+  pulse-rows = row-case IsOfPulses ((λ h args. kind-most _ _ _ (λ (rows : PropositionRows) is. first-most (arg args 0) (arg args 1) rows _ _ is)), ((λ h args. kind-most _ _ _ (λ (rows : PropositionRows) is. option-most _ _ _ Range (λ (c : Change). second-most (arg args 0) (arg args 1) rows c.sets _ _ _ is))), ((λ h. absurd (cc)), ((λ h. absurd (cc)), ((λ h. absurd (cc)), ((λ h. absurd (cc)), ((λ h. absurd (cc)), ((λ h. absurd (cc)), ((λ h. absurd (cc)), ((λ h. absurd (cc)), ((λ h. absurd (cc)), ((λ h. absurd (cc)), ((λ h. absurd (cc)), ((λ h. absurd (cc)), ((λ h. absurd (cc)), ((λ h. absurd (cc)), ((λ h. absurd (cc)), ((λ h. absurd (cc)), ((λ h. absurd (cc)), ((λ h. absurd (cc)), ((λ h. absurd (cc)), ((λ h. absurd (cc)), ((λ h. absurd (cc)), ((λ h. absurd (cc)), ((λ h. absurd (cc)), ((λ h. absurd (cc)), ((λ h. absurd (cc)), ((λ h. absurd (cc)), tt))))))))))))))))))))))))))))
 
   -- a clause has at most the literals of its rule
   pub few-in : (rule : Rule) (c : List Literal) → clause_of s rule ≡ Ok c → length c ≤ most_in s rule
