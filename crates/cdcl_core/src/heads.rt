@@ -6,15 +6,17 @@ use clause_db::{ClauseRef, Db, Lit};
 use std::alloc::{AllocError, Global};
 
 /// The clauses of each literal that is their head. The head of a clause is the first of its literals, as its rule
-/// writes them, that is no order: what the other literals have to be where it is false.
+/// writes them, that is about more than times, or else the first that is no order: what the other literals have to be
+/// where it is false.
 #[derive(Drop)]
 pub struct Heads {
     // Where the clauses of each literal end, and all of these.
     ends: Vec<u32>,
     clauses: Vec<ClauseRef>,
-    // How many clauses have heads, and how many of the first variables are orders.
+    // How many clauses have heads, how many of the first variables are orders, and how many are about times alone.
     problem: u32,
     orders: u32,
+    timed: u32,
 }
 
 // The place of a literal among all.
@@ -47,13 +49,21 @@ fn add_up(counts: &mut Vec<u32>) {
 }
 
 impl Heads {
-    /// The heads of all clauses over so many variables, of which the first so many are orders.
-    pub fn new(alloc: Global, db: &Db, vars: u32, orders: u32) -> Result<Heads, AllocError> {
+    /// The heads of all clauses over so many variables, of which the first so many are orders, and so many about times
+    /// alone.
+    pub fn new(
+        alloc: Global,
+        db: &Db,
+        vars: u32,
+        orders: u32,
+        timed: u32,
+    ) -> Result<Heads, AllocError> {
         let mut heads = Heads {
             ends: vec![in alloc; 0; 2 * vars as usize + 1]?,
             clauses: vec![in alloc; ClauseRef::new(0); db.len() as usize]?,
             problem: db.len(),
             orders,
+            timed,
         };
         heads.count(db);
         add_up(&mut heads.ends);
@@ -90,12 +100,16 @@ impl Heads {
 
     /// The head of a clause.
     pub fn head(&self, clause: &[Lit]) -> Option<Lit> {
+        let mut head = None;
         for lit in clause {
-            if self.is_free(*lit) {
+            if lit.var().get() >= self.timed {
                 return Some(*lit);
             }
+            if head.is_none() && self.is_free(*lit) {
+                head = Some(*lit);
+            }
         }
-        None
+        head
     }
 
     /// Whether a clause is one of the problem with this head.

@@ -84,7 +84,14 @@ impl SearchState {
         let graph = graph_of(alloc, theory.nodes, edges, vars)?;
         let trail = Trail::new(alloc, vars)?;
         trails_are_in_order(&trail);
-        let strategy = Strategy::new(alloc, &derived, &theory.links, vars, theory.nodes)?;
+        let strategy = Strategy::new(
+            alloc,
+            &derived,
+            &theory.atoms,
+            &theory.links,
+            vars,
+            theory.nodes,
+        )?;
         let linked = LinkedLits::new(alloc);
         Ok(SearchState {
             theory,

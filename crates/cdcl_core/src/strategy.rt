@@ -13,7 +13,7 @@ use crate::ratings::Ratings;
 use crate::restarts::Restarts;
 use crate::scores::Scores;
 use crate::sight::Sight;
-use axiom_rules::Rule;
+use axiom_rules::{Atom, AtomTable, Rule};
 use clause_db::{ClauseRef, Db, Lit, Var};
 use propagate::Links;
 use std::alloc::{AllocError, Global};
@@ -53,11 +53,23 @@ fn orders_in(links: &Links, vars: u32) -> u32
     vars
 }
 
+// How many of the first variables are about times alone: orders, and pairs of events at one instant.
+fn timed_in(atoms: &AtomTable) -> u32 {
+    for v in 0..atoms.len() {
+        match atoms.atom(Var::new(v)) {
+            Atom::Order { .. } | Atom::Same { .. } => {}
+            _ => return v,
+        }
+    }
+    atoms.len()
+}
+
 impl Strategy {
     /// Before the first decision on a problem.
     pub fn new(
         alloc: Global,
         derived: &Derived,
+        atoms: &AtomTable,
         links: &Links,
         vars: u32,
         nodes: u32,
@@ -66,7 +78,7 @@ impl Strategy {
     {
         let db = &derived.db;
         Ok(Strategy {
-            heads: Heads::new(alloc, db, vars, orders_in(links, vars))?,
+            heads: Heads::new(alloc, db, vars, orders_in(links, vars), timed_in(atoms))?,
             needs: Needs::new(alloc),
             ratings: Ratings::new(alloc, vars, nodes, db.len())?,
             scores: Scores::new(alloc, vars)?,
