@@ -31,8 +31,11 @@ range-more-from : (a n j : ℕ) → a + n ≡ j → range_with_len a (suc n) ≡
 range-more-from a zero j at = ap (λ (x : ℕ). x ∷ []) (omega (arith, at))
 range-more-from a (suc n) j at = ap (λ (xs : List ℕ). a ∷ xs) (range-more-from (a + 1) n j (omega (arith, at)))
 
+-- the numbers below one more
+pub range-next : (v : ℕ) → range_with_len 0 (v + 1) ≡ range_with_len 0 v ++ v ∷ []
+range-next v = rw add-one (range-more-from 0 v v (omega arith))
+
 -- with the next variable
 pub range-more : (v : ℕ) (old new : List ℕ) → IsPermutation (range_with_len 0 v) old → IsPermutation (old ++ v ∷ []) new → IsPermutation (range_with_len 0 (v + 1)) new
 range-more v old new before more =
-    let range : range_with_len 0 (v + 1) ≡ range_with_len 0 v ++ v ∷ [] = rw add-one (range-more-from 0 v v (omega arith)) in
-    subst (λ xs. IsPermutation xs new) (sym range) (IsPermutation-trans _ _ _ (IsPermutation-append_left (v ∷ []) (range_with_len 0 v) old before) more)
+    subst (λ xs. IsPermutation xs new) (sym (range-next v)) (IsPermutation-trans _ _ _ (IsPermutation-append_left (v ∷ []) (range_with_len 0 v) old before) more)

@@ -7,5 +7,6 @@ pub mod Problems
 pub mod Models
 pub mod Exact
 pub mod Instances
+pub mod Seconds
 pub mod Growth
 pub mod Variables

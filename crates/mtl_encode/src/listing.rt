@@ -1,14 +1,16 @@
 //! Goes through the numbers and arguments of rules, and adds those that have a clause.
 
 ghost use Rattle.std.specs.Prelude.{◌≡◌, ◌≤◌, ◌<◌, ◌++◌, ℕ, [], length, map, slice_index, true, false, None, OnOk, is_ok};
+ghost use Rattle.std.specs.List.{flat_map};
 ghost use Rattle.axiom_rules.specs.Clauses.{clause_of};
 ghost use Rattle.axiom_rules.specs.NodeShapes.{reach_in, shape_at};
 ghost use Rattle.mtl_encode.specs.Growth.{AreClauses, Gains, HasRoom};
-ghost use Rattle.mtl_encode.specs.Instances.{count_of as count_of_argument, instances, is_of_reach as is_number_of_reach, of_number, out_by, pulse_rows as pulse_rows_of, rule_at, with_none, with_one, with_three, with_two};
+ghost use Rattle.mtl_encode.specs.Instances.{count_of as count_of_argument, instances, is_of_reach as is_number_of_reach, of_number, out_by, rule_at, with_none, with_one, with_three, with_two};
+ghost use Rattle.mtl_encode.specs.Seconds.{AreCounts, AreEvents};
 
 use crate::clauses::Clauses;
 use crate::needless::{is_needless_throughout, needs_no_span};
-use crate::pulses::{is_of_pulses, pulse_rows};
+use crate::pulses::Events;
 use crate::workspace::Workspace;
 use axiom_rules::{Argument, MAX_RULE, Rule, Rules, arguments_of};
 use skew_bounds::Tight;
@@ -98,8 +100,8 @@ impl Clauses {
         Ok(())
     }
 
-    /// Adds the rules of a number with these two first arguments.
-    pub fn add_with_two(
+    // Adds the rules of a number with these two first arguments.
+    fn add_with_two(
         &mut self,
         workspace: &mut Workspace,
         rules: &Rules,
@@ -119,8 +121,8 @@ impl Clauses {
         Ok(())
     }
 
-    /// Adds the rules of a number with this first argument.
-    pub fn add_with_one(
+    // Adds the rules of a number with this first argument and each of these second ones.
+    fn add_with_each(
         &mut self,
         workspace: &mut Workspace,
         rules: &Rules,
@@ -128,7 +130,31 @@ impl Clauses {
         number: u8,
         counts: [u32; 4],
         a: u32,
+        seconds: &[u32],
     ) -> Result<(), AllocError>
+        requires clauses { AreClauses rules.now self.old }
+        requires room { HasRoom rules.now (self.old.rules ++ flat_map (with_two rules.now (out_by tight.now rules.now) number counts a) seconds.now) }
+        ensures { OnOk result (Gains rules.now self.old self.new (flat_map (with_two rules.now (out_by tight.now rules.now) number counts a) seconds.now)) }
+    {
+        for b in seconds {
+            self.add_with_two(workspace, rules, tight, number, counts, a, *b)?;
+        }
+        Ok(())
+    }
+
+    // Adds the rules of a number with this first argument.
+    fn add_with_one(
+        &mut self,
+        workspace: &mut Workspace,
+        rules: &Rules,
+        tight: &Tight,
+        events: &Events,
+        number: u8,
+        counts: [u32; 4],
+        a: u32,
+    ) -> Result<(), AllocError>
+        requires events { AreEvents rules.now events.now }
+        requires counts { AreCounts rules.now number counts }
         requires clauses { AreClauses rules.now self.old }
         requires room { HasRoom rules.now (self.old.rules ++ with_one rules.now (out_by tight.now rules.now) number counts a) }
         ensures { OnOk result (Gains rules.now self.old self.new (with_one rules.now (out_by tight.now rules.now) number counts a)) }
@@ -139,10 +165,8 @@ impl Clauses {
         if is_needless_throughout(rules, number, a) {
             return Ok(());
         }
-        for b in 0..counts[1] {
-            self.add_with_two(workspace, rules, tight, number, counts, a, b)?;
-        }
-        Ok(())
+        let seconds = events.seconds(rules, number, counts, a);
+        self.add_with_each(workspace, rules, tight, number, counts, a, seconds)
     }
 
     // Adds the rules of a number whose arguments are below these counts.
@@ -151,15 +175,18 @@ impl Clauses {
         workspace: &mut Workspace,
         rules: &Rules,
         tight: &Tight,
+        events: &Events,
         number: u8,
         counts: [u32; 4],
     ) -> Result<(), AllocError>
+        requires events { AreEvents rules.now events.now }
+        requires counts { AreCounts rules.now number counts }
         requires clauses { AreClauses rules.now self.old }
         requires room { HasRoom rules.now (self.old.rules ++ with_none rules.now (out_by tight.now rules.now) number counts) }
         ensures { OnOk result (Gains rules.now self.old self.new (with_none rules.now (out_by tight.now rules.now) number counts)) }
     {
         for a in 0..counts[0] {
-            self.add_with_one(workspace, rules, tight, number, counts, a)?;
+            self.add_with_one(workspace, rules, tight, events, number, counts, a)?;
         }
         Ok(())
     }
@@ -171,11 +198,11 @@ impl Clauses {
         rules: &Rules,
         tight: &Tight,
         nodes: u32,
-        pulses: &[u32],
+        events: &Events,
         number: u8,
     ) -> Result<(), AllocError>
         requires nodes { nodes ≡ length rules.now.trees }
-        requires pulses { pulses.now ≡ pulse_rows_of rules.now }
+        requires events { AreEvents rules.now events.now }
         requires clauses { AreClauses rules.now self.old }
         requires room { HasRoom rules.now (self.old.rules ++ of_number rules.now (out_by tight.now rules.now) number) }
         ensures { OnOk result (Gains rules.now self.old self.new (of_number rules.now (out_by tight.now rules.now) number)) }
@@ -183,11 +210,7 @@ impl Clauses {
         match arguments_of(number) {
             Some(arguments) => {
                 let counts = counts_of(rules, nodes, arguments);
-                if is_of_pulses(number) {
-                    self.add_pairs(workspace, rules, tight, number, counts, pulses)
-                } else {
-                    self.add_with_none(workspace, rules, tight, number, counts)
-                }
+                self.add_with_none(workspace, rules, tight, events, number, counts)
             }
             None => Ok(()),
         }
@@ -206,10 +229,10 @@ impl Clauses {
         requires room { HasRoom rules.now (self.old.rules ++ instances rules.now (out_by tight.now rules.now)) }
         ensures { OnOk result (Gains rules.now self.old self.new (instances rules.now (out_by tight.now rules.now))) }
     {
-        let pulses = pulse_rows(alloc, rules)?;
+        let events = Events::new(alloc, rules)?;
         let mut workspace = Workspace::new(alloc);
         for number in 0..MAX_RULE + 1 {
-            self.add_number(&mut workspace, rules, tight, nodes, &pulses, number)?;
+            self.add_number(&mut workspace, rules, tight, nodes, &events, number)?;
         }
         Ok(())
     }

@@ -1,17 +1,18 @@
-use Rattle.std.proofs.Common.{◌∙◌, refl, sym}
-use Rattle.std.specs.Prelude.{slice_index}
-use Rattle.mtl_encode.proofs.ClauseGrowth.{gains-next, gains-none, room-next}
+use Rattle.std.proofs.Common.{◌∙◌, ◌++◌, refl, subst, sym}
+use Rattle.std.specs.Prelude.{OnOk}
+use Rattle.mtl_encode.proofs.ClauseGrowth.{gains-none}
 use Rattle.mtl_encode.proofs.ReachRules.{one-nothing}
 use Rattle.mtl_encode.proofs.SpanRules.{one-left-out, throughout}
+use Rattle.mtl_encode.specs.Growth.{Gains, HasRoom}
 use Rattle.mtl_encode.specs.Needless.{extremes_of}
-use Rattle.mtl_encode.specs.Instances.{out_by, with_one, with_two}
+use Rattle.mtl_encode.specs.Instances.{out_by, with_one}
 use Rattle.mtl_encode.proofs.clauses.Clauses.add_with_one.Goals as goal
 
-pub add_with_two-requires-clause-room : goal.add_with_two-requires-clause-room
-add_with_two-requires-clause-room c = room-next c.args.rules.now (with_two c.args.rules.now (out_by c.args.tight.now c.args.rules.now) c.args.number c.args.counts c.args.a) c.args.self.now c.loop-b.self c.loop-b.b c.loop-b.invariant (slice_index c.args.counts 1) c.loop-b-test.true c.requires.room
+pub add_with_each-requires-clause-room : goal.add_with_each-requires-clause-room
+add_with_each-requires-clause-room c = subst (λ rules. HasRoom c.args.rules.now (c.args.self.now.rules ++ rules)) (sym (c.seconds-seconds.ensures.enough (out_by c.args.tight.now c.args.rules.now))) c.requires.room
 
-pub loop-b-preserved : goal.loop-b-preserved
-loop-b-preserved c = gains-next c.args.rules.now (with_two c.args.rules.now (out_by c.args.tight.now c.args.rules.now) c.args.number c.args.counts c.args.a) c.args.self.now c.loop-b.self c.loop-b.b c.loop-b.invariant c.add_with_two.new.self c.in_ok-add_with_two.ensures
+pub returns : goal.returns
+returns c = subst (λ rules. OnOk c.add_with_each.result (Gains c.args.rules.now c.args.self.now c.add_with_each.new.self rules)) (c.seconds-seconds.ensures.enough (out_by c.args.tight.now c.args.rules.now)) c.add_with_each.ensures
 
 pub returns-then-passes_over : goal.returns-then-passes_over
 returns-then-passes_over c = gains-none c.args.rules.now c.args.self.now c.args.self.now (with_one c.args.rules.now (out_by c.args.tight.now c.args.rules.now) c.args.number c.args.counts c.args.a) c.requires.clauses refl
