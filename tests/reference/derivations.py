@@ -148,12 +148,11 @@ RULE_ARGUMENTS = {
     1: "ke", 2: "kes", 3: "ke", 4: "ke", 5: "ke", 6: "ke", 7: "ke", 8: "ke",
     9: "ex", 10: "e", 11: "", 12: "kij", 13: "kij", 14: "kij", 15: "kij", 16: "kij",
     17: "ki", 18: "kij", 19: "kijm", 20: "kij", 21: "kijm", 22: "kim", 23: "kim", 24: "e",
-    **({25: "ex", 26: "ex", 27: "keu"} if logs.PULSES else {}), 28: "kij",
+    25: "ex", 26: "ex", 27: "keu", 28: "kij",
 }
 
 # The literals that are written with a sign, each with the count of its numbers.
-SIGNED_ATOMS = {b"node": 2, b"first": 1, b"wit": 3, b"span": 3, b"gap": 3}
-SIGNED_ATOMS |= {b"same": 2} if logs.PULSES else {}
+SIGNED_ATOMS = {b"node": 2, b"first": 1, b"same": 2, b"wit": 3, b"span": 3, b"gap": 3}
 LOG_STEPS = (b"low", b"high", b"rise", b"message", b"late", b"extra")
 
 

@@ -6,11 +6,9 @@ right. Which is the case isn't known here.
 
 import derivations
 import generate_logs
-import logs
 from derivations import Cycle, Learn, LineHint, Literal, Rule, Step, negation, order
 from generate_logs import chance
 
-SAME = ("same",) if logs.PULSES else ()
 LIMITS = (2**32 - 1, 2**32, 2**31, 2**64, 10**21, 10**21 + 1, 10**21 - 1, 10**22, 255, 256)
 
 
@@ -61,7 +59,7 @@ def some_order(draw, problem):
 
 def some_literal(draw, problem):
     """A literal by chance."""
-    kind = draw.choice(("order", "node", "node", "first", "wit", "span", "gap", *SAME))
+    kind = draw.choice(("order", "node", "node", "first", "same", "wit", "span", "gap"))
     if kind == "order":
         return order(*some_order(draw, problem))
     if kind == "same":
@@ -392,10 +390,9 @@ def change_count(draw, words):
 
 def change_word(draw, words):
     """Puts another word in the place of one."""
-    others = b"cycle learn low high rise message extra order line rule node first wit span gap"
+    others = b"cycle learn low high rise message extra order line rule node first same wit span gap"
     others += b" late" if generate_logs.second_share else b""
-    others += b" +same -same" if logs.PULSES else b""
-    signed = b"+node -node +first -first +wit -wit +span -span +gap -gap +order Learn CYCLE"
+    signed = b"+node -node +first -first +same -same +wit -wit +span -span +gap -gap +order Learn CYCLE"
     words[draw.randrange(len(words))] = draw.choice((others + b" " + signed).split())
 
 

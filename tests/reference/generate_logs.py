@@ -63,7 +63,7 @@ def steady_log(draw):
         act, name = steady_act(draw, kinds, names, sent, moment)
         if act == b"recv":
             delays.setdefault(host, []).append(moment - dict(sent)[name])
-        if second and logs.PULSES and act in (b"set", b"clear") and chance(draw, 0.4):
+        if second and act in (b"set", b"clear") and chance(draw, 0.4):
             act = b"pulse"
         skew = clocks[host].skew
         items.append(Row(host, moment + draw.randint(-skew, skew), act, name))
@@ -155,7 +155,7 @@ def wild_log(draw, share_of_messages=0.5):
 
 def wild_second(draw, hosts, rows):
     """The log of hosts and rows with any latencies and resyncs, and with pulses."""
-    items = [wild_pulse(draw, row) for row in rows] if logs.PULSES else list(rows)
+    items = [wild_pulse(draw, row) for row in rows]
     for _ in range(draw.choice((0, 1, 1, 2, 3))):
         place = draw.randint(0, len(items))
         items[place:place] = [some_resync(draw, hosts) for _ in range(draw.choice((1, 1, 2)))]

@@ -18,9 +18,6 @@ SKEW_GREATEST = 10**18
 LATENCY_GREATEST = 10**18
 LOCAL_GREATEST = 4 * 10**18
 
-# Whether a log of version 2 may hold pulses. Where not, their kind is refused as one that there isn't.
-PULSES = False
-
 
 # Logs
 
@@ -78,7 +75,7 @@ def sent_names(log):
 HEADER = [b"kind", b"host", b"time", b"name"]
 SECOND_HEADER = [b"skewlog2", b"host", b"time", b"name"]
 
-EVENT_KINDS = (b"set", b"clear", b"send", b"recv", b"note", *((b"pulse",) if PULSES else ()))
+EVENT_KINDS = (b"set", b"clear", b"send", b"recv", b"note", b"pulse")
 FIRST_KINDS = (b"host", b"set", b"clear", b"send", b"recv", b"note")
 SECOND_KINDS = (b"host", b"resync", b"latency", *EVENT_KINDS)
 KEPT_WORDS = (b"true", b"false", b"inf")

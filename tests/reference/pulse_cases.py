@@ -1,6 +1,5 @@
-"""Cases on pulses whose answers are written out by hand. There are none as long as logs have no pulses."""
+"""Cases on pulses whose answers are written out by hand."""
 
-import logs
 from cases import log_of
 from check_cases import REFUTED, check, report_pattern
 from derivation_cases import Case as Derivation
@@ -56,19 +55,19 @@ def fixed_cases():
         ("a pulse after a clear", b"a.p", CLEARED, 0, alone),
         ("a pulse before a clear", b"a.p", CLEARED_AFTER, 0, alone),
     ]
-    for title, formula, log, status, sections in table if logs.PULSES else ():
+    for title, formula, log, status, sections in table:
         yield check(title, formula, log, status, (), report_pattern(2, *sections))
 
 
 def fixed_derivations():
     """All derivations of this module."""
-    for lines, answer in DERIVATIONS if logs.PULSES else ():
+    for lines, answer in DERIVATIONS:
         yield Derivation(ONE, b"a.p", False, lines_text(lines), answer)
 
 
 def fixed_rules():
     """All rules of this module."""
     groups = [(MIXED, b"a.p", RULES_OF_MIXED), (ONE, b"a.p", RULES_OF_ONE), (ONE, b"true", RULES_OF_TRUE)]
-    for log, formula, rules in groups if logs.PULSES else ():
+    for log, formula, rules in groups:
         for rule, clause in rules:
             yield RuleCase(log, formula, True, rule, clause)

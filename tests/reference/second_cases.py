@@ -1,6 +1,5 @@
 """Cases on logs of version 2 whose answers are written out by hand."""
 
-import logs
 from cases import Case, replay, turns
 from check_cases import REFUTED, WITNESS, audit, check, inconsistent, report_pattern
 from derivation_cases import Case as Derivation
@@ -94,8 +93,6 @@ def log_faults():
         (second_log(*hosts, *notes, *resyncs, "note,a,1,n"), 13, 2528),
         (second_log(*hosts, "inf,1,2,3"), 3, 4),
     ]
-    if not logs.PULSES:
-        table.append((second_log(*hosts, "pulse,a,10,p"), 3, 4))
     for log, fault, record in table:
         place = "" if record is None else f" at record {record}"
         line = f"refused log {fault}{place}\n".encode()
