@@ -9,6 +9,7 @@ pub mod FirstFaults
 pub mod Lines
 pub mod Listing
 pub mod Middles
+pub mod NoMemory
 pub mod PlainFields
 pub mod PushedLines
 pub mod ReadBack
