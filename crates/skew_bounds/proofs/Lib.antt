@@ -5,6 +5,7 @@ pub mod KnownSpans
 pub mod Entries
 pub mod Near
 pub mod Reached
+pub mod RowTables
 pub mod Ranges
 pub mod Settled
 pub mod Tightest

@@ -1,5 +1,6 @@
 pub mod Edges
 pub mod System
+pub mod RowEdges
 pub mod RowTimes
 pub mod Consistency
 pub mod Differences
