@@ -7,6 +7,7 @@ pub mod WrittenItems
 pub mod PlainWords
 pub mod LineReading
 pub mod ReadingLines
+pub mod FrontLines
 pub mod Texts
 pub mod OrderedSets
 pub mod AtomsApart

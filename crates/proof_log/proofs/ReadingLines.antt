@@ -44,24 +44,24 @@ later_same : (a b : List ℕ) (as_ bs : List (List ℕ)) → a ∷ as_ ≡ b ∷
 later_same a b as_ bs same = cc
 
 -- what has no newline begins with no line
-no-newline : (rest : List ℕ) → slice_split (is_byte newline) rest ≡ rest ∷ [] → BeginsWithLine rest → ⊥
+pub no-newline : (rest : List ℕ) → slice_split (is_byte newline) rest ≡ rest ∷ [] → BeginsWithLine rest → ⊥
 no-newline rest cut begins =
     let parts = sym cut ∙ ap (slice_split (is_byte newline)) begins.text ∙ text-cut begins.line begins.after begins.spelled in
     let none : [] ≡ slice_split (is_byte newline) begins.after = later_same rest (joined begins.line) [] (slice_split (is_byte newline) begins.after) parts in
     absurd (omega (arith, ap length none, length-slice_split (is_byte newline) begins.after))
 
-nothing-begins : BeginsWithLine [] → ⊥
+pub nothing-begins : BeginsWithLine [] → ⊥
 nothing-begins begins = no-newline [] (slice_split_none (is_byte newline) [] (All-nil (λ b. is_byte newline b ≡ false))) begins
 
 module _ (rest : List ℕ) (end : ℕ) (first : NoneBefore (Passes (is_byte newline) rest) 0 (length rest) end) (here : Passes (is_byte newline) rest end) where
   -- bytes before a newline that are no line
-  not-begun : ((l : Line) → IsLine (take end rest) l → ⊥) → BeginsWithLine rest → ⊥
+  pub not-begun : ((l : Line) → IsLine (take end rest) l → ⊥) → BeginsWithLine rest → ⊥
   not-begun none begins =
       let parts = sym (cut-at newline rest end first here) ∙ ap (slice_split (is_byte newline)) begins.text ∙ text-cut begins.line begins.after begins.spelled in
       let same : take end rest ≡ joined begins.line = first_same (take end rest) (joined begins.line) (slice_split (is_byte newline) (drop (end + 1) rest)) (slice_split (is_byte newline) begins.after) parts in
       none begins.line (record { spelled = begins.spelled; text = ap (λ t. t ++ newline ∷ []) (sym same) })
 
-  cut : rest ≡ (take end rest ++ newline ∷ []) ++ drop (end + 1) rest
+  pub cut : rest ≡ (take end rest ++ newline ∷ []) ++ drop (end + 1) rest
   cut =
       let is : get_or rest end 0 ≡ newline = grind (arith, nat_tests) in
       rw add-one (split_at rest end 0 first.high) ∙ ap (λ b. take end rest ++ b ∷ drop (end + 1) rest) is ∙ sym (append_assoc (take end rest) (newline ∷ []) (drop (end + 1) rest))
@@ -98,7 +98,7 @@ record AreSame (xs ys : List Line) (a b : List ℕ) : Type 0 where
   lines : xs ≡ ys
   rest : a ≡ b
 
-same-first : (x y : Line) (s t : List ℕ) → IsSpelled x → IsSpelled y → line_text x ++ s ≡ line_text y ++ t → x ≡ y
+pub same-first : (x y : Line) (s t : List ℕ) → IsSpelled x → IsSpelled y → line_text x ++ s ≡ line_text y ++ t → x ≡ y
 same-first x y s t is_x is_y same =
     let parts = sym (text-cut x s is_x) ∙ ap (slice_split (is_byte newline)) same ∙ text-cut y t is_y in
     let text : joined x ≡ joined y = first_same (joined x) (joined y) (slice_split (is_byte newline) s) (slice_split (is_byte newline) t) parts in

@@ -3,6 +3,7 @@
 
 mod atoms;
 mod fault;
+mod front;
 mod item;
 mod laws;
 mod line;
@@ -13,6 +14,7 @@ mod word;
 
 pub use atoms::has_atoms_once;
 pub use fault::LineFault;
+pub use front::next_line;
 pub use laws::{
     bytes_are_unambiguous, fresh_lines_differ, refuted_by_rules_is_not_spent, spent_is_bounded,
     steps_read_alike, texts_read_back, texts_tell_apart,
