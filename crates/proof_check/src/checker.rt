@@ -18,6 +18,7 @@ use formula_arena::{Arena, ArenaFault};
 use mt_list::ListOf;
 use mt_model::{Formula, Log, NodeId};
 use proof_log::Line;
+use skew_bounds::EdgeTable;
 use smallvec::SmallVec;
 use std::alloc::{AllocError, Global};
 use std::marker::Model;
@@ -60,13 +61,14 @@ fn check_lines(
     requires { length lines.now < 2 ^ 32 }
     ensures { IfOk result (λ c. OfSought rules.now (λ log f v. IsAnswer log f v lines.now c)) }
 {
+    let table = EdgeTable::of(alloc, rules.log())?;
     let mut kept = ListOf::new(alloc);
     for (i, line) in lines.iter().enumerate() {
         let number = i as u32 + 1;
         if has_empty_clause(lines, kept.as_slice(), i as u32) {
             return Ok(Check::Wrong(number));
         }
-        if !is_right(alloc, rules, lines, kept.as_slice(), line, clause)? {
+        if !is_right(alloc, rules, &table, lines, kept.as_slice(), line, clause)? {
             return Ok(Check::Wrong(number));
         }
         let lits = to_keep(alloc, line)?;

@@ -4,6 +4,7 @@ ghost use Rattle.std.specs.Prelude.{◌≡◌, ◌↔◌, ◌+◌, if◌then◌e
 ghost use Rattle.std.specs.Result.{result_ok};
 ghost use Rattle.axiom_rules.specs.Clauses.{clause_of as clause_of_rule};
 ghost use Rattle.proof_log.specs.Derivations.{IsLearnt};
+ghost use Rattle.skew_bounds.specs.RowEdges.{IsEdgeTableOf};
 ghost use Rattle.proof_check.specs.Judging.{AreRefuting, IsHintTaken, IsRight};
 ghost use Rattle.proof_check.specs.Keeping.{AreKept};
 
@@ -14,6 +15,7 @@ use crate::walk::is_conflict;
 use axiom_rules::{Literal, Rule, RuleFault, Rules};
 use hint_refutation::{assumed_is_set, refuters_give, steps_are_forced};
 use proof_log::{Hint, Line, Lits, has_spelling};
+use skew_bounds::EdgeTable;
 use smallvec::SmallVec;
 use std::alloc::{AllocError, Global};
 
@@ -112,19 +114,21 @@ fn is_learnt(
 pub fn is_right(
     alloc: Global,
     rules: &Rules,
+    table: &EdgeTable,
     lines: &[Line],
     kept: &[Lits],
     line: &Line,
     clause: &mut Clause,
 ) -> Result<bool, AllocError>
-    requires { AreKept lines.now kept.now }
+    requires table { IsEdgeTableOf rules.now.log table.now }
+    requires kept { AreKept lines.now kept.now }
     ensures { IfOk result (λ b. IsTrue b ↔ IsRight rules.now lines.now (length kept.now + 1) line.now) }
 {
     if !has_spelling(alloc, line)? {
         return Ok(false);
     }
     match line {
-        Line::Cycle(steps) => Ok(is_conflict(rules.log(), steps.as_slice())),
+        Line::Cycle(steps) => Ok(is_conflict(rules.log(), table, steps.as_slice())),
         Line::Learn { lits, hints } => is_learnt(
             alloc,
             rules,

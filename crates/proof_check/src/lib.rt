@@ -13,4 +13,4 @@ mod walk;
 pub use check::Check;
 pub use checker::Checker;
 pub use laws::{refuted_is_no_value, right_lines_hold};
-pub use walk::{check_cycle, is_conflict};
+pub use walk::{check_cycle, check_cycle_by};

@@ -6,12 +6,13 @@ ghost use Rattle.mt_model.specs.Laws.{IsBound};
 ghost use Rattle.mt_model.specs.Timing.{Admissible};
 ghost use Rattle.mt_model.specs.Walks.{Conflict, edge_of as edge_of_step};
 ghost use Rattle.skew_bounds.specs.Edges.{edge_in};
+ghost use Rattle.skew_bounds.specs.RowEdges.{IsEdgeTableOf};
 ghost use Rattle.proof_check.specs.Cycles.{IsCycle, IsPlace, bound_edge_of};
 ghost use Rattle.proof_check.specs.Walking.{Goes, IsNear, Stops};
 
 use mt_model::{Bound, EventId, Log, MAX_ORDER, Step, conflict_excludes_timings};
 use neg_cycle::Edge;
-use skew_bounds::edge_of;
+use skew_bounds::{EdgeTable, edge_of};
 
 // The node at which a walk begins, the one at which it has come to, and the sum of its steps' bounds.
 #[derive(Clone, Copy, Debug)]
@@ -72,13 +73,17 @@ fn bound_of(step: Step) -> Option<Bound>
     }
 }
 
-// The edge of a step that is a bound of the log.
-fn bound_edge(log: &Log, step: Step) -> Option<Edge>
+// The edge of a step that is a bound of the log, looked up in the table of its edges where that is known.
+fn bound_edge(log: &Log, known: Option<&EdgeTable>, step: Step) -> Option<Edge>
+    requires table { IfSome known (λ t. IsEdgeTableOf log.now t.now) }
     ensures edge { option_map edge_in result ≡ bound_edge_of log.now step }
     ensures near { IfSome result (λ x. IsNear (2 ^ 90) x.bound) }
 {
     let bound = bound_of(step)?;
-    edge_of(log, bound)
+    match known {
+        Some(table) => table.edge(log, bound),
+        None => edge_of(log, bound),
+    }
 }
 
 // The edge of the order step `t_e - t_f <= c`.
@@ -99,35 +104,67 @@ fn order_edge(log: &Log, e: u32, f: u32, c: i128) -> Option<Edge>
 }
 
 // The edge of a step.
-fn step_edge(log: &Log, step: Step) -> Option<Edge>
+fn step_edge(log: &Log, table: &EdgeTable, step: Step) -> Option<Edge>
+    requires table { IsEdgeTableOf log.now table.now }
     ensures edge { option_map edge_in result ≡ edge_of_step log.now step }
     ensures near { IfSome result (λ x. IsNear (2 ^ 90) x.bound) }
 {
     match step {
         Step::Order { e, f, c } => order_edge(log, e, f, c),
-        _ => bound_edge(log, step),
+        _ => bound_edge(log, Some(table), step),
     }
 }
 
-/// Whether steps, which are bounds of the log or order steps over its rows, form a closed walk of negative sum.
-pub fn is_conflict(log: &Log, steps: &[Step]) -> bool
-    requires { length steps.now < 2 ^ 32 }
+/// Whether steps, which are bounds of the log or order steps over its rows, form a closed walk of negative sum. The edges
+/// of the bounds are looked up in their table.
+pub fn is_conflict(log: &Log, table: &EdgeTable, steps: &[Step]) -> bool
+    requires table { IsEdgeTableOf log.now table.now }
+    requires few { length steps.now < 2 ^ 32 }
     ensures { IsTrue result ↔ Conflict log.now steps.now }
 {
     let Some(first) = steps.first() else {
         return false;
     };
-    let Some(edge) = step_edge(log, *first) else {
+    let Some(edge) = step_edge(log, table, *first) else {
         return false;
     };
     let mut walk = Walk::at(edge.from);
     for step in steps {
-        match walk.then(step_edge(log, *step)) {
+        match walk.then(step_edge(log, table, *step)) {
             Some(further) => walk = further,
             None => return false,
         }
     }
     walk.is_negative_cycle()
+}
+
+// The first step, counted from 1, that keeps steps from being a negative cycle of the log's bounds, if any does.
+fn cycle_fault(log: &Log, known: Option<&EdgeTable>, steps: &[Step]) -> Option<u32>
+    requires table { IfSome known (λ t. IsEdgeTableOf log.now t.now) }
+    requires few { length steps.now < 2 ^ 32 }
+    ensures accepted { (result ≡ None) ↔ IsCycle log.now steps.now }
+    ensures place { IfSome result (λ n. IsPlace log.now steps.now n) }
+    ensures excludes { result ≡ None → (t : List ℤ) → Admissible log.now t → ⊥ }
+{
+    conflict_excludes_timings();
+    let Some(first) = steps.first() else {
+        return Some(0);
+    };
+    let Some(edge) = bound_edge(log, known, *first) else {
+        return Some(1);
+    };
+    let mut walk = Walk::at(edge.from);
+    for (i, step) in steps.iter().enumerate() {
+        match walk.then(bound_edge(log, known, *step)) {
+            Some(further) => walk = further,
+            None => return Some(i as u32 + 1),
+        }
+    }
+    if walk.is_negative_cycle() {
+        None
+    } else {
+        Some(steps.len() as u32)
+    }
 }
 
 /// None exactly where the steps are bounds of the log and form a closed walk of negative sum, which leaves the log no
@@ -139,23 +176,17 @@ pub fn check_cycle(log: &Log, steps: &[Step]) -> Option<u32>
     ensures place { IfSome result (λ n. IsPlace log.now steps.now n) }
     ensures excludes { result ≡ None → (t : List ℤ) → Admissible log.now t → ⊥ }
 {
-    conflict_excludes_timings();
-    let Some(first) = steps.first() else {
-        return Some(0);
-    };
-    let Some(edge) = bound_edge(log, *first) else {
-        return Some(1);
-    };
-    let mut walk = Walk::at(edge.from);
-    for (i, step) in steps.iter().enumerate() {
-        match walk.then(bound_edge(log, *step)) {
-            Some(further) => walk = further,
-            None => return Some(i as u32 + 1),
-        }
-    }
-    if walk.is_negative_cycle() {
-        None
-    } else {
-        Some(steps.len() as u32)
-    }
+    cycle_fault(log, None, steps)
+}
+
+/// The same where the table of the edges of the log's bounds is known, so that no step is searched for among the rows
+/// and the resyncs.
+pub fn check_cycle_by(log: &Log, table: &EdgeTable, steps: &[Step]) -> Option<u32>
+    requires table { IsEdgeTableOf log.now table.now }
+    requires few { length steps.now < 2 ^ 32 }
+    ensures accepted { (result ≡ None) ↔ IsCycle log.now steps.now }
+    ensures place { IfSome result (λ n. IsPlace log.now steps.now n) }
+    ensures excludes { result ≡ None → (t : List ℤ) → Admissible log.now t → ⊥ }
+{
+    cycle_fault(log, Some(table), steps)
 }

@@ -2,7 +2,7 @@ use Rattle.std.proofs.Common.{◌≡◌, ◌∙◌, sym, ap, refl, true}
 use Rattle.std.specs.Prelude.{option_copied}
 use Rattle.proof_check.specs.Cycles.{IsCycle, bound_edge_of}
 use Rattle.proof_check.proofs.WalkLemmas.{cycle_cyclic, cyclic_cycle, cyclic_follows, follows_cyclic, follows_first, follows_more, follows_stops_all, loose_there}
-use Rattle.proof_check.proofs.walk.check_cycle.Goals as goal
+use Rattle.proof_check.proofs.walk.cycle_fault.Goals as goal
 
 pub loop-i-init : goal.loop-i-init
 loop-i-init c = follows_first (bound_edge_of c.args.log.now) c.args.steps.now c.in-Some.first.now c.bound_edge.result c.in-Some-bound_edge.edge c.at-walk.result
