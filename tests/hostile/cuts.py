@@ -64,7 +64,7 @@ def broken_copies(text):
 
 def of_logs():
     """Broken copies of logs."""
-    for name in ("relay.csv", "checkout.csv"):
+    for name in ("relay.csv", "checkout.csv", "timeout.csv"):
         for title, log in broken_copies(example(name)):
             yield by_reference("log", f"{name} {title}", ["order", "l"], {"l": log})
 

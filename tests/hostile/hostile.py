@@ -30,6 +30,7 @@ import cuts
 import formula_limits
 import log_limits
 import report_limits
+import second_limits
 import sizes
 import word_limits
 from case import Blank
@@ -133,7 +134,7 @@ def print_row(row):
 
 def all_cases(with_longest):
     """All cases, kind by kind."""
-    for some in (word_limits, cuts, log_limits, formula_limits, report_limits, sizes):
+    for some in (word_limits, cuts, log_limits, second_limits, formula_limits, report_limits, sizes):
         yield from some.cases()
     if with_longest:
         yield from report_limits.longest()
