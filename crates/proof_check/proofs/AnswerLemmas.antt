@@ -1,5 +1,5 @@
 -- What is answered for lines that are judged one after another.
-use Rattle.std.proofs.Common.{◌≡◌, ◌∙◌, sym, ap, refl, subst, ℕ, zero, suc, ◌+◌, ◌-◌, ◌<◌, Bool, ◌⊎◌, inl, inr, List, [], ◌∷◌, ◌++◌, length, get_or, map, take, Some, None, Ok, Err, arith}
+use Rattle.std.proofs.Common.{◌≡◌, ◌∙◌, sym, ap, refl, subst, ℕ, zero, suc, ◌+◌, ◌-◌, ◌<◌, Bool, ◌⊎◌, inl, inr, List, [], ◌∷◌, ◌++◌, ◌≤◌, length, get_or, Option, Some, None, Ok, Err, arith}
 use Rattle.std.specs.Prelude.{IfOk, Result, option_map}
 use Rattle.std.proofs.lemmas.Bool.{cases_lt}
 use Rattle.std.proofs.lemmas.Option.{slice_get_past, slice_get_read}
@@ -9,13 +9,15 @@ use Rattle.axiom_rules.specs.declared.literal.Literal.{Literal}
 use Rattle.axiom_rules.specs.Sought.{Sought, sought_of}
 use Rattle.proof_log.specs.declared.line.Line.{Line}
 use Rattle.proof_log.specs.Derivations.{FirstWrong, IsEmptyAt, IsGood, IsShown, NoneWrong, RightLine, clause_of_line, line_at}
+use Rattle.proof_log.specs.LinesOf.{IsTextOf}
 use Rattle.proof_log.specs.Spelled.{IsSpelled}
 use Rattle.proof_check.specs.declared.check.Check.{Check}
+use Rattle.proof_check.specs.declared.check.TextCheck.{TextCheck}
 use Rattle.proof_check.specs.declared.check.Check.TheVariants as check
 use Rattle.proof_check.specs.Answering.{AreGood, AreJudged, IsAnswer, OfSought}
-use Rattle.proof_check.specs.Judging.{IsRight}
-use Rattle.proof_check.specs.Keeping.{kept_of}
-use Rattle.proof_check.proofs.KeptLemmas.{kept_count, kept_more}
+use Rattle.proof_check.specs.Judging.{IsNext, IsRight}
+use Rattle.proof_check.specs.Keeping.{lines_with}
+use Rattle.proof_check.proofs.KeptLemmas.{empty_same, kept_more, next_open, next_right, right_next}
 
 -- line i + 1 of a list
 pub line_there : (lines : List Line) (i : ℕ) (line : Line) → i < length lines → line ≡ get_or lines i line → line_at lines (i + 1) ≡ Some line
@@ -111,40 +113,48 @@ module _ (log : Logged) (f : Form) (v : Bool) (lines : List Line) where
     wrong = λ n. (λ no. absurd (cc), λ first. absurd (no_first good n first));
   }
 
+-- what a clause is, whether it is empty
+empty_or : (o : Option (List Literal)) → (o ≡ Some []) ⊎ (o ≡ Some [] → ⊥)
+empty_or None = inr (λ no. absurd (cc (no)))
+empty_or (Some []) = inl refl
+empty_or (Some (l ∷ ls)) = inr (λ no. absurd (cc (no)))
+
 module _ (s : Sought) (lines : List Line) where
-  module _ (i : ℕ) (kept some : List (List Literal)) (line : Line) (low : i < length lines) (at : line ≡ get_or lines i line) (same : some ≡ kept) where
+  module _ (i : ℕ) (kept : List (List Literal)) (line : Line) (low : i < length lines) (at : line ≡ get_or lines i line) (judged : AreJudged s lines i kept) where
     there : line_at lines (i + 1) ≡ Some line
     there = line_there lines i line low at
 
-    -- the line after those of which something is kept
-    next : kept ≡ map kept_of (take i lines) → length some + 1 ≡ i + 1
-    next are = omega (arith, low, ap length same, kept_count lines kept i (omega (arith, low)) are)
+    within : i ≤ length lines
+    within = omega (arith, low)
 
-    pub judged_more : AreJudged s lines i kept → (IsEmptyAt lines i → ⊥) → IsRight s lines (length some + 1) line → (lits : List Literal) (more : List (List Literal))
-        → lits ≡ kept_of line → more ≡ kept ++ lits ∷ [] → AreJudged s lines (i + 1) more
-    judged_more judged unended right lits more kept_now grown = record {
+    pub judged_more : IsNext s kept line → (more : List (List Literal)) → more ≡ kept ++ clause_of_line line ∷ [] → AreJudged s lines (i + 1) more
+    judged_more is more grown = record {
       good = λ log f v sought.
           good_more log f v lines i (judged.good log f v sought)
-          (right_there log f v lines (i + 1) line there (subst (λ (x : Sought). IsRight x lines (i + 1) line) sought (subst (λ n. IsRight s lines n line) (next judged.same) right))) unended;
-      same = grown ∙ ap (λ ls. kept ++ ls ∷ []) kept_now ∙ kept_more lines kept i line low at judged.same;
+          (right_there log f v lines (i + 1) line there (subst (λ (x : Sought). IsRight x lines (i + 1) line) sought (next_right lines i kept within judged.same s line is)))
+          (next_open lines i kept within judged.same s line is);
+      same = grown ∙ kept_more lines kept i line low at judged.same;
     }
 
-    -- the line after an empty clause is the first wrong one
-    pub judged_ended : AreJudged s lines i kept → IsEmptyAt lines i → OfSought s (λ log f v. IsAnswer log f v lines (check.Wrong (i + 1)))
-    judged_ended judged empty log f v sought = answer_wrong log f v lines (i + 1) (first_wrong log f v lines i low (judged.good log f v sought) (inr empty))
+    -- a line that isn't good is the first wrong one
+    pub judged_wrong : (IsNext s kept line → ⊥) → OfSought s (λ log f v. IsAnswer log f v lines (check.Wrong (i + 1)))
+    judged_wrong wrong log f v sought = answer_wrong log f v lines (i + 1) (first_wrong log f v lines i low (judged.good log f v sought) (elim (empty_or (option_map clause_of_line (line_at lines i))) [
+      | inl empty ↦ inr empty
+      | inr unended ↦ inl (λ right.
+        wrong (right_next lines i kept within judged.same s line (subst (λ (x : Sought). IsRight x lines (i + 1) line) (sym sought) (there_right log f v lines (i + 1) line there right)) unended))
+    ]))
 
-    -- so is a line that isn't right
-    pub judged_wrong : AreJudged s lines i kept → (IsRight s lines (length some + 1) line → ⊥) → OfSought s (λ log f v. IsAnswer log f v lines (check.Wrong (i + 1)))
-    judged_wrong judged wrong log f v sought =
-        answer_wrong log f v lines (i + 1)
-        (first_wrong log f v lines i low (judged.good log f v sought)
-        (inl (λ right. wrong (subst (λ n. IsRight s lines n line) (sym (next judged.same)) (subst (λ (x : Sought). IsRight x lines (i + 1) line) (sym sought) (there_right log f v lines (i + 1) line there right))))))
-
-  pub judged_refutes : (n : ℕ) (kept : List (List Literal)) → n ≡ length lines → AreJudged s lines n kept → IsEmptyAt lines (length lines) → OfSought s (λ log f v. IsAnswer log f v lines check.Refutes)
-  judged_refutes n kept all judged last log f v same = answer_refutes log f v lines (subst (AreGood log f v lines) all (judged.good log f v same)) last
-
-  pub judged_derives : (n : ℕ) (kept : List (List Literal)) → n ≡ length lines → AreJudged s lines n kept → (IsEmptyAt lines (length lines) → ⊥) → OfSought s (λ log f v. IsAnswer log f v lines check.Derives)
-  judged_derives n kept all judged unended log f v same = answer_derives log f v lines (subst (AreGood log f v lines) all (judged.good log f v same)) unended
+  -- where all were judged
+  pub judged_all : (n : ℕ) (kept : List (List Literal)) (c : Check) → n ≡ length lines → AreJudged s lines n kept
+      → (IsEmptyAt (lines_with kept) (length kept) → c ≡ check.Refutes) → ((IsEmptyAt (lines_with kept) (length kept) → ⊥) → c ≡ check.Derives)
+      → OfSought s (λ log f v. IsAnswer log f v lines c)
+  judged_all n kept c all judged refutes derives log f v sought =
+      let good = subst (AreGood log f v lines) all (judged.good log f v sought) in
+      let empty_same = empty_same lines n kept (omega (arith, all)) judged.same in
+      elim (empty_or (option_map clause_of_line (line_at lines n))) [
+        | inl empty ↦ subst (IsAnswer log f v lines) (sym (refutes (empty_same.1 empty))) (answer_refutes log f v lines good (subst (IsEmptyAt lines) all empty))
+        | inr unended ↦ subst (IsAnswer log f v lines) (sym (derives (λ empty. unended (empty_same.0 empty)))) (answer_derives log f v lines good (λ empty. unended (subst (IsEmptyAt lines) (sym all) empty)))
+      ]
 
 -- what follows from the answer, for the one who sought it
 pub answered : {E : Type 0} (s t : Sought) → s ≡ t → (lines : List Line) (r : Result Check E) → IfOk r (λ c. OfSought s (λ log f v. IsAnswer log f v lines c))
@@ -152,3 +162,10 @@ pub answered : {E : Type 0} (s t : Sought) → s ≡ t → (lines : List Line) (
     → IfOk r (λ c. OfSought t (λ log f v. Q log f v c))
 answered s t same lines (Ok c) is Q each = λ log f v sought. each log f v c sought (is log f v (same ∙ sought))
 answered s t same lines (Err e) is Q each = tt
+
+-- the same of lines whose text was checked
+pub answered_text : {E : Type 0} (s t : Sought) → s ≡ t → (text : List ℕ) (r : Result TextCheck E) → IfOk r (λ c. (lines : List Line) → IsTextOf text lines → OfSought s (λ log f v. IsAnswer log f v lines c.check))
+    → (Q : List Line → Logged → Form → Bool → Check → Type 0) → ((lines : List Line) (log : Logged) (f : Form) (v : Bool) (c : Check) → t ≡ sought_of log f v → IsAnswer log f v lines c → Q lines log f v c)
+    → IfOk r (λ c. (lines : List Line) → IsTextOf text lines → OfSought t (λ log f v. Q lines log f v c.check))
+answered_text s t same text (Ok c) is Q each = λ lines of log f v sought. each lines log f v c.check sought (is lines of log f v (same ∙ sought))
+answered_text s t same text (Err e) is Q each = tt

@@ -1,23 +1,26 @@
--- What is kept of lines, and the clauses that are cited.
-use Rattle.std.proofs.Common.{◌≡◌, ◌∙◌, sym, ap, refl, subst, ℕ, suc, ◌+◌, ◌<◌, ◌≤◌, ◌↔◌, ◌==◌, inl, inr, not, Bool, true, false, List, [], ◌∷◌, ◌++◌, length, get_or, map, take, Option, Some, None, arith, append-nil, eqb-true}
-use Rattle.std.specs.Prelude.{Contains, option_map, slice_get}
+-- The clauses of lines that are kept, and those that are cited.
+use Rattle.std.proofs.Common.{◌≡◌, ◌∙◌, sym, ap, refl, subst, ℕ, zero, suc, ◌+◌, ◌-◌, ◌<◌, ◌≤◌, ◌↔◌, ◌==◌, inl, inr, not, Bool, true, false, List, [], ◌∷◌, ◌++◌, length, get_or, map, take, Option, Some, None, arith, append-nil, eqb-true}
+use Rattle.std.specs.Prelude.{Contains, nat_lt, option_map, slice_get}
 use Rattle.std.specs.BTreeSet.{BTreeSet, Updates, contains}
 use Rattle.std.specs.List.{filter_map}
-use Rattle.std.proofs.lemmas.Bool.{false_from_ne_true, lt-ltb}
+use Rattle.std.proofs.lemmas.Bool.{cases_lt, false_from_ne_true, lt-ltb, ltb-true}
 use Rattle.std.proofs.lemmas.List.{length-map, length-take-le, map_more, take_more}
+use Rattle.std.proofs.lemmas.Option.{slice_get-map, slice_get_past}
 use Rattle.std.proofs.lemmas.List.Elements.{Contains-append_left, Contains-push, Contains-push_cases, filter_map-append}
-use Rattle.mt_model.specs.Log.{plain_log}
 use Rattle.axiom_rules.specs.declared.literal.Literal.{Literal}
 use Rattle.axiom_rules.specs.contracts.literal.LiteralOrd.TheImpl.{cmp-value as literal_cmp}
 use Rattle.axiom_rules.specs.contracts.literal.LiteralOrd.TheImpl.Laws.{total-law}
 use Rattle.axiom_rules.specs.Parts.{each_once}
 use Rattle.axiom_rules.specs.Sought.{Sought}
 use Rattle.axiom_rules.proofs.AddingLemmas.{once-new, once-old, stands, stands-has}
+use Rattle.proof_log.specs.declared.line.Hint.{Hint}
 use Rattle.proof_log.specs.declared.line.Hint.TheVariants as hint
 use Rattle.proof_log.specs.declared.line.Line.{Line}
-use Rattle.proof_log.specs.Derivations.{IsEmptyAt, clause_of_hint, clause_of_line, line_at}
+use Rattle.proof_log.specs.declared.line.Line.TheVariants as line
+use Rattle.proof_log.specs.Derivations.{IsEmptyAt, IsShown, clause_of_hint, clause_of_line, line_at}
 use Rattle.proof_log.proofs.OrderedSets.{had_old, has_more, lacks_added}
-use Rattle.proof_check.specs.Keeping.{kept_of}
+use Rattle.proof_check.specs.Judging.{IsNext, IsRight}
+use Rattle.proof_check.specs.Keeping.{line_with, lines_with}
 use Rattle.proof_check.proofs.Standing.{among_stands, stands_among}
 use Rattle.proof_check.proofs.TakeLemmas.{literals_told}
 
@@ -65,25 +68,100 @@ pub empty_tested : (clause : List Literal) (r : Bool) → r ≡ (length clause =
 empty_tested [] r is = (λ _. refl, λ _. is)
 empty_tested (l ∷ ls) r is = (λ yes. absurd (omega (arith, eqb-true (length (l ∷ ls)) 0 (sym is ∙ yes))), λ none. absurd (cc))
 
-module _ (lines : List Line) where
+undone : (o : Option (List Literal)) → option_map clause_of_line (option_map line_with o) ≡ o
+undone None = refl
+undone (Some c) = refl
+
+module _ (kept : List (List Literal)) where
+  -- the clauses of lines with these clauses
+  pub clause_there : (place : ℕ) → option_map clause_of_line (slice_get (lines_with kept) place) ≡ slice_get kept place
+  clause_there place = ap (option_map clause_of_line) (slice_get-map line_with kept place) ∙ undone (slice_get kept place)
+
+  -- the clause of a line that a hint cites
+  pub cites : (s : Sought) (place : ℕ) → clause_of_hint s (lines_with kept) (length kept + 1) (hint.Line (suc place)) ≡ slice_get kept place
+  cites s place = elim (cases_lt place (length kept)) [
+    | inl below ↦ rw (lt-ltb (suc place) (length kept + 1) (omega (arith, below))) (clause_there place)
+    | inr past ↦ rw (false_from_ne_true (nat_lt (suc place) (length kept + 1)) (λ yes. absurd (omega (arith, past, ltb-true (suc place) (length kept + 1) yes)))) (sym (slice_get_past kept place past))
+  ]
+
+-- the clause of the last line
+pub last_clause : (kept : List (List Literal)) → option_map clause_of_line (line_at (lines_with kept) (length kept)) ≡ slice_get kept (length kept - 1)
+last_clause [] = refl
+last_clause (c ∷ cs) = let e : suc (length cs) - 1 ≡ length cs = omega arith in rw e (clause_there (c ∷ cs) (length cs))
+
+-- what is found at the end tells whether the last line has an empty clause
+pub empty_where_found : (kept : List (List Literal)) (found : Option (List Literal)) → found ≡ slice_get kept (length kept - 1) → (found ≡ Some []) ↔ IsEmptyAt (lines_with kept) (length kept)
+empty_where_found kept found is = (λ empty. last_clause kept ∙ sym is ∙ empty, λ empty. is ∙ sym (last_clause kept) ∙ empty)
+
+slice_get_taken : {X : Type 0} (xs : List X) (n k : ℕ) → k < n → slice_get (take n xs) k ≡ slice_get xs k
+slice_get_taken xs zero k below = absurd (omega (arith, below))
+slice_get_taken [] (suc n) k below = refl
+slice_get_taken (x ∷ xs) (suc n) zero below = refl
+slice_get_taken (x ∷ xs) (suc n) (suc k) below = slice_get_taken xs n k (omega (arith, below))
+
+map_alike : {X Y : Type 0} (f g : X → Y) → ((x : X) → f x ≡ g x) → (xs : List X) → map f xs ≡ map g xs
+map_alike f g alike [] = refl
+map_alike f g alike (x ∷ xs) = ap (λ y. y ∷ map f xs) (alike x) ∙ ap (λ ys. g x ∷ ys) (map_alike f g alike xs)
+
+-- lines, and lines with the clauses of the first n of them, which are kept
+module _ (lines : List Line) (n : ℕ) (kept : List (List Literal)) (low : n ≤ length lines) (same : kept ≡ map clause_of_line (take n lines)) where
   -- as much is kept as there are lines
-  pub kept_count : (kept : List (List Literal)) (n : ℕ) → n ≤ length lines → kept ≡ map kept_of (take n lines) → length kept ≡ n
-  kept_count kept n low same = ap length same ∙ length-map (take n lines) kept_of ∙ length-take-le n lines low
+  pub kept_count : length kept ≡ n
+  kept_count = ap length same ∙ length-map (take n lines) clause_of_line ∙ length-take-le n lines low
 
-  -- what is kept of one line more
-  pub kept_more : (kept : List (List Literal)) (i : ℕ) (line : Line) → i < length lines → line ≡ get_or lines i line → kept ≡ map kept_of (take i lines)
-      → kept ++ kept_of line ∷ [] ≡ map kept_of (take (i + 1) lines)
-  kept_more kept i line low at same = sym (map_more kept_of lines i line low ∙ (rw (← at, ← same) refl))
+  clause_same : (m : ℕ) → m ≤ n → option_map clause_of_line (line_at (lines_with kept) m) ≡ option_map clause_of_line (line_at lines m)
+  clause_same zero within = refl
+  clause_same (suc m) within =
+      clause_there kept m ∙ ap (λ ks. slice_get ks m) same ∙ slice_get-map clause_of_line (take n lines) m
+      ∙ ap (option_map clause_of_line) (slice_get_taken lines n m (omega (arith, within)))
 
-  -- the clause of a line that a hint cites, where something is kept of it
-  pub cites : (kept : List (List Literal)) (s : Sought) (i : ℕ) (line : Line) → i < length kept → slice_get lines i ≡ Some line
-      → clause_of_hint s lines (length kept + 1) (hint.Line (suc i)) ≡ Some (clause_of_line line)
-  cites kept s i line below at = rw (lt-ltb (suc i) (length kept + 1) (omega (arith, below)), at) refl
+  pub empty_same : IsEmptyAt (lines_with kept) (length kept) ↔ IsEmptyAt lines n
+  empty_same =
+      let is = ap (λ k. option_map clause_of_line (line_at (lines_with kept) k)) kept_count ∙ clause_same n (omega arith) in
+      (λ empty. sym is ∙ empty, λ empty. is ∙ empty)
 
-  -- what is found of a line, where something is kept of it, tells whether its clause is empty
-  pub empty_where_found : (kept : List (List Literal)) (m : ℕ) (found : Option (List Literal)) → m ≤ length kept
-      → ((s : Sought) → found ≡ clause_of_hint s lines (length kept + 1) (hint.Line m)) → (found ≡ Some []) ↔ IsEmptyAt lines m
-  empty_where_found kept m found within is =
-      let none_sought : Sought = record { log = plain_log [] []; trees = []; root = 0; value = false } in
-      let same : found ≡ option_map clause_of_line (line_at lines m) = rw (lt-ltb m (length kept + 1) (omega (arith, within))) at (is none_sought) in
-      (λ empty. sym same ∙ empty, λ empty. same ∙ empty)
+  module _ (s : Sought) where
+    hint_same : (h : Hint) → clause_of_hint s (lines_with kept) (n + 1) h ≡ clause_of_hint s lines (n + 1) h
+    hint_same (hint.Line m) = elim (cases_lt m (n + 1)) [
+      | inl earlier ↦ rw (lt-ltb m (n + 1) earlier) (clause_same m (omega (arith, earlier)))
+      | inr later ↦ rw (false_from_ne_true (nat_lt m (n + 1)) (λ yes. absurd (omega (arith, later, ltb-true m (n + 1) yes)))) refl
+    ]
+    hint_same (hint.Rule r) = refl
+
+    cited_same : (hints : List Hint) → map (clause_of_hint s (lines_with kept) (n + 1)) hints ≡ map (clause_of_hint s lines (n + 1)) hints
+    cited_same hints = map_alike (clause_of_hint s (lines_with kept) (n + 1)) (clause_of_hint s lines (n + 1)) hint_same hints
+
+    shown_to : (l : Line) → IsShown s (lines_with kept) (n + 1) l → IsShown s lines (n + 1) l
+    shown_to (line.Cycle steps) shown = shown
+    shown_to (line.Learn lits hints) shown = record { in_range = shown.in_range; clauses = shown.clauses; cited = sym (cited_same hints) ∙ shown.cited; refuted = shown.refuted }
+
+    shown_back : (l : Line) → IsShown s lines (n + 1) l → IsShown s (lines_with kept) (n + 1) l
+    shown_back (line.Cycle steps) shown = shown
+    shown_back (line.Learn lits hints) shown = record { in_range = shown.in_range; clauses = shown.clauses; cited = cited_same hints ∙ shown.cited; refuted = shown.refuted }
+
+    right_to : (l : Line) → IsRight s (lines_with kept) (n + 1) l → IsRight s lines (n + 1) l
+    right_to l is = record { spelled = is.spelled; shown = shown_to l is.shown }
+
+    right_back : (l : Line) → IsRight s lines (n + 1) l → IsRight s (lines_with kept) (n + 1) l
+    right_back l is = record { spelled = is.spelled; shown = shown_back l is.shown }
+
+    next : length kept + 1 ≡ n + 1
+    next = omega (arith, kept_count)
+
+    -- a line is good after these lines exactly where it is good after those
+    pub next_right : (l : Line) → IsNext s kept l → IsRight s lines (n + 1) l
+    next_right l is = right_to l (subst (λ k. IsRight s (lines_with kept) k l) next is.right)
+
+    pub next_open : (l : Line) → IsNext s kept l → IsEmptyAt lines n → ⊥
+    next_open l is empty = is.open_before (empty_same.1 empty)
+
+    pub right_next : (l : Line) → IsRight s lines (n + 1) l → (IsEmptyAt lines n → ⊥) → IsNext s kept l
+    right_next l right unended = record {
+      right = subst (λ k. IsRight s (lines_with kept) k l) (sym next) (right_back l right);
+      open_before = λ empty. unended (empty_same.0 empty);
+    }
+
+-- the clause of one line more
+pub kept_more : (lines : List Line) (kept : List (List Literal)) (i : ℕ) (line : Line) → i < length lines → line ≡ get_or lines i line → kept ≡ map clause_of_line (take i lines)
+    → kept ++ clause_of_line line ∷ [] ≡ map clause_of_line (take (i + 1) lines)
+kept_more lines kept i line low at same = sym (map_more clause_of_line lines i line low ∙ (rw (← at, ← same) refl))

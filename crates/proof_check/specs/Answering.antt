@@ -5,10 +5,9 @@ use Rattle.mt_model.specs.Log.{Logged}
 use Rattle.axiom_rules.specs.declared.literal.Literal.{Literal}
 use Rattle.axiom_rules.specs.Sought.{Sought, sought_of}
 use Rattle.proof_log.specs.declared.line.Line.{Line}
-use Rattle.proof_log.specs.Derivations.{Derives, FirstWrong, IsGood, Refutes}
+use Rattle.proof_log.specs.Derivations.{Derives, FirstWrong, IsGood, Refutes, clause_of_line}
 use Rattle.proof_check.specs.declared.check.Check.{Check}
 use Rattle.proof_check.specs.declared.check.Check.TheVariants as check
-use Rattle.proof_check.specs.Keeping.{kept_of}
 
 -- P holds of the log, the formula and the value for which it is sought
 abbrev pub OfSought : Sought → (Logged → Form → Bool → Type 0) → Type 0
@@ -24,7 +23,7 @@ pub record IsAnswer (log : Logged) (f : Form) (v : Bool) (lines : List Line) (an
 abbrev pub AreGood : Logged → Form → Bool → List Line → ℕ → Type 0
 AreGood log f v lines n = (m : ℕ) → 1 ≤ m → m ≤ n → IsGood log f v lines m
 
--- the first n lines are judged: they are good, and this is what is kept of them
+-- the first n lines are judged: they are good, and these are their clauses
 pub record AreJudged (s : Sought) (lines : List Line) (n : ℕ) (kept : List (List Literal)) : Type 0 where
   pub good : OfSought s (λ log f v. AreGood log f v lines n)
-  pub same : kept ≡ map kept_of (take n lines)
+  pub same : kept ≡ map clause_of_line (take n lines)

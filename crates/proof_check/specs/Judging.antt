@@ -1,15 +1,16 @@
 -- How the hints of a line are taken, and when a line is right.
-use Rattle.std.specs.Prelude.{◌≡◌, ℕ, List, MatchOption}
+use Rattle.std.specs.Prelude.{◌≡◌, ◌+◌, ℕ, List, length, MatchOption}
 use Rattle.hint_refutation.specs.Hints.{Refutes}
 use Rattle.axiom_rules.specs.declared.literal.Literal.{Literal}
 use Rattle.axiom_rules.specs.Literals.{negated}
 use Rattle.axiom_rules.specs.Sought.{Sought}
 use Rattle.proof_log.specs.declared.line.Hint.{Hint}
 use Rattle.proof_log.specs.declared.line.Line.{Line}
-use Rattle.proof_log.specs.Derivations.{HasClauses, IsShown, clause_of_hint}
+use Rattle.proof_log.specs.Derivations.{HasClauses, IsEmptyAt, IsShown, clause_of_hint}
 use Rattle.proof_log.specs.Spelled.{IsSpelled}
 use Rattle.proof_check.specs.declared.refutation.Taken.{Taken}
 use Rattle.proof_check.specs.declared.refutation.Taken.TheVariants as taken
+use Rattle.proof_check.specs.Keeping.{lines_with}
 use Rattle.proof_check.specs.Refutation.{IsTaken}
 
 module _ (s : Sought) (lines : List Line) (n : ℕ) where
@@ -27,3 +28,8 @@ module _ (s : Sought) (lines : List Line) (n : ℕ) where
   pub record IsRight (line : Line) : Type 0 where
     pub spelled : IsSpelled line
     pub shown : IsShown s lines n line
+
+-- a line is good as the one after lines with these clauses: it is right, and the last of these clauses is not empty
+pub record IsNext (s : Sought) (kept : List (List Literal)) (line : Line) : Type 0 where
+  pub right : IsRight s (lines_with kept) (length kept + 1) line
+  pub open_before : IsEmptyAt (lines_with kept) (length kept) → ⊥

@@ -8,3 +8,10 @@ pub enum Check {
     /// The first line, from 1, that isn't right or stands after an empty clause.
     Wrong(u32),
 }
+
+/// What the lines of a text are, and how many of those that were read are Learn lines.
+#[derive(Clone, Copy, Debug, PartialEq, Eq)]
+pub struct TextCheck {
+    pub check: Check,
+    pub learn_lines: u32,
+}

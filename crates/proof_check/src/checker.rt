@@ -1,4 +1,4 @@
-ghost use Rattle.std.specs.Prelude.{◌≡◌, ◌↔◌, ◌+◌, ◌<◌, ◌≤◌, ◌^◌, ℕ, length, IfOk, OnOk, None, Err};
+ghost use Rattle.std.specs.Prelude.{◌≡◌, ◌↔◌, ◌+◌, ◌<◌, ◌≤◌, ◌^◌, ℕ, List, length, IfOk, OnOk, None, Err};
 ghost use Rattle.mt_model.specs.Form.{Form, form_of};
 ghost use Rattle.mt_model.specs.Log.{IsLog};
 ghost use Rattle.mt_model.specs.State.{unknown_host};
@@ -7,15 +7,16 @@ ghost use Rattle.formula_arena.specs.Nodes.{nodes_of};
 ghost use Rattle.formula_arena.specs.declared.arena.TheConstants.{MAX_NODES};
 ghost use Rattle.axiom_rules.specs.Sought.{sought_of};
 ghost use Rattle.proof_log.specs.Derivations.{Derives, FirstWrong, Refutes};
-ghost use Rattle.proof_check.specs.Answering.{IsAnswer, OfSought};
+ghost use Rattle.proof_log.specs.Freshness.{learn_lines};
+ghost use Rattle.proof_log.specs.LinesOf.{IsTextOf};
+ghost use Rattle.proof_check.specs.Answering.{OfSought};
 
-use crate::check::Check;
-use crate::clauses::{has_empty_clause, to_keep};
-use crate::judge::{Clause, is_right};
+use crate::check::{Check, TextCheck};
+use crate::judge::Clause;
 use crate::laws::refuted_is_no_value;
+use crate::taking::{check_lines, check_lines_of};
 use axiom_rules::Rules;
 use formula_arena::{Arena, ArenaFault};
-use mt_list::ListOf;
 use mt_model::{Formula, Log, NodeId};
 use proof_log::Line;
 use skew_bounds::EdgeTable;
@@ -49,36 +50,6 @@ fn log_is_valid(rules: &Rules)
     ensures { IsLog rules.now.log }
 {
     let _ = rules.log().rows();
-}
-
-// What lines are: each is judged by those before it.
-fn check_lines(
-    alloc: Global,
-    rules: &Rules,
-    clause: &mut Clause,
-    lines: &[Line],
-) -> Result<Check, AllocError>
-    requires { length lines.now < 2 ^ 32 }
-    ensures { IfOk result (λ c. OfSought rules.now (λ log f v. IsAnswer log f v lines.now c)) }
-{
-    let table = EdgeTable::of(alloc, rules.log())?;
-    let mut kept = ListOf::new(alloc);
-    for (i, line) in lines.iter().enumerate() {
-        let number = i as u32 + 1;
-        if has_empty_clause(lines, kept.as_slice(), i as u32) {
-            return Ok(Check::Wrong(number));
-        }
-        if !is_right(alloc, rules, &table, lines, kept.as_slice(), line, clause)? {
-            return Ok(Check::Wrong(number));
-        }
-        let lits = to_keep(alloc, line)?;
-        kept.push(lits)?;
-    }
-    if has_empty_clause(lines, kept.as_slice(), lines.len() as u32) {
-        Ok(Check::Refutes)
-    } else {
-        Ok(Check::Derives)
-    }
 }
 
 impl Checker {
@@ -133,5 +104,21 @@ impl Checker {
         refuted_is_no_value();
         log_is_valid(&self.rules);
         check_lines(self.alloc, &self.rules, &mut self.clause, lines)
+    }
+
+    /// The same for lines of which the bytes are the text. They are read one after another, and of each its clause alone is
+    /// kept. Lines that derive are counted in full.
+    pub fn check_text(&mut self, text: &[u8]) -> Result<TextCheck, AllocError>
+        requires few { length text.now < 2 ^ 31 }
+        ensures refutes { IfOk result (λ t. (lines : List Line) → IsTextOf text.now lines → OfSought self.old (λ log f v. (t.check ≡ Check.Refutes) ↔ Refutes log f v lines)) }
+        ensures derives { IfOk result (λ t. (lines : List Line) → IsTextOf text.now lines → OfSought self.old (λ log f v. (t.check ≡ Check.Derives) ↔ Derives log f v lines)) }
+        ensures wrong { IfOk result (λ t. (lines : List Line) → IsTextOf text.now lines → OfSought self.old (λ log f v. (n : ℕ) → (t.check ≡ Check.Wrong n) ↔ FirstWrong log f v lines n)) }
+        ensures excludes { IfOk result (λ t. (lines : List Line) → IsTextOf text.now lines → OfSought self.old (λ log f v. t.check ≡ Check.Refutes → IsValue log f v → ⊥)) }
+        ensures learn { IfOk result (λ t. (lines : List Line) → IsTextOf text.now lines → t.check ≡ Check.Derives → t.learn_lines ≡ learn_lines lines) }
+        ensures kept { self.new ≡ self.old }
+    {
+        refuted_is_no_value();
+        log_is_valid(&self.rules);
+        check_lines_of(self.alloc, &self.rules, &mut self.clause, text)
     }
 }

@@ -1,4 +1,4 @@
-//! Whether a line is right, given the lines before it and what is kept of them.
+//! Whether a line is right, given the clauses of the lines before it.
 
 ghost use Rattle.std.specs.Prelude.{◌≡◌, ◌↔◌, ◌+◌, if◌then◌else◌, length, IfOk, IsTrue, None, Some};
 ghost use Rattle.std.specs.Result.{result_ok};
@@ -6,16 +6,16 @@ ghost use Rattle.axiom_rules.specs.Clauses.{clause_of as clause_of_rule};
 ghost use Rattle.proof_log.specs.Derivations.{IsLearnt};
 ghost use Rattle.skew_bounds.specs.RowEdges.{IsEdgeTableOf};
 ghost use Rattle.proof_check.specs.Judging.{AreRefuting, IsHintTaken, IsRight};
-ghost use Rattle.proof_check.specs.Keeping.{AreKept};
+ghost use Rattle.proof_check.specs.Keeping.{lines_with};
 
 use crate::clauses::cited_clause;
+use crate::kept::Clauses;
 use crate::range::are_in_range;
 use crate::refutation::{Assumed, Taken};
 use crate::walk::is_conflict;
 use axiom_rules::{Literal, Rule, RuleFault, Rules};
 use hint_refutation::{assumed_is_set, refuters_give, steps_are_forced};
-use proof_log::{Hint, Line, Lits, has_spelling};
-use skew_bounds::EdgeTable;
+use proof_log::{Hint, Line, has_spelling};
 use smallvec::SmallVec;
 use std::alloc::{AllocError, Global};
 
@@ -33,20 +33,18 @@ fn writes_clause(rules: &Rules, rule: &Rule, clause: &mut Clause) -> Result<bool
     }
 }
 
-// Takes the clause of a hint of the line after those of which something is kept.
+// Takes the clause of a hint of the line after those whose clauses are kept.
 fn take_hint(
     rules: &Rules,
-    lines: &[Line],
-    kept: &[Lits],
+    kept: &Clauses,
     hint: Hint,
     clause: &mut Clause,
     assumed: &mut Assumed,
 ) -> Result<Taken, AllocError>
-    requires { AreKept lines.now kept.now }
-    ensures { IfOk result (λ taken. IsHintTaken rules.now lines.now (length kept.now + 1) hint assumed.old assumed.new taken) }
+    ensures { IfOk result (λ taken. IsHintTaken rules.now (lines_with kept.now) (length kept.now + 1) hint assumed.old assumed.new taken) }
 {
     match hint {
-        Hint::Line(m) => match cited_clause(lines, kept, m) {
+        Hint::Line(m) => match cited_clause(kept, m) {
             Some(lits) => assumed.take(lits),
             None => Ok(Taken::Stuck),
         },
@@ -63,20 +61,18 @@ fn take_hint(
 // Whether hints refute what is assumed.
 fn are_refuting(
     rules: &Rules,
-    lines: &[Line],
-    kept: &[Lits],
+    kept: &Clauses,
     hints: &[Hint],
     clause: &mut Clause,
     assumed: &mut Assumed,
 ) -> Result<bool, AllocError>
-    requires { AreKept lines.now kept.now }
-    ensures { IfOk result (λ b. IsTrue b ↔ AreRefuting rules.now lines.now (length kept.now + 1) assumed.old hints.now) }
+    ensures { IfOk result (λ b. IsTrue b ↔ AreRefuting rules.now (lines_with kept.now) (length kept.now + 1) assumed.old hints.now) }
 {
     refuters_give::<Literal>();
     assumed_is_set::<Literal>();
     steps_are_forced::<Literal>();
     for (i, hint) in hints.iter().enumerate() {
-        match take_hint(rules, lines, kept, *hint, clause, assumed)? {
+        match take_hint(rules, kept, *hint, clause, assumed)? {
             Taken::Gives => {}
             Taken::False => return Ok(i + 1 == hints.len()),
             Taken::Stuck => return Ok(false),
@@ -89,14 +85,12 @@ fn are_refuting(
 fn is_learnt(
     alloc: Global,
     rules: &Rules,
-    lines: &[Line],
-    kept: &[Lits],
+    kept: &Clauses,
     lits: &[Literal],
     hints: &[Hint],
     clause: &mut Clause,
 ) -> Result<bool, AllocError>
-    requires { AreKept lines.now kept.now }
-    ensures { IfOk result (λ b. IsTrue b ↔ IsLearnt rules.now lines.now (length kept.now + 1) lits.now hints.now) }
+    ensures { IfOk result (λ b. IsTrue b ↔ IsLearnt rules.now (lines_with kept.now) (length kept.now + 1) lits.now hints.now) }
 {
     refuters_give::<Literal>();
     assumed_is_set::<Literal>();
@@ -107,22 +101,18 @@ fn is_learnt(
     // New for each line, so that no line pays for what an earlier one assumed.
     let mut assumed = Assumed::new(alloc);
     assumed.deny(lits)?;
-    are_refuting(rules, lines, kept, hints, clause, &mut assumed)
+    are_refuting(rules, kept, hints, clause, &mut assumed)
 }
 
-/// Whether a line is right as the one after those of which something is kept.
+/// Whether a line is right as the one after those whose clauses are kept.
 pub fn is_right(
     alloc: Global,
     rules: &Rules,
-    table: &EdgeTable,
-    lines: &[Line],
-    kept: &[Lits],
+    kept: &Clauses,
     line: &Line,
     clause: &mut Clause,
 ) -> Result<bool, AllocError>
-    requires table { IsEdgeTableOf rules.now.log table.now }
-    requires kept { AreKept lines.now kept.now }
-    ensures { IfOk result (λ b. IsTrue b ↔ IsRight rules.now lines.now (length kept.now + 1) line.now) }
+    ensures { IfOk result (λ b. IsTrue b ↔ IsRight rules.now (lines_with kept.now) (length kept.now + 1) line.now) }
 {
     if !has_spelling(alloc, line)? {
         return Ok(false);
@@ -132,7 +122,6 @@ pub fn is_right(
         Line::Learn { lits, hints } => is_learnt(
             alloc,
             rules,
-            lines,
             kept,
             lits.as_slice(),
             hints.as_slice(),

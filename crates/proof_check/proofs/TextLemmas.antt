@@ -1,0 +1,114 @@
+-- Lines that are judged as they are read from their text.
+use Rattle.std.proofs.Common.{◌≡◌, ◌∙◌, sym, ap, refl, subst, cond, ℕ, ◌+◌, ◌-◌, ◌<◌, ◌≤◌, List, [], ◌∷◌, ◌++◌, length, length-append, length-drop, get_or, take, drop, arith}
+use Rattle.std.specs.List.{join_with_byte}
+use Rattle.std.proofs.lemmas.List.{drop_more, take_all, take_more}
+use Rattle.std.proofs.lemmas.List.Sums.{sum_by-append}
+use Rattle.axiom_rules.specs.declared.literal.Literal.{Literal}
+use Rattle.axiom_rules.specs.Sought.{Sought}
+use Rattle.proof_log.specs.declared.line.Line.{Line}
+use Rattle.proof_log.specs.Derivations.{IsEmptyAt, clause_of_line}
+use Rattle.proof_log.specs.Freshness.{is_learn, learn_lines}
+use Rattle.proof_log.specs.LinesOf.{IsFrontLine, IsHeadLine, IsTextOf}
+use Rattle.proof_log.specs.LinesText.{line_text, line_words, newline, space}
+use Rattle.proof_check.specs.declared.check.Check.{Check}
+use Rattle.proof_check.specs.declared.check.Check.TheVariants as check
+use Rattle.proof_check.specs.Answering.{AreJudged, IsAnswer, OfSought}
+use Rattle.proof_check.specs.Judging.{IsNext}
+use Rattle.proof_check.specs.Keeping.{lines_with}
+use Rattle.proof_check.proofs.AnswerLemmas.{judged_all, judged_more, judged_wrong}
+
+-- the element that comes next in a list, and what follows it
+record IsNextOf {X : Type 0} (xs : List X) (n : ℕ) (x : X) (ys : List X) : Type 0 where
+  low : n < length xs
+  at : x ≡ get_or xs n x
+  later : ys ≡ drop (n + 1) xs
+
+parted : {X : Type 0} (x y : X) (xs ys : List X) → x ∷ xs ≡ y ∷ ys → (x ≡ y) × (xs ≡ ys)
+parted x y xs ys same = (cc, cc)
+
+next_of : {X : Type 0} (xs : List X) (n : ℕ) (x : X) (ys : List X) → drop n xs ≡ x ∷ ys → IsNextOf xs n x ys
+next_of xs n x ys is =
+    let low : n < length xs = omega (arith, ap length is, length-drop n xs) in
+    let parts = parted x (get_or xs n x) ys (drop (n + 1) xs) (sym is ∙ drop_more xs n x low) in
+    record { low = low; at = parts.0; later = parts.1 }
+
+none_left : {X : Type 0} (xs : List X) (n : ℕ) → n ≤ length xs → drop n xs ≡ [] → n ≡ length xs
+none_left xs n within none = omega (arith, within, ap length none, length-drop n xs)
+
+-- of these lines those whose clauses are kept were judged, so many of them are Learn lines, and the rest is the text of the others
+pub record AreJudgedTo (s : Sought) (kept : List (List Literal)) (rest : List ℕ) (count : ℕ) (lines : List Line) : Type 0 where
+  pub within : length kept ≤ length lines
+  pub judged : AreJudged s lines (length kept) kept
+  pub text : IsTextOf rest (drop (length kept) lines)
+  pub learnt : count ≡ learn_lines (take (length kept) lines)
+
+-- what is known of a text of which a rest is left
+pub record AreTaken (s : Sought) (text : List ℕ) (kept : List (List Literal)) (rest : List ℕ) (count : ℕ) : Type 0 where
+  pub each : (lines : List Line) → IsTextOf text lines → AreJudgedTo s kept rest count lines
+  pub room : length kept + length rest ≤ length text
+  pub few : count ≤ length kept
+
+pub none_taken_yet : (s : Sought) (text : List ℕ) → AreTaken s text [] text 0
+none_taken_yet s text = record {
+  each = λ lines is. record {
+    within = omega arith;
+    judged = record { good = λ log f v sought m least most. absurd (omega (arith, least, most)); same = refl };
+    text = is;
+    learnt = refl;
+  };
+  room = omega arith;
+  few = omega arith;
+}
+
+-- a line has a byte at least, and more Learn lines than one it can't be
+text_some : (l : Line) → 1 ≤ length (line_text l)
+text_some l = omega (arith, length-append (join_with_byte space (line_words l)) (newline ∷ []))
+
+module _ (s : Sought) (text : List ℕ) (kept : List (List Literal)) (rest : List ℕ) (count : ℕ) (before : AreTaken s text kept rest count) (line : Line) (after : List ℕ) (front : IsFrontLine rest line after)
+    (head : (lines : List Line) → IsTextOf rest lines → IsHeadLine lines line after) where
+  pub shorter : length after < length rest
+  shorter = omega (arith, ap length front.split, length-append (line_text line) after, text_some line)
+
+  next_line : (lines : List Line) (is : IsTextOf text lines) → IsNextOf lines (length kept) line (head (drop (length kept) lines) (before.each lines is).text).others
+  next_line lines is =
+      let h = head (drop (length kept) lines) (before.each lines is).text in
+      next_of lines (length kept) line h.others h.split
+
+  pub taken_wrong : (IsNext s kept line → ⊥) → (n : ℕ) → n ≡ length kept + 1 → (lines : List Line) → IsTextOf text lines → OfSought s (λ log f v. IsAnswer log f v lines (check.Wrong n))
+  taken_wrong wrong n number lines is =
+      let next = next_line lines is in
+      subst (λ k. OfSought s (λ log f v. IsAnswer log f v lines (check.Wrong k))) (sym number) (judged_wrong s lines (length kept) kept line next.low next.at (before.each lines is).judged wrong)
+
+  pub taken_more : IsNext s kept line → (more : List (List Literal)) → more ≡ kept ++ clause_of_line line ∷ [] → (counted : ℕ) → counted ≡ count + learn_lines (line ∷ []) → learn_lines (line ∷ []) ≤ 1
+      → AreTaken s text more after counted
+  taken_more good more grown counted is_counted one =
+      let size : length more ≡ length kept + 1 = omega (arith, ap length grown, length-append kept (clause_of_line line ∷ [])) in
+      record {
+        each = λ lines is.
+            let so_far = before.each lines is in
+            let h = head (drop (length kept) lines) so_far.text in
+            let next = next_line lines is in
+            record {
+              within = omega (arith, size, next.low);
+              judged = subst (λ k. AreJudged s lines k more) (sym size) (judged_more s lines (length kept) kept line next.low next.at so_far.judged good more grown);
+              text = subst (IsTextOf after) (next.later ∙ ap (λ k. drop k lines) (sym size)) h.text;
+              learnt = is_counted ∙ ap (λ k. k + learn_lines (line ∷ [])) so_far.learnt ∙ sym (sum_by-append (λ (l : Line). cond (is_learn l) 1 0) (take (length kept) lines) (line ∷ []))
+                  ∙ ap learn_lines (ap (λ l. take (length kept) lines ++ l ∷ []) next.at ∙ sym (take_more lines (length kept) line next.low)) ∙ ap (λ k. learn_lines (take k lines)) (sym size);
+            };
+        room = omega (arith, before.room, size, shorter);
+        few = omega (arith, before.few, size, is_counted, one);
+      }
+
+-- where nothing is left
+module _ (s : Sought) (text : List ℕ) (kept : List (List Literal)) (rest : List ℕ) (count : ℕ) (before : AreTaken s text kept rest count) (none : (lines : List Line) → IsTextOf rest lines → lines ≡ []) where
+  whole : (lines : List Line) (is : IsTextOf text lines) → length kept ≡ length lines
+  whole lines is =
+      let so_far = before.each lines is in
+      none_left lines (length kept) so_far.within (none (drop (length kept) lines) so_far.text)
+
+  pub taken_all : (c : Check) → (IsEmptyAt (lines_with kept) (length kept) → c ≡ check.Refutes) → ((IsEmptyAt (lines_with kept) (length kept) → ⊥) → c ≡ check.Derives)
+      → (lines : List Line) → IsTextOf text lines → OfSought s (λ log f v. IsAnswer log f v lines c)
+  taken_all c refutes derives lines is = judged_all s lines (length kept) kept c (whole lines is) (before.each lines is).judged refutes derives
+
+  pub counted_all : (lines : List Line) → IsTextOf text lines → count ≡ learn_lines lines
+  counted_all lines is = (before.each lines is).learnt ∙ ap learn_lines (ap (λ k. take k lines) (whole lines is) ∙ take_all (length lines) lines (omega arith))

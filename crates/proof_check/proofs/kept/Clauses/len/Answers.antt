@@ -1,0 +1,8 @@
+use Rattle.std.proofs.Common.{rules}
+use Rattle.proof_check.proofs.Pieces.{pieces_count}
+use Rattle.proof_check.proofs.kept.Clauses.len.Goals as goal
+
+pub returns : goal.returns
+returns c =
+    let count = pieces_count 0 c.self.inside.literals.items c.self.inside.ends.items in
+    record { count = rw (← c.self.view_is) (search (rules, count)) }
