@@ -6,6 +6,7 @@ use Rattle.std.proofs.Math.ListN.{replicate}
 use Rattle.std.proofs.lemmas.List.{append-nil, length-replicate}
 use Rattle.std.proofs.lemmas.List.Concat.{flat_map-append}
 use Rattle.std.proofs.lemmas.List.Elements.{All-append, All-cons, All-head, All-nil, All-push, All-replicate, All-tail}
+use Rattle.report_text.specs.Outlines.{ArePassed}
 use Rattle.report_text.specs.Parts.{IsFront, NoFront}
 use Rattle.report_text.specs.ReportOf.{AreLines}
 use Rattle.report_text.specs.ReportText.{ended}
@@ -59,6 +60,35 @@ module _ {X : Type 0} (Is : X → Type 0) (spelling : X → List ℕ) (are : Are
   pub all-read : (count : ℕ) (bytes : List ℕ) (items : List X) (rest : List ℕ) → AreReadUpTo count bytes items rest → count ≤ length items → AreRead Is text count bytes items rest
   all-read count bytes items rest before full = record { full = omega (arith, before.few, full); each = before.each; split = before.split }
 
+  -- so many items were passed, of those announced
+  pub record ArePassedUpTo (count : ℕ) (bytes : List ℕ) (passed : ℕ) (rest : List ℕ) : Type 0 where
+    pub items : List X
+    pub size : length items ≡ passed
+    pub read : AreReadUpTo count bytes items rest
+
+  pub none-passed : (count : ℕ) (bytes : List ℕ) → ArePassedUpTo count bytes 0 bytes
+  none-passed count bytes = record { items = []; size = refl; read = none-read count bytes }
+
+  pub one-passed : (count : ℕ) (bytes : List ℕ) (passed : ℕ) (rest : List ℕ) (x : X) (after : List ℕ) → ArePassedUpTo count bytes passed rest → passed < count → IsFront Is text rest x after
+      → ArePassedUpTo count bytes (passed + 1) after
+  one-passed count bytes passed rest x after before more front = record {
+    items = before.items ++ x ∷ [];
+    size = omega (arith, before.size, length-append before.items (x ∷ []));
+    read = one-more count bytes before.items rest x after before.read (omega (arith, before.size, more)) front;
+  }
+
+  pub all-passed : (count : ℕ) (bytes : List ℕ) (passed : ℕ) (rest : List ℕ) → ArePassedUpTo count bytes passed rest → count ≤ passed → ArePassed Is text count bytes rest
+  all-passed count bytes passed rest before full = record { items = before.items; read = all-read count bytes before.items rest before.read (omega (arith, before.size, full)) }
+
+  -- items that were read of the text of as many are these
+  pub items-found : (count : ℕ) (bytes : List ℕ) (found : List X) (rest : List ℕ) → AreRead Is text count bytes found rest → (xs : List X) → length xs ≡ count → All Is xs → flat_map text xs ≡ bytes → found ≡ xs
+  items-found count bytes found rest read xs full each is =
+      (items-apart found xs rest [] (read.full ∙ sym full) read.each each (sym read.split ∙ sym is ∙ sym (append-nil (flat_map text xs)))).0
+
+  -- and reading them doesn't stop
+  pub items-go_on : (count left : ℕ) (bytes : List ℕ) → AreItems Is text count bytes → IsStoppedAt (AreItems Is text count) bytes left → ⊥
+  items-go_on count left bytes items stopped = stopped.none bytes [] items (sym (append-nil bytes))
+
   module _ (some : X) (is_some : Is some) where
     -- any number of items has a text
     pub some-items : (n : ℕ) → AreItems Is text n (flat_map text (replicate n some))
@@ -107,3 +137,6 @@ module _ {X : Type 0} (Is : X → Type 0) (spelling : X → List ℕ) (are : Are
         let stops = stopped-first Is spelling (λ x. AreItems Is text n) (AreItems Is text (suc n)) (items-lined n) rest lacking in
         let after = stopped-after (flat_map text items) (AreItems Is text (suc n)) (AreItems Is text (length items + suc n)) (items-on items (suc n) before.each) bytes rest (stop.Syntax (length rest)) before.split stops in
         subst (λ k. IsStoppedAt (AreItems Is text k) bytes (length rest)) size after
+
+    pub passed-stopped : (count : ℕ) (bytes : List ℕ) (passed : ℕ) (rest : List ℕ) → ArePassedUpTo count bytes passed rest → passed < count → NoFront Is text rest → IsStoppedAt (AreItems Is text count) bytes (length rest)
+    passed-stopped count bytes passed rest before more lacking = items-stopped count bytes before.items rest before.read (omega (arith, before.size, more)) lacking

@@ -8,6 +8,7 @@ pub mod Sections
 pub mod Reports
 pub mod Stages
 pub mod Unambiguous
+pub mod ReadBack
 pub mod CutShort
 pub mod Spellings
 pub mod Walks

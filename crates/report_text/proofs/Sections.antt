@@ -1,5 +1,6 @@
 -- Sections and bodies of reports, and where reading them stops.
-use Rattle.std.proofs.Common.{◌≡◌, ◌∙◌, sym, ap, subst, refl, arith, ℕ, Bool, true, false, List, [], ◌++◌, append_assoc, length, codes, ℤ, pos}
+use Rattle.std.proofs.Common.{◌≡◌, ◌∙◌, sym, ap, subst, refl, arith, ℕ, Bool, true, false, List, [], ◌++◌, append_assoc, length, codes, ℤ, pos, Result, Ok, Err, Bor}
+use Rattle.std.specs.Prelude.{MatchResult}
 use Rattle.std.specs.Fmt.{decimal, signed_decimal}
 use Rattle.std.specs.List.{flat_map}
 use Rattle.std.proofs.lemmas.Int.{ints}
@@ -19,15 +20,17 @@ use Rattle.report_text.specs.declared.report.Section.{Section}
 use Rattle.report_text.specs.declared.report.Section.TheVariants as section
 use Rattle.report_text.specs.declared.report.Report.{Report}
 use Rattle.report_text.specs.declared.report.Report.TheVariants as report
+use Rattle.report_text.specs.declared.stop.Stop.{Stop}
+use Rattle.report_text.specs.Outlines.{ArePassed}
 use Rattle.report_text.specs.Parts.{IsFront, IsKind, IsOpening, kind_line, kind_of, opening_line}
 use Rattle.report_text.specs.ReportOf.{AreLines}
 use Rattle.report_text.specs.ReportText.{body_text, bound_text, ended, entries_text, section_line, section_text, time_text, walk_text}
 use Rattle.report_text.specs.Spelled.{IsSpelledBound, IsSpelledSection}
-use Rattle.report_text.specs.Stops.{AreEntries, AreItems, AreRead, AreVerdicts, IsBody, IsOfKind, IsOn, IsSectionText}
+use Rattle.report_text.specs.Stops.{AreEntries, AreItems, AreRead, AreVerdicts, IsBody, IsOfKind, IsOn, IsSectionText, Stopped}
 use Rattle.report_text.proofs.ItemLists.{items-apart, items-lines, some-items}
 use Rattle.report_text.proofs.LineTexts.{joined, kinds-spelled, lines-spelled, openings-spelled, times-spelled}
 use Rattle.report_text.proofs.Lined.{AreLined, same-front}
-use Rattle.report_text.proofs.Stopping.{GoesOn, IsFrontOf}
+use Rattle.report_text.proofs.Stopping.{GoesOn, IsFrontOf, stopped-as}
 
 -- plain items
 
@@ -92,6 +95,26 @@ module _ (events : ℕ) where
 
   pub unknown-front : (n : ℕ) → IsNumber n → (bytes : List ℕ) (lines : List Line) (rest : List ℕ) → AreRead IsSpelledLine line_text n bytes lines rest → IsFront (IsOfKind events (kind.Unknown n)) entries_text bytes (section.Unknown lines) rest
   unknown-front n few bytes lines rest r = record { is = record { spelled = record { count = subst IsNumber (sym r.full) few; each = r.each }; kind = ap kind.Unknown r.full }; split = r.split }
+
+  -- what follows the lines of a section
+  abbrev Followed : Kind → List ℕ → Result (Bor (List ℕ)) Stop → Type 0
+  Followed k bytes r = MatchResult r (λ rest. (s : Section) × IsFront (IsOfKind events k) entries_text bytes s rest.now) (Stopped (AreEntries events k) bytes)
+
+  pub after-witness : (k : Kind) → k ≡ kind.Witness → (bytes : List ℕ) (r : Result (Bor (List ℕ)) Stop)
+      → MatchResult r (λ rest. ArePassed (IsWithin MAX_TIME) time_text events bytes rest.now) (Stopped (AreItems (IsWithin MAX_TIME) time_text events) bytes) → Followed k bytes r
+  after-witness k is bytes (Ok rest) p = rw is (section.Witness p.items, witness-front bytes p.items rest.now p.read)
+  after-witness k is bytes (Err f) p = rw is (stopped-as (AreItems (IsWithin MAX_TIME) time_text events) (AreEntries events kind.Witness) witness-forth witness-back bytes f p)
+
+  module _ (n : ℕ) (few : IsNumber n) where
+    pub after-refuted : (k : Kind) → k ≡ kind.Refuted n → (bytes : List ℕ) (r : Result (Bor (List ℕ)) Stop)
+        → MatchResult r (λ rest. ArePassed IsSpelledLine line_text n bytes rest.now) (Stopped (AreItems IsSpelledLine line_text n) bytes) → Followed k bytes r
+    after-refuted k is bytes (Ok rest) p = rw is (section.Refuted p.items, refuted-front n few bytes p.items rest.now p.read)
+    after-refuted k is bytes (Err f) p = rw is (stopped-as (AreItems IsSpelledLine line_text n) (AreEntries events (kind.Refuted n)) (refuted-forth n few) (refuted-back n) bytes f p)
+
+    pub after-unknown : (k : Kind) → k ≡ kind.Unknown n → (bytes : List ℕ) (r : Result (Bor (List ℕ)) Stop)
+        → MatchResult r (λ rest. ArePassed IsSpelledLine line_text n bytes rest.now) (Stopped (AreItems IsSpelledLine line_text n) bytes) → Followed k bytes r
+    after-unknown k is bytes (Ok rest) p = rw is (section.Unknown p.items, unknown-front n few bytes p.items rest.now p.read)
+    after-unknown k is bytes (Err f) p = rw is (stopped-as (AreItems IsSpelledLine line_text n) (AreEntries events (kind.Unknown n)) (unknown-forth n few) (unknown-back n) bytes f p)
 
   -- there is a section of each kind
   pub some-entries : (k : Kind) → IsKind k → (t : List ℕ) × AreEntries events k t

@@ -13,6 +13,9 @@ use Rattle.report_text.specs.declared.report.Report.{Report}
 use Rattle.report_text.specs.declared.report.Report.TheVariants as report
 use Rattle.report_text.specs.declared.stop.Stop.{Stop}
 use Rattle.report_text.specs.declared.stop.Stop.TheVariants as stop
+use Rattle.report_text.specs.declared.outline.Outline.{Outline}
+use Rattle.report_text.specs.declared.outline.SectionOutline.{SectionOutline}
+use Rattle.report_text.specs.Outlines.{AreVerdictsOutlined, IsOutlineOf, IsOutlinedFront, IsSectionOutline}
 use Rattle.report_text.specs.Parts.{IsFront, IsKind, IsOpening, NoFront, events_text, kind_line, kind_text, opening_line, opening_text}
 use Rattle.report_text.specs.ReportOf.{IsReport}
 use Rattle.report_text.specs.ReportText.{body_text, bound_text, ended, entries_text, events_line, last_line, mark, marked_text, report_text, section_text}
@@ -31,11 +34,11 @@ module _ (events : ℕ) where
   pub section-stopped : (bytes rest : List ℕ) (k : Kind) (f : Stop) → IsFront IsKind (kind_text false) bytes k rest → Stopped (AreEntries events k) rest f → Stopped (IsSectionText false events) bytes f
   section-stopped bytes rest k f front p = stopped-later IsKind (kind_line false) (AreEntries events) (IsSectionText false events) (section-lined events false) bytes rest k f front p
 
-  pub section-read : (bytes rest : List ℕ) (k : Kind) (r : Result (Section × Bor (List ℕ)) Stop) → IsFront IsKind (kind_text false) bytes k rest
-      → MatchResult r (λ s. IsFront (IsOfKind events k) entries_text rest s.0 s.1.now) (Stopped (AreEntries events k) rest)
-      → MatchResult r (λ s. IsFront (IsSpelledSection events) (section_text false) bytes s.0 s.1.now) (Stopped (IsSectionText false events) bytes)
-  section-read bytes rest k (Ok s) front read = section-front events false k bytes rest s.1.now s.0 front read
-  section-read bytes rest k (Err f) front read = section-stopped bytes rest k f front read
+  pub section-outlined : (bytes rest : List ℕ) (k : Kind) (r : Result (SectionOutline × Bor (List ℕ)) Stop) → IsFront IsKind (kind_text false) bytes k rest
+      → MatchResult r (λ s. IsOutlinedFront IsSectionOutline (IsOfKind events k) entries_text rest s.0 s.1.now) (Stopped (AreEntries events k) rest)
+      → MatchResult r (λ s. IsOutlinedFront IsSectionOutline (IsSpelledSection events) (section_text false) bytes s.0 s.1.now) (Stopped (IsSectionText false events) bytes)
+  section-outlined bytes rest k (Ok s) front read = record { value = read.value; outlined = read.outlined; front = section-front events false k bytes rest s.1.now read.value front read.front }
+  section-outlined bytes rest k (Err f) front read = section-stopped bytes rest k f front read
 
   -- the verdicts
   pub true-stopped : (k : Kind) (bytes : List ℕ) (f : Stop) → Stopped (AreEntries events k) bytes f → Stopped (AreVerdicts events k) bytes f
@@ -85,11 +88,11 @@ module _ (events : ℕ) where
         } in
         subst (λ x. IsFront (IsOn events) body_text bytes x after) (sym read.made) of
 
-    pub sections-read : (k : Kind) (bytes rest : List ℕ) (r : Result (Report × Bor (List ℕ)) Stop) → IsFront IsOpening opening_text bytes (opening.OnTrue k) rest
-        → MatchResult r (λ x. AreVerdictsRead events k rest x.0 x.1.now) (Stopped (AreVerdicts events k) rest)
-        → MatchResult r (λ x. IsFront (IsOn events) body_text bytes x.0 x.1.now) (Stopped (IsBody events) bytes)
-    sections-read k bytes rest (Ok x) front read = verdicts-body k x.0 bytes rest x.1.now front read
-    sections-read k bytes rest (Err f) front read = body-stopped bytes rest (opening.OnTrue k) f front read
+    pub sections-outlined : (k : Kind) (bytes rest : List ℕ) (r : Result (Outline × Bor (List ℕ)) Stop) → IsFront IsOpening opening_text bytes (opening.OnTrue k) rest
+        → MatchResult r (λ x. AreVerdictsOutlined events k rest x.0 x.1.now) (Stopped (AreVerdicts events k) rest)
+        → MatchResult r (λ x. IsOutlinedFront IsOutlineOf (IsOn events) body_text bytes x.0 x.1.now) (Stopped (IsBody events) bytes)
+    sections-outlined k bytes rest (Ok x) front read = record { value = read.value; outlined = read.outlined; front = verdicts-body k read.value bytes rest x.1.now front read.read }
+    sections-outlined k bytes rest (Err f) front read = body-stopped bytes rest (opening.OnTrue k) f front read
 
 -- what follows the first line
 pub events-none : (bytes : List ℕ) → NoFront IsNumber events_text bytes → Stopped IsMarked bytes (stop.Syntax (length bytes))
@@ -127,8 +130,8 @@ mark-stopped bytes rest f is p = stopped-later Always (λ u. mark) (λ u. IsMark
 pub report-read : (bytes rest after : List ℕ) (r : Report) → bytes ≡ ended mark ++ rest → IsFront IsSpelled marked_text rest r after → IsFront IsSpelled report_text bytes r after
 report-read bytes rest after r is front = record { is = front.is; split = is ∙ ap (λ t. ended mark ++ t) front.split ∙ sym (append_assoc (ended mark) (marked_text r) after) }
 
-pub whole-read : (bytes rest : List ℕ) (r : Result (Report × Bor (List ℕ)) Stop) → bytes ≡ ended mark ++ rest
-    → MatchResult r (λ x. IsFront IsSpelled marked_text rest x.0 x.1.now) (Stopped IsMarked rest)
-    → MatchResult r (λ x. IsFront IsSpelled report_text bytes x.0 x.1.now) (Stopped IsReport bytes)
-whole-read bytes rest (Ok x) is read = report-read bytes rest x.1.now x.0 is read
-whole-read bytes rest (Err f) is read = mark-stopped bytes rest f is read
+pub whole-outlined : (bytes rest : List ℕ) (r : Result (Outline × Bor (List ℕ)) Stop) → bytes ≡ ended mark ++ rest
+    → MatchResult r (λ x. IsOutlinedFront IsOutlineOf IsSpelled marked_text rest x.0 x.1.now) (Stopped IsMarked rest)
+    → MatchResult r (λ x. IsOutlinedFront IsOutlineOf IsSpelled report_text bytes x.0 x.1.now) (Stopped IsReport bytes)
+whole-outlined bytes rest (Ok x) is read = record { value = read.value; outlined = read.outlined; front = report-read bytes rest x.1.now read.value is read.front }
+whole-outlined bytes rest (Err f) is read = mark-stopped bytes rest f is read

@@ -24,7 +24,7 @@ report-lines r =
     lines-append (ended mark) (ended (events_line (events_of r)) ++ (body_text r ++ ended last_line)) (inr (mark, refl)) events
 
 -- the bytes before those left
-front-is : (bytes before rest : List ℕ) (left : ℕ) → bytes ≡ before ++ rest → length rest ≡ left → take (length bytes - left) bytes ≡ before
+pub front-is : (bytes before rest : List ℕ) (left : ℕ) → bytes ≡ before ++ rest → length rest ≡ left → take (length bytes - left) bytes ≡ before
 front-is bytes before rest left split size =
     let count : length bytes - left ≡ length before = omega (arith, ap length split, length-append before rest, size) in
     ap (λ n. take n bytes) count ∙ ap (take (length before)) split ∙ take-append_seam before rest

@@ -3,4 +3,5 @@ pub mod ReportText
 pub mod ReportOf
 pub mod Stops
 pub mod Parts
+pub mod Outlines
 pub mod Laws

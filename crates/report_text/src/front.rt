@@ -5,6 +5,7 @@ ghost use Rattle.std.specs.Fmt.{signed_decimal};
 ghost use Rattle.mt_model.specs.declared.limits.TheConstants.{MAX_TIME};
 ghost use Rattle.mt_model.specs.Log.{IsWithin};
 ghost use Rattle.mt_model.specs.Texts.{step_text};
+ghost use Rattle.proof_log.specs.declared.line.Line.{Line};
 ghost use Rattle.proof_log.specs.LinesText.{line_text};
 ghost use Rattle.proof_log.specs.Spelled.{IsNumber, IsSpelled as IsSpelledLine};
 ghost use Rattle.report_text.specs.Parts.{IsCut, IsFront, IsKind, IsLineOf, IsNumbered, IsOpening, NoFront, events_text, kind_line, kind_text, opening_line, opening_text};
@@ -16,7 +17,7 @@ use crate::part::{Kind, Opening};
 use decimal::{number, signed_number};
 use memchr::memchr;
 use mt_model::{MAX_TIME, Step};
-use proof_log::{Line, read_line};
+use proof_log::next_line;
 use std::alloc::{AllocError, Global};
 
 // The bytes before the first newline, and those after it.
@@ -162,15 +163,12 @@ pub fn next_bound(bytes: &[u8]) -> Option<(Step, &[u8])>
     Some((step, rest))
 }
 
-/// A line of a derivation.
-pub fn next_line(alloc: Global, bytes: &[u8]) -> Result<Option<(Line, &[u8])>, AllocError>
-    ensures { IfOk result (λ o. MatchOption o (NoFront IsSpelledLine line_text bytes.now) (λ r. IsFront IsSpelledLine line_text bytes.now r.0 r.1.now)) }
+/// What follows a line of a derivation.
+pub fn after_line(alloc: Global, bytes: &[u8]) -> Result<Option<&[u8]>, AllocError>
+    ensures { IfOk result (λ o. MatchOption o (NoFront IsSpelledLine line_text bytes.now) (λ rest. (line : Line) × IsFront IsSpelledLine line_text bytes.now line rest.now)) }
 {
-    let Some((words, rest)) = cut(bytes) else {
+    let Some((_, rest)) = next_line(alloc, bytes)? else {
         return Ok(None);
     };
-    let Some(line) = read_line(alloc, words)? else {
-        return Ok(None);
-    };
-    Ok(Some((line, rest)))
+    Ok(Some(rest))
 }

@@ -5,14 +5,14 @@ ghost use Rattle.mt_model.specs.declared.limits.TheConstants.{MAX_TIME};
 ghost use Rattle.mt_model.specs.Log.{IsWithin};
 ghost use Rattle.proof_log.specs.LinesText.{line_text};
 ghost use Rattle.proof_log.specs.Spelled.{IsSpelled as IsSpelledLine};
+ghost use Rattle.report_text.specs.Outlines.{ArePassed};
 ghost use Rattle.report_text.specs.ReportText.{bound_text, time_text};
 ghost use Rattle.report_text.specs.Spelled.{IsSpelledBound};
 ghost use Rattle.report_text.specs.Stops.{AreItems, AreRead, Stopped};
 
-use crate::front::{next_bound, next_line, next_time};
+use crate::front::{after_line, next_bound, next_time};
 use crate::stop::Stop;
 use mt_model::{Steps, Times};
-use proof_log::Lines;
 use std::alloc::Global;
 
 /// So many times.
@@ -47,22 +47,49 @@ pub fn read_bounds<'a>(steps: &mut Steps, count: u32, bytes: &'a [u8]) -> Result
     Ok(rest)
 }
 
-/// So many lines of a derivation.
-pub fn read_derivation<'a>(
-    alloc: Global,
-    lines: &mut Lines,
-    count: u32,
-    bytes: &'a [u8],
-) -> Result<&'a [u8], Stop>
-    requires { lines.old ≡ [] }
-    ensures { MatchResult result (λ rest. AreRead IsSpelledLine line_text count bytes.now lines.new rest.now) (Stopped (AreItems IsSpelledLine line_text count) bytes.now) }
+/// So many times, of which none is kept.
+pub fn pass_times(count: u32, bytes: &[u8]) -> Result<&[u8], Stop>
+    ensures { MatchResult result (λ rest. ArePassed (IsWithin MAX_TIME) time_text count bytes.now rest.now) (Stopped (AreItems (IsWithin MAX_TIME) time_text count) bytes.now) }
 {
     let mut rest = bytes;
-    while lines.len() < count as usize {
-        let Some((line, after)) = next_line(alloc, rest)? else {
+    let mut passed = 0;
+    while passed < count {
+        let Some((_, after)) = next_time(rest) else {
             return Err(Stop::Syntax { left: rest.len() });
         };
-        lines.push(line)?;
+        passed += 1;
+        rest = after;
+    }
+    Ok(rest)
+}
+
+/// So many bounds of a log, of which none is kept.
+pub fn pass_bounds(count: u32, bytes: &[u8]) -> Result<&[u8], Stop>
+    ensures { MatchResult result (λ rest. ArePassed IsSpelledBound bound_text count bytes.now rest.now) (Stopped (AreItems IsSpelledBound bound_text count) bytes.now) }
+{
+    let mut rest = bytes;
+    let mut passed = 0;
+    while passed < count {
+        let Some((_, after)) = next_bound(rest) else {
+            return Err(Stop::Syntax { left: rest.len() });
+        };
+        passed += 1;
+        rest = after;
+    }
+    Ok(rest)
+}
+
+/// So many lines of a derivation, of which none is kept: memory is taken for one of them.
+pub fn pass_lines(alloc: Global, count: u32, bytes: &[u8]) -> Result<&[u8], Stop>
+    ensures { MatchResult result (λ rest. ArePassed IsSpelledLine line_text count bytes.now rest.now) (Stopped (AreItems IsSpelledLine line_text count) bytes.now) }
+{
+    let mut rest = bytes;
+    let mut passed = 0;
+    while passed < count {
+        let Some(after) = after_line(alloc, rest)? else {
+            return Err(Stop::Syntax { left: rest.len() });
+        };
+        passed += 1;
         rest = after;
     }
     Ok(rest)

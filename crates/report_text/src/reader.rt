@@ -1,134 +1,110 @@
 //! Reports from their text.
 
-ghost use Rattle.std.specs.Prelude.{◌≡◌, ◌<◌, ◌≤◌, ◌+◌, ◌-◌, ◌^◌, length, take, false, MatchResult};
-ghost use Rattle.report_text.specs.Parts.{IsFront};
-ghost use Rattle.report_text.specs.ReportOf.{Answers, IsCutShort, IsFaultyAtEnd, IsReport, lines_in};
-ghost use Rattle.report_text.specs.ReportText.{body_text, entries_text, marked_text, report_text, section_text};
-ghost use Rattle.report_text.specs.Spelled.{IsSpelled, IsSpelledSection};
-ghost use Rattle.report_text.specs.Stops.{AreEntries, AreVerdicts, AreVerdictsRead, IsBody, IsMarked, IsOfKind, IsOn, IsSectionText, Stopped};
+ghost use Rattle.std.specs.Prelude.{◌≡◌, ◌<◌, ◌^◌, length, All, IfOk, List, ℕ, ℤ};
+ghost use Rattle.std.specs.List.{flat_map};
+ghost use Rattle.mt_model.specs.declared.limits.TheConstants.{MAX_TIME};
+ghost use Rattle.mt_model.specs.Log.{IsWithin};
+ghost use Rattle.proof_log.specs.LinesOf.{IsTextOf};
+ghost use Rattle.report_text.specs.Outlines.{IsOutlineIn, IsOutlineOf, IsSectionOutline};
+ghost use Rattle.report_text.specs.ReportOf.{Answers, IsCutShort, IsFaultyAtEnd};
+ghost use Rattle.report_text.specs.ReportText.{bound_text, time_text};
+ghost use Rattle.report_text.specs.Spelled.{IsSpelled, IsSpelledBound, IsSpelledSection};
+ghost use Rattle.report_text.specs.Stops.{AreItems};
 
 use crate::fault::ReportFault;
-use crate::front::{after_words, next_events, next_kind, next_opening};
-use crate::items::{read_bounds, read_derivation, read_times};
-use crate::part::{Kind, Opening};
+use crate::items::{read_bounds, read_times};
+use crate::outline::{Outline, SectionOutline};
+use crate::outlining::read_outline;
+use crate::part::Kind;
 use crate::report::{Report, Section};
 use crate::stop::Stop;
-use mt_model::{Steps, Times};
-use proof_log::Lines;
-use std::alloc::Global;
+use mt_model::{Step, Steps, Times};
+use proof_log::{Line, LineFault, Lines, read_lines};
+use std::alloc::{AllocError, Global};
 
-// The lines of a section after its first.
-fn read_entries(
-    alloc: Global,
-    kind: Kind,
-    events: u32,
-    bytes: &[u8],
-) -> Result<(Section, &[u8]), Stop>
-    ensures { MatchResult result (λ r. IsFront (IsOfKind events kind) entries_text bytes.now r.0 r.1.now) (Stopped (AreEntries events kind) bytes.now) }
+/// The times whose lines the text is. The error only says that memory ran out.
+pub fn times_of(alloc: Global, count: u32, text: &[u8]) -> Result<Times, AllocError>
+    requires { AreItems (IsWithin MAX_TIME) time_text count text.now }
+    ensures times { IfOk result (λ found. (times : List ℤ) → length times ≡ count → All (IsWithin MAX_TIME) times → flat_map time_text times ≡ text.now → found ≡ times) }
 {
-    match kind {
-        Kind::Witness => {
-            let mut times = Times::new(alloc);
-            let rest = read_times(&mut times, events, bytes)?;
-            Ok((Section::Witness(times), rest))
-        }
-        Kind::Refuted(count) => {
-            let mut lines = Lines::new(alloc);
-            let rest = read_derivation(alloc, &mut lines, count, bytes)?;
-            Ok((Section::Refuted(lines), rest))
-        }
-        Kind::Unknown(count) => {
-            let mut lines = Lines::new(alloc);
-            let rest = read_derivation(alloc, &mut lines, count, bytes)?;
-            Ok((Section::Unknown(lines), rest))
-        }
+    let mut times = Times::new(alloc);
+    match read_times(&mut times, count, text) {
+        Ok(_) => Ok(times),
+        Err(Stop::Syntax { .. }) => unreachable!(),
+        Err(Stop::Memory) => Err(AllocError),
     }
 }
 
-fn read_false_section(alloc: Global, events: u32, bytes: &[u8]) -> Result<(Section, &[u8]), Stop>
-    ensures { MatchResult result (λ r. IsFront (IsSpelledSection events) (section_text false) bytes.now r.0 r.1.now) (Stopped (IsSectionText false events) bytes.now) }
+/// The bounds whose lines the text is. The error only says that memory ran out.
+pub fn steps_of(alloc: Global, count: u32, text: &[u8]) -> Result<Steps, AllocError>
+    requires { AreItems IsSpelledBound bound_text count text.now }
+    ensures steps { IfOk result (λ found. (steps : List Step) → length steps ≡ count → All IsSpelledBound steps → flat_map bound_text steps ≡ text.now → found ≡ steps) }
 {
-    let Some((kind, rest)) = next_kind(false, bytes) else {
-        return Err(Stop::Syntax { left: bytes.len() });
-    };
-    read_entries(alloc, kind, events, rest)
-}
-
-// The true section without its first line, and the false section.
-fn read_verdicts(
-    alloc: Global,
-    kind: Kind,
-    events: u32,
-    bytes: &[u8],
-) -> Result<(Report, &[u8]), Stop>
-    ensures { MatchResult result (λ r. AreVerdictsRead events kind bytes.now r.0 r.1.now) (Stopped (AreVerdicts events kind) bytes.now) }
-{
-    let (on_true, rest) = read_entries(alloc, kind, events, bytes)?;
-    let (on_false, rest) = read_false_section(alloc, events, rest)?;
-    let report = Report::Verdicts {
-        events,
-        on_true,
-        on_false,
-    };
-    Ok((report, rest))
-}
-
-// What stands between the number of events and the last line.
-fn read_body(alloc: Global, events: u32, bytes: &[u8]) -> Result<(Report, &[u8]), Stop>
-    ensures { MatchResult result (λ r. IsFront (IsOn events) body_text bytes.now r.0 r.1.now) (Stopped (IsBody events) bytes.now) }
-{
-    let Some((opening, rest)) = next_opening(bytes) else {
-        return Err(Stop::Syntax { left: bytes.len() });
-    };
-    match opening {
-        Opening::Inconsistent(count) => {
-            let mut steps = Steps::new(alloc);
-            let rest = read_bounds(&mut steps, count, rest)?;
-            Ok((Report::Inconsistent { events, steps }, rest))
-        }
-        Opening::OnTrue(kind) => read_verdicts(alloc, kind, events, rest),
+    let mut steps = Steps::new(alloc);
+    match read_bounds(&mut steps, count, text) {
+        Ok(_) => Ok(steps),
+        Err(Stop::Syntax { .. }) => unreachable!(),
+        Err(Stop::Memory) => Err(AllocError),
     }
 }
 
-// A report after the line that names the format.
-fn read_marked(alloc: Global, bytes: &[u8]) -> Result<(Report, &[u8]), Stop>
-    ensures { MatchResult result (λ r. IsFront IsSpelled marked_text bytes.now r.0 r.1.now) (Stopped IsMarked bytes.now) }
+// The lines of a derivation whose text it is.
+fn lines_of(alloc: Global, text: &[u8]) -> Result<Lines, AllocError>
+    requires few { length text.now < 2 ^ 31 }
+    requires text { (lines : List Line) × IsTextOf text.now lines }
+    ensures { IfOk result (λ found. (lines : List Line) → IsTextOf text.now lines → found ≡ lines) }
 {
-    let Some((events, rest)) = next_events(bytes) else {
-        return Err(Stop::Syntax { left: bytes.len() });
-    };
-    let (report, rest) = read_body(alloc, events, rest)?;
-    let Some(after) = after_words(b"end", rest) else {
-        return Err(Stop::Syntax { left: rest.len() });
-    };
-    Ok((report, after))
+    match read_lines(alloc, text) {
+        Ok(lines) => Ok(lines),
+        Err(LineFault::Syntax { .. }) => unreachable!(),
+        Err(LineFault::Memory) => Err(AllocError),
+    }
 }
 
-// A report, and what follows it.
-fn read_front(alloc: Global, bytes: &[u8]) -> Result<(Report, &[u8]), Stop>
-    ensures { MatchResult result (λ r. IsFront IsSpelled report_text bytes.now r.0 r.1.now) (Stopped IsReport bytes.now) }
+// The section of an outline.
+fn section_of(
+    alloc: Global,
+    events: u32,
+    outline: SectionOutline,
+) -> Result<Section, AllocError>
+    requires few { length outline.text.now < 2 ^ 31 }
+    requires some { (s : Section) × IsSectionOutline outline s × IsSpelledSection events s }
+    ensures { IfOk result (λ found. (s : Section) → IsSectionOutline outline.entry s → IsSpelledSection events s → found ≡ s) }
 {
-    let Some(rest) = after_words(b"skewcheck 1", bytes) else {
-        return Err(Stop::Syntax { left: bytes.len() });
-    };
-    read_marked(alloc, rest)
+    match outline.kind {
+        Kind::Witness => Ok(Section::Witness(times_of(alloc, events, outline.text)?)),
+        Kind::Refuted(_) => Ok(Section::Refuted(lines_of(alloc, outline.text)?)),
+        Kind::Unknown(_) => Ok(Section::Unknown(lines_of(alloc, outline.text)?)),
+    }
 }
 
-fn count_lines(bytes: &[u8]) -> usize
-    ensures { result ≡ lines_in bytes.now }
+// The report of an outline.
+fn report_of(alloc: Global, outline: Outline) -> Result<Report, AllocError>
+    requires { (bytes : List ℕ) × (length bytes < 2 ^ 31) × IsOutlineIn bytes outline }
+    ensures { IfOk result (λ found. (r : Report) → IsOutlineOf outline.entry r → IsSpelled r → found ≡ r) }
 {
-    bytes.iter().filter(|b| **b == b'\n').count()
-}
-
-// The fault of bytes of which so many are left from the faulty line on.
-fn fault_at(bytes: &[u8], left: usize) -> ReportFault
-    requires few { length bytes.now < 2 ^ 31 }
-    requires within { left ≤ length bytes.now }
-    ensures { result ≡ ReportFault.Syntax (lines_in (take (length bytes.now - left) bytes.now) + 1) }
-{
-    let lines = count_lines(&bytes[..bytes.len() - left]);
-    ReportFault::Syntax {
-        line: lines as u32 + 1,
+    match outline {
+        Outline::Inconsistent {
+            events,
+            count,
+            text,
+        } => {
+            let steps = steps_of(alloc, count, text)?;
+            Ok(Report::Inconsistent { events, steps })
+        }
+        Outline::Verdicts {
+            events,
+            on_true,
+            on_false,
+        } => {
+            let on_true = section_of(alloc, events, on_true)?;
+            let on_false = section_of(alloc, events, on_false)?;
+            Ok(Report::Verdicts {
+                events,
+                on_true,
+                on_false,
+            })
+        }
     }
 }
 
@@ -143,15 +119,9 @@ pub fn read_report(alloc: Global, bytes: &[u8]) -> Result<Report, ReportFault>
     // Each proper prefix of a report's text.
     ensures cut { IsCutShort bytes.now → IsFaultyAtEnd bytes.now result }
 {
-    match read_front(alloc, bytes) {
-        Ok((report, rest)) => {
-            if rest.is_empty() {
-                Ok(report)
-            } else {
-                Err(fault_at(bytes, rest.len()))
-            }
-        }
-        Err(Stop::Syntax { left }) => Err(fault_at(bytes, left)),
-        Err(Stop::Memory) => Err(ReportFault::Memory),
+    let outline = read_outline(alloc, bytes)?;
+    match report_of(alloc, outline) {
+        Ok(report) => Ok(report),
+        Err(AllocError) => Err(ReportFault::Memory),
     }
 }
