@@ -4,7 +4,7 @@ ghost use Rattle.std.specs.Prelude.{◌≡◌, ◌↔◌, ◌+◌, if◌then◌e
 ghost use Rattle.std.specs.Result.{result_ok};
 ghost use Rattle.axiom_rules.specs.Clauses.{clause_of as clause_of_rule};
 ghost use Rattle.proof_log.specs.Derivations.{IsLearnt};
-ghost use Rattle.skew_bounds.specs.RowEdges.{IsEdgeTableOf};
+ghost use Rattle.proof_log.specs.Spelled.{IsSpelled};
 ghost use Rattle.proof_check.specs.Judging.{AreRefuting, IsHintTaken, IsRight};
 ghost use Rattle.proof_check.specs.Keeping.{lines_with};
 
@@ -15,7 +15,7 @@ use crate::refutation::{Assumed, Taken};
 use crate::walk::is_conflict;
 use axiom_rules::{Literal, Rule, RuleFault, Rules};
 use hint_refutation::{assumed_is_set, refuters_give, steps_are_forced};
-use proof_log::{Hint, Line, has_spelling};
+use proof_log::{Hint, Line};
 use smallvec::SmallVec;
 use std::alloc::{AllocError, Global};
 
@@ -104,7 +104,7 @@ fn is_learnt(
     are_refuting(rules, kept, hints, clause, &mut assumed)
 }
 
-/// Whether a line is right as the one after those whose clauses are kept.
+/// Whether a line that has a spelling is right as the one after those whose clauses are kept.
 pub fn is_right(
     alloc: Global,
     rules: &Rules,
@@ -112,11 +112,9 @@ pub fn is_right(
     line: &Line,
     clause: &mut Clause,
 ) -> Result<bool, AllocError>
+    requires { IsSpelled line.now }
     ensures { IfOk result (λ b. IsTrue b ↔ IsRight rules.now (lines_with kept.now) (length kept.now + 1) line.now) }
 {
-    if !has_spelling(alloc, line)? {
-        return Ok(false);
-    }
     match line {
         Line::Cycle(steps) => Ok(is_conflict(rules.log(), table, steps.as_slice())),
         Line::Learn { lits, hints } => is_learnt(

@@ -4,6 +4,7 @@ ghost use Rattle.std.specs.Prelude.{◌≡◌, ◌↔◌, ◌+◌, ◌<◌, ◌^
 ghost use Rattle.proof_log.specs.Derivations.{IsEmptyAt, clause_of_line};
 ghost use Rattle.proof_log.specs.Freshness.{learn_lines};
 ghost use Rattle.proof_log.specs.LinesOf.{IsTextOf};
+ghost use Rattle.proof_log.specs.Spelled.{IsSpelled};
 ghost use Rattle.proof_check.specs.Answering.{IsAnswer, OfSought};
 ghost use Rattle.proof_check.specs.Judging.{IsNext};
 ghost use Rattle.proof_check.specs.Keeping.{lines_with};
@@ -13,10 +14,11 @@ use crate::clauses::{ends_empty, keep};
 use crate::judge::{Clause, is_right};
 use crate::kept::Clauses;
 use axiom_rules::Rules;
-use proof_log::{Line, next_line};
+use proof_log::{Line, has_spelling, next_line};
 use std::alloc::{AllocError, Global};
 
-// Whether a line is good as the one after those whose clauses are kept. If so, its clause is kept too.
+// Whether a line that has a spelling is good as the one after those whose clauses are kept. If so, its clause is kept
+// too.
 fn takes(
     alloc: Global,
     rules: &Rules,
@@ -24,6 +26,7 @@ fn takes(
     clause: &mut Clause,
     line: &Line,
 ) -> Result<bool, AllocError>
+    requires { IsSpelled line.now }
     ensures good { IfOk result (λ b. IsTrue b ↔ IsNext rules.now kept.old line.now) }
     ensures grown { IfOk result (λ b. IsTrue b → kept.new ≡ kept.old ++ clause_of_line line.now ∷ []) }
 {
@@ -62,6 +65,9 @@ pub fn check_lines(
     let mut kept = Clauses::new(alloc);
     for (i, line) in lines.iter().enumerate() {
         let number = i as u32 + 1;
+        if !has_spelling(alloc, line)? {
+            return Ok(Check::Wrong(number));
+        }
         if !takes(alloc, rules, &mut kept, clause, line)? {
             return Ok(Check::Wrong(number));
         }
@@ -96,6 +102,7 @@ pub fn check_lines_of(
     let mut rest = text;
     while let Some((line, after)) = next_line(alloc, rest)? {
         let number = kept.len() as u32 + 1;
+        // What was read has a spelling.
         if !takes(alloc, rules, &mut kept, clause, &line)? {
             let check = Check::Wrong(number);
             return Ok(TextCheck { check, learn_lines });
