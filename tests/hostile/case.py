@@ -23,6 +23,7 @@ class Case(NamedTuple):
     files: dict  # bytes or a Blank by name; the file that is hostile stands last
     statuses: tuple  # each of them is right
     line: Optional[bytes]  # the first line, or None where several may be right
+    most: Optional[int] = None  # the most memory that it may take, in lengths of the hostile file
 
     def size(self):
         """The bytes of the hostile file, or None where no file is hostile or it is none of these."""
@@ -59,7 +60,7 @@ def timing(title, given, status, line, log=ONE_ROW):
     return Case("times", title, ["replay", "f", "l", "t"], files, (status,), line)
 
 
-def audit(title, report, status, line, formula=TRUE, log=ONE_ROW, option=()):
+def audit(title, report, status, line, formula=TRUE, log=ONE_ROW, option=(), most=None):
     """A report that `audit` is asked about."""
     files = {"f": formula, "l": log, "r": report}
-    return Case("report", title, ["audit", *option, "f", "l", "r"], files, (status,), line)
+    return Case("report", title, ["audit", *option, "f", "l", "r"], files, (status,), line, most)

@@ -100,6 +100,8 @@ def complaint(case, outcome):
         return f"status {outcome.status}, not {wanted}, with {outcome.line[:200]!r}"
     if case.line is not None and outcome.line != case.line:
         return f"it writes {outcome.line[:200]!r}, not {case.line[:200]!r}"
+    if case.most is not None and outcome.bytes > case.most * case.size():
+        return f"it takes {outcome.bytes} bytes, more than {case.most} times the file's {case.size()}"
     return ""
 
 

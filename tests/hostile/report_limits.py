@@ -143,6 +143,35 @@ def long_lists():
     yield audit("1 MiB of bounds of a walk that has no negative sum", walk, 5, at(b"inconsistent", 160_000))
 
 
+def many_lines():
+    """Reports of 16 MiB and more in many lines, each of which takes at most six times its length in memory."""
+    size, wrong, most = 16 * MEBIBYTE, at(b"false", 1), 6
+    right = b"learn 1 +first 0 1 rule 11"
+    number = size // (len(right) + 1)
+    yield audit("16 MiB of one right line", report_of(*[right] * number, EMPTY_CLAUSE[:-1]), 0, ACCEPTED, most=most)
+    faulty = report_of(*[right] * number, b"learn")
+    yield audit("the same, its last line faulty", faulty, 5, at(b"report", 6 + number), most=most)
+    chain = [right, *[b"learn 1 +first 0 1 line %d" % line for line in range(1, number)]]
+    yield audit("16 MiB of lines, each by the one before", report_of(*chain, EMPTY_CLAUSE[:-1]), 0, ACCEPTED, most=most)
+    yield audit("16 MiB of walks of no step", report_of(*[b"cycle 0"] * (size // 8)), 5, wrong, most=most)
+    yield audit("16 MiB of lines without hints", report_of(*[b"learn 0 0"] * (size // 10)), 5, wrong, most=most)
+    hints = b"learn 1 +first 0 1000" + b" line 1" * 1000
+    yield audit("lines of 1,000 hints", report_of(right, *[hints] * (size // len(hints))), 5, at(b"false", 2), most=most)
+    walk = b"cycle 3 low 1 order 1 0 0 high 0"
+    head = TITLE + b"events 2\ntrue witness\n10\n15\nfalse refuted %d\n"
+    number = size // (len(walk) + 1)
+    walks = head % number + (walk + b"\n") * number + b"end\n"
+    yield audit("16 MiB of a right walk", walks, 5, at(b"false", 0), b"a.req", TWO_ROWS, most=most)
+    short = b" +first 0 +first 1" + b"".join(b" order 0 1 %d" % bound for bound in range(-1, 10))
+    clause = b"learn 13" + short + b" 1 line 1\n"
+    number = size // len(clause)
+    clauses = head % (number + 1) + walk + b"\n" + clause * number + b"end\n"
+    yield audit("16 MiB of a right line of short literals", clauses, 5, at(b"false", 0), b"a.req", TWO_ROWS, most=most)
+    count = size // 2
+    times = TITLE + b"events %d\ntrue witness\n" % count + b"0\n" * count + b"false refuted 1\n" + EMPTY_CLAUSE + b"end\n"
+    yield audit("16 MiB of times of a witness", times, 5, at(b"events", 0), most=most)
+
+
 def distinct_lists():
     """A walk of distinct steps, and lines of distinct literals that would share a hash."""
     pairs = 33_000
@@ -213,5 +242,6 @@ def longest():
 
 def cases():
     """All cases of reports but those of a gibibyte."""
-    for some in (numbers_of_lists, numbers_in_lines, times_of_witnesses, long_lists, distinct_lists, odd_bytes):
+    for some in (numbers_of_lists, numbers_in_lines, times_of_witnesses, long_lists, many_lines, distinct_lists,
+                 odd_bytes):
         yield from some()

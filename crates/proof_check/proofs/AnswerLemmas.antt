@@ -141,7 +141,7 @@ module _ (s : Sought) (lines : List Line) where
     judged_wrong wrong log f v sought = answer_wrong log f v lines (i + 1) (first_wrong log f v lines i low (judged.good log f v sought) (elim (empty_or (option_map clause_of_line (line_at lines i))) [
       | inl empty ↦ inr empty
       | inr unended ↦ inl (λ right.
-        wrong (right_next lines i kept within judged.same s line (subst (λ (x : Sought). IsRight x lines (i + 1) line) (sym sought) (there_right log f v lines (i + 1) line there right)) unended))
+          wrong (right_next lines i kept within judged.same s line (subst (λ (x : Sought). IsRight x lines (i + 1) line) (sym sought) (there_right log f v lines (i + 1) line there right)) unended))
     ]))
 
   -- where all were judged

@@ -62,11 +62,7 @@ fn lines_of(alloc: Global, text: &[u8]) -> Result<Lines, AllocError>
 }
 
 // The section of an outline.
-fn section_of(
-    alloc: Global,
-    events: u32,
-    outline: SectionOutline,
-) -> Result<Section, AllocError>
+fn section_of(alloc: Global, events: u32, outline: SectionOutline) -> Result<Section, AllocError>
     requires few { length outline.text.now < 2 ^ 31 }
     requires some { (s : Section) × IsSectionOutline outline s × IsSpelledSection events s }
     ensures { IfOk result (λ found. (s : Section) → IsSectionOutline outline.entry s → IsSpelledSection events s → found ≡ s) }

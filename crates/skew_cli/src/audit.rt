@@ -1,11 +1,13 @@
-ghost use Rattle.std.specs.Prelude.{◌≡◌, ◌^◌, ◌<◌, ◌≤◌, length, codes, true, IfOk, IsErrOf, None, Ok};
+ghost use Rattle.std.specs.Prelude.{◌≡◌, ◌^◌, ◌<◌, ◌≤◌, ℕ, List, length, codes, true, IfOk, IsErrOf, None, Ok};
 ghost use Rattle.formula_arena.specs.Nodes.{nodes_of};
 ghost use Rattle.formula_arena.specs.declared.arena.TheConstants.{MAX_NODES};
 ghost use Rattle.mt_model.specs.Form.{form_of};
 ghost use Rattle.mt_model.specs.State.{unknown_host};
 ghost use Rattle.mt_port.specs.Port.{Rose};
 ghost use Rattle.mtl_parse.specs.FormulaOf.{FormulaOf};
+ghost use Rattle.report_text.specs.Outlines.{IsOutlineIn, IsOutlineOf};
 ghost use Rattle.report_text.specs.Spelled.{IsSpelled};
+ghost use Rattle.report_text.specs.declared.report.Report.{Report};
 ghost use Rattle.skew_answers.specs.Statuses.{IsVerdict};
 ghost use Rattle.skew_answers.specs.Texts.{line};
 ghost use Rattle.skew_cli.specs.AuditOutcome.{AuditOfLog, AuditOfReport, AuditOutcome, refused_part};
@@ -18,7 +20,7 @@ ghost use Rattle.skew_cli.specs.ReportTests.{OnSize};
 use crate::limits::REPORT_LIMIT;
 use crate::report_file;
 use mt_port::Shelf;
-use report_text::Report;
+use report_text::Outline;
 use skew_answers::Status;
 use skew_commands::{Named, Question, Refusal, Reply, ReportPart, Stop, files, read_question};
 use std::alloc::{AllocError, Global};
@@ -48,22 +50,22 @@ fn accepted(alloc: Global) -> Result<Reply, AllocError>
     })
 }
 
-// What `audit` answers for a report on a formula and a log, where the formula's hosts are in the log and its nodes
+// What `audit` answers for the report of an outline on a formula and a log, where the formula's hosts are in the log and its nodes
 // are few.
 fn audit_of_report(
     alloc: Global,
     conflicts: u32,
     question: &Question,
-    report: &Report,
+    outline: Outline,
 ) -> Result<Reply, Stop>
-    requires spelled { IsSpelled report.now }
+    requires whole { (bytes : List ℕ) × (length bytes < 2 ^ 31) × IsOutlineIn bytes outline }
     requires known { unknown_host question.now.log (form_of question.now.formula) ≡ None }
     requires few { length (nodes_of (form_of question.now.formula)) ≤ MAX_NODES }
-    ensures outcome { Gives (OnSize (form_of question.now.formula) question.now.log (AuditOfReport conflicts (form_of question.now.formula) question.now.log report.now)) result }
+    ensures outcome { (r : Report) → IsOutlineOf outline.entry r → IsSpelled r → Gives (OnSize (form_of question.now.formula) question.now.log (AuditOfReport conflicts (form_of question.now.formula) question.now.log r)) result }
     ensures verdict { IfOk result (λ r. IsVerdict r.status) }
     ensures read { IsErrOf result Stop.ReadFailed → ⊥ }
 {
-    match verdict::audit(alloc, &question.log, &question.formula, conflicts, report) {
+    match verdict::audit_outline(alloc, &question.log, &question.formula, conflicts, outline) {
         Ok(Audit::Accepted) => Ok(accepted(alloc)?),
         Ok(Audit::Refused { part, line }) => Err(Stop::Refused(refused(part, line))),
         Err(VerdictFault::UnknownHost { .. } | VerdictFault::TooManyNodes) => unreachable!(),
@@ -92,8 +94,8 @@ fn audit_of_question<S: Shelf>(
     files::known_hosts(&question.text, &question.formula, &question.log)?;
     files::few_nodes(alloc, &question.formula)?;
     let file = files::file(alloc, shelf, report, REPORT_LIMIT, Named::Report)?;
-    let report = report_file::report(alloc, &file)?;
-    audit_of_report(alloc, conflicts, question, &report)
+    let outline = report_file::outline_of(alloc, &file)?;
+    audit_of_report(alloc, conflicts, question, outline)
 }
 
 /// What `audit` answers for the formula, the log and the report of these names, where an unknown section is to have so

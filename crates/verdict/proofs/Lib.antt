@@ -9,3 +9,4 @@ pub mod Audits
 pub mod NotJudged
 pub mod Checking
 mod Roots
+mod OutlineAudits

@@ -1,5 +1,5 @@
 -- Which reports an audit accepts, and the part and the line at which it refuses one. Lines count from 1; 0 stands for a part as a whole.
-use Rattle.std.specs.Prelude.{◌≡◌, ◌≢◌, ◌⊎◌, ℕ, List, length, Bool, true, false}
+use Rattle.std.specs.Prelude.{◌≡◌, ◌≢◌, ◌⊎◌, ℕ, List, length, Bool, true, false, Option, None, IfSome}
 use Rattle.mt_model.specs.declared.step.Step.{Step}
 use Rattle.mt_model.specs.Form.{Form}
 use Rattle.mt_model.specs.Log.{Logged}
@@ -49,6 +49,11 @@ IsSectionLine log f v (section.Unknown lines) n = IsLinesPlace log f v lines n
 pub record FailsAt (log : Logged) (f : Form) (conflicts : ℕ) (v : Bool) (s : Section) (n : ℕ) : Type 0 where
   pub fails : Shows log f conflicts v s → ⊥
   pub line : IsSectionLine log f v s n
+
+-- no line where the section shows what it says, and else the line at which it fails
+pub record IsJudgedAt (log : Logged) (f : Form) (conflicts : ℕ) (v : Bool) (s : Section) (line : Option ℕ) : Type 0 where
+  pub shows : line ≡ None → Shows log f conflicts v s
+  pub fails : IfSome line (FailsAt log f conflicts v s)
 
 -- the section for true shows what it says, and the one for false fails at this line
 pub record FailsLaterAt (log : Logged) (f : Form) (conflicts : ℕ) (on_true on_false : Section) (n : ℕ) : Type 0 where

@@ -33,8 +33,8 @@ fn admits(log: &Log, system: &BoundSystem, times: &[i128]) -> bool
     first_broken(log, system.bounds.as_slice(), times).is_none()
 }
 
-// Whether the log admits times and the formula has the value in them.
-fn is_witness(
+/// Whether the log admits times and the formula has the value in them.
+pub fn is_witness(
     alloc: Global,
     log: &Log,
     f: &Formula,
@@ -192,8 +192,8 @@ fn audit_of_verdicts(
     Ok(Audit::Accepted)
 }
 
-// What an audit says of a walk of a report on as many events as the log has rows.
-fn audit_of_walk(log: &Log, steps: &[Step]) -> Audit
+/// What an audit says of a walk of a report on as many events as the log has rows.
+pub fn audit_of_walk(log: &Log, steps: &[Step]) -> Audit
     requires few { length steps.now < 2 ^ 32 }
     ensures audit { (f : Form) (budget events : ℕ) → events ≡ length log.now.rows → IsAudit log.now f budget (Report.Inconsistent events steps.now) result }
 {

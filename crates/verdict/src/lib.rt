@@ -8,6 +8,7 @@ mod deciding;
 mod fault;
 mod given;
 mod laws;
+mod outlined;
 
 pub use answer::{Audit, Part};
 pub use auditing::audit;
@@ -17,3 +18,4 @@ pub use laws::{
     accepted_reports_are_true, audits_are_exact, right_reports_are_accepted,
     right_reports_are_true, spent_conflicts_are_bounded,
 };
+pub use outlined::audit_outline;

@@ -24,14 +24,14 @@ returns-in_err-file-clause-outcome g c = λ tells.
     rw (p.1, p.2) (third-too_long (g.S.Shelf.files c.args.shelf.now) c.args.report.now REPORT_LIMIT named.Report q.text.items f q.log (AuditOfFile c.args.conflicts f q.log) c.in_ok-known_hosts.ensures.known c.in_ok-few_nodes.ensures.few
     tells c.in_err-file.field-0.0 c.in_err-file.ensures.refused)
 
-pub returns-in_err-report-clause-outcome : goal.returns-in_err-report-clause-outcome
-returns-in_err-report-clause-outcome g c = λ tells.
-    let p = err_from_is_err_and c.from_residual-in_err-report.result c.from_residual-in_err-report.ensures.1 in
+pub returns-in_err-outline-clause-outcome : goal.returns-in_err-outline-clause-outcome
+returns-in_err-outline-clause-outcome g c = λ tells.
+    let p = err_from_is_err_and c.from_residual-in_err-outline.result c.from_residual-in_err-outline.ensures.1 in
     let q = c.args.question.now in
     let f = form_of q.formula in
     let file = c.in_ok-file.file.items in
-    let stop = c.in_err-report.field-0.0 in
-    let refused = rw c.deref-2.ensures.value at c.in_err-report.ensures.refused in
+    let stop = c.in_err-outline.field-0.0 in
+    let refused = rw c.deref-2.ensures.value at c.in_err-outline.ensures.refused in
     rw (p.1, p.2) (third-given (g.S.Shelf.files c.args.shelf.now) c.args.report.now REPORT_LIMIT named.Report q.text.items f q.log (AuditOfFile c.args.conflicts f q.log) c.in_ok-known_hosts.ensures.known c.in_ok-few_nodes.ensures.few
     file (Err stop) (c.in_ok-file.ensures.whole tells) c.in_ok-file.ensures.within
     (reason-weaker stop (TellsFaultyLine file) (At (AuditOfFile c.args.conflicts f q.log file)) (report-refused file (λ r. OnSize f q.log (AuditOfReport c.args.conflicts f q.log r))) refused))
@@ -41,12 +41,13 @@ returns-clause-outcome g c = λ tells.
     let q = c.args.question.now in
     let f = form_of q.formula in
     let file = c.in_ok-file.file.items in
-    let report = c.in_ok-report.report in
-    let reads = rw c.deref-2.ensures.value at c.in_ok-report.ensures.report in
+    let o = rw c.deref-2.ensures.value at c.in_ok-outline.ensures.outline in
+    let report = o.value in
+    let reads = o.is in
     third-given (g.S.Shelf.files c.args.shelf.now) c.args.report.now REPORT_LIMIT named.Report q.text.items f q.log (AuditOfFile c.args.conflicts f q.log) c.in_ok-known_hosts.ensures.known c.in_ok-few_nodes.ensures.few
     file c.audit_of_report.result (c.in_ok-file.ensures.whole tells) c.in_ok-file.ensures.within
     (gives-weaker c.audit_of_report.result (OnSize f q.log (AuditOfReport c.args.conflicts f q.log report)) (AuditOfFile c.args.conflicts f q.log file)
-    (λ out s. report-read file (λ r. OnSize f q.log (AuditOfReport c.args.conflicts f q.log r)) report out s reads) c.audit_of_report.ensures.outcome)
+    (λ out s. report-read file (λ r. OnSize f q.log (AuditOfReport c.args.conflicts f q.log r)) report out s reads) (c.audit_of_report.ensures.outcome report o.outlined o.is.spelled))
 
 pub returns-in_err-known_hosts-clause-possible : goal.returns-in_err-known_hosts-clause-possible
 returns-in_err-known_hosts-clause-possible g c =
@@ -70,14 +71,14 @@ returns-in_err-file-clause-possible g c =
     let f = form_of q.formula in
     rw (p.1, p.2) (third-long REPORT_LIMIT named.Report q.text.items f q.log (AuditOfFile c.args.conflicts f q.log) c.in_ok-known_hosts.ensures.known c.in_ok-few_nodes.ensures.few c.in_err-file.field-0.0 c.in_err-file.ensures.too_long)
 
-pub returns-in_err-report-clause-possible : goal.returns-in_err-report-clause-possible
-returns-in_err-report-clause-possible g c =
-    let p = err_from_is_err_and c.from_residual-in_err-report.result c.from_residual-in_err-report.ensures.1 in
+pub returns-in_err-outline-clause-possible : goal.returns-in_err-outline-clause-possible
+returns-in_err-outline-clause-possible g c =
+    let p = err_from_is_err_and c.from_residual-in_err-outline.result c.from_residual-in_err-outline.ensures.1 in
     let q = c.args.question.now in
     let f = form_of q.formula in
     let file = c.in_ok-file.file.items in
-    let stop = c.in_err-report.field-0.0 in
-    let refused = rw c.deref-2.ensures.value at c.in_err-report.ensures.refused in
+    let stop = c.in_err-outline.field-0.0 in
+    let refused = rw c.deref-2.ensures.value at c.in_err-outline.ensures.refused in
     rw (p.1, p.2) (third-read REPORT_LIMIT named.Report q.text.items f q.log (AuditOfFile c.args.conflicts f q.log) c.in_ok-known_hosts.ensures.known c.in_ok-few_nodes.ensures.few
     file (Err stop) c.in_ok-file.ensures.within
     (reason-weaker stop (TellsFaultyLine file) (At (AuditOfFile c.args.conflicts f q.log file)) (report-refused file (λ r. OnSize f q.log (AuditOfReport c.args.conflicts f q.log r))) refused))
@@ -87,9 +88,10 @@ returns-clause-possible g c =
     let q = c.args.question.now in
     let f = form_of q.formula in
     let file = c.in_ok-file.file.items in
-    let report = c.in_ok-report.report in
-    let reads = rw c.deref-2.ensures.value at c.in_ok-report.ensures.report in
+    let o = rw c.deref-2.ensures.value at c.in_ok-outline.ensures.outline in
+    let report = o.value in
+    let reads = o.is in
     third-read REPORT_LIMIT named.Report q.text.items f q.log (AuditOfFile c.args.conflicts f q.log) c.in_ok-known_hosts.ensures.known c.in_ok-few_nodes.ensures.few
     file c.audit_of_report.result c.in_ok-file.ensures.within
     (gives-weaker c.audit_of_report.result (OnSize f q.log (AuditOfReport c.args.conflicts f q.log report)) (AuditOfFile c.args.conflicts f q.log file)
-    (λ out s. report-read file (λ r. OnSize f q.log (AuditOfReport c.args.conflicts f q.log r)) report out s reads) c.audit_of_report.ensures.outcome)
+    (λ out s. report-read file (λ r. OnSize f q.log (AuditOfReport c.args.conflicts f q.log r)) report out s reads) (c.audit_of_report.ensures.outcome report o.outlined o.is.spelled))

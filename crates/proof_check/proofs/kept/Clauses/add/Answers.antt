@@ -13,5 +13,7 @@ pub returns : goal.returns
 returns c =
     let old = c.self.inside in
     let end : c.len-end.result ≡ length old.literals.items + length c.args.clause.now = omega (arith, c.len-end.ensures, ap length c.in_ok-extend_from_slice.ensures.items, length-append old.literals.items c.args.clause.now) in
-    record { ok = rw (c.in_ok-extend_from_slice.ensures.items, c.in_ok-push.ensures.items, c.in_ok-reserve.ensures.items, ← c.self.view_is)
-    (pieces_push 0 old.literals.items c.args.clause.now old.ends.items c.len-end.result c.self.invariant end) }
+    record {
+      ok = rw (c.in_ok-extend_from_slice.ensures.items, c.in_ok-push.ensures.items, c.in_ok-reserve.ensures.items, ← c.self.view_is)
+          (pieces_push 0 old.literals.items c.args.clause.now old.ends.items c.len-end.result c.self.invariant end);
+    }

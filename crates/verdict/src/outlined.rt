@@ -1,0 +1,197 @@
+//! The audit of reports by their outlines: of a derivation one line at a time is read.
+
+ghost use Rattle.std.specs.Prelude.{◌≡◌, ◌↔◌, ◌<◌, ◌^◌, ℕ, Bool, List, length, IfErr, IfOk, OnOk};
+ghost use Rattle.mt_model.specs.Form.{Form, form_of};
+ghost use Rattle.mt_model.specs.Log.{Logged};
+ghost use Rattle.proof_log.specs.Freshness.{learn_lines};
+ghost use Rattle.proof_log.specs.LinesOf.{IsTextOf};
+ghost use Rattle.proof_log.specs.declared.line.Line.{Line};
+ghost use Rattle.proof_check.specs.Answering.{IsAnswer};
+ghost use Rattle.report_text.specs.Outlines.{IsOutlineIn, IsOutlineOf, IsSectionOutline};
+ghost use Rattle.report_text.specs.ReportText.{events_of as events_of_report};
+ghost use Rattle.report_text.specs.Spelled.{IsSpelled, IsSpelledSection};
+ghost use Rattle.report_text.specs.declared.report.Report.{Report};
+ghost use Rattle.report_text.specs.declared.report.Section.{Section};
+ghost use Rattle.verdict.specs.AuditPlace.{AuditPlace, IsAccepted, IsAudit, IsJudgedAt};
+ghost use Rattle.verdict.specs.Claims.{Claims};
+ghost use Rattle.verdict.specs.Faults.{HasFewNodes, IsFault, IsJudged};
+ghost use Rattle.verdict.specs.Given.{IsGiven};
+ghost use Rattle.verdict.specs.Right.{IsRight};
+ghost use Rattle.report_text.specs.declared.report.Section.TheVariants as section;
+ghost use Rattle.report_text.specs.declared.report.Report.TheVariants as report;
+
+use crate::auditing::{audit_of_walk, is_witness};
+use crate::given::{Given, prepare};
+use crate::laws::{accepted_reports_are_true, audits_are_exact, right_reports_are_accepted};
+use crate::{Audit, Part, VerdictFault};
+use mt_model::{Formula, Log};
+use proof_check::{Check, Checker, TextCheck};
+use report_text::{Kind, Outline, SectionOutline, steps_of, times_of};
+use std::alloc::{AllocError, Global};
+
+// What the lines of a text are.
+fn checked_text(
+    alloc: Global,
+    log: &Log,
+    f: &Formula,
+    given: &Given,
+    value: bool,
+    text: &[u8],
+) -> Result<TextCheck, AllocError>
+    requires given { IsGiven log.now (form_of f.now) given.now }
+    requires few { length text.now < 2 ^ 31 }
+    ensures answer { IfOk result (λ t. (lines : List Line) → IsTextOf text.now lines → IsAnswer log.now (form_of f.now) value lines t.check) }
+    ensures learn { IfOk result (λ t. (lines : List Line) → IsTextOf text.now lines → t.check ≡ Check.Derives → t.learn_lines ≡ learn_lines lines) }
+{
+    let mut judge = Checker::by(alloc, log, &given.nodes.arena, given.nodes.root, value)?;
+    judge.check_text(text)
+}
+
+// The line at which a refuted section fails whose lines are this, and None where it shows what it says.
+fn refuted_line(check: Check) -> Option<u32>
+    ensures { (log : Logged) (f : Form) (budget : ℕ) (v : Bool) (lines : List Line) → IsAnswer log f v lines check → IsJudgedAt log f budget v (section.Refuted lines) result }
+{
+    match check {
+        Check::Refutes => None,
+        Check::Derives => Some(0),
+        Check::Wrong(line) => Some(line),
+    }
+}
+
+// The same of an unknown section.
+fn unknown_line(budget: u32, found: TextCheck) -> Option<u32>
+    ensures { (log : Logged) (f : Form) (v : Bool) (lines : List Line) → IsAnswer log f v lines found.check → (found.check ≡ Check.Derives → found.learn_lines ≡ learn_lines lines) → IsJudgedAt log f budget v (section.Unknown lines) result }
+{
+    match found.check {
+        Check::Derives if found.learn_lines == budget => None,
+        Check::Refutes | Check::Derives => Some(0),
+        Check::Wrong(line) => Some(line),
+    }
+}
+
+// The line at which a section fails, and None where it shows what it says.
+fn failing_line(
+    alloc: Global,
+    log: &Log,
+    f: &Formula,
+    given: &Given,
+    budget: u32,
+    value: bool,
+    outline: SectionOutline,
+) -> Result<Option<u32>, AllocError>
+    requires few { HasFewNodes log.now (form_of f.now) }
+    requires given { IsGiven log.now (form_of f.now) given.now }
+    requires short { length outline.text.now < 2 ^ 31 }
+    requires some { (s : Section) × IsSectionOutline outline s × IsSpelledSection (length log.now.rows) s }
+    ensures { IfOk result (λ line. (s : Section) → IsSectionOutline outline.entry s → IsSpelledSection (length log.now.rows) s → IsJudgedAt log.now (form_of f.now) budget value s line) }
+{
+    match outline.kind {
+        Kind::Witness => {
+            let times = times_of(alloc, log.rows().len() as u32, outline.text)?;
+            let shows = is_witness(alloc, log, f, given, value, times.as_slice())?;
+            Ok(if shows { None } else { Some(0) })
+        }
+        Kind::Refuted(_) => {
+            let found = checked_text(alloc, log, f, given, value, outline.text)?;
+            Ok(refuted_line(found.check))
+        }
+        Kind::Unknown(_) => {
+            let found = checked_text(alloc, log, f, given, value, outline.text)?;
+            Ok(unknown_line(budget, found))
+        }
+    }
+}
+
+// What an audit says of verdicts on as many events as the log has rows.
+fn audit_of_sections(
+    alloc: Global,
+    log: &Log,
+    f: &Formula,
+    given: &Given,
+    budget: u32,
+    on_true: SectionOutline,
+    on_false: SectionOutline,
+) -> Result<Audit, AllocError>
+    requires few { HasFewNodes log.now (form_of f.now) }
+    requires given { IsGiven log.now (form_of f.now) given.now }
+    requires true_short { length on_true.text.now < 2 ^ 31 }
+    requires false_short { length on_false.text.now < 2 ^ 31 }
+    requires true_some { (s : Section) × IsSectionOutline on_true s × IsSpelledSection (length log.now.rows) s }
+    requires false_some { (s : Section) × IsSectionOutline on_false s × IsSpelledSection (length log.now.rows) s }
+    ensures { IfOk result (λ a. (events : ℕ) (s t : Section) → events ≡ length log.now.rows → IsSectionOutline on_true.entry s → IsSectionOutline on_false.entry t → IsSpelledSection (length log.now.rows) s → IsSpelledSection (length log.now.rows) t → IsAudit log.now (form_of f.now) budget (report.Verdicts events s t) a) }
+{
+    if let Some(line) = failing_line(alloc, log, f, given, budget, true, on_true)? {
+        let part = Part::OnTrue;
+        return Ok(Audit::Refused { part, line });
+    }
+    if let Some(line) = failing_line(alloc, log, f, given, budget, false, on_false)? {
+        let part = Part::OnFalse;
+        return Ok(Audit::Refused { part, line });
+    }
+    Ok(Audit::Accepted)
+}
+
+// The number of events that a report is about.
+fn events_of(outline: Outline) -> u32
+    ensures { (r : Report) → IsOutlineOf outline.entry r → result ≡ events_of_report r }
+{
+    match outline {
+        Outline::Inconsistent { events, .. } | Outline::Verdicts { events, .. } => events,
+    }
+}
+
+// What an audit says of a report on a formula with few enough nodes.
+fn audit_of(
+    alloc: Global,
+    log: &Log,
+    f: &Formula,
+    given: &Given,
+    budget: u32,
+    outline: Outline,
+) -> Result<Audit, AllocError>
+    requires few { HasFewNodes log.now (form_of f.now) }
+    requires given { IsGiven log.now (form_of f.now) given.now }
+    requires whole { (bytes : List ℕ) × (length bytes < 2 ^ 31) × IsOutlineIn bytes outline }
+    ensures { IfOk result (λ a. (r : Report) → IsOutlineOf outline.entry r → IsSpelled r → IsAudit log.now (form_of f.now) budget r a) }
+{
+    if events_of(outline) as usize != log.rows().len() {
+        let part = Part::Events;
+        return Ok(Audit::Refused { part, line: 0 });
+    }
+    match outline {
+        Outline::Inconsistent { count, text, .. } => {
+            let steps = steps_of(alloc, count, text)?;
+            Ok(audit_of_walk(log, steps.as_slice()))
+        }
+        Outline::Verdicts {
+            on_true,
+            on_false,
+            ..
+        } => audit_of_sections(alloc, log, f, given, budget, on_true, on_false),
+    }
+}
+
+/// What `audit` says of the report of an outline. Beside the outline's text memory is taken for the clauses of one
+/// derivation and for one line.
+pub fn audit_outline(
+    alloc: Global,
+    log: &Log,
+    f: &Formula,
+    budget: u32,
+    outline: Outline,
+) -> Result<Audit, VerdictFault>
+    requires whole { (bytes : List ℕ) × (length bytes < 2 ^ 31) × IsOutlineIn bytes outline }
+    ensures accepted { IfOk result (λ a. (r : Report) → IsOutlineOf outline.entry r → IsSpelled r → (a ≡ Audit.Accepted) ↔ IsAccepted log.now (form_of f.now) budget r) }
+    ensures refused { IfOk result (λ a. (r : Report) → IsOutlineOf outline.entry r → IsSpelled r → (part : Part) (line : ℕ) → (a ≡ Audit.Refused part line) ↔ AuditPlace log.now (form_of f.now) budget r part line) }
+    ensures claims { IfOk result (λ a. (r : Report) → IsOutlineOf outline.entry r → IsSpelled r → a ≡ Audit.Accepted → Claims log.now (form_of f.now) r) }
+    ensures right { IfOk result (λ a. (r : Report) → IsOutlineOf outline.entry r → IsRight log.now (form_of f.now) budget r → a ≡ Audit.Accepted) }
+    ensures judged { OnOk result (IsJudged log.now (form_of f.now)) }
+    ensures fault { IfErr result (IsFault log.now (form_of f.now)) }
+{
+    accepted_reports_are_true();
+    audits_are_exact();
+    right_reports_are_accepted();
+    let _ = log.rows();
+    let given = prepare(alloc, log, f)?;
+    Ok(audit_of(alloc, log, f, &given, budget, outline)?)
+}
