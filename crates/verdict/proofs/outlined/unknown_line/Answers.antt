@@ -1,6 +1,4 @@
-use Rattle.std.proofs.Common.{◌≡◌, arith, sym, rules}
-use Rattle.proof_log.specs.Freshness.{learn_lines}
-use Rattle.verdict.proofs.OutlineAudits.{unknown_other, unknown_shows, unknown_whole, unknown_wrong}
+use Rattle.verdict.proofs.OutlineAudits.{unknown_wrong}
 use Rattle.verdict.proofs.outlined.unknown_line.Goals as goal
 
 pub returns-in-Wrong : goal.returns-in-Wrong
