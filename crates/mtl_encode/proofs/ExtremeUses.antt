@@ -25,7 +25,7 @@ pub record BoundsTimes (x : Extremes) (t : List ℤ) (rows : ℕ) : Type 0 where
 pub bounds-times : (log : Logged) (x : Extremes) (t : List ℤ) → AreExtremes log x → Admissible log t → BoundsTimes x t (length log.rows)
 bounds-times log x t are ok = record { greatest = λ e f a b. (are.greatest e f a b).bound t ok; least = λ e f a b. (are.least e f a b).bound t ok }
 
-le-more : (a b c : ℤ) → int_le a b ≡ true → b ≤ℤ c → int_le a c ≡ true
+pub le-more : (a b c : ℤ) → int_le a b ≡ true → b ≤ℤ c → int_le a c ≡ true
 le-more a b c h less = grind (arith, ints)
 
 le-less : (a b c : ℤ) → a ≤ℤ b → int_le b c ≡ true → int_le a c ≡ true
@@ -46,7 +46,7 @@ is-after a b g h less = grind (arith, ints)
 pub is-not-after : (a b g : ℤ) → int_le (pos 0) g ≡ true → g ≤ℤ (b -ℤ a) → int_le a b ≡ true
 is-not-after a b g h less = grind (arith, ints)
 
-high-all : (high : Option ℕ) (far d : ℤ) → d ≤ℤ far → option_map_or (λ b. int_le far (pos b)) high true ≡ true → option_map_or (λ b. int_le d (pos b)) high true ≡ true
+pub high-all : (high : Option ℕ) (far d : ℤ) → d ≤ℤ far → option_map_or (λ b. int_le far (pos b)) high true ≡ true → option_map_or (λ b. int_le d (pos b)) high true ≡ true
 high-all None far d less h = refl
 high-all (Some b) far d less h = le-less d far (pos b) less h
 

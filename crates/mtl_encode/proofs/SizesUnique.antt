@@ -15,7 +15,7 @@ use Rattle.mtl_encode.specs.Size.{live_pairs, size_by, tree_size}
 use Rattle.mtl_encode.specs.SizeLaws.{SizesAreUnique}
 
 -- a number below another one or not
-below-or-not : (a b : ℕ) → (a < b) ⊎ (b ≤ a)
+pub below-or-not : (a b : ℕ) → (a < b) ⊎ (b ≤ a)
 below-or-not a b = grind arith
 
 -- sums of equal terms

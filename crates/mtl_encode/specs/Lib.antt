@@ -1,5 +1,6 @@
 pub mod Size
 pub mod SizeLaws
+pub mod SizesFall
 pub mod Needless
 pub mod Listing
 pub mod Kept

@@ -1,5 +1,6 @@
 ghost use Rattle.mtl_encode.specs.Exact.{MeaningsSatisfyRules, RulesAreExact};
 ghost use Rattle.mtl_encode.specs.SizeLaws.{SizesAreUnique, SmallCubesAreSmall};
+ghost use Rattle.mtl_encode.specs.SizesFall.{SizesFall};
 
 use axiom_rules::rules_hold;
 use formula_arena::{cores_are_cores, nodes_are_subtrees, truth_of_core};
@@ -33,4 +34,9 @@ pub fn sizes_are_unique()
 /// the limit.
 pub fn small_cubes_are_small()
     ensures small { SmallCubesAreSmall }
+{}
+
+/// The size of the problem of a log isn't above that of one that has as many rows and admits each timing that it admits.
+pub fn sizes_fall()
+    ensures fall { SizesFall }
 {}

@@ -14,6 +14,8 @@ mod variables;
 mod workspace;
 
 pub use encoding::{encode, encode_by};
-pub use laws::{meanings_satisfy_rules, rules_are_exact, sizes_are_unique, small_cubes_are_small};
+pub use laws::{
+    meanings_satisfy_rules, rules_are_exact, sizes_are_unique, sizes_fall, small_cubes_are_small,
+};
 pub use problem::Problem;
 pub use size::{MAX_SIZE, size_of};
