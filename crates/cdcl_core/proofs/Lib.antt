@@ -30,3 +30,5 @@ pub mod Progress
 pub mod Endings
 pub mod Posing
 pub mod KeptLists
+pub mod ShortWalks
+pub mod ValueCases

@@ -9,3 +9,4 @@ pub mod Extending
 pub mod Spending
 pub mod Searching
 pub mod Turns
+pub mod Values

@@ -23,7 +23,9 @@ mod sight;
 mod state;
 mod strategy;
 mod turn;
+mod value;
 mod walk;
 
 pub use found::Found;
 pub use main_loop::search;
+pub use value::{Nodes, Searched, refuted_by_conflict, search_log, search_value};

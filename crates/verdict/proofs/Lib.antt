@@ -1,7 +1,6 @@
 pub mod Places
 pub mod Witnesses
 pub mod Claiming
-pub mod ShortWalks
 pub mod Spelling
 pub mod Reporting
 pub mod Searching

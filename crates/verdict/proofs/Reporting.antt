@@ -12,8 +12,7 @@ use Rattle.report_text.specs.declared.report.Section.TheVariants as section
 use Rattle.report_text.specs.declared.report.Report.TheVariants as report
 use Rattle.report_text.specs.Spelled.{IsSpelledSection}
 use Rattle.verdict.specs.Right.{IsRight, IsRightSection, is_witness}
-use Rattle.verdict.proofs.ShortWalks.{walk_spelled}
-use Rattle.verdict.proofs.Spelling.{witness_spelled}
+use Rattle.verdict.proofs.Spelling.{bounds_spelled, witness_spelled}
 
 second_witness : (s : Section) → IsTrue (is_witness s || true)
 second_witness (section.Witness t) = refl
@@ -26,7 +25,7 @@ module _ (log : Logged) (f : Form) (conflicts events : ℕ) (valid : IsLog log) 
 
   pub inconsistent_right : (steps : List Step) → IsConflict log steps → IsRight log f conflicts (report.Inconsistent events steps)
   inconsistent_right steps conflict = record {
-    spelled = record { few = few_events; walk = walk_spelled log valid steps conflict };
+    spelled = record { few = few_events; walk = bounds_spelled log valid steps conflict };
     events = same;
     says = record { bounds = conflict.bounds; conflict = conflict.conflict };
   }

@@ -1,37 +1,30 @@
--- What is found is a section.
-use Rattle.std.proofs.Common.{◌≡◌, refl, ℕ, ◌*◌, ◌<◌, ◌≤◌, Bool, List, length, ℤ}
+-- What a search found of a value is a section.
+use Rattle.std.proofs.Common.{refl, ℕ, ◌≤◌, Bool, List, length, ℤ}
 use Rattle.mt_model.specs.Form.{Form}
 use Rattle.mt_model.specs.Log.{IsLog, Logged}
-use Rattle.mt_model.specs.Timing.{Admissible}
-use Rattle.mt_model.specs.Truth.{truth}
-use Rattle.skew_bounds.specs.RowTimes.{times_of}
-use Rattle.axiom_rules.specs.declared.rule.Rule.{Rule}
 use Rattle.proof_log.specs.declared.line.Line.{Line}
-use Rattle.proof_log.specs.Derivations.{Refutes}
-use Rattle.proof_log.specs.Freshness.{Spends}
-use Rattle.mtl_encode.specs.Kept.{Kept}
-use Rattle.cdcl_core.specs.Founds.{lessons}
+use Rattle.cdcl_core.specs.Values.{GivesValue, RefutesWithin, SpendsWithin}
 use Rattle.report_text.specs.declared.report.Section.TheVariants as section
 use Rattle.report_text.specs.Spelled.{IsSpelledSection}
 use Rattle.verdict.specs.Right.{IsRightSection}
 use Rattle.verdict.proofs.Spelling.{lines_spelled, witness_spelled}
 
 module _ (log : Logged) (f : Form) (budget : ℕ) (v : Bool) (valid : IsLog log) where
-  pub model_right : (numbers t : List ℤ) → t ≡ times_of numbers → Admissible log (times_of numbers) → truth log (times_of numbers) 0 f ≡ v → IsRightSection log f budget v (section.Witness t)
-  model_right numbers t same admissible value = rw same (record { admissible = admissible; value = value })
+  pub timing_right : (t : List ℤ) → GivesValue log f v t → IsRightSection log f budget v (section.Witness t)
+  timing_right t gives = record { admissible = gives.admissible; value = gives.value }
 
-  pub model_spelled : (numbers t : List ℤ) → t ≡ times_of numbers → Admissible log (times_of numbers) → IsSpelledSection (length log.rows) (section.Witness t)
-  model_spelled numbers t same admissible = rw same (witness_spelled log (times_of numbers) (length log.rows) valid admissible refl)
+  pub timing_spelled : (t : List ℤ) → GivesValue log f v t → IsSpelledSection (length log.rows) (section.Witness t)
+  timing_spelled t gives = witness_spelled log t (length log.rows) valid gives.admissible refl
 
   module _ (lines : List Line) (most : budget ≤ 1000000) where
-    pub refuted_right : Refutes log f v lines → lessons lines < budget → IsRightSection log f budget v (section.Refuted lines)
-    refuted_right refutes few = record { refutes = refutes; few = few }
+    pub refuted_right : RefutesWithin log f v budget lines → IsRightSection log f budget v (section.Refuted lines)
+    refuted_right found = record { refutes = found.refutes; few = found.few_lessons }
 
-    pub refuted_spelled : Refutes log f v lines → length lines ≤ 2 * budget → IsSpelledSection (length log.rows) (section.Refuted lines)
-    refuted_spelled refutes few = lines_spelled log f v lines budget refutes.none_wrong most few
+    pub refuted_spelled : RefutesWithin log f v budget lines → IsSpelledSection (length log.rows) (section.Refuted lines)
+    refuted_spelled found = let refutes = found.refutes in lines_spelled log f v lines budget refutes.none_wrong most found.few
 
-    pub spent_right : (rules : List Rule) → Kept log f v rules → Spends log f v rules budget lines → IsRightSection log f budget v (section.Unknown lines)
-    spent_right rules kept spends = record { rules = rules; kept = kept; spends = spends }
+    pub spent_right : SpendsWithin log f v budget lines → IsRightSection log f budget v (section.Unknown lines)
+    spent_right found = record { rules = found.rules; kept = found.kept; spends = found.spends }
 
-    pub spent_spelled : (rules : List Rule) → Spends log f v rules budget lines → length lines ≤ 2 * budget → IsSpelledSection (length log.rows) (section.Unknown lines)
-    spent_spelled rules spends few = let derives = spends.derives in lines_spelled log f v lines budget derives.none_wrong most few
+    pub spent_spelled : SpendsWithin log f v budget lines → IsSpelledSection (length log.rows) (section.Unknown lines)
+    spent_spelled found = let derives = found.spends.derives in lines_spelled log f v lines budget derives.none_wrong most found.few

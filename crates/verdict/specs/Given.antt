@@ -1,21 +1,14 @@
 -- What is given with a log and a formula.
-use Rattle.std.specs.Prelude.{◌≡◌, ◌+◌, length}
 use Rattle.mt_model.specs.Form.{Form}
 use Rattle.mt_model.specs.Log.{Logged}
 use Rattle.mt_model.specs.Timing.{Admissible}
-use Rattle.formula_arena.specs.Nodes.{nodes_of}
 use Rattle.skew_bounds.specs.Consistency.{IsConflict}
 use Rattle.skew_bounds.specs.System.{IsSystemOf}
 use Rattle.skew_bounds.specs.Tight.{IsTight}
+use Rattle.cdcl_core.specs.Values.{AreNodesOf}
 use Rattle.verdict.specs.declared.given.Given.{Given}
-use Rattle.verdict.specs.declared.given.Nodes.{Nodes}
 use Rattle.verdict.specs.declared.given.Settled.{Settled}
 use Rattle.verdict.specs.declared.given.Settled.TheVariants as settled
-
--- the nodes are those of the formula, and the root is the last
-pub record AreNodesOf (f : Form) (nodes : Nodes) : Type 0 where
-  pub arena : nodes.arena ≡ nodes_of f
-  pub root : nodes.root + 1 ≡ length nodes.arena
 
 -- an admissible timing with the least and greatest differences over all of these, or bounds in conflict
 abbrev pub IsSettled : Logged → Settled → Type 0

@@ -7,19 +7,18 @@ ghost use Rattle.mt_model.specs.Truth.{truth};
 ghost use Rattle.skew_bounds.specs.System.{IsSystemOf};
 ghost use Rattle.skew_bounds.specs.Tight.{IsConsistent, IsTight};
 ghost use Rattle.report_text.specs.Spelled.{IsSpelledSection};
+ghost use Rattle.cdcl_core.specs.Values.{AreNodesOf};
 ghost use Rattle.verdict.specs.Claims.{Claims};
 ghost use Rattle.verdict.specs.Faults.{IsFault, IsJudged};
-ghost use Rattle.verdict.specs.Given.{AreNodesOf};
 ghost use Rattle.verdict.specs.Right.{CyclesOnce, IsRight, IsRightSection};
 
 use crate::VerdictFault;
-use crate::given::{Given, Nodes, Settled, prepare, truth_in};
+use crate::given::{Given, Settled, prepare, truth_in};
 use crate::laws::right_reports_are_true;
-use cdcl_core::{Found, search};
-use mt_model::{Formula, Log, Times, bounds_are_admissible};
-use mtl_encode::encode_by;
+use cdcl_core::{Nodes, Searched, search_value};
+use mt_model::{Formula, Log, Times};
 use report_text::{Report, Section};
-use skew_bounds::{BoundSystem, Tight, times_of};
+use skew_bounds::{BoundSystem, Tight};
 use std::alloc::{AllocError, Global};
 
 // What a search finds of a value, with so many conflicts at most.
@@ -43,18 +42,12 @@ fn searched(
     ensures right { IfOk result (IsRightSection log.now (form_of f.now) budget value) }
     ensures spelled { IfOk result (IsSpelledSection (length log.now.rows)) }
 {
-    bounds_are_admissible();
-    // What a log and a formula are, their parts are known with.
+    // What a log is, that it is valid is known with.
     let _ = log.rows();
-    let _ = f.tree();
-    let problem = encode_by(alloc, log, &nodes.arena, nodes.root, value, system, tight)?;
-    match search(alloc, problem, budget)? {
-        Found::Model {
-            values: _,
-            potentials,
-        } => Ok(Section::Witness(times_of(alloc, potentials.as_slice())?)),
-        Found::Refuted(lines) => Ok(Section::Refuted(lines)),
-        Found::Spent(lines) => Ok(Section::Unknown(lines)),
+    match search_value(alloc, log, f, nodes, system, tight, value, budget)? {
+        Searched::Timing(times) => Ok(Section::Witness(times)),
+        Searched::Refuted(lines) => Ok(Section::Refuted(lines)),
+        Searched::Spent(lines) => Ok(Section::Unknown(lines)),
     }
 }
 

@@ -8,22 +8,17 @@ ghost use Rattle.mt_model.specs.declared.limits.TheConstants.{MAX_TIME};
 ghost use Rattle.skew_bounds.specs.System.{IsSystemOf};
 ghost use Rattle.skew_bounds.specs.Tight.{IsInconsistent, IsTight};
 ghost use Rattle.verdict.specs.Faults.{HasFewNodes, IsFault, IsJudged};
-ghost use Rattle.verdict.specs.Given.{AreNodesOf, IsGiven, IsSettled};
+ghost use Rattle.cdcl_core.specs.Values.{AreNodesOf};
+ghost use Rattle.verdict.specs.Given.{IsGiven, IsSettled};
 
 use crate::VerdictFault;
+use cdcl_core::Nodes;
 use formula_arena::{Arena, nodes_are_subtrees};
-use mt_model::{Formula, Log, NodeId, Steps, Times, conflict_excludes_timings};
+use mt_model::{Formula, Log, Steps, Times, conflict_excludes_timings};
 use mtl_encode::{MAX_SIZE, size_of, sizes_are_unique};
 use skew_bounds::{BoundSystem, Consistency, Tight, settle_by, system_of, tight_by};
 use std::alloc::{AllocError, Global};
 use witness_replay::truth_by;
-
-/// The nodes of one formula, of which the root is the last.
-#[derive(Debug, Drop)]
-pub struct Nodes {
-    pub arena: Arena,
-    pub root: NodeId,
-}
 
 /// Whether the bounds of a log can be met.
 #[derive(Debug, Drop)]

@@ -19,7 +19,7 @@ use Rattle.mt_model.specs.Log.{IsLog, Logged, received_by}
 use Rattle.mt_model.specs.Timing.{is_send_of, previous_row, received_in, send_of}
 use Rattle.mt_model.specs.Walks.{Edge, HasEdges, edge_of, is_row}
 use Rattle.skew_bounds.specs.Consistency.{IsConflict, VisitsOnce, start_of}
-use Rattle.report_text.specs.Spelled.{AreSpelledBounds, IsSpelledBound}
+use Rattle.proof_log.specs.Spelled.{IsSpelledCycle, IsSpelledStep}
 
 -- a message that is received is sent by a row, and both are rows of the log
 record AreRows (log : Logged) (s r : ℕ) : Type 0 where
@@ -36,7 +36,7 @@ module _ (log : Logged) (valid : IsLog log) where
   -- the edge of a bound begins at one of the log's moments, and the bound has a spelling
   record IsInside (s : Step) (x : Edge) : Type 0 where
     from : x.from < length log.rows + 1
-    spelled : IsSpelledBound s
+    spelled : IsSpelledStep s
 
   bound_inside : (s : Step) (x : Edge) → IsBound s → edge_of log s ≡ Some x → IsInside s x
   bound_inside (Low e) x bound is =
@@ -81,13 +81,13 @@ module _ (log : Logged) (valid : IsLog log) where
       All-cons (λ n. n < length log.rows + 1) x.from (map (λ y. y.from) xs) (bound_inside s x (All-head IsBound s ss bounds) here).from
       (starts_below ss xs (All-tail IsBound s ss bounds) others)
 
-  each_spelled : (steps : List Step) (edges : List Edge) → All IsBound steps → HasEdges log steps edges → All IsSpelledBound steps
-  each_spelled [] edges bounds found = All-nil IsSpelledBound
+  each_spelled : (steps : List Step) (edges : List Edge) → All IsBound steps → HasEdges log steps edges → All IsSpelledStep steps
+  each_spelled [] edges bounds found = All-nil IsSpelledStep
   each_spelled (s ∷ ss) [] bounds found = absurd (cc)
   each_spelled (s ∷ ss) (x ∷ xs) bounds found =
       let here : edge_of log s ≡ Some x = cc in
       let others : HasEdges log ss xs = cc in
-      All-cons IsSpelledBound s ss (bound_inside s x (All-head IsBound s ss bounds) here).spelled (each_spelled ss xs (All-tail IsBound s ss bounds) others)
+      All-cons IsSpelledStep s ss (bound_inside s x (All-head IsBound s ss bounds) here).spelled (each_spelled ss xs (All-tail IsBound s ss bounds) others)
 
   starts_same : (steps : List Step) (edges : List Edge) → HasEdges log steps edges → map (start_of log) steps ≡ map (λ x. Some x.from) edges
   starts_same [] [] found = refl
@@ -137,7 +137,7 @@ module _ (log : Logged) (valid : IsLog log) where
       let many : length froms ≡ length edges = length-map edges (λ x. x.from) in
       omega (arith, few, many, count)
 
-  pub walk_spelled : (steps : List Step) → IsConflict log steps → AreSpelledBounds steps
+  pub walk_spelled : (steps : List Step) → IsConflict log steps → IsSpelledCycle steps
   walk_spelled steps conflict = record {
     count = omega (arith, few_steps steps conflict, valid.few_rows);
     each = each_spelled steps conflict.conflict.edges conflict.bounds conflict.conflict.found;

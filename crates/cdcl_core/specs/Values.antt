@@ -1,0 +1,53 @@
+-- What a search for a value of a formula finds.
+use Rattle.std.specs.Prelude.{◌≡◌, ℕ, ◌+◌, ◌*◌, ◌<◌, ◌≤◌, Bool, List, length, ℤ}
+use Rattle.mt_model.specs.Form.{Form}
+use Rattle.mt_model.specs.Log.{Logged}
+use Rattle.mt_model.specs.Timing.{Admissible}
+use Rattle.mt_model.specs.Truth.{truth}
+use Rattle.skew_bounds.specs.Tight.{IsConsistent}
+use Rattle.formula_arena.specs.Nodes.{nodes_of}
+use Rattle.axiom_rules.specs.declared.rule.Rule.{Rule}
+use Rattle.proof_log.specs.declared.line.Line.{Line}
+use Rattle.proof_log.specs.Derivations.{Refutes}
+use Rattle.proof_log.specs.Freshness.{Spends}
+use Rattle.mtl_encode.specs.Kept.{Kept}
+use Rattle.cdcl_core.specs.declared.value.Nodes.{Nodes}
+use Rattle.cdcl_core.specs.declared.value.Searched.{Searched}
+use Rattle.cdcl_core.specs.declared.value.Searched.TheVariants as searched
+use Rattle.cdcl_core.specs.Founds.{lessons}
+
+-- the nodes are those of the formula, and the root is the last
+pub record AreNodesOf (f : Form) (nodes : Nodes) : Type 0 where
+  pub arena : nodes.arena ≡ nodes_of f
+  pub root : nodes.root + 1 ≡ length nodes.arena
+
+-- the log admits the timing, and in it the formula has the value
+pub record GivesValue (log : Logged) (f : Form) (v : Bool) (t : List ℤ) : Type 0 where
+  pub admissible : Admissible log t
+  pub value : truth log t 0 f ≡ v
+
+-- the lines refute that the formula has the value, with fewer clauses learnt that aren't empty than the budget, and at most
+-- twice as many lines
+pub record RefutesWithin (log : Logged) (f : Form) (v : Bool) (budget : ℕ) (lines : List Line) : Type 0 where
+  pub refutes : Refutes log f v lines
+  pub few_lessons : lessons lines < budget
+  pub few : length lines ≤ 2 * budget
+
+-- some timing is admissible, and the lines spend the budget, over the rules that are kept for the log, the formula and the value,
+-- and are at most twice as many
+pub record SpendsWithin (log : Logged) (f : Form) (v : Bool) (budget : ℕ) (lines : List Line) : Type 0 where
+  pub consistent : IsConsistent log
+  pub rules : List Rule
+  pub kept : Kept log f v rules
+  pub spends : Spends log f v rules budget lines
+  pub few : length lines ≤ 2 * budget
+
+-- a timing that gives the value, lines that refute it, or lines that spend the budget
+abbrev pub IsSearched : Logged → Form → Bool → ℕ → Searched → Type 0
+IsSearched log f v budget (searched.Timing t) = GivesValue log f v t
+IsSearched log f v budget (searched.Refuted lines) = RefutesWithin log f v budget lines
+IsSearched log f v budget (searched.Spent lines) = SpendsWithin log f v budget lines
+
+-- the lines refute each value of each formula
+abbrev pub RefuteEachValue : Logged → List Line → Type 0
+RefuteEachValue log lines = (f : Form) (v : Bool) → Refutes log f v lines × (lessons lines ≡ 0)

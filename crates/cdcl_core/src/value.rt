@@ -1,0 +1,115 @@
+//! The search for a timing in which a formula has a value.
+
+ghost use Rattle.std.specs.Prelude.{◌≡◌, ◌≤◌, length, IfOk};
+ghost use Rattle.mt_model.specs.Form.{form_of};
+ghost use Rattle.skew_bounds.specs.Consistency.{IsConflict};
+ghost use Rattle.skew_bounds.specs.System.{IsSystemOf};
+ghost use Rattle.skew_bounds.specs.Tight.{IsConsistent, IsTight};
+ghost use Rattle.formula_arena.specs.Nodes.{nodes_of};
+ghost use Rattle.mtl_encode.specs.Size.{IsSmall};
+ghost use Rattle.cdcl_core.specs.Values.{AreNodesOf, IsSearched, RefuteEachValue};
+
+use crate::{Found, search};
+use formula_arena::Arena;
+use mt_model::{Formula, Log, NodeId, Steps, Times, bounds_are_admissible};
+use mtl_encode::encode_by;
+use proof_log::{Line, Lines};
+use skew_bounds::{BoundSystem, Consistency, Tight, settle_by, system_of, tight_by, times_of};
+use std::alloc::{AllocError, Global};
+
+/// The nodes of one formula, of which the root is the last.
+#[derive(Debug, Drop)]
+pub struct Nodes {
+    pub arena: Arena,
+    pub root: NodeId,
+}
+
+/// What a search for a value found.
+#[derive(Debug, Drop)]
+pub enum Searched {
+    /// A timing that the log admits, in which the formula has the value.
+    Timing(Times),
+    /// Lines that refute that the formula has the value.
+    Refuted(Lines),
+    /// Lines that derive, with as many clauses learnt as the budget.
+    Spent(Lines),
+}
+
+/// A timing that a log admits and in which a formula has a value, lines that refute that it has it, or lines that spend
+/// the budget, which is from 1 to 1,000,000. Some timing is admissible, and the log's bounds with their edges and the
+/// least and greatest differences of its events are known. An error is want of memory.
+pub fn search_value(
+    alloc: Global,
+    log: &Log,
+    f: &Formula,
+    nodes: &Nodes,
+    system: BoundSystem,
+    tight: &Tight,
+    value: bool,
+    budget: u32,
+) -> Result<Searched, AllocError>
+    requires some { 1 ≤ budget }
+    requires most { budget ≤ 1000000 }
+    requires consistent { IsConsistent log.now }
+    requires nodes { AreNodesOf (form_of f.now) nodes.now }
+    requires small { IsSmall log.now (nodes_of (form_of f.now)) }
+    requires system { IsSystemOf log.now system }
+    requires tight { IsTight log.now tight.now }
+    ensures found { IfOk result (IsSearched log.now (form_of f.now) value budget) }
+{
+    bounds_are_admissible();
+    // What a log and a formula are, their parts are known with.
+    let _ = log.rows();
+    let _ = f.tree();
+    let problem = encode_by(alloc, log, &nodes.arena, nodes.root, value, system, tight)?;
+    match search(alloc, problem, budget)? {
+        Found::Model {
+            values: _,
+            potentials,
+        } => Ok(Searched::Timing(times_of(alloc, potentials.as_slice())?)),
+        Found::Refuted(lines) => Ok(Searched::Refuted(lines)),
+        Found::Spent(lines) => Ok(Searched::Spent(lines)),
+    }
+}
+
+/// The same where nothing is known of the log but that its problem is small enough where it admits a timing: where it
+/// admits none, a line refutes the value.
+pub fn search_log(
+    alloc: Global,
+    log: &Log,
+    f: &Formula,
+    nodes: &Nodes,
+    value: bool,
+    budget: u32,
+) -> Result<Searched, AllocError>
+    requires some { 1 ≤ budget }
+    requires most { budget ≤ 1000000 }
+    requires nodes { AreNodesOf (form_of f.now) nodes.now }
+    requires small { IsSmall log.now (nodes_of (form_of f.now)) }
+    ensures found { IfOk result (IsSearched log.now (form_of f.now) value budget) }
+{
+    let system = system_of(alloc, log)?;
+    match settle_by(alloc, log, &system)? {
+        Consistency::Conflict(steps) => {
+            Ok(Searched::Refuted(refuted_by_conflict(alloc, log, steps)?))
+        }
+        Consistency::Timing(times) => {
+            let tight = tight_by(alloc, log, &system, times.as_slice())?;
+            search_value(alloc, log, f, nodes, system, &tight, value, budget)
+        }
+    }
+}
+
+/// The one line that refutes every value of every formula, where bounds of a log are in conflict. An error is want of
+/// memory.
+pub fn refuted_by_conflict(alloc: Global, log: &Log, steps: Steps) -> Result<Lines, AllocError>
+    requires conflict { IsConflict log.now steps }
+    ensures refuted { IfOk result (RefuteEachValue log.now) }
+    ensures one { IfOk result (λ lines. length lines ≡ 1) }
+{
+    // What a log is, that it is valid is known with.
+    let _ = log.rows();
+    let mut lines = Lines::new(alloc);
+    lines.push(Line::Cycle(steps))?;
+    Ok(lines)
+}
