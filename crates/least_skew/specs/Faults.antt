@@ -1,0 +1,44 @@
+-- For which formulas and logs a widening is looked for, and the fault of the others.
+use Rattle.std.specs.Prelude.{◌≡◌, ℕ, ◌<◌, ◌≤◌, length, Some, None, pos}
+use Rattle.mt_model.specs.Form.{Form}
+use Rattle.mt_model.specs.Log.{Logged, widened}
+use Rattle.mt_model.specs.State.{unknown_host}
+use Rattle.formula_arena.specs.declared.fault.ArenaFault.{ArenaFault}
+use Rattle.formula_arena.specs.declared.fault.ArenaFault.TheVariants as arena
+use Rattle.formula_arena.specs.Nodes.{nodes_of}
+use Rattle.formula_arena.specs.declared.arena.TheConstants.{MAX_NODES}
+use Rattle.mtl_encode.specs.Size.{IsSize, IsSmall}
+use Rattle.mtl_encode.specs.declared.size.TheConstants.{MAX_SIZE}
+use Rattle.least_skew.specs.declared.fault.ToleranceFault.{ToleranceFault}
+use Rattle.least_skew.specs.declared.fault.ToleranceFault.TheVariants as fault
+
+-- the hosts of the formula are in the log, it has few enough nodes, and with the greatest widening their problem is small enough
+pub record IsAsked (log : Logged) (f : Form) (max : ℕ) : Type 0 where
+  pub hosts : unknown_host log f ≡ None
+  pub few : length (nodes_of f) ≤ MAX_NODES
+  pub small : IsSmall (widened (pos max) log) (nodes_of f)
+
+-- the hosts of the formula are in the log, and it has too many nodes
+pub record HasTooManyNodes (log : Logged) (f : Form) : Type 0 where
+  pub hosts : unknown_host log f ≡ None
+  pub many : MAX_NODES < length (nodes_of f)
+
+-- the hosts of the formula are in the log, it has few enough nodes, and with the greatest widening the size of their problem,
+-- which is this one, is too large
+pub record IsTooLarge (log : Logged) (f : Form) (max n : ℕ) : Type 0 where
+  pub hosts : unknown_host log f ≡ None
+  pub few : length (nodes_of f) ≤ MAX_NODES
+  pub size : IsSize (widened (pos max) log) (nodes_of f) n
+  pub large : MAX_SIZE < n
+
+-- why no widening is looked for; want of memory says nothing
+abbrev pub IsFault : Logged → Form → ℕ → ToleranceFault → Type 0
+IsFault log f max (fault.UnknownHost index) = unknown_host log f ≡ Some index
+IsFault log f max fault.TooManyNodes = HasTooManyNodes log f
+IsFault log f max (fault.TooLarge n) = IsTooLarge log f max n
+IsFault log f max fault.Memory = Unit {0}
+
+-- the fault that a fault of an arena is
+abbrev pub IsOfArena : ArenaFault → ToleranceFault → Type 0
+IsOfArena arena.TooManyNodes f = f ≡ fault.TooManyNodes
+IsOfArena arena.Memory f = f ≡ fault.Memory

@@ -1,0 +1,7 @@
+pub mod Faults
+pub mod Grounds
+pub mod Least
+pub mod Told
+pub mod Brackets
+pub mod Turns
+pub mod Laws

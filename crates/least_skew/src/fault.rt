@@ -1,0 +1,43 @@
+use formula_arena::ArenaFault;
+use std::alloc::AllocError;
+use thiserror::Error;
+
+/// Why no widening is looked for.
+#[derive(Clone, Copy, Debug, PartialEq, Eq, Error)]
+pub enum ToleranceFault {
+    /// The number, from 0 and from left to right, of the first proposition whose host isn't in the log.
+    #[error("the host of proposition {index} isn't in the log")]
+    UnknownHost { index: u32 },
+    /// The formula has more than 512 nodes.
+    #[error("more than 512 nodes")]
+    TooManyNodes,
+    /// The size of the problem of the log with the greatest widening is above 4,194,304 (`mtl_encode::size_of`).
+    #[error("size {size}")]
+    TooLarge { size: u128 },
+    #[error("out of memory")]
+    Memory,
+}
+
+impl From<AllocError> for ToleranceFault {
+    ghost use Rattle.std.specs.Prelude.{◌≡◌};
+    ghost use Rattle.least_skew.specs.declared.fault.ToleranceFault.TheVariants.{Memory};
+
+    ghost from_gives = { λ _ f. f ≡ Memory };
+
+    fn from(_: AllocError) -> Self {
+        ToleranceFault::Memory
+    }
+}
+
+impl From<ArenaFault> for ToleranceFault {
+    ghost use Rattle.least_skew.specs.Faults.{IsOfArena};
+
+    ghost from_gives = { IsOfArena };
+
+    fn from(fault: ArenaFault) -> Self {
+        match fault {
+            ArenaFault::TooManyNodes => ToleranceFault::TooManyNodes,
+            ArenaFault::Memory => ToleranceFault::Memory,
+        }
+    }
+}

@@ -1,0 +1,19 @@
+//! By how much all skews of a log have to grow at least so that a formula can have a value: a timing shows that it
+//! can, and lines that with one less it can't.
+#![tactic(auto)]
+
+mod bracket;
+mod fault;
+mod finding;
+mod laws;
+mod nodes;
+mod reach;
+mod tolerance;
+mod turn;
+mod widening;
+
+pub use fault::ToleranceFault;
+pub use finding::least;
+pub use laws::{right_tolerances_are_least, skews_may_grow, values_may_grow};
+pub use tolerance::Tolerance;
+pub use widening::MAX_WIDENING;
