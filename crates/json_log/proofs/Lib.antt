@@ -1,0 +1,5 @@
+pub mod Adding
+pub mod Looking
+pub mod Sizes
+pub mod Few
+pub mod Plain

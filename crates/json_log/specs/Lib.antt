@@ -1,0 +1,13 @@
+pub mod Keys
+pub mod Look
+pub mod Entries
+pub mod Extends
+pub mod JsonLogOf
+pub use Rattle.log_read.specs.Records
+pub use Rattle.log_read.specs.LogOf
+pub use Rattle.log_read.specs.LogText
+pub use Rattle.mt_model.specs.Log
+pub use Rattle.serde_json.specs.Data
+pub use Rattle.serde_json.specs.Events
+pub use Rattle.serde_json.specs.Find
+pub use Rattle.serde_json.specs.Read

@@ -1,0 +1,28 @@
+use log_read::LogFault;
+use std::alloc::AllocError;
+use thiserror::Error;
+
+/// Why a JSON file is no log, or want of memory.
+#[derive(Clone, Copy, Debug, PartialEq, Eq, Error)]
+pub enum JsonFault {
+    #[error("the file is not one JSON value")]
+    Syntax,
+    #[error("the JSON value has not the shape of a log")]
+    Shape,
+    /// The fault of the records that the value has; it is never want of memory.
+    #[error("{0}")]
+    Log(LogFault),
+    #[error("out of memory")]
+    Memory,
+}
+
+impl From<AllocError> for JsonFault {
+    ghost use Rattle.std.specs.Prelude.{◌≡◌};
+    ghost use Rattle.json_log.specs.declared.fault.JsonFault.TheVariants.{Memory};
+
+    ghost from_gives = { λ _ f. f ≡ Memory };
+
+    fn from(_: AllocError) -> Self {
+        JsonFault::Memory
+    }
+}
