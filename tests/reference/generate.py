@@ -448,7 +448,7 @@ def replay_case(draw):
 
 
 # The names of the files that commands take in cases of words.
-FILES_OF_WORDS = {"times": "l", "order": "l", "replay": "flt", "check": "fl", "audit": "flr", "trim": "r"}
+FILES_OF_WORDS = {"times": "l", "order": "l", "replay": "flt", "check": "fl", "audit": "flr", "trim": "r", "json": "l"}
 NUMBERS_OF_CONFLICTS = "1 5 1000000 0 1000001 05 +5 -5 5x 1e3".split() + [""]
 
 
@@ -500,7 +500,7 @@ def files_of_words(draw):
 def edit_words(draw, words):
     """Drops, adds, exchanges or doubles a word."""
     loose = "- - -- -- -- -x --- --conflicts --conflicts=5 5 f l t no \u00e9 Times".split()
-    loose += "times order replay check audit trim demo look --help -h --version -V".split()
+    loose += "times order replay check audit trim json demo look --help -h --version -V".split()
     loose += ["", "", "times "]
     choice = draw.randrange(6)
     if choice == 0 and words:

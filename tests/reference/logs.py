@@ -133,7 +133,11 @@ def csv_records(data):
 
 def read_log(data):
     """The log that the bytes spell, or its LogFault."""
-    records = csv_records(data)
+    return log_of_records(csv_records(data))
+
+
+def log_of_records(records):
+    """The log that records list, or its LogFault."""
     if not records or records[0] not in (HEADER, SECOND_HEADER):
         return LogFault(1, 1)
     log = Log([], [], [])

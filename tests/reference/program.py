@@ -7,6 +7,7 @@ answers leave no choice; what is asked of the others is left to judge.py.
 from typing import NamedTuple, Optional
 
 import formats
+import json_logs
 import reference
 import reports
 import trimming
@@ -24,11 +25,11 @@ from formats import (
     read_times,
     unknown_host,
 )
-from logs import LOG_LIMIT, Log, LogFault, read_log
+from logs import LOG_LIMIT, Log, LogFault, log_text, read_log
 from size import size_of
 
 # The commands of the program, each with its number of operands: files, or a seed.
-COMMANDS = {"times": 1, "replay": 3, "order": 1, "check": 2, "audit": 3, "trim": 1, "demo": 1}
+COMMANDS = {"times": 1, "replay": 3, "order": 1, "check": 2, "audit": 3, "trim": 1, "json": 1, "demo": 1}
 # Those that take the option on conflicts.
 SEARCHES = ("check", "audit")
 OPTION = "--conflicts"
@@ -154,6 +155,8 @@ def answer(words, held):
             return replay_answer(files, *command.operands)
         if command.name == "trim":
             return trim_answer(files, *command.operands)
+        if command.name == "json":
+            return json_answer(files, *command.operands)
         if command.name == "check":
             return check_answer(files, command.conflicts, *command.operands)
         return audit_answer(files, command.conflicts, *command.operands)
@@ -171,7 +174,11 @@ def formula_from(files, name):
 
 def log_from(files, name):
     """The log of a file, or its Refusal."""
-    log = read_log(files.read(name, LOG_LIMIT, "log"))
+    return log_or_refusal(read_log(files.read(name, LOG_LIMIT, "log")))
+
+
+def log_or_refusal(log):
+    """The log, or the Refusal of its fault."""
     if isinstance(log, LogFault):
         place = "" if log.record is None else f" at record {log.record}"
         raise Refusal(66, f"refused log {log.number}{place}")
@@ -262,6 +269,14 @@ def trim_answer(files, report_name):
     if place is not None:
         raise Refusal(5, f"refused {place.part} at line {place.line}")
     return Exact(0, reports.report_text(trimming.trimmed_report(report)))
+
+
+def json_answer(files, name):
+    """The text of the log that a JSON file is, or its Refusal."""
+    found = json_logs.read_json(files.read(name, json_logs.JSON_LIMIT, "json"))
+    if isinstance(found, json_logs.JsonFault):
+        raise Refusal(66, f"refused json {found.number}")
+    return Exact(0, log_text(log_or_refusal(found)))
 
 
 def demo_answer(seed):

@@ -14,3 +14,4 @@ mod DemosExact
 mod TrimmedAgain
 mod ShortReports
 mod TrimSteps
+mod JsonSteps

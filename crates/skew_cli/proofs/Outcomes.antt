@@ -5,7 +5,7 @@ use Rattle.skew_answers.specs.declared.status.Status.{Status}
 use Rattle.skew_answers.specs.declared.status.Status.TheVariants as status
 use Rattle.skew_answers.specs.Statuses.{IsAnswer, IsRefusal}
 use Rattle.skew_answers.specs.Texts.{line}
-use Rattle.skew_words.specs.Words.{Audit, Check, Command, Demo, Order, Replay, Times, Trim, Word, command_of}
+use Rattle.skew_words.specs.Words.{Audit, Check, Command, Demo, Json, Order, Replay, Times, Trim, Word, command_of}
 use Rattle.skew_commands.specs.declared.limits.TheConstants.{LOG_LIMIT, TIMES_LIMIT}
 use Rattle.skew_commands.specs.declared.refusal.Named.TheVariants as named
 use Rattle.skew_commands.specs.Reads.{Agree}
@@ -15,10 +15,11 @@ use Rattle.skew_commands.specs.ReplayOutcome.{ReplayOfLog, ReplayOfTimes, Replay
 use Rattle.skew_commands.specs.Tests.{OnLog, OnTimes}
 use Rattle.skew_commands.specs.TimesOutcome.{TimesOfLog, TimesOutcome}
 use Rattle.skew_commands.proofs.Questions.{same-file, same-question, same-third}
-use Rattle.skew_cli.specs.declared.limits.TheConstants.{REPORT_LIMIT}
+use Rattle.skew_cli.specs.declared.limits.TheConstants.{JSON_LIMIT, REPORT_LIMIT}
 use Rattle.skew_cli.specs.AuditOutcome.{AuditOfLog, AuditOfReport, AuditOutcome}
 use Rattle.skew_cli.specs.CheckOutcome.{CheckOfLog, CheckOutcome}
 use Rattle.skew_cli.specs.Outcome.{CommandOutcome, Ends, HasOutcome, HasPossible, IsPossible, IsPossibleOf, Outcome}
+use Rattle.skew_cli.specs.JsonOutcome.{Converted, JsonOutcome, OnJson}
 use Rattle.skew_cli.specs.ReportTests.{OnReport, OnSize}
 use Rattle.skew_cli.specs.TrimOutcome.{TrimOfReport, TrimOutcome}
 
@@ -50,6 +51,9 @@ module _ (held files : Files) (agree : Agree held files) (out : List ℕ) (s : S
   same-trim : (name : Word) → TrimOutcome held name out s → TrimOutcome files name out s
   same-trim name = same-file held files agree out s name REPORT_LIMIT named.Report (λ bytes. OnReport bytes TrimOfReport) (λ bytes. OnReport bytes TrimOfReport) (λ bytes h. h)
 
+  same-json : (name : Word) → JsonOutcome held name out s → JsonOutcome files name out s
+  same-json name = same-file held files agree out s name JSON_LIMIT named.Json (λ file. OnJson file Converted) (λ file. OnJson file Converted) (λ file h. h)
+
   same-command : (c : Command) → CommandOutcome c held out s → CommandOutcome c files out s
   same-command (Times log) = same-times log
   same-command (Replay formula log times) = same-replay formula log times
@@ -57,6 +61,7 @@ module _ (held files : Files) (agree : Agree held files) (out : List ℕ) (s : S
   same-command (Check conflicts formula log) = same-check conflicts formula log
   same-command (Audit conflicts formula log report) = same-audit conflicts formula log report
   same-command (Trim name) = same-trim name
+  same-command (Json name) = same-json name
   same-command (Demo seed) = λ h. h
 
 -- the outcome of a command, for files that agree with those that are held

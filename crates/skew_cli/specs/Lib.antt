@@ -3,6 +3,7 @@ pub mod CheckOutcome
 pub mod AuditOutcome
 pub mod DemoOutcome
 pub mod TrimOutcome
+pub mod JsonOutcome
 pub mod Outcome
 pub mod Laws
 pub mod DemoLaws
@@ -29,6 +30,11 @@ pub use Rattle.mt_model.specs.State
 pub use Rattle.mt_model.specs.Timing
 pub use Rattle.mt_model.specs.Truth
 pub use Rattle.log_read.specs.LogOf
+pub use Rattle.log_read.specs.LogText
+pub use Rattle.json_log.specs.Keys
+pub use Rattle.json_log.specs.Look
+pub use Rattle.json_log.specs.Entries
+pub use Rattle.json_log.specs.JsonLogOf
 pub use Rattle.mtl_parse.specs.FormulaOf
 pub use Rattle.mtl_parse.specs.Places
 pub use Rattle.times_read.specs.TimesOf

@@ -6,7 +6,7 @@ use Rattle.skew_answers.specs.declared.status.Status.{Status}
 use Rattle.skew_answers.specs.declared.status.Status.TheVariants as status
 use Rattle.skew_answers.specs.Statuses.{IsAnswer}
 use Rattle.skew_answers.specs.Texts.{line}
-use Rattle.skew_words.specs.Words.{Audit, Check, Command, Demo, Order, Replay, Times, Trim, Word, command_of}
+use Rattle.skew_words.specs.Words.{Audit, Check, Command, Demo, Json, Order, Replay, Times, Trim, Word, command_of}
 use Rattle.skew_commands.specs.Possible.{OfSomeLog, OfSomeQuestion, OfSomeThird}
 use Rattle.skew_commands.specs.Reads.{HoldsQuestion, HoldsThird, NoThird}
 use Rattle.skew_commands.specs.TimesOutcome.{TimesOutcome}
@@ -15,6 +15,7 @@ use Rattle.skew_commands.specs.OrderOutcome.{OrderOutcome}
 use Rattle.skew_cli.specs.CheckOutcome.{CheckOutcome}
 use Rattle.skew_cli.specs.AuditOutcome.{AuditOutcome}
 use Rattle.skew_cli.specs.DemoOutcome.{DemoOutcome}
+use Rattle.skew_cli.specs.JsonOutcome.{JsonOutcome}
 use Rattle.skew_cli.specs.TrimOutcome.{OfSomeReport, TrimOutcome}
 
 -- one line, with its status
@@ -57,6 +58,7 @@ due_for (Order log) = due_of_log OrderOutcome log
 due_for (Check conflicts formula log) = due_of_question (λ files. CheckOutcome files conflicts) formula log
 due_for (Audit conflicts formula log report) = due_of_third (λ files. AuditOutcome files conflicts) formula log report
 due_for (Trim name) = due_of_report TrimOutcome name
+due_for (Json name) = due_of_log JsonOutcome name
 due_for (Demo seed) = due_of_nothing (DemoOutcome seed)
 
 -- what a command gives, where the files that it comes to read are held

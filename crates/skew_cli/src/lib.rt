@@ -4,6 +4,7 @@
 mod audit;
 mod check;
 mod demo;
+mod json;
 mod laws;
 mod limits;
 mod program;
@@ -15,7 +16,7 @@ pub use laws::{
     accepted_files_are_true, checks_are_accepted, checks_are_exact, demo_unknown_is_bounded,
     demos_are_exact, trims_are_accepted, unknown_is_bounded, witnesses_are_replayed,
 };
-pub use limits::{REPORT_LIMIT, limits_are_numbers};
+pub use limits::{JSON_LIMIT, REPORT_LIMIT, limits_are_numbers};
 pub use program::run;
 pub use skew_answers::Status;
 pub use skew_commands::{FORMULA_LIMIT, LOG_LIMIT, TIMES_LIMIT};

@@ -9,12 +9,16 @@ ghost use Rattle.skew_words.specs.declared.limits.TheConstants.{DEFAULT_CONFLICT
 /// The most bytes of a report file.
 pub const REPORT_LIMIT: usize = 1_073_741_824;
 
+/// The most bytes of a JSON file.
+pub const JSON_LIMIT: usize = 4_194_304;
+
 /// The numbers that limit files, conflicts, seeds, and the size of a problem.
 pub fn limits_are_numbers()
     ensures formula { FORMULA_LIMIT ≡ 65536 }
     ensures log { LOG_LIMIT ≡ 1048576 }
     ensures times { TIMES_LIMIT ≡ 65536 }
     ensures report { REPORT_LIMIT ≡ 1073741824 }
+    ensures json { JSON_LIMIT ≡ 4194304 }
     ensures default { DEFAULT_CONFLICTS ≡ 200000 }
     ensures conflicts { MAX_CONFLICTS ≡ 1000000 }
     ensures seed { MAX_SEED ≡ 18446744073709551615 }

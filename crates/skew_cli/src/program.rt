@@ -12,6 +12,7 @@ ghost use Rattle.skew_commands.specs.Stops.{Gives, HasReason};
 use crate::audit::audit;
 use crate::check::check;
 use crate::demo::demo;
+use crate::json::json;
 use crate::trim::trim;
 use mt_port::{Failed, Shelf, Sink, write_all};
 use skew_answers::Status;
@@ -63,6 +64,7 @@ fn work<S: Shelf>(alloc: Global, shelf: &mut S, call: Call<'_>) -> Result<Reply,
             report,
         } => audit(alloc, shelf, conflicts, formula, log, report),
         Call::Trim { report } => trim(alloc, shelf, report),
+        Call::Json { json: name } => json(alloc, shelf, name),
         Call::Demo { seed } => demo(alloc, seed),
     }
 }

@@ -19,6 +19,7 @@ word_of named.Formula = codes "formula"
 word_of named.Log = codes "log"
 word_of named.Times = codes "times"
 word_of named.Report = codes "report"
+word_of named.Json = codes "json"
 
 -- a part of a report, as a refusal names it
 abbrev pub part_word : ReportPart → List ℕ
@@ -43,6 +44,8 @@ text_of (refusal.Length file) = codes "refused length " ++ word_of file
 text_of (refusal.Formula fault) = codes "refused formula " ++ decimal (formula_number_of fault) ++ byte_text (byte_of fault)
 text_of (refusal.UnknownHost byte) = codes "refused formula 8 at byte " ++ decimal byte
 text_of (refusal.Log fault) = codes "refused log " ++ decimal (number_of fault) ++ record_text (record_of fault)
+text_of refusal.JsonSyntax = codes "refused json 1"
+text_of refusal.JsonShape = codes "refused json 2"
 text_of refusal.Nodes = codes "refused nodes above 512"
 text_of (refusal.TimesNumber number) = codes "refused times 1 at line " ++ decimal number
 text_of (refusal.TimesCount number) = codes "refused times 2 at line " ++ decimal number
@@ -56,6 +59,8 @@ status_of (refusal.Length file) = status.TooLarge
 status_of (refusal.Formula fault) = status.FormulaRefused
 status_of (refusal.UnknownHost byte) = status.FormulaRefused
 status_of (refusal.Log fault) = status.LogRefused
+status_of refusal.JsonSyntax = status.LogRefused
+status_of refusal.JsonShape = status.LogRefused
 status_of refusal.Nodes = status.TooLarge
 status_of (refusal.TimesNumber number) = status.TimesRefused
 status_of (refusal.TimesCount number) = status.TimesRefused

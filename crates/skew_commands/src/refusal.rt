@@ -17,6 +17,7 @@ pub enum Named {
     Log,
     Times,
     Report,
+    Json,
 }
 
 /// A part of a report.
@@ -43,6 +44,10 @@ pub enum Refusal {
     UnknownHost { byte: u32 },
     /// The log has the fault.
     Log(LogFault),
+    /// The file is not one JSON value.
+    JsonSyntax,
+    /// The JSON value has not the shape of a log.
+    JsonShape,
     /// The formula has more than 512 distinct nodes.
     Nodes,
     /// A line of the times file is no time.
@@ -82,6 +87,7 @@ impl fmt::Display for Named {
             Named::Log => f.write_str("log"),
             Named::Times => f.write_str("times"),
             Named::Report => f.write_str("report"),
+            Named::Json => f.write_str("json"),
         }
     }
 }
@@ -110,6 +116,8 @@ impl fmt::Display for Refusal {
                     None => write!(f, "refused log {number}"),
                 }
             }
+            Refusal::JsonSyntax => f.write_str("refused json 1"),
+            Refusal::JsonShape => f.write_str("refused json 2"),
             Refusal::Nodes => f.write_str("refused nodes above 512"),
             Refusal::TimesNumber { line } => write!(f, "refused times 1 at line {line}"),
             Refusal::TimesCount { line } => write!(f, "refused times 2 at line {line}"),
@@ -133,7 +141,7 @@ impl Refusal {
         match self {
             Refusal::Length(_) | Refusal::Nodes | Refusal::Size { .. } => Status::TooLarge,
             Refusal::Formula(_) | Refusal::UnknownHost { .. } => Status::FormulaRefused,
-            Refusal::Log(_) => Status::LogRefused,
+            Refusal::Log(_) | Refusal::JsonSyntax | Refusal::JsonShape => Status::LogRefused,
             Refusal::TimesNumber { .. } | Refusal::TimesCount { .. } => Status::TimesRefused,
             Refusal::Report { .. } | Refusal::Part { .. } => Status::Rejected,
         }

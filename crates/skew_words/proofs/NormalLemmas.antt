@@ -46,6 +46,10 @@ read-trim : (report : Word) → IsRead verb.Trim None (report ∷ [])
 unfolding clap_on_literals
 read-trim report = record { taken = refl; found = refl }
 
+read-json : (json : Word) → IsRead verb.Json None (json ∷ [])
+unfolding clap_on_literals
+read-json json = record { taken = refl; found = refl }
+
 read-demo : (seed : Word) → IsRead verb.Demo None (seed ∷ [])
 unfolding clap_on_literals
 read-demo seed = record { taken = refl; found = refl }
@@ -58,11 +62,13 @@ read-row verb.Order None ws fits some = let (log, is) = one-is ws (fits-length (
 read-row verb.Check conflicts ws fits some = let (formula, log, is) = two-is ws (fits-length (row_of verb.Check).operands ws fits) in rw is (read-check conflicts formula log)
 read-row verb.Audit conflicts ws fits some = let (formula, log, report, is) = three-is ws (fits-length (row_of verb.Audit).operands ws fits) in rw is (read-audit conflicts formula log report)
 read-row verb.Trim None ws fits some = let (report, is) = one-is ws (fits-length (row_of verb.Trim).operands ws fits) in rw is (read-trim report)
+read-row verb.Json None ws fits some = let (json, is) = one-is ws (fits-length (row_of verb.Json).operands ws fits) in rw is (read-json json)
 read-row verb.Demo None ws fits some = let (seed, is) = one-is ws (fits-length (row_of verb.Demo).operands ws fits) in rw is (read-demo seed)
 read-row verb.Times (Some text) ws fits some = let never : ⊥ = cc in absurd never
 read-row verb.Replay (Some text) ws fits some = let never : ⊥ = cc in absurd never
 read-row verb.Order (Some text) ws fits some = let never : ⊥ = cc in absurd never
 read-row verb.Trim (Some text) ws fits some = let never : ⊥ = cc in absurd never
+read-row verb.Json (Some text) ws fits some = let never : ⊥ = cc in absurd never
 read-row verb.Demo (Some text) ws fits some = let never : ⊥ = cc in absurd never
 
 -- what is spoken fits its row

@@ -6,7 +6,7 @@ use Rattle.skew_words.specs.declared.call.Call.TheVariants as call
 use Rattle.skew_words.specs.declared.given.Given.{Given as GivenWords}
 use Rattle.skew_words.specs.declared.operands.Operands.{Operands}
 use Rattle.skew_words.specs.declared.operands.Operands.TheVariants as operands
-use Rattle.skew_words.specs.Words.{Audit, Check, Command, Demo, Given, Order, Replay, Times, Trim, Word, conflicts_of}
+use Rattle.skew_words.specs.Words.{Audit, Check, Command, Demo, Given, Json, Order, Replay, Times, Trim, Word, conflicts_of}
 
 -- the command that a call is
 abbrev pub command_in : Call → Command
@@ -16,6 +16,7 @@ command_in (call.Order log) = Order log.now
 command_in (call.Check conflicts formula log) = Check conflicts formula.now log.now
 command_in (call.Audit conflicts formula log report) = Audit conflicts formula.now log.now report.now
 command_in (call.Trim report) = Trim report.now
+command_in (call.Json json) = Json json.now
 command_in (call.Demo seed) = Demo seed
 
 -- the operands, as words

@@ -28,11 +28,12 @@ row_of verb.Order = record { word = codes "order"; operands = operand.Log ∷ []
 row_of verb.Check = record { word = codes "check"; operands = operand.Formula ∷ operand.Log ∷ []; takes_conflicts = true }
 row_of verb.Audit = record { word = codes "audit"; operands = operand.Formula ∷ operand.Log ∷ operand.Report ∷ []; takes_conflicts = true }
 row_of verb.Trim = record { word = codes "trim"; operands = operand.Report ∷ []; takes_conflicts = false }
+row_of verb.Json = record { word = codes "json"; operands = operand.Json ∷ []; takes_conflicts = false }
 row_of verb.Demo = record { word = codes "demo"; operands = operand.Seed ∷ []; takes_conflicts = false }
 
 -- the first words
 abbrev pub verbs : List Verb
-verbs = verb.Times ∷ verb.Replay ∷ verb.Order ∷ verb.Check ∷ verb.Audit ∷ verb.Trim ∷ verb.Demo ∷ []
+verbs = verb.Times ∷ verb.Replay ∷ verb.Order ∷ verb.Check ∷ verb.Audit ∷ verb.Trim ∷ verb.Json ∷ verb.Demo ∷ []
 
 -- the first word that a word is, if it is one
 abbrev pub verb_named : Word → Option Verb
@@ -44,6 +45,7 @@ name_of operand.Formula = codes "formula"
 name_of operand.Log = codes "log"
 name_of operand.Times = codes "times"
 name_of operand.Report = codes "report"
+name_of operand.Json = codes "json"
 name_of operand.Seed = codes "seed"
 
 -- all operands are names of files, but a seed, which is a number from 0 to 18,446,744,073,709,551,615
@@ -52,6 +54,7 @@ kind_of operand.Formula = kind.File
 kind_of operand.Log = kind.File
 kind_of operand.Times = kind.File
 kind_of operand.Report = kind.File
+kind_of operand.Json = kind.File
 kind_of operand.Seed = kind.Number (MAX_SEED + 1)
 
 -- a word of a kind: the name of a file is not empty, and a number is below its limit

@@ -17,6 +17,7 @@ pub data Command : Type 0 where
   Check : (conflicts : ℕ) → (formula : Word) → (log : Word) → Command
   Audit : (conflicts : ℕ) → (formula : Word) → (log : Word) → (report : Word) → Command
   Trim : (report : Word) → Command
+  Json : (json : Word) → Command
   Demo : (seed : ℕ) → Command
 
 -- a word that begins with `-` and is not `-` alone
@@ -95,6 +96,7 @@ command_from verb.Order n (log ∷ []) = Some (Order log)
 command_from verb.Check n (formula ∷ log ∷ []) = Some (Check n formula log)
 command_from verb.Audit n (formula ∷ log ∷ report ∷ []) = Some (Audit n formula log report)
 command_from verb.Trim n (report ∷ []) = Some (Trim report)
+command_from verb.Json n (json ∷ []) = Some (Json json)
 command_from verb.Demo n (seed ∷ []) = option_map Demo (seed_of seed)
 command_from v n operands = None
 

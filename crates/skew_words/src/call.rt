@@ -32,6 +32,10 @@ pub enum Call<'a> {
     Trim {
         report: &'a str,
     },
+    /// The text of the log that a JSON file is.
+    Json {
+        json: &'a str,
+    },
     /// The truth values of the demo's formula over all timings of the log of a seed.
     Demo {
         seed: u64,

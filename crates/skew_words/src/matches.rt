@@ -126,6 +126,9 @@ fn call_in<'a>(verb: Verb, matches: &ArgMatches<'a>) -> Option<Call<'a>>
         Verb::Trim => Some(Call::Trim {
             report: value(matches, Operand::Report)?,
         }),
+        Verb::Json => Some(Call::Json {
+            json: value(matches, Operand::Json)?,
+        }),
         Verb::Demo => Some(Call::Demo {
             seed: seed(value(matches, Operand::Seed)?)?,
         }),

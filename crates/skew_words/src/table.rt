@@ -15,16 +15,18 @@ pub enum Verb {
     Check,
     Audit,
     Trim,
+    Json,
     Demo,
 }
 
-const VERBS: [Verb; 7] = [
+const VERBS: [Verb; 8] = [
     Verb::Times,
     Verb::Replay,
     Verb::Order,
     Verb::Check,
     Verb::Audit,
     Verb::Trim,
+    Verb::Json,
     Verb::Demo,
 ];
 
@@ -35,6 +37,7 @@ pub enum Operand {
     Log,
     Times,
     Report,
+    Json,
     Seed,
 }
 
@@ -77,6 +80,7 @@ impl Operand {
             Operand::Log => "log",
             Operand::Times => "times",
             Operand::Report => "report",
+            Operand::Json => "json",
             Operand::Seed => "seed",
         }
     }
@@ -85,7 +89,11 @@ impl Operand {
         ensures { result ≡ kind_of self }
     {
         match self {
-            Operand::Formula | Operand::Log | Operand::Times | Operand::Report => Kind::File,
+            Operand::Formula
+            | Operand::Log
+            | Operand::Times
+            | Operand::Report
+            | Operand::Json => Kind::File,
             Operand::Seed => Kind::Number {
                 below: MAX_SEED as u128 + 1,
             },
@@ -136,6 +144,11 @@ impl Verb {
             Verb::Trim => Row {
                 word: "trim",
                 operands: &[Operand::Report],
+                takes_conflicts: false,
+            },
+            Verb::Json => Row {
+                word: "json",
+                operands: &[Operand::Json],
                 takes_conflicts: false,
             },
             Verb::Demo => Row {

@@ -20,3 +20,9 @@ returns-in-Trim-clause-outcome g c = rw c.in-Trim.is c.trim.ensures.outcome
 
 pub returns-in-Trim-clause-possible : goal.returns-in-Trim-clause-possible
 returns-in-Trim-clause-possible g c = rw c.in-Trim.is c.trim.ensures.possible
+
+pub returns-in-Json-clause-outcome : goal.returns-in-Json-clause-outcome
+returns-in-Json-clause-outcome g c = rw c.in-Json.is c.json.ensures.outcome
+
+pub returns-in-Json-clause-possible : goal.returns-in-Json-clause-possible
+returns-in-Json-clause-possible g c = rw c.in-Json.is c.json.ensures.possible
