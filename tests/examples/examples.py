@@ -2,13 +2,13 @@
 
 Run as: python3 examples.py PROGRAM [--write]
 
-examples/runs.txt lists the runs of check, audit and trim. Each report that check
+examples/runs.txt lists the runs of check, audit, trim and json. Each report that check
 writes there has to be the one that is kept, and is audited with the same files:
 by the program, and by the second audit in tests/reference. Then the runs of
 many_rows.py have to end as it says. Then each command of
 README.md and docs/ that a block of shell shows, and that the program, cat or
-python3 is in, has to write what stands below it, and each clause that a block of
-text quotes has to stand in the code. Every difference is printed, and the end is
+python3 is in, has to write what stands below it, but for those with jq where there
+is none, and each clause that a block of text quotes has to stand in the code. Every difference is printed, and the end is
 1 where there is one. With --write the reports that differ are kept anew.
 """
 
@@ -16,6 +16,7 @@ import argparse
 import os
 import re
 import shlex
+import shutil
 import subprocess
 import sys
 import tempfile
@@ -145,11 +146,19 @@ def pages():
     return [ROOT / "README.md", *sorted((ROOT / "docs").glob("*.md"))]
 
 
+def is_left_out(command):
+    """Whether a command of a page needs what isn't here, which is told."""
+    if "jq " not in command or shutil.which("jq"):
+        return False
+    print(f"tests/examples: left out, since there is no jq here: {command}")
+    return True
+
+
 def differences_of_pages(program):
     """What differs between the pages and what the program writes, as lines."""
     for page in pages():
         for command, shown in shown_commands(page):
-            if not any(word in command for word in SHOWN):
+            if not any(word in command for word in SHOWN) or is_left_out(command):
                 continue
             done = subprocess.run(
                 ["bash", "-c", command.replace("./skewcheck", shlex.quote(program))], cwd=ROOT,
