@@ -195,7 +195,7 @@ def complaint(program, case):
 def checks_differ(program, seed, case, text):
     """Whether check writes something else of a text than of the log's file."""
     draw = random.Random(f"{seed} {case.title}")
-    formula, by_hand = generate.formula_file(draw, case.log), generate_logs.log_file(draw, case.log, 0)
+    formula, by_hand = generate.formula_file(draw, case.log), generate_logs.log_text(draw, logs.records_of(case.log))
     words = ["check", "--conflicts", "50", "f", "l"]
     return outcome(program, words, {"f": formula, "l": text}) != outcome(program, words, {"f": formula, "l": by_hand})
 
