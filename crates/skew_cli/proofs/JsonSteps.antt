@@ -16,7 +16,6 @@ use Rattle.skew_commands.specs.declared.reply.Stop.{Stop}
 use Rattle.skew_commands.specs.Possible.{OfSomeLog}
 use Rattle.skew_commands.specs.Refusals.{status_of, text_of}
 use Rattle.skew_commands.specs.Stops.{HasReason}
-use Rattle.skew_commands.specs.Tests.{OnFile}
 use Rattle.skew_commands.proofs.Possible.{length-refused, longer, only}
 use Rattle.skew_commands.proofs.Steps.{At, file-read, reason-weaker}
 use Rattle.skew_cli.specs.declared.limits.TheConstants.{JSON_LIMIT}

@@ -89,11 +89,8 @@ impl Operand {
         ensures { result ≡ kind_of self }
     {
         match self {
-            Operand::Formula
-            | Operand::Log
-            | Operand::Times
-            | Operand::Report
-            | Operand::Json => Kind::File,
+            Operand::Formula | Operand::Log | Operand::Times | Operand::Report | Operand::Json =>
+                Kind::File,
             Operand::Seed => Kind::Number {
                 below: MAX_SEED as u128 + 1,
             },
