@@ -7,8 +7,9 @@ writes there has to be the one that is kept, and is audited with the same files:
 by the program, and by the second audit in tests/reference. Then the runs of
 many_rows.py have to end as it says. Then each command of
 README.md and docs/ that a block of shell shows, and that the program, cat or
-python3 is in, has to write what stands below it, but for those with jq where there
-is none, and each clause that a block of text quotes has to stand in the code. Every difference is printed, and the end is
+python3 is in, has to write what stands below it, each clause that a block of
+text quotes has to stand in the code, and each link has to lead to a file, and to
+a heading of it where it names one. Every difference is printed, and the end is
 1 where there is one. With --write the reports that differ are kept anew.
 """
 
@@ -187,6 +188,25 @@ def differences_of_clauses():
                 yield f"{page.name}: no function has the clause {clause}"
 
 
+# Links
+
+
+def anchors(page):
+    """The names by which a link leads to a heading of a page."""
+    for heading in re.findall(r"^#+ (.*)$", page.read_text(), re.M):
+        yield re.sub(r"[^\w -]", "", heading.lower()).replace(" ", "-")
+
+
+def differences_of_links():
+    """The links of the pages that lead nowhere, as lines."""
+    for page in [*pages(), ROOT / "CONTRIBUTING.md", ROOT / "CHANGELOG.md"]:
+        for link in re.findall(r"\]\(([^)\s]+)\)", page.read_text()):
+            name, _, anchor = link.partition("#")
+            target = page.parent / name if name else page
+            if "://" not in link and (not target.exists() or anchor and anchor not in anchors(target)):
+                yield f"{page.name}: the link {link} leads nowhere"
+
+
 def main():
     """Prints the differences, and ends with 0 where there is none and with 1 where there is one."""
     parser = argparse.ArgumentParser(description="run skewcheck on its examples")
@@ -195,7 +215,7 @@ def main():
     arguments = parser.parse_args()
     program = os.path.abspath(arguments.program)
     found = [*differences_of_runs(program, arguments.write), *differences_of_pages(program)]
-    found += [*differences_of_many_rows(program), *differences_of_clauses()]
+    found += [*differences_of_many_rows(program), *differences_of_clauses(), *differences_of_links()]
     for line in found:
         print(f"tests/examples: {line}")
     if found:
