@@ -36,6 +36,7 @@ import program as answers
 
 PATIENCE = 60  # seconds that one run may take
 SHOWN = ("./skewcheck ", "cat ", "python3 ")  # what is in the commands of pages that are run
+ELSEWHERE = ("many-logs.md",)  # pages whose commands another test runs
 
 
 class Run(NamedTuple):
@@ -101,7 +102,7 @@ def differences_of_audits(program, run):
     outcome = outcome_of(program, words)
     if outcome != (0, b"accepted\n"):
         yield f"{title}: status {outcome.status}, {outcome.output!r}"
-    files = {path.name: path.read_bytes() for path in EXAMPLES.iterdir()}
+    files = {path.name: path.read_bytes() for path in EXAMPLES.iterdir() if path.is_file()}
     if answers.answer(words, files) != answers.Exact(0, b"accepted\n"):
         yield f"{title}: the second audit refuses it"
 
@@ -159,7 +160,7 @@ def differences_of_pages(program):
     """What differs between the pages and what the program writes, as lines."""
     for page in pages():
         for command, shown in shown_commands(page):
-            if not any(word in command for word in SHOWN) or is_left_out(command):
+            if page.name in ELSEWHERE or not any(word in command for word in SHOWN):
                 continue
             done = subprocess.run(
                 ["bash", "-c", command.replace("./skewcheck", shlex.quote(program))], cwd=ROOT,
