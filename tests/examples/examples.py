@@ -9,8 +9,9 @@ many_rows.py have to end as it says. Then each command of
 README.md and docs/ that a block of shell shows, and that the program, cat or
 python3 is in, has to write what stands below it, each clause that a block of
 text quotes has to stand in the code, and each link has to lead to a file, and to
-a heading of it where it names one. Every difference is printed, and the end is
-1 where there is one. With --write the reports that differ are kept anew.
+a heading of it where it names one. The picture of the crates has to be that of
+crates.txt. Every difference is printed, and the end is 1 where there is one.
+With --write the reports that differ and the picture are kept anew.
 """
 
 import argparse
@@ -30,6 +31,7 @@ ROOT = Path(__file__).resolve().parent.parent.parent
 EXAMPLES = ROOT / "examples"
 sys.path[:0] = [str(ROOT / "tests" / "reference"), str(EXAMPLES)]
 
+import crates_picture
 import judge
 import many_rows
 import program as answers
@@ -212,11 +214,12 @@ def main():
     """Prints the differences, and ends with 0 where there is none and with 1 where there is one."""
     parser = argparse.ArgumentParser(description="run skewcheck on its examples")
     parser.add_argument("program")
-    parser.add_argument("--write", action="store_true", help="keep the reports that differ anew")
+    parser.add_argument("--write", action="store_true", help="keep the reports that differ and the picture anew")
     arguments = parser.parse_args()
     program = os.path.abspath(arguments.program)
     found = [*differences_of_runs(program, arguments.write), *differences_of_pages(program)]
     found += [*differences_of_many_rows(program), *differences_of_clauses(), *differences_of_links()]
+    found += crates_picture.differences(arguments.write)
     for line in found:
         print(f"tests/examples: {line}")
     if found:
