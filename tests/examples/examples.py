@@ -9,9 +9,10 @@ many_rows.py have to end as it says. Then each command of
 README.md and docs/ that a block of shell shows, and that the program, cat or
 python3 is in, has to write what stands below it, each clause that a block of
 text quotes has to stand in the code, and each link has to lead to a file, and to
-a heading of it where it names one. The picture of the crates has to be that of
-crates.txt. Every difference is printed, and the end is 1 where there is one.
-With --write the reports that differ and the picture are kept anew.
+a heading of it where it names one. What the tables of refusals show has to be
+refused so, and the picture of the crates has to be that of crates.txt. Every
+difference is printed, and the end is 1 where there is one. With --write the
+reports that differ and the picture are kept anew.
 """
 
 import argparse
@@ -35,6 +36,7 @@ import crates_picture
 import judge
 import many_rows
 import program as answers
+import refusals
 
 PATIENCE = 60  # seconds that one run may take
 SHOWN = ("./skewcheck ", "cat ", "python3 ")  # what is in the commands of pages that are run
@@ -191,6 +193,21 @@ def differences_of_clauses():
                 yield f"{page.name}: no function has the clause {clause}"
 
 
+# Refusals
+
+
+def first_line(program, words, data):
+    """The first line that the program writes, with these bytes as its standard input."""
+    done = subprocess.run([program, *words], input=data, cwd=EXAMPLES, capture_output=True, timeout=PATIENCE)
+    return done.stdout.decode().split("\n")[0]
+
+
+def differences_of_refusals(program):
+    """What is refused otherwise than the tables of pages say, as lines."""
+    yield from refusals.differences_of_logs(lambda log: first_line(program, ["times", "-"], log))
+    yield from refusals.differences_of_formulas(lambda text: first_line(program, ["check", "-", "request.csv"], text))
+
+
 # Links
 
 
@@ -220,6 +237,7 @@ def main():
     found = [*differences_of_runs(program, arguments.write), *differences_of_pages(program)]
     found += [*differences_of_many_rows(program), *differences_of_clauses(), *differences_of_links()]
     found += crates_picture.differences(arguments.write)
+    found += differences_of_refusals(program)
     for line in found:
         print(f"tests/examples: {line}")
     if found:
