@@ -107,21 +107,22 @@ def prepare(options, command):
 
 
 def jobs_done(folder):
-    """The lines of the joblog, its title first, without the jobs that failed."""
+    """The jobs of the joblog that didn't fail, by the names of their bundles, each with its line."""
     log = folder / "jobs"
-    lines = log.read_text().splitlines() if log.exists() else []
-    return [line for line in lines if line.startswith("Seq") or line.split("\t")[6:8] == ["0", "0"]]
+    lines = log.read_text().splitlines()[1:] if log.exists() else []
+    fields = ((line.split("\t"), line) for line in lines)
+    return {f"{int(parts[0]):05}.tar": line for parts, line in fields if parts[6:8] == ["0", "0"]}
 
 
 def clear_undone(folder):
     """Leaves in the joblog the jobs that are done, and of the answers theirs, since parallel passes over all others."""
     done = jobs_done(folder)
-    if done:
-        (folder / "jobs").write_text("\n".join(done) + "\n")
+    if (folder / "jobs").exists():
+        title = (folder / "jobs").read_text().splitlines()[:1]
+        (folder / "jobs").write_text("".join(line + "\n" for line in [*title, *done.values()]))
     (folder / "answers").mkdir(exist_ok=True)
-    numbers = {f"{int(line.split(chr(9))[0]):05}" for line in done[1:]}
     for path in (folder / "answers").iterdir():
-        if path.name.split(".")[0] not in numbers:
+        if path.name.split(".")[0] + ".tar" not in done:
             path.unlink()
 
 
@@ -146,22 +147,27 @@ def troubles(folder):
     return list(dict.fromkeys(lines))
 
 
+def answers_of(path):
+    """What a job gave: of each formula the reports and statuses of logs, by their names."""
+    with tarfile.open(path) as archive:
+        for entry in archive:
+            if entry.isfile():
+                formula, name = entry.name.removeprefix("./").split("/")
+                yield formula, name, archive.extractfile(entry).read()
+
+
 def collect(options, questions):
     """Writes the reports of the jobs that are done, and answers the status of each question."""
     folder = Path(options.to)
     statuses = dict.fromkeys(questions, NOT_ASKED)
-    for line in jobs_done(folder)[1:]:
-        with tarfile.open(folder / "answers" / f"{int(line.split(chr(9))[0]):05}.tar") as archive:
-            for entry in archive:
-                if entry.isfile():
-                    formula, name = entry.name.removeprefix("./").split("/")
-                    data = archive.extractfile(entry).read()
-                    if name.endswith(".status"):
-                        statuses[formula, name.removesuffix(".status")] = int(data)
-                    else:
-                        target = folder / "reports" / formula / name
-                        target.parent.mkdir(parents=True, exist_ok=True)
-                        target.write_bytes(data)
+    for bundle_name in jobs_done(folder):
+        for formula, name, data in answers_of(folder / "answers" / bundle_name):
+            if name.endswith(".status"):
+                statuses[formula, name.removesuffix(".status")] = int(data)
+            else:
+                target = folder / "reports" / formula / name
+                target.parent.mkdir(parents=True, exist_ok=True)
+                target.write_bytes(data)
     lines = [f"{status}\t{formula}\t{log}\n" for (formula, log), status in statuses.items()]
     (folder / "statuses").write_text("".join(lines))
     return statuses
