@@ -76,6 +76,11 @@ class Installing(WithRoom):
         self.assertEqual(installed("--prefix", self.prefix, "--remove").returncode, 0)
         self.assertEqual(tree(self.room), [])
 
+    def test_nobody_reads_what_is_printed(self):
+        script = '"$1" --prefix "$2" | true; "$1" --prefix "$2" --remove | true'
+        subprocess.run(["bash", "-c", script, "bash", ROOT / "install", self.room / "a b" / "c"], stderr=subprocess.PIPE)
+        self.assertEqual(tree(self.room), [])
+
     def test_what_was_there_stays(self):
         for name in ("bin/other", "share/man/man1/other.1"):
             (self.prefix / name).parent.mkdir(parents=True)
@@ -134,6 +139,9 @@ class Refusals(WithRoom):
     def test_a_prefix_that_takes_nothing(self):
         (self.room / "file").write_text("")
         self.assertRefused(["--prefix", self.room / "file"], 73, "can't be written")
+        (self.room / "half").mkdir()
+        (self.room / "half" / "bin").write_text("")
+        self.assertRefused(["--prefix", self.room / "half"], 73, "bin/skewcheck can't be written")
         (self.prefix / "share" / "zsh" / "site-functions" / "_skewcheck").mkdir(parents=True)
         self.assertRefused(["--prefix", self.prefix], 73, "_skewcheck can't be written")
         if os.geteuid() != 0:
