@@ -3,52 +3,78 @@
 from __future__ import annotations
 
 import json
-from dataclasses import dataclass
-from typing import Any, Dict, Iterator, List, Sequence, Tuple
+import re
+from dataclasses import dataclass, field
+from typing import Any, Dict, Iterator, List, Optional, Sequence, Tuple
 
 from ask.logs import NAME, ROW_KINDS, records_of
+from ask.stamps import Stamp, stamp_of
 from ask.texts import BYTE_ORDER_MARK, Source, Trouble
-from ask.words import listed
+from ask.words import USAGE, listed
 
 WRONG = 66  # the status where a file can't be made into a log
 MOST_NAME = 32
+CUT = re.compile(r"(.*):\.(\d{1,3})", re.S)  # a field of which only the beginning is taken
 
 
 @dataclass(frozen=True)
 class Keys:
-    """Under which keys, or in which columns, an event has its parts."""
+    """Under which keys, or in which columns, an event has its parts, and what one without a kind becomes."""
 
     host: Tuple[str, ...]
     time: str
     name: str
     kind: str
     id: str
+    without_kind: str = "note"
 
 
 @dataclass
-class Event:
-    """A row to be: names and the stamp as the file has them, and where it stands."""
+class Limits:
+    """How far stamps may be off and how far apart rows are at least, as a file has it."""
 
-    host: str
-    stamp: str
-    kind: str
-    name: str
-    id: str
-    where: str
-
-
-@dataclass
-class HostRecord:
-    """A host with the skew and the gap that a file gives it."""
-
-    name: str
     skew: str
     gap: str
     where: str
 
 
+@dataclass
+class Latency:
+    """How long messages took at least and at most, as a file has it."""
+
+    least: str
+    most: str
+    where: str
+
+
+@dataclass
+class Event:
+    """A row to be: names and the stamp as the file has them, where it stands, and what the file says of its clock."""
+
+    host: str
+    stamp: Stamp
+    text: str  # of the stamp
+    kind: str
+    name: str
+    id: str
+    where: str
+    limits: Optional[Limits] = None
+
+
+@dataclass
+class Found:
+    """What files have: events in their order, the hosts that are declared, and how long messages to them took."""
+
+    events: List[Event] = field(default_factory=list)
+    hosts: Dict[str, Limits] = field(default_factory=dict)
+    latencies: Dict[str, Latency] = field(default_factory=dict)
+
+
 Fields = Dict[str, str]
 Rows = Dict[str, List[Tuple[str, str]]]
+
+
+# Files
 
 
 def fields_of_file(source: Source, keys: Keys) -> Iterator[Tuple[Fields, str]]:
@@ -57,7 +83,7 @@ def fields_of_file(source: Source, keys: Keys) -> Iterator[Tuple[Fields, str]]:
     if data.lstrip()[:1] == b"{":
         yield from fields_of_json(source, data)
     else:
-        yield from fields_of_table(source)
+        yield from fields_of_table(source, keys)
 
 
 def fields_of_json(source: Source, data: bytes) -> Iterator[Tuple[Fields, str]]:
@@ -87,14 +113,14 @@ def flat(found: Dict[str, Any], before: str = "") -> Iterator[Tuple[str, str]]:
             yield before + key, json.dumps(value)
 
 
-def fields_of_table(source: Source) -> Iterator[Tuple[Fields, str]]:
+def fields_of_table(source: Source, keys: Keys) -> Iterator[Tuple[Fields, str]]:
     """The fields of a table by the names of its first line; a log of the program is such a table."""
     records = records_of(source.data)
     if not records:
-        raise Trouble(WRONG, f"{source.name} is empty")
+        raise Trouble(WRONG, f"{source.name} is empty: there is no line with the names of columns")
     heads = [head.strip() for head in records[0].fields]
     if heads[:1] == ["skewlog2"]:
-        raise Trouble(WRONG, f"{source.name} is a log of version 2, which ask log doesn't convert")
+        heads[0] = keys.kind
     for record in records[1:]:
         where = f"{source.name}, line {record.line}"
         if len(record.fields) != len(heads):
@@ -102,21 +128,38 @@ def fields_of_table(source: Source) -> Iterator[Tuple[Fields, str]]:
         yield dict(zip(heads, (part.strip() for part in record.fields))), where
 
 
-def read_events(source: Source, keys: Keys, rows: Rows) -> Tuple[List[Event], List[HostRecord]]:
-    """The events of a file, in its order, and the hosts that it declares."""
-    events: List[Event] = []
-    hosts: List[HostRecord] = []
+# Events
+
+
+def read_events(source: Source, keys: Keys, rows: Rows, found: Found) -> None:
+    """Adds the events of a file, in its order, and what it says of hosts."""
+    limits: Dict[str, Limits] = {}
     for fields, where in fields_of_file(source, keys):
-        if fields.get(keys.kind) == "host":
-            hosts.append(
-                HostRecord(*(part(fields, key, where) for key in (keys.host[0], keys.time, keys.name)), where)
-            )
+        kind = fields.get(keys.kind, "")
+        if kind in ("host", "resync", "latency"):
+            name, first, second = (part(fields, key, where) for key in (keys.host[0], keys.time, keys.name))
+            if kind == "latency":
+                declare(found.latencies, name, Latency(first, second, where), "latency")
+                continue
+            if kind == "host":
+                declare(found.hosts, name, Limits(first, second, where), "skew or gap")
+            elif name not in limits:
+                raise Trouble(WRONG, f"{where}: no host {name!r} is declared before this resync")
+            limits[name] = Limits(first, second, where)
             continue
         host = "_".join(part(fields, key, where) for key in keys.host)
-        stamp, name, id_ = part(fields, keys.time, where), part(fields, keys.name, where), fields.get(keys.id, "")
+        text, name = part(fields, keys.time, where), part(fields, keys.name, where)
+        stamp, id_ = read_stamp(text, where), fields.get(keys.id, "")
         for kind, pattern in rows_of(fields, name, keys, rows, where):
-            events.append(Event(host, stamp, kind, filled(pattern, fields, where), id_, where))
-    return events, hosts
+            shown = filled(pattern, fields, where)
+            found.events.append(Event(host, stamp, text, kind, shown, id_, where, limits.get(host)))
+
+
+def declare(known: Dict[str, Any], name: str, said: Any, what: str) -> None:
+    """Keeps what a file says of a host; two files may say the same alone."""
+    before = known.setdefault(name, said)
+    if vars(before) != {**vars(said), "where": before.where}:
+        raise Trouble(WRONG, f"{said.where}: the host {name} is declared at {before.where} with another {what}")
 
 
 def part(fields: Fields, key: str, where: str) -> str:
@@ -126,18 +169,29 @@ def part(fields: Fields, key: str, where: str) -> str:
     return fields[key]
 
 
+def read_stamp(text: str, where: str) -> Stamp:
+    """The stamp that a text is."""
+    stamp = stamp_of(text)
+    if stamp is None:
+        raise Trouble(
+            WRONG, f"{where}: the stamp {text!r} is no whole number, no number of seconds and no ISO 8601 time",
+        )
+    return stamp
+
+
 def rows_of(fields: Fields, name: str, keys: Keys, rows: Rows, where: str) -> List[Tuple[str, str]]:
     """The kinds and names of the rows that an event becomes; a note, where nothing else is said of it."""
     if name in rows:
         return rows[name]
-    kind = fields.get(keys.kind, "note")
+    kind = fields.get(keys.kind, keys.without_kind)
     if kind not in ROW_KINDS:
-        raise Trouble(WRONG, f"{where}: there is no kind {kind!r}. The kinds: {', '.join(('host',) + ROW_KINDS)}")
+        known = ", ".join(("host", "resync", "latency") + ROW_KINDS)
+        raise Trouble(WRONG, f"{where}: there is no kind {kind!r}. The kinds: {known}")
     return [(kind, name.replace("{", "{{}"))]
 
 
 def filled(pattern: str, fields: Fields, where: str) -> str:
-    """A pattern with the fields that it names in braces in their places."""
+    """A pattern with the fields that it names in braces in their places, of `{KEY:.12}` the first 12 letters."""
     text, place = "", 0
     while place < len(pattern):
         if pattern[place] != "{":
@@ -148,8 +202,10 @@ def filled(pattern: str, fields: Fields, where: str) -> str:
             continue
         end = pattern.find("}", place)
         if end < 0:
-            raise Trouble(64, f"{pattern!r} has a brace that isn't closed")
-        text, place = text + part(fields, pattern[place + 1 : end], where), end + 1
+            raise Trouble(USAGE, f"{pattern!r} has a brace that isn't closed")
+        key, cut = pattern[place + 1 : end], CUT.fullmatch(pattern, place + 1, end)
+        found = part(fields, cut.group(1), where)[: int(cut.group(2))] if cut else part(fields, key, where)
+        text, place = text + found, end + 1
     return text
 
 

@@ -20,8 +20,8 @@ NAME = re.compile(r"[a-z][a-z0-9_]{0,31}")
 NO_HOST_NAMES = ("true", "false", "inf")
 COLUMNS = ("host", "time", "name")
 HEADERS = {("kind",) + COLUMNS: 1, ("skewlog2",) + COLUMNS: 2}
-ROW_KINDS = ("set", "clear", "send", "recv", "note")
-KINDS = {1: ("host",) + ROW_KINDS, 2: ("host", "resync", "latency") + ROW_KINDS + ("pulse",)}
+ROW_KINDS = ("set", "clear", "send", "recv", "note", "pulse")
+KINDS = {1: ("host",) + ROW_KINDS[:-1], 2: ("host", "resync", "latency") + ROW_KINDS}
 
 
 class Record(NamedTuple):

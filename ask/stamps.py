@@ -7,6 +7,7 @@ from datetime import date
 from typing import NamedTuple, Optional, Sequence
 
 UNITS = {"s": 0, "ms": 3, "us": 6, "ns": 9}  # the digits behind the point of a second
+MONTHS = ("Jan", "Feb", "Mar", "Apr", "May", "Jun", "Jul", "Aug", "Sep", "Oct", "Nov", "Dec")
 UNIT_WORDS = {"s": "seconds", "ms": "milliseconds", "us": "microseconds", "ns": "nanoseconds"}
 ISO = re.compile(
     r"(\d{4})-(\d\d)-(\d\d)[Tt ](\d\d):(\d\d)(?::(\d\d)(?:[.,](\d{1,30}))?)?\s*([Zz]|[+-]\d\d:?\d\d)?", re.ASCII
@@ -68,6 +69,19 @@ def zone_seconds(zone: Optional[str]) -> int:
     return (3600 * hours + 60 * minutes) * (-1 if zone[0] == "-" else 1)
 
 
+def iso_moment(seconds: int, digits: str) -> Stamp:
+    """The moment so many seconds after the beginning of 1970, with the digits behind the point."""
+    return Stamp("iso", seconds, digits)
+
+
+def later(stamp: Stamp, duration: Stamp, times: int) -> Stamp:
+    """A moment so many durations later, with all digits."""
+    size = max(len(stamp.digits), len(duration.digits))
+    parts = [part.seconds * 10**size + int(part.digits.ljust(size, "0") or 0) for part in (stamp, duration)]
+    seconds, digits = divmod(parts[0] + times * parts[1], 10**size)
+    return Stamp(stamp.kind, seconds, str(digits).rjust(size, "0") if size else "", stamp.has_zone)
+
+
 def finest_unit(stamps: Sequence[Stamp]) -> str:
     """The coarsest unit that keeps all digits, nanoseconds where there are more."""
     most = max((len(stamp.digits) for stamp in stamps), default=0)
@@ -85,8 +99,8 @@ def loses_digits(stamp: Stamp, unit: str) -> bool:
     return bool(stamp.digits[UNITS[unit] :].strip("0"))
 
 
-def duration_in_units(text: str, unit: Optional[str]) -> Optional[int]:
-    """A duration as `5ms`, or in units where it has none, rounded up; None where it is none."""
+def duration_in_units(text: str, unit: Optional[str], is_down: bool = False) -> Optional[int]:
+    """A duration as `5ms`, or in units where it has none, rounded up, or down; None where it is none."""
     found = DURATION.fullmatch(text.strip())
     if not found:
         return None
@@ -96,4 +110,6 @@ def duration_in_units(text: str, unit: Optional[str]) -> Optional[int]:
     shift = UNITS[unit] - UNITS[suffix] if suffix and unit else 0
     number = int(whole + (digits or ""))
     power = shift - len(digits or "")
-    return number * 10**power if power >= 0 else -(-number // 10**-power)
+    if power >= 0:
+        return number * 10**power
+    return number // 10**-power if is_down else -(-number // 10**-power)

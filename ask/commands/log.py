@@ -1,18 +1,17 @@
-"""`ask log`: a log of other logs, of tables and of lines of JSON, with a window of them."""
+"""`ask log`: a log of other logs, of tables, lines of JSON and access lines, with a window of them."""
 
 from __future__ import annotations
 
 import argparse
 import sys
-from collections import Counter
-from dataclasses import dataclass, field
-from typing import Dict, List, Optional, Sequence, Tuple
+from typing import Dict, List, Sequence
 
-from ask.events import Event, HostRecord, Keys, Rows, WRONG, name_map, read_events
-from ask.logs import MOST_HOSTS, MOST_ROWS, MOST_SKEW, MOST_STAMP, NO_HOST_NAMES, ROW_KINDS
-from ask.stamps import (
-    UNITS, UNIT_WORDS, Stamp, duration_in_units, finest_unit, in_units, loses_digits, stamp_of,
-)
+from ask.access import AccessWords, access_events, format_of
+from ask.events import WRONG, Found, Keys, Rows, name_map, read_events
+from ask.limits import LimitWords, LogHost, hosts_of, settle_limits
+from ask.logs import MOST_ROWS, ROW_KINDS
+from ask.making import Making, cut_window, making_of, settle_messages, spread_carried
+from ask.stamps import UNITS
 from ask.texts import Trouble, read_source, write_text
 from ask.words import USAGE, Answer, counted, listed
 
@@ -20,43 +19,88 @@ from ask.words import USAGE, Answer, counted, listed
 def add_words(commands: argparse._SubParsersAction, common: argparse.ArgumentParser) -> None:
     """Adds the words of the command."""
     words = commands.add_parser(
-        "log", parents=[common], allow_abbrev=False, help="make a log of tables and lines of JSON, or cut a window",
-        description="Writes one log made of files: tables of comma-separated fields with their names in the first "
-        "line, of which logs are one kind, and files with a JSON object a line. Stamps may be whole units, decimal "
-        "seconds or ISO 8601; names that aren't names are mapped. What was changed is said on the standard error, or "
-        "in the file of --notes. The program isn't needed.",
+        "log", parents=[common], allow_abbrev=False, help="make a log of tables, JSON or access lines, or cut a window",
+        description="Writes one log made of files: logs of the program, which are joined; tables of comma-separated "
+        "fields with their names in the first line; files with a JSON object a line; and, with --access, the lines of "
+        "a web server. Stamps may be whole units, decimal seconds or ISO 8601; names that aren't names are mapped. The "
+        "log is of version 2 where it says something that only that one has. What was changed is said on the standard "
+        "error, or in the file of --notes. The program isn't needed.",
     )
     words.add_argument("files", nargs="+", metavar="FILE")
     words.add_argument("--unit", choices=list(UNITS), help="of the log; else the coarsest that keeps all digits")
+    add_words_on_events(words)
+    add_words_on_clocks(words)
+    add_words_on_windows(words)
     words.add_argument(
-        "--skew",
-        action="append",
-        default=[],
-        metavar="[HOST=]D",
-        help="how far each stamp of a host may be off, as 5ms or, in units, 5",
+        "--notes",
+        metavar="NOTES",
+        help="the file for what was changed: the unit, the maps of names, what was carried in",
     )
-    words.add_argument(
-        "--gap",
-        action="append",
-        default=[],
-        metavar="[HOST=]D",
-        help="the least distance of two rows of a host on end; else 0",
-    )
+    words.set_defaults(do=do)
+
+
+def add_words_on_events(words: argparse.ArgumentParser) -> None:
+    """Adds the words on what an event is, and what it becomes."""
     words.add_argument(
         "--host", default="host", metavar="KEY[,KEY]", help="the key of the host; several are joined with _",
     )
-    for key in ("time", "name", "kind", "id"):
+    for key in ("name", "kind", "id"):
         words.add_argument(f"--{key}", default=key, metavar="KEY", help=f"the key of the {key}; else {key}")
+    words.add_argument("--time", metavar="KEY", help="the key of the time; else time, or the finest of --access")
+    words.add_argument(
+        "--access",
+        metavar="FORMAT",
+        help=(
+            "the files are access lines in this log_format of nginx or LogFormat of Apache; `combined` and `apache` "
+            "stand for the combined ones, as in 'combined $request_time'. A request is the two events `begin` and "
+            "`end`, which are set:asked and clear:asked unless --row says more; requests at once are on hosts of "
+            "their own"
+        ),
+    )
+    words.add_argument(
+        "--as",
+        dest="as_host",
+        default="web",
+        metavar="NAME",
+        help="with --access, the hosts are NAME_1, NAME_2 and so on; else web_1, web_2",
+    )
     words.add_argument(
         "--row",
         action="append",
         default=[],
         metavar="EVENT=KIND:NAME[,..]",
         help=(
-            "the rows that an event becomes, by its name; {KEY} in NAME is a field. Other events without a kind "
-            "become notes"
+            "the rows that an event becomes, by its name; {KEY} in NAME is a field, and {KEY:.12} its first 12 "
+            "letters. Other events without a kind become notes"
         ),
     )
+    words.add_argument(
+        "--pulses",
+        action="store_true",
+        help="events without a kind become pulses, propositions that are true at one instant",
+    )
+    words.add_argument(
+        "--part",
+        action="store_true",
+        help="the log is joined with others later: receives whose send is elsewhere stay, and there may be no row",
+    )
+
+
+def add_words_on_clocks(words: argparse.ArgumentParser) -> None:
+    """Adds the words on clocks and messages."""
+    for option, metavar, what in (
+        ("--skew", "[HOST=]D", "how far each stamp of a host may be off, as 5ms or, in units, 5"),
+        ("--gap", "[HOST=]D", "the least distance of two rows of a host on end; else 0"),
+        ("--latency", "[HOST=]LEAST,GREATEST", "how long each message took that the host receives; GREATEST may be inf"),
+        ("--step", "[HOST=]STAMP,D", "the clock was stepped by D at STAMP: rows before it may be off by D more"),
+        ("--clock", "[HOST=]FILE", "the same by the lines of chronyd or ntpd in a file, as `System clock was stepped by`"),
+        ("--tracking", "[HOST=]FILE", "a tracking log of chrony, whose greatest errors are added to the skew"),
+    ):
+        words.add_argument(option, action="append", default=[], metavar=metavar, help=what)
+
+
+def add_words_on_windows(words: argparse.ArgumentParser) -> None:
+    """Adds the words on which rows are kept."""
     words.add_argument(
         "--only", action="append", default=[], metavar="ID", help="keep rows with this id alone; may be given again",
     )
@@ -68,61 +112,48 @@ def add_words(commands: argparse._SubParsersAction, common: argparse.ArgumentPar
     )
     words.add_argument("--to", dest="end", metavar="STAMP", help="leave out rows with later stamps")
     words.add_argument("--carry", action="store_true", help="with --only, carry in what left-out rows before it set")
-    words.add_argument(
-        "--notes",
-        metavar="NOTES",
-        help="the file for what was changed: the unit, the maps of names, what was carried in",
-    )
-    words.set_defaults(do=do)
-
-
-@dataclass
-class Line:
-    """A row of the log to be."""
-
-    host: str
-    stamp: int
-    kind: str
-    name: str
-    id: str
-    is_carried: bool = False
-
-
-@dataclass
-class Making:
-    """A log in the making, and what is said of it."""
-
-    lines: List[Line]
-    unit: Optional[str]  # None where nobody named it
-    is_whole: bool  # whether the stamps were units already
-    notes: List[str] = field(default_factory=list)
 
 
 def do(arguments: argparse.Namespace) -> Answer:
     """The answer of the command."""
-    keys = Keys(tuple(arguments.host.split(",")), arguments.time, arguments.name, arguments.kind, arguments.id)
-    rows = row_table(arguments.row)
-    events: List[Event] = []
-    declared: List[HostRecord] = []
-    for name in arguments.files:
-        found, hosts = read_events(read_source(name), keys, rows)
-        events += found
-        declared += hosts
-    if not events:
+    found = found_in_files(arguments)
+    if not found.events and not arguments.part:
         raise Trouble(WRONG, f"there is no row in {listed(arguments.files)}")
-    making = making_of(events, arguments.unit)
+    making = making_of(found.events, arguments.unit)
     cut_window(making, arguments)
-    if not making.lines:
+    if not making.lines and not arguments.part:
         raise Trouble(WRONG, "no row is left in the window")
-    free_receives(making)
-    hosts = hosts_of(making, declared, arguments)
-    spread_carried(making, hosts)
-    text = log_text(making, hosts)
+    settle_messages(making, arguments.part)
+    words = LimitWords(
+        arguments.skew, arguments.gap, arguments.latency, arguments.step, arguments.clock, arguments.tracking,
+    )
+    settle_limits(making, words)
+    spread_carried(making)
+    text = log_text(making, hosts_of(making, found, words))
     if arguments.notes:
         write_text(arguments.notes, "".join(f"{note}\n" for note in making.notes))
     elif not arguments.json:
         tell(making.notes)
     return Answer(0, text, {"log": "".join(f"{line}\n" for line in text), "notes": making.notes})
+
+
+def found_in_files(arguments: argparse.Namespace) -> Found:
+    """What the files have, in their order."""
+    found, rows = Found(), row_table(arguments.row)
+    without_kind = "pulse" if arguments.pulses else "note"
+    if arguments.access is not None:
+        form = format_of(arguments.access)
+        words = AccessWords(arguments.time, arguments.id, arguments.only, rows, arguments.as_host, without_kind)
+        for name in arguments.files:
+            found.events += access_events(read_source(name), form, words)
+        return found
+    keys = Keys(
+        tuple(arguments.host.split(",")), arguments.time or "time", arguments.name, arguments.kind, arguments.id,
+        without_kind,
+    )
+    for name in arguments.files:
+        read_events(read_source(name), keys, rows, found)
+    return found
 
 
 def tell(notes: Sequence[str]) -> None:
@@ -145,214 +176,11 @@ def row_table(words: Sequence[str]) -> Rows:
     return rows
 
 
-# Stamps
-
-
-def making_of(events: Sequence[Event], wanted: Optional[str]) -> Making:
-    """The rows of events with their stamps in whole units."""
-    stamps = [read_stamp(event.stamp, event.where) for event in events]
-    is_whole = are_whole(stamps, events)
-    unit = wanted if wanted or is_whole else finest_unit(stamps)
-    making = Making([], unit, is_whole)
-    for event, stamp in zip(events, stamps):
-        moment = stamp.seconds if is_whole else in_units(stamp, unit)
-        if abs(moment) > MOST_STAMP:
-            raise Trouble(
-                WRONG,
-                f"{event.where}: the stamp {event.stamp} is {moment} in units, and at most 4*10^18: choose a "
-                "coarser --unit",
-            )
-        making.lines.append(Line(event.host, moment, event.kind, event.name, event.id))
-    if is_whole:
-        making.notes.append(
-            f"unit: {UNIT_WORDS[unit]}, as --unit says" if unit else "unit: that of the stamps, which are whole numbers"
-        )
-        return making
-    since = "since 1970-01-01T00:00:00Z" if any(s.kind == "iso" for s in stamps) else "of the seconds in the file"
-    making.notes.append(f"unit: {UNIT_WORDS[unit]} {since}")
-    cut = sum(loses_digits(stamp, unit) for stamp in stamps)
-    if cut:
-        making.notes.append(
-            f"digits below a unit are cut off in {counted(cut, 'stamp')}: the skew has to cover one unit more"
-        )
-    bare = sum(not stamp.has_zone for stamp in stamps)
-    if bare:
-        making.notes.append(f"{counted(bare, 'stamp')} without a zone {'is' if bare == 1 else 'are'} taken as UTC")
-    return making
-
-
-def read_stamp(text: str, where: str) -> Stamp:
-    """The stamp that a text is."""
-    stamp = stamp_of(text)
-    if stamp is None:
-        raise Trouble(
-            WRONG, f"{where}: the stamp {text!r} is no whole number, no number of seconds and no ISO 8601 time",
-        )
-    return stamp
-
-
-def are_whole(stamps: Sequence[Stamp], events: Sequence[Event]) -> bool:
-    """Whether all stamps are whole numbers, which are units already; beside decimals they are seconds."""
-    kinds = {stamp.kind for stamp in stamps}
-    if "iso" in kinds and len(kinds) > 1:
-        odd = next(event for event, stamp in zip(events, stamps) if stamp.kind != "iso")
-        raise Trouble(WRONG, f"{odd.where}: the stamp {odd.stamp} is a plain number, and others are ISO 8601 times")
-    return kinds == {"whole"}
-
-
-# Windows
-
-
-def cut_window(making: Making, arguments: argparse.Namespace) -> None:
-    """Leaves out the rows outside the window, and carries in what they have set."""
-    begin, end = (limit_of(text, making) for text in (arguments.begin, arguments.end))
-    is_kept = [
-        (not arguments.only or line.id in arguments.only)
-        and (begin is None or line.stamp >= begin)
-        and (end is None or line.stamp <= end)
-        for line in making.lines
-    ]
-    left_out = is_kept.count(False)
-    missing = [id_ for id_ in arguments.only if all(line.id != id_ for line in making.lines)]
-    if missing:
-        raise Trouble(WRONG, f"no row has the id {listed(missing)}")
-    carried = carried_in(making.lines, is_kept, begin) if begin is not None or arguments.carry else []
-    making.lines = carried + [line for line, kept in zip(making.lines, is_kept) if kept]
-    if left_out:
-        making.notes.append(f"{counted(left_out, 'row')} outside the window left out")
-    if begin is not None or end is not None:
-        making.notes.append(
-            "rows near the edge of a window by time may have happened on its other side, within their skew"
-        )
-
-
-def limit_of(text: Optional[str], making: Making) -> Optional[int]:
-    """An end of the window in units."""
-    if text is None:
-        return None
-    stamp = read_stamp(text, "the window")
-    if making.is_whole and stamp.kind != "whole":
-        raise Trouble(USAGE, f"the window's {text} is no whole number, as the stamps are")
-    return stamp.seconds if making.is_whole else in_units(stamp, making.unit or "s")
-
-
-def carried_in(lines: Sequence[Line], is_kept: Sequence[bool], begin: Optional[int]) -> List[Line]:
-    """A `set` row for each proposition that was true before its host's first row of the window."""
-    firsts: Dict[str, int] = {}
-    for line, kept in zip(lines, is_kept):
-        if kept:
-            firsts.setdefault(line.host, line.stamp)
-    state: Dict[Tuple[str, str], bool] = {}
-    begun = set()
-    for line, kept in zip(lines, is_kept):
-        begun |= {line.host} if kept else set()
-        is_before = begin is None or line.stamp < begin
-        if line.kind in ("set", "clear") and line.host not in begun and is_before:
-            state[line.host, line.name] = line.kind == "set"
-    carried = []
-    for (host, name), is_set in state.items():
-        first = firsts.get(host) if begin is None else begin
-        if is_set and first is not None:
-            carried.append(Line(host, first, "set", name, "", is_carried=True))
-    return carried
-
-
-def spread_carried(making: Making, hosts: "Dict[str, LogHost]") -> None:
-    """Puts the rows that are carried in a gap apart, before the first row of their host."""
-    left = Counter(line.host for line in making.lines if line.is_carried)
-    for line in making.lines:
-        if line.is_carried:
-            line.stamp -= left[line.host] * hosts[line.host].gap
-            left[line.host] -= 1
-            making.notes.append(
-                f"carried in: {line.host} {line.name} was set before the window, and is a `set` row at {line.stamp}"
-            )
-
-
-def free_receives(making: Making) -> None:
-    """Makes a note of each receive whose message is sent nowhere."""
-    sent = {line.name for line in making.lines if line.kind == "send"}
-    for line in making.lines:
-        if line.kind == "recv" and line.name not in sent:
-            line.kind = "note"
-            making.notes.append(f"the receive of {line.name} by {line.host} is a note, since no row sends it")
-
-
-# Hosts and names
-
-
-@dataclass
-class LogHost:
-    """A host of the log to be."""
-
-    name: str
-    skew: int
-    gap: int
-
-
-def hosts_of(making: Making, declared: Sequence[HostRecord], arguments: argparse.Namespace) -> Dict[str, LogHost]:
-    """The hosts in the order of their first rows, by their names in the files."""
-    names = list(dict.fromkeys(line.host for line in making.lines))
-    mapped = name_map(names, NO_HOST_NAMES)
-    skews = durations(arguments.skew, "--skew", names, making.unit)
-    gaps = durations(arguments.gap, "--gap", names, making.unit)
-    of_files = declared_limits(declared, making)
-    hosts = {}
-    for name in names:
-        skew, gap = of_files.get(name, (None, 0))
-        skew = skews.get(name, skews.get(None, skew) if skew is None else skew)
-        gap = gaps.get(name, gaps.get(None, gap))
-        if skew is None:
-            raise Trouble(
-                USAGE,
-                f"how far may the stamps of {name} be off? Say it by --skew {name}=D, or by --skew D for all "
-                "hosts",
-            )
-        hosts[name] = LogHost(mapped[name], skew, gap)
-    if len(hosts) > MOST_HOSTS:
-        raise Trouble(
-            WRONG, f"{counted(len(hosts), 'host')}; at most 64: cut a window by --only or by --from and --to",
-        )
-    making.notes += [f"host: {name!r} is {host.name}" for name, host in hosts.items() if name != host.name]
-    return hosts
-
-
-def durations(
-    words: Sequence[str], option: str, hosts: Sequence[str], unit: Optional[str]
-) -> Dict[Optional[str], int]:
-    """The durations that an option gives to hosts, and to all others under None."""
-    found: Dict[Optional[str], int] = {}
-    for word in words:
-        host, equals, text = word.rpartition("=")
-        duration = duration_in_units(text, unit)
-        if duration is None or duration > MOST_SKEW:
-            more = ", since the unit of the stamps isn't named" if unit is None else f", or a duration as 5{unit}"
-            raise Trouble(USAGE, f"{option} {word}: it is a number of units up to 10^18{more}")
-        if equals and host not in hosts:
-            raise Trouble(USAGE, f"{option} {word}: there is no host {host}. The hosts: {listed(hosts)}")
-        found[host if equals else None] = duration
-    return found
-
-
-def declared_limits(declared: Sequence[HostRecord], making: Making) -> Dict[str, Tuple[Optional[int], int]]:
-    """The skew and the gap of the hosts that files declare: in units, or in seconds as their stamps are."""
-    found: Dict[str, Tuple[Optional[int], int]] = {}
-    for record in declared:
-        skew, gap = (
-            duration_in_units(text if making.is_whole or text[-1:] == "s" else text + "s", making.unit)
-            for text in (record.skew, record.gap)
-        )
-        if skew is None or gap is None:
-            raise Trouble(WRONG, f"{record.where}: a skew or gap of {record.name} is no duration")
-        if found.setdefault(record.name, (skew, gap)) != (skew, gap):
-            raise Trouble(
-                WRONG, f"{record.where}: the host {record.name} is declared before with another skew or gap",
-            )
-    return found
+# The log
 
 
 def log_text(making: Making, hosts: Dict[str, LogHost]) -> List[str]:
-    """The lines of the log."""
+    """The lines of the log, of version 2 where a latency, a pulse or a change of a skew needs it."""
     mapped = name_map([line.name for line in making.lines])
     making.notes += [f"name: {name!r} is {short}" for name, short in mapped.items() if name != short]
     if len(making.lines) > MOST_ROWS:
@@ -361,6 +189,18 @@ def log_text(making: Making, hosts: Dict[str, LogHost]) -> List[str]:
             f"{counted(len(making.lines), 'row')}; at most 1,024: cut a window by --only or by --from and --to "
             "(docs/real-logs.md)",
         )
-    text = ["kind,host,time,name"]
-    text += [f"host,{host.name},{host.skew},{host.gap}" for host in hosts.values()]
-    return text + [f"{line.kind},{hosts[line.host].name},{line.stamp},{mapped[line.name]}" for line in making.lines]
+    heads, latencies, body = [], [], []
+    known = {}
+    for line in making.lines:
+        host, limits = hosts[line.host], (line.skew, line.gap)
+        if line.host not in known:
+            heads.append(f"host,{host.name},{line.skew},{line.gap}")
+            if host.latency:
+                least, most = host.latency
+                latencies.append(f"latency,{host.name},{least},{'inf' if most is None else most}")
+        elif known[line.host] != limits:
+            body.append(f"resync,{host.name},{line.skew},{line.gap}")
+        known[line.host] = limits
+        body.append(f"{line.kind},{host.name},{line.stamp},{mapped[line.name]}")
+    is_second = bool(latencies) or any(text.startswith(("resync,", "pulse,")) for text in body)
+    return [f"{'skewlog2' if is_second else 'kind'},host,time,name", *heads, *latencies, *body]

@@ -1,0 +1,233 @@
+"""Access lines of nginx and Apache as events: each request begins, and ends."""
+
+from __future__ import annotations
+
+import re
+from dataclasses import dataclass
+from typing import Callable, Dict, Iterator, List, NamedTuple, Optional, Pattern, Sequence, Tuple
+
+from ask.events import WRONG, Event, Fields, Rows, filled
+from ask.stamps import MONTHS, Stamp, iso_moment, later, stamp_of
+from ask.texts import BYTE_ORDER_MARK, Source, Trouble
+from ask.words import USAGE, listed, shortened
+
+FORMATS = {
+    "combined": (
+        '$remote_addr - $remote_user [$time_local] "$request" $status $body_bytes_sent "$http_referer" '
+        '"$http_user_agent"'
+    ),
+    "apache": '%h %l %u %t "%r" %>s %b "%{Referer}i" "%{User-agent}i"',
+}
+VARIABLE = re.compile(r"\$(?:\{([a-z0-9_]+)\}|([a-z][a-z0-9_]*))|%[<>]?(?:\{([^}]*)\})?([a-zA-Z])")
+NAMED_BY_BRACES = "ieonC"  # of Apache's letters those whose braces name what is shown
+LOCAL = re.compile(r"(\d\d)/([A-Z][a-z]{2})/(\d{4}):(\d\d):(\d\d):(\d\d) ([+-]\d{4})", re.ASCII)
+NUMBER = re.compile(r"(\d{1,18})(?:\.(\d{1,9}))?", re.ASCII)
+BOTH: Rows = {"begin": [("set", "asked")], "end": [("clear", "asked")]}
+
+
+# Formats
+
+
+class Format(NamedTuple):
+    """What a line looks like: its pattern, the keys of its fields, and the text that says so."""
+
+    pattern: Pattern[str]
+    keys: List[str]
+    text: str
+
+
+def format_of(text: str) -> Format:
+    """The format that a log_format of nginx or a LogFormat of Apache is."""
+    first, blank, rest = text.partition(" ")
+    whole = FORMATS.get(first, first) + blank + rest
+    found = list(VARIABLE.finditer(whole))
+    if not found:
+        raise Trouble(USAGE, f"--access {text}: it has no variable, as $msec of nginx or %t of Apache")
+    pattern, keys, place = "", [], 0
+    for match in found:
+        pattern += re.escape(whole[place : match.start()])
+        place = match.end()
+        key = key_of(match)
+        pattern += r"\[([^\]]*)\]" if key == "t" else f"({letters_before(whole[place : place + 1])})"
+        keys.append(key)
+    return Format(re.compile(pattern + re.escape(whole[place:])), keys, text)
+
+
+def key_of(match: "re.Match[str]") -> str:
+    """The key of a variable: its name in nginx, and in Apache its letter, or what its braces name."""
+    braced, plain, inner, letter = match.groups()
+    if braced or plain:
+        return braced or plain
+    if inner is None:
+        return letter
+    return inner.lower() if letter in NAMED_BY_BRACES else f"{letter}:{inner}"
+
+
+def letters_before(end: str) -> str:
+    """The letters of a field that ends at a sign; a quoted one may have signs behind a backslash."""
+    if end == '"':
+        return r'(?:[^"\\]|\\.)*'
+    return f"[^{re.escape(end)}]*" if end else ".*"
+
+
+# Moments
+
+
+def local_time(text: str) -> Optional[Stamp]:
+    """The moment that `14/Nov/2023:22:13:30 +0000` is."""
+    found = LOCAL.fullmatch(text)
+    if not found or found.group(2) not in MONTHS:
+        return None
+    day, month, year, hour, minute, second, zone = found.groups()
+    return stamp_of(f"{year}-{MONTHS.index(month) + 1:02}-{day}T{hour}:{minute}:{second}{zone}")
+
+
+def iso_time(text: str) -> Optional[Stamp]:
+    """The moment that an ISO 8601 time is."""
+    stamp = stamp_of(text)
+    return stamp if stamp and stamp.kind == "iso" else None
+
+
+def seconds(text: str, power: int = 0) -> Optional[Stamp]:
+    """The moment or the duration that a number is, in seconds of which it counts the 10^power-th part."""
+    found = NUMBER.fullmatch(text)
+    if not found:
+        return None
+    digits = found.group(1).rjust(power + 1, "0")
+    whole, rest = (digits[:-power], digits[-power:]) if power else (digits, "")
+    return iso_moment(int(whole), rest + (found.group(2) or ""))
+
+
+Reading = Callable[[str], Optional[Stamp]]
+
+
+def in_parts(power: int) -> Reading:
+    """The reading of a number that counts parts of a second."""
+    return lambda text: seconds(text, power)
+
+
+# The moments that a line may have, the finest first: how each is read, and whether the request ends with it.
+MOMENTS: Dict[str, Tuple[Reading, bool]] = {
+    "msec": (seconds, True),
+    "t:end:usec": (in_parts(6), True), "t:usec": (in_parts(6), False), "t:begin:usec": (in_parts(6), False),
+    "t:end:msec": (in_parts(3), True), "t:msec": (in_parts(3), False), "t:begin:msec": (in_parts(3), False),
+    "time_iso8601": (iso_time, True),
+    "time_local": (local_time, True),
+    "t:end:sec": (seconds, True), "t:sec": (seconds, False), "t:begin:sec": (seconds, False),
+    "t": (local_time, False),
+}
+# How long a request took, the finest first.
+DURATIONS: Dict[str, Reading] = {
+    "D": in_parts(6), "T:us": in_parts(6), "T:ms": in_parts(3), "request_time": seconds, "T:s": seconds, "T": seconds,
+}
+
+
+# Requests
+
+
+@dataclass
+class Request:
+    """A request: when it began and ended, where one is known, with the fields of its line."""
+
+    began: Optional[Stamp]
+    ended: Optional[Stamp]
+    fields: Fields
+    where: str
+
+    def edges(self) -> Tuple[Stamp, Stamp]:
+        """When it began and ended, as far as is known."""
+        began, ended = self.began or self.ended, self.ended or self.began
+        assert began and ended
+        return began, ended
+
+
+def requests_of(source: Source, form: Format, time: Optional[str]) -> Iterator[Request]:
+    """The requests of a file, one a line."""
+    moment = chosen(form, list(MOMENTS), time)
+    took = next((key for key in DURATIONS if key in form.keys), None)
+    read, is_end = MOMENTS[moment]
+    data = source.data[3:] if source.data.startswith(BYTE_ORDER_MARK) else source.data
+    for number, line in enumerate(data.decode("utf-8", "backslashreplace").split("\n"), start=1):
+        line = line.rstrip("\r")
+        if not line.strip():
+            continue
+        where = f"{source.name}, line {number}"
+        match = form.pattern.fullmatch(line)
+        if not match:
+            raise Trouble(WRONG, f"{where}: it isn't of the format {form.text}: {shortened(line, 120)}")
+        fields = dict(zip(form.keys, match.groups()))
+        at = read_by(read, fields, moment, where)
+        lasted = read_by(DURATIONS[took], fields, took, where) if took else None
+        if lasted is None:
+            yield Request(None if is_end else at, at if is_end else None, fields, where)
+        elif is_end:
+            yield Request(later(at, lasted, -1), at, fields, where)
+        else:
+            yield Request(at, later(at, lasted, 1), fields, where)
+
+
+def chosen(form: Format, known: Sequence[str], wanted: Optional[str]) -> str:
+    """The key of a line's moment: the wanted one, or the finest that the format has."""
+    found = [key for key in known if key in form.keys]
+    if wanted and wanted not in found:
+        raise Trouble(USAGE, f"--time {wanted}: the format {form.text} has as moments: {listed(found) or 'none'}")
+    if not found:
+        raise Trouble(USAGE, f"the format {form.text} has no moment, as $msec, $time_local or %t")
+    return wanted or found[0]
+
+
+def read_by(reading: Reading, fields: Fields, key: str, where: str) -> Stamp:
+    """The moment or the duration under a key."""
+    found = reading(fields[key])
+    if found is None:
+        raise Trouble(WRONG, f"{where}: {key} is {fields[key]!r}, which is no time")
+    return found
+
+
+def access_events(source: Source, form: Format, words: "AccessWords") -> List[Event]:
+    """The events of the requests of a file, on hosts on which no two requests are at once."""
+    requests = [
+        request for request in requests_of(source, form, words.time)
+        if not words.only or request.fields.get(words.id) in words.only
+    ]
+    if words.only and words.id not in form.keys:
+        raise Trouble(USAGE, f"--only: the format {form.text} has no {words.id}; say by --id which field is the id")
+    return [event for host, request in on_hosts(requests, words.host) for event in events_of(host, request, words)]
+
+
+def events_of(host: str, request: Request, words: "AccessWords") -> Iterator[Event]:
+    """The events of a request: it begins and ends, or is one moment where it isn't known how long it took."""
+    one: Rows = {"begin": [(words.without_kind, "asked")], "end": [(words.without_kind, "asked")]}
+    defaults = BOTH if request.began and request.ended else one
+    id_ = request.fields.get(words.id, "")
+    for name, stamp in (("begin", request.began), ("end", request.ended)):
+        if stamp:
+            for kind, pattern in words.rows.get(name, defaults[name]):
+                shown = filled(pattern, request.fields, request.where)
+                yield Event(host, stamp, f"of the {name}", kind, shown, id_, request.where)
+
+
+class AccessWords(NamedTuple):
+    """What the words say of access lines: the keys of the moment and the id, the ids to keep, rows, and the host."""
+
+    time: Optional[str]
+    id: str
+    only: Sequence[str]
+    rows: Rows
+    host: str
+    without_kind: str
+
+
+def on_hosts(requests: Sequence[Request], name: str) -> Iterator[Tuple[str, Request]]:
+    """The requests in the order of their beginnings, each with the first host that has none at the same time."""
+    free_from: List[Stamp] = []
+    for request in sorted(requests, key=lambda request: [order(stamp) for stamp in request.edges()]):
+        began, ended = request.edges()
+        place = next((place for place, free in enumerate(free_from) if order(free) < order(began)), len(free_from))
+        free_from[place : place + 1] = [ended]
+        yield f"{name}_{place + 1}", request
+
+
+def order(stamp: Stamp) -> Tuple[int, str]:
+    """What moments are sorted by."""
+    return stamp.seconds, stamp.digits.ljust(30, "0")

@@ -1,0 +1,160 @@
+"""What a time service says of a clock: the lines of chronyd and ntpd on steps, and chrony's tracking log."""
+
+from __future__ import annotations
+
+import re
+from dataclasses import dataclass, field
+from typing import List, NamedTuple, Sequence
+
+from ask.events import WRONG, read_stamp
+from ask.making import Line, Making, moment_in
+from ask.stamps import MONTHS, UNITS, Stamp, duration_in_units, stamp_of
+from ask.texts import Trouble, read_source
+from ask.words import USAGE, counted
+
+STEPPED = re.compile(
+    r"(?:was stepped by|clock_step|time reset) ([+-]?)(\d{1,9}(?:\.\d{1,9})?) ?(?:seconds|s)\b", re.ASCII
+)
+SYSLOG = re.compile(r"(?:(\d\d?) ([A-Z][a-z]{2})|([A-Z][a-z]{2}) +(\d\d?)) (\d\d:\d\d:\d\d)\b", re.ASCII)
+TRACKING_FIELDS = 14
+DAY = 86400
+
+
+class ClockStep(NamedTuple):
+    """A step of a clock: up to and from which stamp on rows may be before and after it, and how far it went."""
+
+    first: int
+    last: int
+    size: int
+
+
+class Update(NamedTuple):
+    """An update of a clock: its second, and the greatest error of the clock since the update before."""
+
+    moment: int
+    error: int
+
+
+@dataclass
+class Clock:
+    """What is told of a clock, in units, of which a second has so many."""
+
+    second: int
+    steps: List[ClockStep] = field(default_factory=list)
+    updates: List[Update] = field(default_factory=list)
+
+    def errors(self, lines: Sequence[Line]) -> List[int]:
+        """By how much the stamp of each row of a host, in their order, may be off beside the skew."""
+        steps, passed, found = sorted(self.steps), 0, []
+        for line in lines:
+            while passed < len(steps) and line.stamp > steps[passed].last:
+                passed += 1
+            found.append(step_error(steps, line.stamp, passed) + self.tracked_error(line))
+        return found
+
+    def tracked_error(self, line: Line) -> int:
+        """The greatest error by the tracking log. An update is told to the second, so a stamp in it is on both sides."""
+        if not self.updates:
+            return 0
+        errors = [
+            update.error
+            for before, update in zip(self.updates, self.updates[1:])
+            if before.moment <= line.stamp < update.moment + self.second
+        ]
+        if not errors:
+            raise Trouble(WRONG, f"{line.where}: the stamp {line.stamp} isn't between two updates of the tracking log")
+        return max(errors)
+
+
+def step_error(steps: Sequence[ClockStep], stamp: int, passed: int) -> int:
+    """The size of the step that comes next, none where no more comes; of those that may be next, the greatest."""
+    sizes = [step.size for step in steps] + [0]
+    end = passed
+    while end < len(steps) and stamp >= steps[end].first:
+        end += 1
+    return max(sizes[passed : end + 1])
+
+
+# Steps
+
+
+def steps_told(making: Making, telling: str) -> List[ClockStep]:
+    """The step that `STAMP,D` tells."""
+    text, comma, size_text = telling.rpartition(",")
+    size = duration_in_units(size_text.lstrip("+-"), making.unit)
+    if not comma or size is None:
+        raise Trouble(USAGE, f"--step {telling}: it is STAMP,D, as 2023-11-14T22:13:28Z,31.2ms")
+    stamp = read_stamp(text, "--step")
+    moment = moment_in(making, stamp)
+    room = 0 if stamp.digits or stamp.kind == "whole" else 10 ** UNITS[making.unit or "s"]
+    return [ClockStep(moment - room, moment + room + size, size)]
+
+
+def steps_of_file(making: Making, name: str) -> List[ClockStep]:
+    """The steps that lines of chronyd or ntpd tell; their moments are taken as known to the second."""
+    source = read_source(name)
+    second = 10 ** UNITS[making.unit or "s"]
+    steps = []
+    for number, line in enumerate(source.data.decode("utf-8", "replace").splitlines(), start=1):
+        found = STEPPED.search(line)
+        if not found:
+            continue
+        where = f"{source.name}, line {number}"
+        moment = moment_in(making, moment_of_line(making, line, where))
+        size = duration_in_units(found.group(2) + "s", making.unit) or 0
+        steps.append(ClockStep(moment - second, moment + second + size, size))
+        making.notes.append(f"{where}: a step of the clock by {found.group(2)} s, at {moment}")
+    if not steps:
+        making.notes.append(f"{source.name} tells of no step of a clock")
+    return steps
+
+
+def moment_of_line(making: Making, line: str, where: str) -> Stamp:
+    """The moment at the beginning of a line; where it has no year, the year that is nearest to the rows."""
+    text = line.strip()
+    for length in (1, 2):
+        stamp = stamp_of(" ".join(text.split(" ")[:length]))
+        if stamp and stamp.kind == "iso":
+            return stamp
+    found = SYSLOG.match(text)
+    if not found or (found.group(2) or found.group(3)) not in MONTHS:
+        raise Trouble(WRONG, f"{where}: it begins with no time that is known, as 2023-11-14T22:13:28Z or Nov 14 22:13:28")
+    day, month = found.group(1) or found.group(4), MONTHS.index(found.group(2) or found.group(3)) + 1
+    middle = making.lines[len(making.lines) // 2].stamp // 10 ** UNITS[making.unit or "s"]
+    year = 1970 + middle // (365 * DAY + DAY // 4)
+    stamps = [stamp_of(f"{y:04}-{month:02}-{int(day):02}T{found.group(5)}Z") for y in (year - 1, year, year + 1)]
+    known = [stamp for stamp in stamps if stamp]
+    if not known:
+        raise Trouble(WRONG, f"{where}: there is no such day")
+    making.notes.append(f"{where}: its time without a year and a zone is taken as UTC, in the year nearest to the rows")
+    return min(known, key=lambda stamp: abs(stamp.seconds - middle))
+
+
+# Tracking
+
+
+def updates_of_file(making: Making, name: str) -> List[Update]:
+    """The updates of a tracking log of chrony, whose titles and rules are left out."""
+    source = read_source(name)
+    updates = []
+    for number, line in enumerate(source.data.decode("utf-8", "replace").splitlines(), start=1):
+        fields = line.split()
+        if len(fields) != TRACKING_FIELDS or not fields[0][:1].isdigit():
+            continue
+        where = f"{source.name}, line {number}"
+        moment = moment_in(making, read_stamp(f"{fields[0]}T{fields[1]}Z", where))
+        updates.append(Update(moment, error_of(fields[-1], making, where)))
+    if len(updates) < 2:
+        raise Trouble(WRONG, f"{source.name} is no tracking log of chrony: it has {counted(len(updates), 'update')}")
+    return updates
+
+
+def error_of(text: str, making: Making, where: str) -> int:
+    """The greatest error of a line in units, as `2.944e-02` of seconds, rounded up."""
+    found = re.fullmatch(r"(\d{1,9})(?:\.(\d{1,18}))?(?:e([+-]\d{1,2}))?", text, re.ASCII)
+    if not found:
+        raise Trouble(WRONG, f"{where}: the greatest error {text!r} is no number")
+    whole, digits, power = found.group(1), found.group(2) or "", int(found.group(3) or 0)
+    shift = UNITS[making.unit or "s"] + power - len(digits)
+    number = int(whole + digits)
+    return number * 10**shift if shift >= 0 else -(-number // 10**-shift)
