@@ -7,14 +7,14 @@ import io
 import json
 import os
 import sys
-from typing import NoReturn, Sequence
+from typing import List, NoReturn, Sequence
 
-from ask.commands import check, deadline, draw, each, log
+from ask.commands import between, check, deadline, draw, each, log, tolerance
 from ask.program import STOPPED, Stopped
 from ask.texts import Trouble
 from ask.words import USAGE, Answer, print_answer
 
-COMMANDS = (check, deadline, each, log, draw)
+COMMANDS = (check, deadline, between, tolerance, each, log, draw)
 
 STATUSES = """\
 statuses:
@@ -113,10 +113,16 @@ def finished(words: Sequence[str]) -> int:
     return answer.status
 
 
+def is_input(word: object) -> bool:
+    """Whether a word names the standard input, by itself or for a host."""
+    return isinstance(word, str) and (word == "-" or word.endswith("=-"))
+
+
 def refuse_second_input(arguments: argparse.Namespace) -> None:
     """Refuses words that name the standard input more than once."""
-    named = [value for value in vars(arguments).values() if value == "-"]
-    named += [name for name in getattr(arguments, "files", []) if name == "-"]
+    named: List[str] = []
+    for value in vars(arguments).values():
+        named += [word for word in (value if isinstance(value, list) else [value]) if is_input(word)]
     if len(named) > 1:
         raise Trouble(USAGE, "`-` is the standard input, which can be read once")
 

@@ -8,10 +8,11 @@ from typing import List, Optional, Sequence
 from ask.formulas import Tree, read_formula
 from ask.logs import Log, read_log
 from ask.program import NOT_THERE, Program, Run
-from ask.reports import Report, Unreadable, read_report
+from ask.reports import Best, Report, Unreadable, read_best, read_report
 from ask.texts import Source, Trouble, is_existing_file, read_source
-from ask.words import TYPED, refusal, shortened
+from ask.words import TYPED, counted, refusal, shortened
 
+UNKNOWN_WORDS = 64  # the status of the program where it doesn't know a command
 VERDICTS = {0: "true", 1: "false", 2: "either", 3: "no timing", 4: "unknown"}
 
 
@@ -74,6 +75,14 @@ def accepted_log(source: Source) -> Log:
     return log
 
 
+def log_with_rows(program: Program, source: Source) -> Log:
+    """The log of a file, or the trouble of the program's refusal of it."""
+    log = read_log(source.data)
+    if isinstance(log, Log):
+        return log
+    raise refusal(program.run("times", [source]), None, source)
+
+
 def accepted_tree(formula: Source) -> Tree:
     """The tree of a formula that the program has accepted."""
     tree = read_formula(text_of_source(formula))
@@ -90,11 +99,32 @@ def report_of_run(run: Run) -> Report:
         raise Trouble(NOT_THERE, f"what the program wrote is no report that ask can read, at: {run.words}") from None
 
 
+def best_of_run(run: Run, question: Question, log: Log, value: str) -> Best:
+    """What a run of `span` or `tolerance` found, or the trouble that its refusal is."""
+    command = run.words.split(" ")[0]
+    if run.status == UNKNOWN_WORDS:
+        raise Trouble(NOT_THERE, (
+            f"{question.program.path} has no command `{command}`: it is older than ask. ./skewcheck builds a new one, "
+            f"which is taken where neither --program nor SKEWCHECK names another"
+        ))
+    if run.status not in (0, 1, 3, 4):
+        raise refusal(run, question.formula, question.log_source)
+    try:
+        return read_best(run.output, len(log.rows), command, value)
+    except Unreadable:
+        raise Trouble(NOT_THERE, f"what the program wrote is no answer that ask can read, at: {run.words}") from None
+
+
 def answered(run: Run, question: Question) -> Run:
     """A run of `check` with an answer, or the trouble that its refusal is."""
     if run.status not in VERDICTS:
         raise refusal(run, question.formula, question.log_source)
     return run
+
+
+def run_lines(runs: Sequence[Run]) -> List[str]:
+    """The runs so far, a line each."""
+    return ["", f"{counted(len(runs), 'run')} of the program:", *(f"  {run.words} -> {run.status}" for run in runs)]
 
 
 def run_facts(runs: Sequence[Run]) -> List[dict]:

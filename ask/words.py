@@ -138,6 +138,11 @@ def walk_words(log: Log, walk: Sequence[Step]) -> List[str]:
     return lines
 
 
+def walk_facts(log: Log, walk: Sequence[Step]) -> List[str]:
+    """The bounds of a closed walk, for programs."""
+    return [step_words(log, step) for step in walk]
+
+
 # Refusals
 
 
@@ -246,15 +251,15 @@ def log_fault_words(number: str, record: Record, records: Sequence[Record]) -> "
     """What is wrong with a record, and with which of its fields."""
     fields = record.fields + [""] * 4
     version = HEADERS.get(tuple(records[0].fields), 1)
-    kinds = ", ".join(kind for kind in KINDS[version] if kind != "pulse")
+    kinds = ", ".join(KINDS[version])
     if number == "1":
         line = shown_text(",".join(record.fields).encode())
         return f"the first line has to be kind,host,time,name or skewlog2,host,time,name, and is {shortened(line)}", 0
     if number == "2":
         return f"a record has four fields, and this one has {len(record.fields)}", 0
     if number == "3":
-        if fields[0] == "pulse":
-            return "the program doesn't read a pulse yet: a set and a clear, or a note, say nearly the same", 0
+        if fields[0] in KINDS[version]:
+            return f"the program doesn't know the kind {fields[0]}: it is older than ask. ./skewcheck builds a new one", 0
         hint = ". The first line skewlog2,host,time,name allows it" if fields[0] in KINDS[2] else ""
         return f"there is no kind {shortened(fields[0])!r}. The kinds: {kinds}{hint}", 0
     if number == "4":

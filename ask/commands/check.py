@@ -7,20 +7,20 @@ from typing import Any, Dict, List, Optional, Sequence, Set, Tuple
 
 from ask import explain
 from ask.cautions import KINDS, Caution, cautions_of
+from ask.grounds import ground_facts, ground_lines
 from ask.nearer import brought_nearer
 from ask.program import STOPPED, Program, Run, Stopped, find_program
 from ask.question import (
-    VERDICTS, Question, accepted_log, accepted_tree, answered, formula_source, report_of_run, run_facts,
+    VERDICTS, Question, accepted_log, accepted_tree, answered, formula_source, report_of_run, run_facts, run_lines,
     shown_formula, text_of_source,
 )
-from ask.reports import Report, Section, Step, bounds_used
+from ask.reports import Report, Section, Step
 from ask.texts import Trouble, read_source
-from ask.words import Answer, bold, counted, grouped, signed, step_words, table, walk_words, yellow
+from ask.words import Answer, bold, counted, grouped, signed, step_words, table, walk_facts, walk_words, yellow
 
 WARNED = 65  # the status where --strict makes an error of a warning
 FEW_CONFLICTS = 100  # what is tried where a run was stopped
 MOST_ROWS_SHOWN = 40
-MOST_BOUNDS_SHOWN = 8
 SPREAD_NOTE = "a skew is a range for each row by itself, and no offset of the clock"
 
 
@@ -234,7 +234,7 @@ class Reading:
         """The bounds that exclude every timing."""
         if self.report.walk is not None:
             self.lines += walk_words(self.log, self.report.walk)
-            self.facts["contradiction"] = [step_words(self.log, step) for step in self.report.walk]
+            self.facts["contradiction"] = walk_facts(self.log, self.report.walk)
 
     def say_grounds(self) -> None:
         """What a refutation rests on."""
@@ -244,27 +244,19 @@ class Reading:
 
     def say_refutation(self, value: bool, section: Section) -> None:
         word = "true" if value else "false"
-        used = bounds_used(section)
-        self.facts["rests_on"] = [
-            {"bound": f"{step.kind} {step.numbers[0]}", "uses": uses, "sentence": step_words(self.log, step)}
-            for step, uses in used
-        ]
-        if not used:
+        self.facts["rests_on"] = ground_facts(self.log, section)
+        grounds = ground_lines(self.log, section, self.arguments.all)
+        if not grounds:
             self.lines += ["", f"It can't be {word} whatever the times: the derivation rests on no bound of the log."]
             return
-        shown = used if self.arguments.all else used[:MOST_BOUNDS_SHOWN]
         self.lines += ["", f"Why it can't be {word}: the derivation, of {counted(section.lines, 'line')}, rests on"]
-        for step, uses in shown:
-            self.lines.append(f"  {step_words(self.log, step)}{f' ({uses}x)' if uses > 1 else ''}")
-        if len(shown) < len(used):
-            self.lines.append(f"  and {counted(len(used) - len(shown), 'bound')} more; --all shows all")
+        self.lines += grounds
 
     def say_runs(self) -> None:
         runs = self.question.program.runs
         self.facts["runs"] = run_facts(runs)
         if self.arguments.runs:
-            self.lines += ["", f"{counted(len(runs), 'run')} of the program:"]
-            self.lines += [f"  {run.words} -> {run.status}" for run in runs]
+            self.lines += run_lines(runs)
 
 
 def verdict_words(status: int, formula: str, log: str, report: Report, options: Sequence[str]) -> str:

@@ -10,10 +10,10 @@ from ask.formulas import Tree, grows_truer, read_formula, subtrees
 from ask.logs import Log
 from ask.program import Program, Run, find_program
 from ask.question import (
-    Question, accepted_log, answered, formula_source, run_facts, shown_formula, text_of_source,
+    Question, accepted_log, answered, formula_source, run_facts, run_lines, shown_formula, text_of_source,
 )
 from ask.texts import Source, Trouble, read_source
-from ask.words import Answer, USAGE, bold, counted
+from ask.words import Answer, USAGE, bold
 
 MOST_NUMBER = 10**18  # in an interval
 SAID = {
@@ -57,8 +57,7 @@ def do(arguments: argparse.Namespace) -> Answer:
     answer = Search(question, tree_of(template)).answer()
     answer.facts["runs"] = run_facts(program.runs)
     if arguments.runs:
-        answer.lines += ["", f"{counted(len(program.runs), 'run')} of the program:"]
-        answer.lines += [f"  {run.words} -> {run.status}" for run in program.runs]
+        answer.lines += run_lines(program.runs)
     return answer
 
 

@@ -9,9 +9,9 @@ from typing import Dict, List, NamedTuple, Pattern, Sequence, Tuple
 
 from ask.cautions import cautions_of_names
 from ask.commands.check import refuse_wrong_conflicts
-from ask.logs import Log, read_log
+from ask.logs import Log
 from ask.program import STOPPED, Program, Stopped, find_program
-from ask.question import VERDICTS, Question, accepted_tree, formula_source, run_facts, text_of_source
+from ask.question import VERDICTS, Question, accepted_tree, formula_source, log_with_rows, run_facts, text_of_source
 from ask.texts import Source, Trouble, read_source
 from ask.words import Answer, USAGE, bold, counted, refusal, table
 
@@ -75,14 +75,6 @@ def pattern_of(text: str) -> Pattern:
         raise Trouble(USAGE, f"--over {text} is no regular expression: {error}") from None
 
 
-def log_with_rows(program: Program, source: Source) -> Log:
-    """The log of a file, or the trouble of the program's refusal of it."""
-    log = read_log(source.data)
-    if isinstance(log, Log):
-        return log
-    raise refusal(program.run("times", [source]), None, source)
-
-
 def matching(log: Log, pattern: Pattern) -> Dict[str, Tuple[str, ...]]:
     """The names that match, each with the groups."""
     has_host = "\\." in pattern.pattern
@@ -108,9 +100,8 @@ def filled(template: str, name: str, groups: Sequence[str]) -> str:
 
 
 def line_of(
-    program: Program, template: Source, source: Source, log: Log, options: Sequence[str], name: str, groups: Sequence[
-        str
-    ]
+    program: Program, template: Source, source: Source, log: Log, options: Sequence[str], name: str,
+    groups: Sequence[str],
 ) -> Line:
     """The line of a name."""
     text = " ".join(filled(text_of_source(template), name, groups).split())
