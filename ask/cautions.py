@@ -46,7 +46,7 @@ def set_names(log: Log, host: int) -> List[str]:
 
 
 def caution_of_name(log: Log, host: int, name: str, where: str, run: str) -> Caution:
-    """The warning of a proposition that no row sets."""
+    """The warning of a proposition that no row sets or pulses."""
     others = [
         event for event, row in enumerate(log.rows) if row.name == name and row.kind in ("note", "send", "recv")
     ]
@@ -54,7 +54,7 @@ def caution_of_name(log: Log, host: int, name: str, where: str, run: str) -> Cau
         what = "note" if log.rows[others[0]].kind == "note" else "message"
         return Caution("no-proposition", (
             f"{where} is false throughout: {name} is the name of a {what} ({lines_words(log, others)}), "
-            f"and only `set` and `clear` rows make propositions"
+            f"and only rows of the kinds set, clear and pulse make propositions"
         ), run)
     names = set_names(log, host)
     named = log.hosts[host].name

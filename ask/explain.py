@@ -6,7 +6,7 @@ from dataclasses import dataclass
 from typing import Callable, List, Optional, Sequence, Set
 
 from ask.formulas import NO_BOUND, Tree, interval_text, propositions, text_of
-from ask.logs import Log, change_rows
+from ask.logs import Log, change_rows, pulse_rows
 from ask.question import Question
 from ask.words import lines_words, shortened
 
@@ -77,14 +77,18 @@ def steps(timing: Timing, tree: Tree, place: int, value: bool, depth: int) -> Li
 
 
 def state_words(timing: Timing, tree: Tree, place: int, value: bool) -> List[str]:
-    """That a proposition has its value, and since which row."""
+    """That a proposition has its value, and since which row, or by which pulse."""
     if tree.form != "prop":
         return []
     host = timing.log.host_numbered(tree.host) or 0
     moment = timing.positions[place]
     changes = [e for e in change_rows(timing.log, host, tree.name) if timing.times[e] <= moment]
-    timing.named.update(changes[-1:])
+    pulses = pulse_rows(timing.log, timing.times, moment, host, tree.name)
+    is_set = bool(changes) and timing.log.rows[changes[-1]].kind == "set"
+    timing.named.update(pulses if pulses and not is_set else changes[-1:])
     since = f"since {lines_words(timing.log, changes[-1:])}" if changes else "as no row before has set it"
+    if pulses and not is_set:
+        since = f"by the pulse of {lines_words(timing.log, pulses)}"
     return [f"{tree.host}.{tree.name} is {str(value).lower()} {timing.place_words(place)}, {since}"]
 
 

@@ -357,13 +357,24 @@ def change_rows(log: Log, host: int, name: str) -> List[int]:
     ]
 
 
-def state_at(log: Log, times: Sequence[int], moment: int, host: int, name: str) -> bool:
-    """Whether a proposition is true at a moment: pulsed at it, or the last change up to it is a `set`."""
-    for event, row in enumerate(log.rows):
-        if row.kind == "pulse" and row.host == host and row.name == name and times[event] == moment:
-            return True
+def pulse_rows(log: Log, times: Sequence[int], moment: int, host: int, name: str) -> List[int]:
+    """The rows that pulse a proposition at a moment."""
+    return [
+        event
+        for event, row in enumerate(log.rows)
+        if times[event] == moment and (row.kind, row.host, row.name) == ("pulse", host, name)
+    ]
+
+
+def is_set_at(log: Log, times: Sequence[int], moment: int, host: int, name: str) -> bool:
+    """Whether the last change of a proposition up to a moment is a `set`."""
     past = [event for event in change_rows(log, host, name) if times[event] <= moment]
     return bool(past) and log.rows[past[-1]].kind == "set"
+
+
+def state_at(log: Log, times: Sequence[int], moment: int, host: int, name: str) -> bool:
+    """Whether a proposition is true at a moment: it is pulsed or set there."""
+    return bool(pulse_rows(log, times, moment, host, name)) or is_set_at(log, times, moment, host, name)
 
 
 def proposition_names(log: Log, host: int) -> List[str]:

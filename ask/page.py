@@ -13,23 +13,32 @@ PAGE = """<!doctype html>
 body { margin: 0; font: 14px system-ui, sans-serif; color: #222; }
 header { padding: 10px 12px; }
 header p { margin: 2px 0; color: #555; }
-svg { display: block; touch-action: none; cursor: grab; }
+svg { display: block; touch-action: none; cursor: grab; user-select: none; -webkit-user-select: none; }
+#tip {
+  position: fixed; visibility: hidden; pointer-events: none; max-width: 60ch; padding: 4px 7px; white-space: pre-wrap;
+  font-size: 12px; background: #fffff2; border: 1px solid #999; border-radius: 3px; overflow-wrap: anywhere;
+}
 </style>
 <header><strong>@TITLE@</strong>
-<p>Wheel or + and - zoom, dragging or arrow keys move, 0 or a double click shows all.
-A row's line of the file is shown where the pointer rests.</p>
+<p>Wheel or + and - zoom, over the names the wheel scrolls. Dragging or arrow keys move, 0 or a double click shows
+all. Where the pointer is, the moment is shown, and the line of the file of a row.</p>
 </header>
 @SVG@
+<div id="tip"></div>
 <script>
 "use strict";
 const svg = document.querySelector("svg");
 const {left, plot, right, levels, letter} = numbers(svg.dataset);
 const all = kind => [...svg.querySelectorAll(kind)].map(element => ({element, ...numbers(element.dataset)}));
 const marks = all(".x"), lines = all(".l"), stretches = all(".w"), curves = all(".c"), middles = all(".m");
-const ticks = all(".ticks");
+const ticks = all(".ticks"), most = 6;
 const part = (mark, kind) => mark.element.querySelector(kind);
 const labels = marks.map(mark => ({mark, text: part(mark, ".label"), shift: part(mark, ".shift")}))
   .filter(label => label.text).sort((one, other) => one.mark.x - other.mark.x);
+
+// Titles are shown at once, and those of all that is at one place.
+const titles = new Map([...svg.querySelectorAll("title")].map(title => [title.parentNode, title.textContent]));
+for (const title of svg.querySelectorAll("title")) title.remove();
 
 let width = plot, zoom = 1, moved = 0, waits = false;
 const at = place => left + (place * zoom - moved) * width / plot;
@@ -95,6 +104,7 @@ function placeLabels() {
     const x = at(mark.x), wide = Number(text.dataset.wide);
     const isLeft = x + wide > left + width + right && x <= left + width + right;
     const begin = isLeft ? x + 3 - wide : x - 3;
+    if (x < left - 12) { text.classList.add("off"); continue; }
     let level = 0;
     const key = () => `${text.dataset.lane} ${level}`;
     while (level < levels && begin < (free.get(key()) ?? -Infinity)) level++;
@@ -134,14 +144,48 @@ function fit() {
   ask();
 }
 
+// What is at a point, or just beside it, by its titles.
+function titlesAt(x, y) {
+  const found = new Set();
+  for (const [across, down] of [[0, 0], [-4, 0], [4, 0], [0, -4], [0, 4]]) {
+    for (let element of document.elementsFromPoint(x + across, y + down)) {
+      while (element && element !== svg && !titles.has(element)) element = element.parentNode;
+      if (titles.has(element)) found.add(titles.get(element));
+    }
+  }
+  return [...found];
+}
+
+const tip = document.querySelector("#tip"), axis = ticks[0];
+
+// Shows the moment at a point, and what is there.
+function showTip(x, y) {
+  const place = x - svg.getBoundingClientRect().left;
+  tip.style.visibility = place < left || place > left + width ? "hidden" : "visible";
+  const passed = Math.round(axis.offset + ((place - left) * plot / width + moved) / zoom / plot * axis.span);
+  const moment = BigInt(axis.element.dataset.base) + BigInt(passed);
+  const found = titlesAt(x, y), more = found.length - most;
+  tip.textContent = [`at ${moment}`, ...found.slice(0, most), ...(more > 0 ? [`and ${more} more`] : [])].join("\\n");
+  const page = document.documentElement;
+  tip.style.left = `${Math.max(0, Math.min(x + 14, page.clientWidth - tip.offsetWidth - 2))}px`;
+  tip.style.top = `${y + 18 + tip.offsetHeight > page.clientHeight ? y - 8 - tip.offsetHeight : y + 18}px`;
+}
+
 svg.addEventListener("wheel", event => {
+  if (event.offsetX < left) return;
   event.preventDefault();
   zoomBy(event.deltaY < 0 ? 1.2 : 1 / 1.2, event.offsetX);
 }, {passive: false});
 svg.addEventListener("pointerdown", event => { svg.setPointerCapture(event.pointerId); });
 svg.addEventListener("pointermove", event => {
-  if (event.buttons & 1) { moved -= event.movementX * plot / width; ask(); }
+  if (event.buttons & 1) {
+    moved -= event.movementX * plot / width;
+    scrollBy(0, -event.movementY);
+    ask();
+  }
+  showTip(event.clientX, event.clientY);
 });
+svg.addEventListener("pointerleave", () => { tip.style.visibility = "hidden"; });
 svg.addEventListener("dblclick", () => { zoom = 1; moved = 0; ask(); });
 addEventListener("keydown", event => {
   if (event.key === "+") zoomBy(1.5, left + width / 2);

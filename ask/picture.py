@@ -1,54 +1,23 @@
 """Pictures of logs: a lane a host, rows with their skews, messages, states, positions, and a contradiction as a loop.
 
-A picture has a panel for each timing that is shown. Distances along the time axis carry their ends as data, in
-units of the plot, so that a script in a page can zoom without drawing anew.
+A picture has a panel for each timing that is shown.
 """
 
 from __future__ import annotations
 
-import math
-from dataclasses import dataclass, field
 from html import escape
 from typing import Dict, List, NamedTuple, Optional, Sequence, Tuple
 
-from ask.logs import Log, bound_of, proposition_names, state_at
+from ask.logs import Log, bound_of, is_set_at, proposition_names
+from ask.plot import (
+    AXIS, BEYOND, COLOURS, HEAD, LABEL_LEVELS, LANE, LEFT, LETTER, MOST_CLEAR_POSITIONS, MOST_STRIPS, PLOT, RIGHT,
+    STRIP, STYLE, Canvas, Scale, curve, data, draw_axis, mark,
+)
 from ask.reports import Step
 from ask.words import signed, step_words
 
-LEFT = 120  # where the plot begins
-PLOT = 980  # its width
-RIGHT = 40
-HEAD = 44  # the height of a panel's title
-LANE = 58  # the height of a lane without its propositions
-STRIP = 13  # the height of a proposition
-AXIS = 46
-LABEL_LEVELS = 3
-LETTER = 6.3  # the width of a letter of a label
-MOST_STRIPS = 8
-MOST_CLEAR_POSITIONS = 120
-BEYOND = 24  # how far a state that stays is drawn beyond the plot
-COLOURS = ("#0072b2", "#d55e00", "#009e73", "#cc79a7", "#b8860b", "#56b4e9", "#7a5195", "#666666")
 
-STYLE = """
-text { font: 12px system-ui, sans-serif; fill: #222; }
-.title { font-weight: 600; font-size: 14px; }
-.host { font-weight: 600; }
-.small { font-size: 11px; fill: #555; }
-.label { font-size: 11px; }
-.shift { font-size: 10px; fill: #8a1c1c; }
-.lane { fill: #f6f7f9; }
-.position { stroke: #c9ced6; stroke-width: 1; }
-.faint { stroke-opacity: .35; }
-.skew { stroke: #9aa4b2; stroke-width: 5; stroke-opacity: .38; }
-.moved { stroke: #8a1c1c; stroke-width: 1; stroke-dasharray: 2 2; }
-.stamp { fill: #fff; stroke: #8a1c1c; }
-.row { fill: #222; }
-.message { stroke: #44546a; stroke-width: 1.3; fill: none; }
-.step { stroke: #c00; stroke-width: 2; fill: none; }
-.number { fill: #c00; font-weight: 700; paint-order: stroke; stroke: #fff; stroke-width: 3px; }
-.axis { stroke: #888; }
-.off { visibility: hidden; }
-"""
+DIAMOND = "M0 -6 L5 0 L0 6 L-5 0 z"  # the mark of a pulse
 
 
 class Panel(NamedTuple):
@@ -57,39 +26,6 @@ class Panel(NamedTuple):
     title: str
     times: Sequence[int]
     walk: Sequence[Step] = ()
-
-
-@dataclass
-class Scale:
-    """Where moments stand in the plot."""
-
-    first: int
-    last: int
-
-    def at(self, moment: int) -> float:
-        """The distance of a moment from the plot's left, of the width PLOT."""
-        return round(PLOT * (moment - self.first) / max(1, self.last - self.first), 2)
-
-
-@dataclass
-class Canvas:
-    """The parts of a picture, from top to bottom."""
-
-    parts: List[str] = field(default_factory=list)
-    height: int = 0
-
-    def text(self, x: float, y: float, words: str, kind: str = "", anchor: str = "start") -> None:
-        self.parts.append(f'<text class="{kind}" x="{x:g}" y="{y:g}" text-anchor="{anchor}">{escape(words)}</text>')
-
-    def line(
-        self, kind: str, ends: Tuple[float, float], heights: Tuple[float, float], title: str = "", more: str = ""
-    ) -> None:
-        """A line between two moments of the plot."""
-        hover = f"<title>{escape(title)}</title>" if title else ""
-        self.parts.append(
-            f'<line class="{kind} l" data-a="{ends[0]:g}" data-b="{ends[1]:g}" x1="{LEFT + ends[0]:g}" '
-            f'x2="{LEFT + ends[1]:g}" y1="{heights[0]:g}" y2="{heights[1]:g}"{more}>{hover}</line>'
-        )
 
 
 def picture(log: Log, panels: Sequence[Panel], heading: str = "") -> str:
@@ -147,8 +83,8 @@ def draw_panel(canvas: Canvas, log: Log, panel: Panel, scale: Scale, number: int
     canvas.text(12, canvas.height + 24, panel.title, "title")
     top = canvas.height + HEAD
     lanes, bottom = lanes_of(log, top + (24 if panel.walk else 0))
-    for host, lane in zip(log.hosts, lanes):
-        draw_lane_ground(canvas, lane, f"{host.name}", f"skew {host.skew}, gap {host.gap}")
+    for place, (host, lane) in enumerate(zip(log.hosts, lanes)):
+        draw_lane_ground(canvas, lane, host.name, limits_words(log, place))
     canvas.parts.append('<g clip-path="url(#plot)">')
     positions = sorted(set(panel.times))
     kind = "position" if len(positions) <= MOST_CLEAR_POSITIONS else "position faint"
@@ -196,6 +132,14 @@ def lanes_of(log: Log, top: int) -> Tuple[List[Lane], int]:
     return lanes, top
 
 
+def limits_words(log: Log, host: int) -> str:
+    """The skew and the gap of a host's rows, from the least to the greatest where a resync changes them."""
+    skews = sorted({row.skew for row in log.rows if row.host == host} or {log.hosts[host].skew})
+    gaps = sorted({row.gap for row in log.rows if row.host == host} or {log.hosts[host].gap})
+    shown = [str(found[0]) if len(found) == 1 else f"{found[0]} to {found[-1]}" for found in (skews, gaps)]
+    return f"skew {shown[0]}, gap {shown[1]}"
+
+
 def draw_lane_ground(canvas: Canvas, lane: Lane, name: str, limits: str) -> None:
     """The ground of a lane, with the names at its left."""
     canvas.parts.append(f'<rect class="lane" x="0" y="{lane.top}" width="100%" height="{lane.height}"/>')
@@ -212,19 +156,26 @@ def strip_top(lane: Lane, place: int) -> int:
 
 
 def draw_states(canvas: Canvas, log: Log, panel: Panel, scale: Scale, host: int, lane: Lane) -> None:
-    """The stretches in which each proposition of a host is true."""
+    """The stretches in which each proposition of a host is set, and the pulses, at whose instants it is true."""
     positions = sorted(set(panel.times))
     for place, name in enumerate(lane.names):
         colour = COLOURS[names_of_log(log).index(name) % len(COLOURS)]
+        shown = f"{log.hosts[host].name}.{name}"
         for begin, end in stretches(log, panel.times, positions, host, name):
             a, b = scale.at(begin), PLOT + BEYOND if end is None else scale.at(end)
-            words = f"{log.hosts[host].name}.{name} is true from {begin}"
-            words += "" if end is None else f" up to {end}, where it isn't"
+            words = f"{shown} is true from {begin}"
+            words += "" if end is None else f" up to {end}, where it isn't set any more"
             canvas.parts.append(
-                f'<rect class="w" data-a="{a:g}" data-b="{b:g}" x="{LEFT + a:g}" y="{strip_top(lane, place)}" '
+                f'<rect class="w" {data(a=a, b=b)} x="{LEFT + a:g}" y="{strip_top(lane, place)}" '
                 f'width="{max(b - a, 2):g}" height="{STRIP - 4}" rx="2" fill="{colour}">'
                 f"<title>{escape(words)}</title></rect>"
             )
+        for event, row in enumerate(log.rows):
+            if (row.kind, row.host, row.name) == ("pulse", host, name):
+                words = f"{shown} is true at {panel.times[event]}, by the pulse of line {row.line}"
+                diamond = f'<path class="pulse" d="{DIAMOND}" fill="{colour}"/><title>{escape(words)}</title>'
+                height = strip_top(lane, place) + (STRIP - 4) / 2
+                canvas.parts.append(mark(scale.at(panel.times[event]), height, diamond))
 
 
 def names_of_log(log: Log) -> List[str]:
@@ -235,16 +186,15 @@ def names_of_log(log: Log) -> List[str]:
 def stretches(
     log: Log, times: Sequence[int], positions: Sequence[int], host: int, name: str
 ) -> List[Tuple[int, Optional[int]]]:
-    """From which position on a proposition is true, and from which on it isn't again; None where it stays so."""
+    """From which position on a proposition is set, and from which on it isn't again; None where it stays so."""
     found: List[Tuple[int, Optional[int]]] = []
     was = False
     rows = [event for event, row in enumerate(log.rows) if row.host == host and row.name == name]
-    pulsed = {times[event] for event in rows if log.rows[event].kind == "pulse"}
     relevant = {times[event] for event in rows}
-    for place, moment in enumerate(positions):
-        if moment not in relevant and (place == 0 or positions[place - 1] not in pulsed):
+    for moment in positions:
+        if moment not in relevant:
             continue
-        now = state_at(log, times, moment, host, name)
+        now = is_set_at(log, times, moment, host, name)
         if now and not was:
             found.append((moment, None))
         if was and not now:
@@ -269,39 +219,41 @@ def draw_messages(canvas: Canvas, log: Log, panel: Panel, scale: Scale, lanes: S
 
 
 def draw_rows(canvas: Canvas, log: Log, panel: Panel, scale: Scale, lanes: Sequence[Lane], number: int) -> None:
-    """Each row at its time, with its stamp, its skew and its shift."""
+    """Each row at its time, with its stamp, its skew and its shift; the skews lie below all marks."""
     levels = label_levels(log, panel, scale)
     has_room = shift_rooms(log, panel, scale)
     for event, row in enumerate(log.rows):
-        lane, time = lanes[row.host], panel.times[event]
+        height = lanes[row.host].middle
+        skew = (scale.at(max(row.stamp - row.skew, scale.first)), scale.at(min(row.stamp + row.skew, scale.last)))
+        canvas.line("skew", skew, (height, height), row_title(log, panel, event))
+    for event, row in enumerate(log.rows):
+        height, time = lanes[row.host].middle, panel.times[event]
         at, stamp = scale.at(time), scale.at(row.stamp)
         shift = time - row.stamp
-        skew = (scale.at(max(row.stamp - row.skew, scale.first)), scale.at(min(row.stamp + row.skew, scale.last)))
-        title = f"line {row.line}: {row.kind},{log.host_of(event)},{row.stamp},{row.name}"
-        title += f"\nskew {row.skew}: {row.stamp - row.skew} to {row.stamp + row.skew}"
-        title += f"\ntime {time}, shift {signed(shift)}" if shift else ""
-        canvas.line("skew", skew, (lane.middle, lane.middle), title)
         if shift:
-            canvas.line("moved", (stamp, at), (lane.middle, lane.middle))
-            canvas.parts.append(mark(stamp, lane.middle, '<circle class="stamp" r="2.6"/>'))
+            canvas.line("moved", (stamp, at), (height, height))
+            canvas.parts.append(mark(stamp, height, '<circle class="stamp" r="2.6"/>'))
         level, is_left = levels[event] or (0, False)
         off = " off" if levels[event] is None else ""
         anchor = "end" if is_left else "start"
         label = f"{row.kind} {row.name}"
-        parts = f'<circle class="row" r="4"/><title>{escape(title)}</title>'
+        dot = f'<path class="row" d="{DIAMOND}"/>' if row.kind == "pulse" else '<circle class="row" r="4"/>'
+        parts = f"{dot}<title>{escape(row_title(log, panel, event))}</title>"
         parts += (
             f'<text class="label{off}" data-lane="{number}.{row.host}" data-wide="{LETTER * len(label):g}" '
             f'x="{3 if is_left else -3}" y="{-8 - 11 * level}" text-anchor="{anchor}">{escape(label)}</text>'
         )
         off = "" if has_room[event] else " off"
         parts += f'<text class="shift{off}" x="0" y="15" text-anchor="middle">{signed(shift)}</text>' if shift else ""
-        canvas.parts.append(mark(at, lane.middle, parts))
+        canvas.parts.append(mark(at, height, parts))
 
 
-def mark(at: float, height: float, parts: str) -> str:
-    """Parts at a moment, which keep their size."""
-    move = f"translate({LEFT + at:g},{height:g})"
-    return f'<g class="x" data-x="{at:g}" data-y="{height:g}" transform="{move}">{parts}</g>'
+def row_title(log: Log, panel: Panel, event: int) -> str:
+    """What is shown where the pointer is on a row: its line of the file, and its times."""
+    row, time = log.rows[event], panel.times[event]
+    title = f"line {row.line}: {row.kind},{log.host_of(event)},{row.stamp},{row.name}"
+    title += f"\nskew {row.skew}: {row.stamp - row.skew} to {row.stamp + row.skew}"
+    return title + (f"\ntime {time}, shift {signed(time - row.stamp)}" if time != row.stamp else "")
 
 
 def label_levels(log: Log, panel: Panel, scale: Scale) -> List[Optional[Tuple[int, bool]]]:
@@ -354,50 +306,9 @@ def draw_walk(canvas: Canvas, log: Log, panel: Panel, scale: Scale, lanes: Seque
             continue
         (a, y), (b, z) = point(bound.start), point(bound.end)
         words = f"{number}. {step_words(log, step)}: {bound.most}"
-        data = f'data-a="{a:g}" data-b="{b:g}" data-y="{y:g}" data-z="{z:g}"'
+        ends = data(a=a, b=b, y=y, z=z)
         path, (x, height) = curve(LEFT + a, y, LEFT + b, z)
         canvas.parts.append(
-            f'<path class="step c" {data} d="{path}" marker-end="url(#redhead)"><title>{escape(words)}</title></path>'
+            f'<path class="step c" {ends} d="{path}" marker-end="url(#redhead)"><title>{escape(words)}</title></path>'
         )
-        canvas.parts.append(f'<text class="number m" {data} x="{x:g}" y="{height:g}">{number}: {bound.most}</text>')
-
-
-def curve(a: float, y: float, b: float, z: float) -> Tuple[str, Tuple[float, float]]:
-    """A path between two points that is bent to its left, and the place of its label."""
-    length = math.hypot(b - a, z - y)
-    if length < 2:
-        return f"M{a:g} {y:g} C{a - 30:g} {y - 40:g} {a + 30:g} {y - 40:g} {a:g} {y:g}", (a + 20, y - 22)
-    bend = min(34, 12 + length / 8)
-    across, down = (a + b) / 2 + bend * (z - y) / length, (y + z) / 2 - bend * (b - a) / length
-    label = (0.36 * a + 0.48 * across + 0.16 * b + 4, 0.36 * y + 0.48 * down + 0.16 * z)
-    return f"M{a:g} {y:g} Q{across:g} {down:g} {b:g} {z:g}", label
-
-
-# The axis
-
-
-def draw_axis(canvas: Canvas, scale: Scale, height: float) -> None:
-    """The axis with its ticks; large moments are counted from the first."""
-    canvas.parts.append(f'<line class="axis" x1="{LEFT}" x2="{LEFT + PLOT}" y1="{height}" y2="{height}"/>')
-    base = scale.first if max(abs(scale.first), abs(scale.last)) >= 10**7 else 0
-    if base:
-        canvas.text(LEFT, height + 32, f"counted from {base}", "small")
-    canvas.parts.append(
-        f'<g class="ticks" data-offset="{scale.first - base}" data-span="{scale.last - scale.first}" data-y="{height}">'
-    )
-    for moment in ticks(scale.first, scale.last):
-        at = scale.at(moment)
-        canvas.parts.append(
-            f'<g transform="translate({LEFT + at:g},{height:g})"><line class="axis" y2="4"/>'
-            f'<text class="small" y="16" text-anchor="middle">{moment - base}</text></g>'
-        )
-    canvas.parts.append("</g>")
-
-
-def ticks(first: int, last: int) -> List[int]:
-    """Round moments from the first to the last, about ten."""
-    steps = (factor * 10**power for power in range(22) for factor in (1, 2, 5))
-    step = next(step for step in steps if (last - first) // step <= 10)
-    base = first if max(abs(first), abs(last)) >= 10**7 else 0
-    begin = base + -(-(first - base) // step) * step
-    return list(range(begin, last + 1, step))
+        canvas.parts.append(f'<text class="number m" {ends} x="{x:g}" y="{height:g}">{number}: {bound.most}</text>')

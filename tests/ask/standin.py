@@ -112,12 +112,13 @@ def tolerance(words):
     value, most, formula, name = words
     refuse_faults([formula, name])
     data, log = Path(formula).read_bytes(), logs.read_log(Path(name).read_bytes())
-    kind, lines = sections(data, log, int(most), value)
+    most = min(int(most), 10**18 - max(clock.skew for clock in [*log.hosts, *log.resyncs]))  # what a log can say
+    kind, lines = sections(data, log, most, value)
     if kind == "inconsistent":
         end_with(3, lines)
     if kind == "refuted":
         end_with(1, ["tolerance none", *lines, "end"])
-    low, high = -1, int(most)
+    low, high = -1, most
     while high - low > 1:
         middle = (low + high) // 2
         low, high = (low, middle) if sections(data, log, middle, value)[0] == "witness" else (middle, high)

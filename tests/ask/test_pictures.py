@@ -6,7 +6,8 @@ import xml.etree.ElementTree as trees
 from common import ROOT, asked
 
 from ask.logs import read_log
-from ask.picture import stretches, ticks
+from ask.picture import Panel, picture, stretches
+from ask.plot import ticks
 
 
 def drawn(*words):
@@ -23,17 +24,17 @@ def of_class(picture, name):
 
 class Pictures(unittest.TestCase):
     def test_parts(self):
-        picture = drawn("checkout.csv", "--report", "checkout_within_5000.report")
-        self.assertEqual(len(of_class(picture, "row")), 2 * 7)
-        self.assertEqual(len(of_class(picture, "skew")), 2 * 7)
-        self.assertEqual(len(of_class(picture, "message")), 2 * 2)
-        self.assertEqual(len(of_class(picture, "w")), 2 * 2)
-        self.assertIn("line 4: set,web,1700000000000000,asked", "".join(picture.itertext()))
+        drawing = drawn("checkout.csv", "--report", "checkout_within_5000.report")
+        self.assertEqual(len(of_class(drawing, "row")), 2 * 7)
+        self.assertEqual(len(of_class(drawing, "skew")), 2 * 7)
+        self.assertEqual(len(of_class(drawing, "message")), 2 * 2)
+        self.assertEqual(len(of_class(drawing, "w")), 2 * 2)
+        self.assertIn("line 4: set,web,1700000000000000,asked", "".join(drawing.itertext()))
 
     def test_loop(self):
-        picture = drawn("circle.csv")
-        self.assertEqual(len(of_class(picture, "step")), 4)
-        self.assertIn("The bounds add up to -2", "".join(picture.itertext()))
+        drawing = drawn("circle.csv")
+        self.assertEqual(len(of_class(drawing, "step")), 4)
+        self.assertIn("The bounds add up to -2", "".join(drawing.itertext()))
 
     def test_pages_ask_for_no_other_file(self):
         _, page, _ = asked(["draw", "examples/answered.csv"])
@@ -48,9 +49,16 @@ class Pictures(unittest.TestCase):
         self.assertEqual(stretches(log, times, positions, 0, "p"), [(1, 5)])
         self.assertEqual(stretches(log, times, positions, 0, "q"), [(5, None)])
 
-    def test_pulses_are_true_at_one_position(self):
+    def test_pulses_have_marks_of_their_own(self):
         log = read_log(b"skewlog2,host,time,name\nhost,a,9,0\npulse,a,1,p\nset,a,5,q\nset,a,7,q\npulse,a,7,p\n")
-        self.assertEqual(stretches(log, log.stamps(), [1, 5, 7], 0, "p"), [(1, 5), (7, None)])
+        self.assertEqual(stretches(log, log.stamps(), [1, 5, 7], 0, "p"), [])
+        drawing = trees.fromstring(picture(log, [Panel("by the stamps", log.stamps())]))
+        self.assertEqual(len(of_class(drawing, "pulse")), 2)
+        self.assertIn("a.p is true at 7, by the pulse of line 6", "".join(drawing.itertext()))
+
+    def test_pulses_within_a_stretch(self):
+        log = read_log(b"skewlog2,host,time,name\nhost,a,9,0\nset,a,1,p\npulse,a,5,p\nclear,a,7,p\npulse,a,9,p\n")
+        self.assertEqual(stretches(log, log.stamps(), [1, 5, 7, 9], 0, "p"), [(1, 7)])
 
     def test_ticks(self):
         self.assertEqual(ticks(8, 17), list(range(8, 18)))

@@ -1,0 +1,134 @@
+"""What pictures are drawn with: a scale along the time axis, a canvas, marks, bent arrows and an axis.
+
+Distances along the axis carry their ends as data, in units of the plot, so that a script in a page can zoom without
+drawing anew.
+"""
+
+from __future__ import annotations
+
+import math
+from dataclasses import dataclass, field
+from html import escape
+from typing import List, Tuple
+
+LEFT = 120  # where the plot begins
+PLOT = 980  # its width
+RIGHT = 40
+HEAD = 44  # the height of a panel's title
+LANE = 58  # the height of a lane without its propositions
+STRIP = 13  # the height of a proposition
+AXIS = 46
+LABEL_LEVELS = 3
+LETTER = 6.3  # the width of a letter of a label
+MOST_STRIPS = 8
+MOST_CLEAR_POSITIONS = 120
+BEYOND = 24  # how far a state that stays is drawn beyond the plot
+COLOURS = ("#0072b2", "#d55e00", "#009e73", "#cc79a7", "#b8860b", "#56b4e9", "#7a5195", "#666666")
+
+STYLE = """
+text { font: 12px system-ui, sans-serif; fill: #222; }
+.title { font-weight: 600; font-size: 14px; }
+.host { font-weight: 600; }
+.small { font-size: 11px; fill: #555; }
+.label { font-size: 11px; }
+.shift { font-size: 10px; fill: #8a1c1c; }
+.lane { fill: #f6f7f9; }
+.position { stroke: #c9ced6; stroke-width: 1; }
+.faint { stroke-opacity: .35; }
+.skew { stroke: #9aa4b2; stroke-width: 5; stroke-opacity: .38; }
+.moved { stroke: #8a1c1c; stroke-width: 1; stroke-dasharray: 2 2; }
+.stamp { fill: #fff; stroke: #8a1c1c; }
+.row { fill: #222; }
+.pulse { stroke: #fff; stroke-width: 1; }
+.message { stroke: #44546a; stroke-width: 1.3; fill: none; }
+.step { stroke: #c00; stroke-width: 2; fill: none; }
+.number { fill: #c00; font-weight: 700; paint-order: stroke; stroke: #fff; stroke-width: 3px; }
+.axis { stroke: #888; }
+.off { visibility: hidden; }
+"""
+
+
+@dataclass
+class Scale:
+    """Where moments stand in the plot."""
+
+    first: int
+    last: int
+
+    def at(self, moment: int) -> float:
+        """The distance of a moment from the plot's left, of the width PLOT."""
+        return PLOT * (moment - self.first) / max(1, self.last - self.first)
+
+
+@dataclass
+class Canvas:
+    """The parts of a picture, from top to bottom."""
+
+    parts: List[str] = field(default_factory=list)
+    height: int = 0
+
+    def text(self, x: float, y: float, words: str, kind: str = "", anchor: str = "start") -> None:
+        self.parts.append(f'<text class="{kind}" x="{x:g}" y="{y:g}" text-anchor="{anchor}">{escape(words)}</text>')
+
+    def line(
+        self, kind: str, ends: Tuple[float, float], heights: Tuple[float, float], title: str = "", more: str = ""
+    ) -> None:
+        """A line between two moments of the plot."""
+        hover = f"<title>{escape(title)}</title>" if title else ""
+        self.parts.append(
+            f'<line class="{kind} l" {data(a=ends[0], b=ends[1])} x1="{LEFT + ends[0]:g}" '
+            f'x2="{LEFT + ends[1]:g}" y1="{heights[0]:g}" y2="{heights[1]:g}"{more}>{hover}</line>'
+        )
+
+
+def data(**places: float) -> str:
+    """Places in the plot as data, with digits enough for the greatest zoom."""
+    return " ".join(f'data-{name}="{place:.10g}"' for name, place in places.items())
+
+
+def mark(at: float, height: float, parts: str) -> str:
+    """Parts at a moment, which keep their size."""
+    move = f"translate({LEFT + at:g},{height:g})"
+    return f'<g class="x" {data(x=at, y=height)} transform="{move}">{parts}</g>'
+
+
+def curve(a: float, y: float, b: float, z: float) -> Tuple[str, Tuple[float, float]]:
+    """A path between two points that is bent to its left, and the place of its label."""
+    length = math.hypot(b - a, z - y)
+    if length < 2:
+        return f"M{a:g} {y:g} C{a - 30:g} {y - 40:g} {a + 30:g} {y - 40:g} {a:g} {y:g}", (a + 20, y - 22)
+    bend = min(34, 12 + length / 8)
+    across, down = (a + b) / 2 + bend * (z - y) / length, (y + z) / 2 - bend * (b - a) / length
+    label = (0.36 * a + 0.48 * across + 0.16 * b + 4, 0.36 * y + 0.48 * down + 0.16 * z)
+    return f"M{a:g} {y:g} Q{across:g} {down:g} {b:g} {z:g}", label
+
+
+# The axis
+
+
+def draw_axis(canvas: Canvas, scale: Scale, height: float) -> None:
+    """The axis with its ticks; large moments are counted from the first."""
+    canvas.parts.append(f'<line class="axis" x1="{LEFT}" x2="{LEFT + PLOT}" y1="{height}" y2="{height}"/>')
+    base = scale.first if max(abs(scale.first), abs(scale.last)) >= 10**7 else 0
+    if base:
+        canvas.text(LEFT, height + 32, f"counted from {base}", "small")
+    canvas.parts.append(
+        f'<g class="ticks" data-base="{base}" data-offset="{scale.first - base}" '
+        f'data-span="{scale.last - scale.first}" data-y="{height}">'
+    )
+    for moment in ticks(scale.first, scale.last):
+        at = scale.at(moment)
+        canvas.parts.append(
+            f'<g transform="translate({LEFT + at:g},{height:g})"><line class="axis" y2="4"/>'
+            f'<text class="small" y="16" text-anchor="middle">{moment - base}</text></g>'
+        )
+    canvas.parts.append("</g>")
+
+
+def ticks(first: int, last: int) -> List[int]:
+    """Round moments from the first to the last, about ten."""
+    steps = (factor * 10**power for power in range(22) for factor in (1, 2, 5))
+    step = next(step for step in steps if (last - first) // step <= 10)
+    base = first if max(abs(first), abs(last)) >= 10**7 else 0
+    begin = base + -(-(first - base) // step) * step
+    return list(range(begin, last + 1, step))
