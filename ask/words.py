@@ -166,6 +166,8 @@ def refusal(run: Run, formula: Optional[Source], log: Optional[Source]) -> Troub
         return Trouble(run.status, f"the file of times: line {words[-1]} {what.get(words[2], 'is wrong')}")
     if kind == "size":
         return Trouble(run.status, size_refusal(int(words[-1]), log))
+    if kind == "event":
+        return Trouble(run.status, f"the log has no row {words[-1]}, at: {run.words}")
     known = {70: "memory ran out", 74: "the program couldn't read a file", 75: "the program couldn't write"}
     if run.status in known:
         return Trouble(run.status, f"{known[run.status]}, at: {run.words}")

@@ -13,6 +13,28 @@ sys.path[:0] = [str(ROOT), str(ROOT / "tests" / "reference")]
 PATIENCE = 60  # seconds that one run may take
 
 from ask.main import main
+from ask.program import find_program
+
+PULSED = b"skewlog2,host,time,name\nhost,a,0,0\npulse,a,10,p\n"
+
+
+def status_of(words, text=b""):
+    """The status with which the program ends."""
+    return subprocess.run([find_program(None), *words], input=text, capture_output=True, timeout=PATIENCE).returncode
+
+
+def reads_pulses():
+    """Whether the program reads logs with pulses, which an older one refuses."""
+    return status_of(["times", "-"], PULSED) == 0
+
+
+def program_with(command):
+    """The program where it has a command, and else the stand-in for one that has it."""
+    operands = {"span": ["true", "0", "1"], "tolerance": ["true", "1"]}[command]
+    if status_of([command, *operands, os.devnull, os.devnull]) != 64:
+        return find_program(None)
+    os.environ["ASK_REAL"] = find_program(None)
+    return str(ROOT / "tests" / "ask" / "standin.py")
 
 
 @contextlib.contextmanager

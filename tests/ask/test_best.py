@@ -1,0 +1,132 @@
+"""`ask between` and `ask tolerance`: by the program where it has `span` and `tolerance`, and else by a stand-in."""
+
+import json
+import random
+import tempfile
+import unittest
+from pathlib import Path
+
+from common import ROOT, asked, program_with
+import generate
+import logs
+import reference
+
+EXAMPLES = ROOT / "examples"
+SPAN = program_with("span")
+TOLERANCE = program_with("tolerance")
+CASES = 12
+
+
+def facts_of(words, status, folder=EXAMPLES, program=SPAN):
+    """What words answer, as facts."""
+    ended, text, said = asked([*words, "--json", "--program", program], folder)
+    assert ended == status, f"{words}: {ended}, {said}"
+    return json.loads(text)
+
+
+class Between(unittest.TestCase):
+    def test_values_by_hand(self):
+        for words, least, greatest in (
+            (["answered.csv", "0", "1"], 1, 9), (["answered.csv", "1", "0"], -9, -1), (["together.csv", "0", "1"], 0, 0),
+            (["checkout.csv", "0", "3"], 1, 8000), (["checkout.csv", "0", "5"], 5000, 13000), (["ping.csv", "0", "3"], 5, 57),
+            (["no_ping.csv", "0", "3"], 1, 61),
+        ):
+            facts = facts_of(["between", *words], 0)
+            self.assertEqual((facts["least"], facts["greatest"]), (least, greatest), words)
+
+    def test_ways_to_name_a_row(self):
+        first = facts_of(["between", "checkout.csv", "0", "3"], 0)
+        for words in (["line:4", "line:7"], ["web.asked", "pay.done"], ["0", "pay.done"], ["line:4", "3"]):
+            self.assertEqual(facts_of(["between", "checkout.csv", *words], 0)["sentence"], first["sentence"])
+
+    def test_rows_that_are_none(self):
+        for log, row, part in (
+            ("checkout.csv", "7", "numbered from 0 to 6"), ("checkout.csv", "line:3", "4 to 10"), ("checkout.csv", "line:x", "4 to 10"),
+            ("checkout.csv", "web.done", "asked, m1, m2, shown"), ("checkout.csv", "app.done", "web, pay"),
+            ("checkout.csv", "done", "HOST.NAME"), ("checkout.csv", "9" * 5000, "numbered from 0"), ("checkout.csv", "-1", "usage"),
+            ("checkout.csv", "3", "both are"), ("lease.csv", "a.holds", "line:4 (set), line:5 (clear)"), ("checkout.csv", "", "names no row"),
+        ):
+            ended, _, said = asked(["between", log, row, "3", "--program", SPAN], EXAMPLES)
+            self.assertEqual(ended, 64, said)
+            self.assertIn(part, said)
+
+    def test_ends_rest_on_bounds_of_the_log(self):
+        ends = facts_of(["between", "checkout.csv", "0", "3"], 0)["ends"]
+        self.assertEqual({step["bound"] for step in ends["greatest"]["rests_on"]}, {"low 0", "high 3"})
+        self.assertEqual({step["bound"] for step in ends["least"]["rests_on"]}, {"rise 1", "message 2", "rise 3"})
+
+    def test_contradictions_and_refusals(self):
+        self.assertEqual(len(facts_of(["between", "circle.csv", "0", "1"], 3)["contradiction"]), 4)
+        with tempfile.TemporaryDirectory() as folder:
+            Path(folder, "l").write_text("kind,host,time,name\nset,a,1,p\n")
+            self.assertIn("line 2", facts_of(["between", "l", "0", "1"], 66, folder)["refusal"])
+
+    def test_generated_logs(self):
+        draw = random.Random(38)
+        with tempfile.TemporaryDirectory() as folder:
+            for _ in range(CASES):
+                data = generate.log_file(draw, generate.some_log(draw), 0)
+                log = logs.read_log(data)
+                if b"pulse" in data or len(log.rows) < 2:
+                    continue
+                Path(folder, "l").write_bytes(data)
+                first, second = draw.sample(range(len(log.rows)), 2)
+                ended, text, said = asked(["between", "l", str(first), str(second), "--json", "--program", SPAN], folder)
+                self.assertIn(ended, (0, 3), said)
+                if ended == 0:
+                    self.check_ends(json.loads(text), log, first, second)
+
+    def check_ends(self, facts, log, first, second):
+        """Asserts that the timings of both ends are admissible and have the delays."""
+        for which in ("least", "greatest"):
+            times = facts["ends"][which]["times"]
+            self.assertTrue(reference.admissible(log, times))
+            self.assertEqual(times[second] - times[first], facts[which])
+        stamped = [row.local for row in log.rows]
+        if reference.admissible(log, stamped):
+            self.assertTrue(facts["least"] <= stamped[second] - stamped[first] <= facts["greatest"])
+
+
+class Tolerance(unittest.TestCase):
+    def least(self, formula, log, *words, status=0):
+        return facts_of(["tolerance", formula, log, *words], status, program=TOLERANCE)["least"]
+
+    def test_values_by_hand(self):
+        self.assertEqual(self.least("within_9.formula", "answered.csv", "--false", "--most", "5"), 1)
+        self.assertEqual(self.least("within_5.formula", "answered.csv", "--most", "5"), 0)
+        self.assertEqual(self.least("G (a.req -> F[0,21] b.ack)", "answered.csv", "--false"), 7)
+        self.assertIsNone(self.least("G (a.req -> F[0,21] b.ack)", "answered.csv", "--false", "--most", "5", status=1))
+        self.assertIsNone(self.least("p.formula", "received_first.csv", status=3))
+
+    def test_words(self):
+        for words in (["--most", "-1"], ["--most", "1" * 30], ["--conflicts", "0"], ["--most", "x"]):
+            ended, _, said = asked(["tolerance", "p.formula", "set.csv", *words, "--program", TOLERANCE], EXAMPLES)
+            self.assertEqual(ended, 64, said)
+
+    def test_refusals(self):
+        ended, _, said = asked(["tolerance", "c.p", "answered.csv", "--program", TOLERANCE], EXAMPLES)
+        self.assertEqual((ended, "no host c" in said), (65, True), said)
+
+
+class Programs(unittest.TestCase):
+    def test_programs_without_the_commands_and_with_answers_that_are_none(self):
+        with tempfile.TemporaryDirectory() as folder:
+            program = Path(folder, "program")
+            for script, part in (
+                ("exit 64", "has no command `span`"), ("echo span 5", "no answer that ask can read"),
+                ("printf 'span 5\\ntrue witness\\n1\\n2\\nend\\n'", "no answer"), ("printf 'span x\\n'", "no answer"),
+                ("echo inconsistent; exit 3", "no answer"), ("exit 7", "status 7"), ("echo refused event 1; exit 69", "no row 1"),
+            ):
+                program.write_text(f"#!/bin/sh\n{script}\n")
+                program.chmod(0o755)
+                ended, _, said = asked(["between", "answered.csv", "0", "1", "--program", str(program)], EXAMPLES)
+                self.assertEqual(ended, 69, said)
+                self.assertIn(part, said)
+                self.assertNotIn("Traceback", said)
+            program.write_text("#!/bin/sh\nexit 64\n")
+            ended, _, said = asked(["tolerance", "a.req", "answered.csv", "--program", str(program)], EXAMPLES)
+            self.assertEqual((ended, "has no command `tolerance`" in said), (69, True), said)
+
+
+if __name__ == "__main__":
+    unittest.main()

@@ -1,0 +1,182 @@
+"""`ask log`: logs of version 2, access lines, and what a time service says of a clock."""
+
+import tempfile
+import unittest
+from pathlib import Path
+
+from common import asked, status_of
+
+COMBINED = '192.0.2.7 - - [14/Nov/2023:22:13:30 +0000] "GET /a \\"x\\" HTTP/1.1" 200 512 "-" "curl [8]"'
+HEAD = "kind,host,time,name\n"
+SECOND = "skewlog2,host,time,name\n"
+EVENTS = (
+    '{"time": "2023-11-14T22:13:20Z", "host": "a", "name": "x"}\n{"time": "2023-11-14T22:13:27.5Z", "host": "a", "name": "x"}\n'
+    '{"time": "2023-11-14T22:13:29.5Z", "host": "a", "name": "x"}\n{"time": "2023-11-14T22:13:40Z", "host": "a", "name": "x"}\n'
+)
+
+
+class Making(unittest.TestCase):
+    def made(self, text, *words, status=0):
+        """The log that is made of a text, without its first line, or what is said where there is none."""
+        ended, log, said = asked(["log", "-", *words], text=text.encode())
+        self.assertEqual(ended, status, said)
+        self.assertNotIn("Traceback", said)
+        return said if status else log
+
+    def refused(self, text, words, status, *parts):
+        said = self.made(text, *words, status=status)
+        for part in parts:
+            self.assertIn(part, said)
+
+    def skews(self, text, *words):
+        """The skew of each row of a log that is made."""
+        found, skew = [], None
+        for line in self.made(text, *words).splitlines()[1:]:
+            kind, _, third, _ = line.split(",")
+            if kind in ("host", "resync"):
+                skew = int(third)
+            elif kind != "latency":
+                found.append(skew)
+        return found
+
+
+class SecondVersion(Making):
+    def test_logs_of_version_2_stay_what_they_are(self):
+        text = SECOND + "host,a,5,1\nhost,b,5,1\nlatency,b,3,8\nsend,a,10,m\nresync,a,2,0\npulse,a,12,p\nrecv,b,20,m\n"
+        self.assertEqual(self.made(text), text)
+
+    def test_version_1_where_nothing_needs_the_second(self):
+        self.assertEqual(self.made(SECOND + "host,a,5,1\nset,a,1,p\nresync,a,5,1\nnote,a,2,n\n"), HEAD + "host,a,5,1\nset,a,1,p\nnote,a,2,n\n")
+
+    def test_latencies(self):
+        text = '{"time": 0.5, "host": "a", "name": "m", "kind": "send"}\n{"time": 0.6, "host": "b", "name": "m", "kind": "recv"}\n'
+        for said, latency in (("1.5ms,2.5ms", "1,3"), ("0,inf", "1,inf"), ("3,3", "3,3")):
+            log = self.made(text, "--skew", "1", "--unit", "ms", "--latency", f"b={said}")
+            self.assertIn(f"\nlatency,b,{latency}\n", log)
+            self.assertTrue(log.startswith("skewlog2,"))
+        for said in ("3", "3,2", "x,2", "c=1,2", "b=1,2,3", "b=-1,2"):
+            self.refused(text, ["--skew", "1", "--latency", said], 64, "latency")
+
+    def test_what_files_say_of_hosts(self):
+        for text, part in (
+            ("host,a,1,1\nhost,a,2,1\nset,a,1,p\n", "declared at the standard input, line 2"), ("resync,a,1,1\nset,a,1,p\n", "line 2: no host 'a'"),
+            ("host,a,1,1\nlatency,a,5,3\nset,a,1,p\n", "line 3: the least latency"), ("host,a,1,1\nlatency,a,x,3\nset,a,1,p\n", "line 3"),
+            ("host,a,x,1\nset,a,1,p\n", "line 2: the skew 'x'"), ("host,a,1,1\nput,a,1,p\n", "line 3: there is no kind 'put'"),
+            ("host,a,1,1\nsend,a,1,m\nsend,a,2,m\n", "line 4: the message m is sent before, at the standard input, line 3"),
+        ):
+            self.refused(SECOND + text, [], 66, part)
+
+    def test_events_that_are_moments(self):
+        log = self.made(EVENTS, "--skew", "5ms", "--unit", "ms", "--pulses")
+        self.assertEqual([line.split(",")[0] for line in log.splitlines()], ["skewlog2", "host"] + ["pulse"] * 4)
+        self.assertIn("pulse,a,1700000000000,hit\n", self.made(EVENTS, "--skew", "5", "--unit", "ms", "--row", "x=pulse:hit"))
+
+    def test_parts_that_are_joined(self):
+        text = HEAD + "host,b,1,0\nrecv,b,20,m\n"
+        self.assertEqual(self.made(text, "--part"), text)
+        with tempfile.TemporaryDirectory() as folder:
+            Path(folder, "part").write_text(self.made(text, "--part"))
+            Path(folder, "none").write_text(self.made(text, "--part", "--only", "nothing"))
+            Path(folder, "other").write_text(HEAD + "host,a,2,0\nsend,a,15,m\n")
+            ended, log, said = asked(["log", "other", "none", "part"], folder)
+            self.assertEqual((ended, log), (0, HEAD + "host,a,2,0\nhost,b,1,0\nsend,a,15,m\nrecv,b,20,m\n"), said)
+
+    def test_the_program_reads_what_is_made(self):
+        log = self.made(EVENTS, "--skew", "2", "--unit", "ms", "--latency", "1,9", "--step", "2023-11-14T22:13:28Z,40ms")
+        self.assertEqual(status_of(["times", "-"], log.encode()), 0)
+
+
+class AccessLines(Making):
+    def test_times_of_nginx(self):
+        text = f"{COMBINED} 0.252 1700000010.300 ab\n\n{COMBINED} 0.100 1700000010.500 cd\r\n"
+        log = self.made(text, "--access", "combined $request_time $msec $id", "--skew", "5ms", "--row", "end=clear:asked,note:s{status}_{id}")
+        self.assertEqual(log, HEAD + (
+            "host,web_1,5,0\nset,web_1,1700000010048,asked\nclear,web_1,1700000010300,asked\nnote,web_1,1700000010300,s200_ab\n"
+            "set,web_1,1700000010400,asked\nclear,web_1,1700000010500,asked\nnote,web_1,1700000010500,s200_cd\n"
+        ))
+
+    def test_times_of_apache_are_of_the_beginning(self):
+        log = self.made(f"{COMBINED} 252001\n", "--access", "apache %D", "--skew", "1s", "--as", "front")
+        self.assertEqual(log, HEAD + (
+            "host,front_1,1000000,0\nset,front_1,1700000010000000,asked\nclear,front_1,1700000010252001,asked\n"
+        ))
+
+    def test_requests_at_once_are_on_hosts_of_their_own(self):
+        lines = "".join(f"{end} {took} r{place}\n" for place, (end, took) in enumerate([("9.0", "5.0"), ("6.0", "1.0"), ("12.0", "1.0")]))
+        log = self.made(lines, "--access", "$msec $request_time $id", "--skew", "1", "--row", "begin=note:{id}", "--row", "end=note:{id}")
+        self.assertEqual(log, HEAD + (
+            "host,web_1,1,0\nhost,web_2,1,0\nnote,web_1,4000,r0\nnote,web_1,9000,r0\nnote,web_2,5000,r1\nnote,web_2,6000,r1\n"
+            "note,web_1,11000,r2\nnote,web_1,12000,r2\n"
+        ))
+
+    def test_without_a_duration_a_request_is_a_moment(self):
+        self.assertEqual(self.made(f"{COMBINED}\n", "--access", "combined", "--skew", "1"), HEAD + "host,web_1,1,0\nnote,web_1,1700000010,asked\n")
+
+    def test_moments(self):
+        for form, line, stamp in (
+            ("$msec", "1700000010.003", "1700000010003"), ("$time_iso8601", "2023-11-14T22:13:30+00:00", "1700000010"),
+            ("[$time_local]", "[14/Nov/2023:23:13:30 +0100]", "1700000010"), ("%t", "[14/Nov/2023:22:13:30 +0000]", "1700000010"),
+            ("%{msec}t", "1700000010003", "1700000010003"), ("%{end:usec}t", "1700000010003001", "1700000010003001"),
+            ("%{sec}t %h", "1700000010 -", "1700000010"), ("${msec}|$host", "1700000010.5|x", "1700000010500"),
+        ):
+            self.assertIn(f",{stamp},asked\n", self.made(line + "\n", "--access", form, "--skew", "1"), form)
+
+    def test_lines_and_formats_that_are_none(self):
+        for text, form, status, part in (
+            ("x\n", "$msec $request_time", 66, "line 1: it isn't of the format"), ("x 0.1\n", "$msec $request_time", 66, "msec is 'x'"),
+            ("1.0 -\n", "$msec $request_time", 66, "request_time is '-'"), ("1.0\n", "msec", 64, "no variable"), ("1.0\n", "$host", 64, "no moment"),
+            ("[31/Feb/2023:22:13:30 +0000]\n", "%t", 66, "no time"), ("\n", "$msec", 66, "no row"), ("1.0\n", "", 64, "no variable"),
+            ("\xff\xfe\0\n", "$msec", 66, "line 1"),
+        ):
+            self.refused(text, ["--access", form, "--skew", "1"], status, part)
+        self.refused("1.0\n", ["--access", "$msec", "--skew", "1", "--time", "t"], 64, "has as moments: msec")
+        self.refused("1.0\n", ["--access", "$msec", "--skew", "1", "--only", "x"], 64, "has no id")
+        self.refused("1.0\n", ["--access", "$msec", "--skew", "1", "--row", "end=note:{id}"], 66, "no 'id'")
+
+
+class Clocks(Making):
+    def clocked(self, file, *words):
+        """The skews where a file tells of the clock."""
+        with tempfile.TemporaryDirectory() as folder:
+            Path(folder, "clock").write_text(file)
+            return self.skews(EVENTS, "--skew", "2", "--unit", "ms", *words, str(Path(folder, "clock")))
+
+    def test_steps(self):
+        for line in (
+            "2023-11-14T22:13:28Z app chronyd[612]: System clock was stepped by 0.031211 seconds", "2023-11-14T23:13:28+01:00 x chronyd: System clock was stepped by -0.031211 seconds",
+            "14 Nov 22:13:28 ntpd[588]: 0.0.0.0 c61c 0c clock_step +0.031211 s", "Nov 14 22:13:28 app ntpd[588]: time reset +0.031211 s",
+        ):
+            self.assertEqual(self.clocked(f"other lines\n{line}\n", "--clock"), [34, 34, 2, 2], line)
+
+    def test_two_steps(self):
+        # Rows within a second of a step may be before it or after it, and have the greater of the two sizes.
+        words = ["--step", "2023-11-14T22:13:20Z,9", "--step", "a=2023-11-14T22:13:28Z,40ms"]
+        self.assertEqual(self.skews(EVENTS, "--skew", "2", "--unit", "ms", *words), [42, 42, 2, 2])
+        self.assertEqual(self.skews(EVENTS, "--skew", "2", "--unit", "ms", "--step", "2023-11-14T22:13:29Z,40ms"), [42, 42, 42, 2])
+
+    def test_tracking(self):
+        form = "2023-11-14 22:13:{} 192.0.2.7 3 3.917 0.079 -3.121e-02 N  1 1.902e-04 -3.018e-02 1.611e-03 4.002e-04 {}\n"
+        file = "===\n   Date (UTC) Time\n" + "".join(form.format(*part) for part in (("10", "1e-3"), ("25", "3.168e-02"), ("29", "2"), ("45", "1.0e-03")))
+        self.assertEqual(self.clocked(file, "--tracking"), [34, 2002, 2002, 3])
+        for wrong in ("", file[:200], file.replace("3.168e-02", "x")):
+            self.assertIn("clock", self.refusal(wrong, "--tracking"))
+        self.assertIn("isn't between two updates", self.refusal(file.replace(":45", ":30"), "--tracking"))
+
+    def refusal(self, file, *words):
+        with tempfile.TemporaryDirectory() as folder:
+            Path(folder, "clock").write_text(file)
+            return self.made(EVENTS, "--skew", "2", "--unit", "ms", *words, str(Path(folder, "clock")), status=66)
+
+    def test_words(self):
+        for words, part in (
+            (["--step", "x"], "STAMP,D"), (["--step", "2023-11-14T22:13:28Z"], "STAMP,D"), (["--step", "b=2023-11-14T22:13:28Z,1"], "no host b"),
+        ):
+            self.refused(EVENTS, ["--skew", "2", *words], 64, part)
+        self.refused(EVENTS, ["--skew", "2", "--step", "x,1"], 66, "'x'")
+        self.refused(HEAD + "host,a,1,1\nset,a,1,p\n", ["--step", "1,1"], 64, "--unit")
+        self.refused(EVENTS, ["--skew", "2", "--clock", "missing"], 74, "missing")
+        self.assertIn("begins with no time", self.refusal("clock_step +0.031211 s\n", "--clock"))
+
+
+if __name__ == "__main__":
+    unittest.main()
