@@ -7,7 +7,7 @@ import tempfile
 import unittest
 from pathlib import Path
 
-from common import PATIENCE, asked
+from common import PATIENCE, PULSED, asked, reads_pulses
 import formats
 import generate
 import logs
@@ -63,6 +63,28 @@ class AgainstProgramAndReference(unittest.TestCase):
             self.assertEqual(facts["as_stamped"]["broken"], f"{broken.kind.decode()} {broken.event}")
         else:
             self.assertEqual(reference.truth(log, stamps, tree), told == "true")
+
+
+@unittest.skipUnless(reads_pulses(), "the program refuses logs with pulses")
+class Pulses(unittest.TestCase):
+    def asked_of(self, formula, rows, *words):
+        with tempfile.TemporaryDirectory() as folder:
+            Path(folder, "l").write_bytes(PULSED.replace(b"pulse,a,10,p\n", b"") + rows)
+            return asked([*words, formula, "l"] if words == ("check",) else [*words, "l"], folder)
+
+    def test_a_pulse_is_true_at_its_instant_alone(self):
+        ended, text, _ = self.asked_of("a.p", b"pulse,a,10,p\nnote,a,11,n\n", "check")
+        self.assertEqual(ended, 0)
+        self.assertIn("a.p is true at 10 (line 3: a pulse p), by the pulse of line 3.", text)
+        self.assertEqual(self.asked_of("F[1,1] a.p", b"pulse,a,10,p\nnote,a,11,n\n", "check")[0], 1)
+
+    def test_a_pulse_and_a_clear_at_one_instant(self):
+        for rows in (b"clear,a,10,p\npulse,a,10,p\n", b"pulse,a,10,p\nclear,a,10,p\n"):
+            self.assertEqual(self.asked_of("a.p", rows, "check")[0], 0)
+
+    def test_pictures(self):
+        ended, text, said = self.asked_of("", b"pulse,a,10,p\n", "draw", "--svg")
+        self.assertEqual((ended, text.count('class="pulse"')), (0, 1), said)
 
 
 if __name__ == "__main__":

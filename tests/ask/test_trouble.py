@@ -7,7 +7,7 @@ import tempfile
 import unittest
 from pathlib import Path
 
-from common import ROOT, asked, asked_apart
+from common import PULSED, ROOT, asked, asked_apart, reads_pulses
 
 HEAD = "kind,host,time,name\nhost,a,2,1\n"
 EXAMPLES = ROOT / "examples"
@@ -142,12 +142,16 @@ class Refusals(unittest.TestCase):
             (HEAD + "send,a,1,m\nsend,a,2,m\n", ["line 4", "sent twice"]), (HEAD + "host,true,1,1\n", ["'true' is no host"]),
             (HEAD + "".join(f"note,a,{n},n\n" for n in range(1300)), ["1,300 rows; at most 1,024"]),
             (HEAD + "".join(f"host,h{n},1,0\n" for n in range(70)), ["71 hosts; at most 64"]),
-            ("skewlog2,host,time,name\nhost,a,1,1\npulse,a,1,p\n", ["line 3", "pulse"]), (HEAD + "resync,a,1,1\n", ["skewlog2"]),
+            (HEAD + "pulse,a,1,p\n", ["line 3", "no kind 'pulse'", "skewlog2,host,time,name allows it"]), (HEAD + "resync,a,1,1\n", ["skewlog2"]),
             ("skewlog2,host,time,name\nhost,a,1,1\nlatency,a,5,3\n", ["greatest latency", "column 13"]),
             (HEAD + "set,b,1,p\nhost,b,1,0\n", ["line 3", "declared further down"]),
             ("\ufeff\r\nkind,host,time,name\r\n\r\nhost,a,2,1\r\nset,a,1o,p\r\n", ["line 5, column 7", "'1o'"]),
         ):
             self.refused("a.p", text, 66, *parts)
+
+    @unittest.skipIf(reads_pulses(), "the program reads pulses")
+    def test_kinds_that_an_older_program_refuses(self):
+        self.refused("a.p", PULSED, 66, "line 3, column 1", "doesn't know the kind pulse", "older than ask")
 
     def test_sizes(self):
         rows = HEAD + "".join(f"note,a,{3 * n},n\n" for n in range(1000))
