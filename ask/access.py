@@ -154,7 +154,7 @@ def requests_of(source: Source, form: Format, time: Optional[str]) -> Iterator[R
         where = f"{source.name}, line {number}"
         match = form.pattern.fullmatch(line)
         if not match:
-            raise Trouble(WRONG, f"{where}: it isn't of the format {form.text}: {shortened(line, 120)}")
+            raise Trouble(WRONG, f"{where}: {mismatch_words(form, line)}")
         fields = dict(zip(form.keys, match.groups()))
         at = read_by(read, fields, moment, where)
         lasted = read_by(DURATIONS[took], fields, took, where) if took else None
@@ -164,6 +164,15 @@ def requests_of(source: Source, form: Format, time: Optional[str]) -> Iterator[R
             yield Request(later(at, lasted, -1), at, fields, where)
         else:
             yield Request(at, later(at, lasted, 1), fields, where)
+
+
+def mismatch_words(form: Format, line: str) -> str:
+    """How a line isn't of a format."""
+    begins = form.pattern.match(line)
+    if begins and begins.end():
+        rest = shortened(line[begins.end() :].strip(), 80)
+        return f"behind the format {form.text} it goes on with {rest}: name that too, as in 'combined $request_time'"
+    return f"it isn't of the format {form.text}: {shortened(line, 120)}"
 
 
 def chosen(form: Format, known: Sequence[str], wanted: Optional[str]) -> str:
@@ -191,7 +200,8 @@ def access_events(source: Source, form: Format, words: "AccessWords") -> List[Ev
         if not words.only or request.fields.get(words.id) in words.only
     ]
     if words.only and words.id not in form.keys:
-        raise Trouble(USAGE, f"--only: the format {form.text} has no {words.id}; say by --id which field is the id")
+        known = listed(form.keys)
+        raise Trouble(USAGE, f"--only: the format has no {words.id}; say by --id which field is the id: {known}")
     return [event for host, request in on_hosts(requests, words.host) for event in events_of(host, request, words)]
 
 

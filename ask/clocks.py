@@ -53,7 +53,7 @@ class Clock:
         return found
 
     def tracked_error(self, line: Line) -> int:
-        """The greatest error by the tracking log. An update is told to the second, so a stamp in it is on both sides."""
+        """The greatest error by the tracking log. A stamp in the second of an update may be before it and after it."""
         if not self.updates:
             return 0
         errors = [
@@ -118,7 +118,8 @@ def moment_of_line(making: Making, line: str, where: str) -> Stamp:
             return stamp
     found = SYSLOG.match(text)
     if not found or (found.group(2) or found.group(3)) not in MONTHS:
-        raise Trouble(WRONG, f"{where}: it begins with no time that is known, as 2023-11-14T22:13:28Z or Nov 14 22:13:28")
+        known = "2023-11-14T22:13:28Z or Nov 14 22:13:28"
+        raise Trouble(WRONG, f"{where}: it begins with no time that is known, as {known}")
     day, month = found.group(1) or found.group(4), MONTHS.index(found.group(2) or found.group(3)) + 1
     middle = making.lines[len(making.lines) // 2].stamp // 10 ** UNITS[making.unit or "s"]
     year = 1970 + middle // (365 * DAY + DAY // 4)

@@ -10,7 +10,7 @@ from typing import Any, Dict, Iterator, List, Optional, Sequence, Tuple
 from ask.logs import NAME, ROW_KINDS, records_of
 from ask.stamps import Stamp, stamp_of
 from ask.texts import BYTE_ORDER_MARK, Source, Trouble
-from ask.words import USAGE, listed
+from ask.words import USAGE, listed, shortened
 
 WRONG = 66  # the status where a file can't be made into a log
 MOST_NAME = 32
@@ -82,28 +82,47 @@ def fields_of_file(source: Source, keys: Keys) -> Iterator[Tuple[Fields, str]]:
     data = source.data[3:] if source.data.startswith(BYTE_ORDER_MARK) else source.data
     if data.lstrip()[:1] == b"{":
         yield from fields_of_json(source, data)
+    elif data.lstrip()[:1] == b"[":
+        yield from fields_of_array(source, data)
     else:
         yield from fields_of_table(source, keys)
 
 
 def fields_of_json(source: Source, data: bytes) -> Iterator[Tuple[Fields, str]]:
-    """The fields of lines of JSON, one object a line; those of an object within are named with points."""
+    """The fields of lines of JSON, one object a line."""
     text = data.decode("utf-8", "replace").replace("\r\n", "\n").replace("\r", "\n")
     for number, line in enumerate(text.split("\n"), start=1):
         if not line.strip():
             continue
         where = f"{source.name}, line {number}"
-        try:
-            found = json.loads(line, parse_float=str, parse_int=str)  # with all digits as they are written
-        except (ValueError, RecursionError) as error:
-            raise Trouble(WRONG, f"{where}: this is no JSON: {error}") from None
-        if not isinstance(found, dict):
-            raise Trouble(WRONG, f"{where}: this is no JSON object, as {{\"time\": ..}}")
-        yield dict(flat(found)), where
+        yield fields_of_object(read_json(line, f"{where}: this is no JSON object on one line"), where), where
+
+
+def fields_of_array(source: Source, data: bytes) -> Iterator[Tuple[Fields, str]]:
+    """The fields of the objects of one JSON array."""
+    found = read_json(data.decode("utf-8", "replace"), f"{source.name}: it begins as a JSON array and is none")
+    for number, item in enumerate(found, start=1):
+        where = f"{source.name}, item {number}"
+        yield fields_of_object(item, where), where
+
+
+def read_json(text: str, complaint: str) -> Any:
+    """The value of a text, its numbers with all digits as they are written."""
+    try:
+        return json.loads(text, parse_float=str, parse_int=str)
+    except (ValueError, RecursionError) as error:
+        raise Trouble(WRONG, f"{complaint}: {error}") from None
+
+
+def fields_of_object(found: Any, where: str) -> Fields:
+    """The fields of a JSON object."""
+    if not isinstance(found, dict):
+        raise Trouble(WRONG, f"{where}: this is no JSON object, as {{\"time\": ..}}")
+    return dict(flat(found))
 
 
 def flat(found: Dict[str, Any], before: str = "") -> Iterator[Tuple[str, str]]:
-    """The fields of an object and of those within it."""
+    """The fields of an object, and with points in their names those of objects within it."""
     for key, value in found.items():
         if isinstance(value, dict):
             yield from flat(value, f"{before}{key}.")
@@ -165,7 +184,11 @@ def declare(known: Dict[str, Any], name: str, said: Any, what: str) -> None:
 def part(fields: Fields, key: str, where: str) -> str:
     """The field under a key."""
     if key not in fields:
-        raise Trouble(WRONG, f"{where}: there is no {key!r}. It has: {listed(list(fields)) or 'nothing'}")
+        has = shortened(listed(list(fields)), 120) or "nothing"
+        raise Trouble(WRONG, (
+            f"{where}: there is no {key!r}. It has: {has}. --host, --time and --name say which keys these are, and "
+            "--access what the lines of a web server look like"
+        ))
     return fields[key]
 
 

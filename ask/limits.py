@@ -8,7 +8,7 @@ from typing import Any, Callable, Dict, Iterator, List, NamedTuple, Optional, Se
 from ask.clocks import Clock, steps_of_file, steps_told, updates_of_file
 from ask.events import WRONG, Found, Latency, Limits, name_map
 from ask.logs import MOST_HOSTS, MOST_SKEW, NO_HOST_NAMES
-from ask.making import Making
+from ask.making import Line, Making
 from ask.stamps import UNITS, duration_in_units
 from ask.texts import Trouble
 from ask.words import USAGE, counted, listed
@@ -70,6 +70,23 @@ def settle_limits(making: Making, words: LimitWords) -> None:
                 line.skew = lines[0].skew
     if any(line.skew > MOST_SKEW for line in making.lines):
         raise Trouble(WRONG, "a skew is above 10^18 in units: choose a coarser --unit")
+    note_stamps_that_go_back(making)
+
+
+def note_stamps_that_go_back(making: Making) -> None:
+    """Tells the first row of each host that is further before an earlier one than their skews are together."""
+    latest: Dict[str, Line] = {}
+    told = set()
+    for line in making.lines:
+        before = latest.setdefault(line.host, line)
+        if line.stamp + line.skew < before.stamp - before.skew and line.host not in told:
+            told.add(line.host)
+            making.notes.append(
+                f"{line.where}: the stamp is {before.stamp - line.stamp} before that of {before.where}, and both skews "
+                f"are {line.skew + before.skew}: are the rows of {line.host} in the order of their events?"
+            )
+        if line.stamp - line.skew > before.stamp - before.skew:
+            latest[line.host] = line
 
 
 def durations(

@@ -2,8 +2,9 @@
 
 from __future__ import annotations
 
+import re
 from dataclasses import dataclass
-from typing import List, Optional, Sequence
+from typing import List, Optional, Sequence, Tuple
 
 from ask.formulas import Tree, read_formula
 from ask.logs import Log, read_log
@@ -55,6 +56,17 @@ def formula_source(word: str) -> Source:
     if "/" in word or word.endswith((".formula", ".txt")) or not word.strip():
         raise Trouble(74, f"{word or 'an empty word'} is no file, and no formula either")
     return Source(TYPED, word.encode("utf-8", "surrogateescape"))
+
+
+def sources_of(formula: str, log: str) -> Tuple[Source, Source]:
+    """A formula and the file of a log."""
+    first = formula_source(formula)
+    try:
+        return first, read_source(log)
+    except Trouble as trouble:
+        is_turned = re.match(rb"\W*(kind|skewlog2),host,", first.data)
+        hint = f", and {first.name} is a log: the formula stands before the log" if is_turned else ""
+        raise Trouble(trouble.status, trouble.message + hint) from None
 
 
 def text_of_source(formula: Source) -> str:

@@ -256,12 +256,14 @@ def log_fault_words(number: str, record: Record, records: Sequence[Record]) -> "
     kinds = ", ".join(KINDS[version])
     if number == "1":
         line = shown_text(",".join(record.fields).encode())
-        return f"the first line has to be kind,host,time,name or skewlog2,host,time,name, and is {shortened(line)}", 0
+        hint = ". Its fields are to be separated by commas" if re.search("[;\t|]", ",".join(record.fields)) else ""
+        wanted = "kind,host,time,name or skewlog2,host,time,name"
+        return f"the first line has to be {wanted}, and is {shortened(line)}{hint}", 0
     if number == "2":
         return f"a record has four fields, and this one has {len(record.fields)}", 0
     if number == "3":
         if fields[0] in KINDS[version]:
-            return f"the program doesn't know the kind {fields[0]}: it is older than ask. ./skewcheck builds a new one", 0
+            return f"the program doesn't know the kind {fields[0]}: it is older than ask (./skewcheck builds one)", 0
         hint = ". The first line skewlog2,host,time,name allows it" if fields[0] in KINDS[2] else ""
         return f"there is no kind {shortened(fields[0])!r}. The kinds: {kinds}{hint}", 0
     if number == "4":

@@ -11,11 +11,11 @@ from ask.grounds import ground_facts, ground_lines
 from ask.nearer import brought_nearer
 from ask.program import STOPPED, Program, Run, Stopped, find_program
 from ask.question import (
-    VERDICTS, Question, accepted_log, accepted_tree, answered, formula_source, report_of_run, run_facts, run_lines,
-    shown_formula, text_of_source,
+    VERDICTS, Question, accepted_log, accepted_tree, answered, report_of_run, run_facts, run_lines, shown_formula,
+    sources_of, text_of_source,
 )
 from ask.reports import Report, Section, Step
-from ask.texts import Trouble, read_source
+from ask.texts import Trouble
 from ask.words import Answer, bold, counted, grouped, signed, step_words, table, walk_facts, walk_words, yellow
 
 WARNED = 65  # the status where --strict makes an error of a warning
@@ -49,7 +49,7 @@ def do(arguments: argparse.Namespace) -> Answer:
     """The answer of the command."""
     options = ["--conflicts", arguments.conflicts] if arguments.conflicts else []
     program = Program(find_program(arguments.program), arguments.seconds)
-    question = Question(program, formula_source(arguments.formula), read_source(arguments.log), options)
+    question = Question(program, *sources_of(arguments.formula, arguments.log), options)
     refuse_wrong_conflicts(arguments.conflicts)
     notes: List[str] = []
     try:

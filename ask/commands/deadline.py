@@ -10,10 +10,10 @@ from ask.formulas import Tree, grows_truer, read_formula, subtrees
 from ask.logs import Log
 from ask.program import Program, Run, find_program
 from ask.question import (
-    Question, accepted_log, answered, formula_source, run_facts, run_lines, shown_formula, text_of_source,
+    Question, accepted_log, answered, run_facts, run_lines, shown_formula, sources_of, text_of_source,
 )
-from ask.texts import Source, Trouble, read_source
-from ask.words import Answer, USAGE, bold
+from ask.texts import Source, Trouble
+from ask.words import USAGE, Answer, bold
 
 MOST_NUMBER = 10**18  # in an interval
 SAID = {
@@ -52,8 +52,8 @@ def do(arguments: argparse.Namespace) -> Answer:
     refuse_wrong_conflicts(arguments.conflicts)
     options = ["--conflicts", arguments.conflicts] if arguments.conflicts else []
     program = Program(find_program(arguments.program), arguments.seconds)
-    template = formula_source(arguments.formula)
-    question = Question(program, template, read_source(arguments.log), options)
+    template, source = sources_of(arguments.formula, arguments.log)
+    question = Question(program, template, source, options)
     answer = Search(question, tree_of(template)).answer()
     answer.facts["runs"] = run_facts(program.runs)
     if arguments.runs:

@@ -11,9 +11,9 @@ from ask.cautions import cautions_of_names
 from ask.commands.check import refuse_wrong_conflicts
 from ask.logs import Log
 from ask.program import STOPPED, Program, Stopped, find_program
-from ask.question import VERDICTS, Question, accepted_tree, formula_source, log_with_rows, run_facts, text_of_source
-from ask.texts import Source, Trouble, read_source
-from ask.words import Answer, USAGE, bold, counted, refusal, table
+from ask.question import VERDICTS, Question, accepted_tree, log_with_rows, run_facts, sources_of, text_of_source
+from ask.texts import Source, Trouble
+from ask.words import USAGE, Answer, bold, counted, refusal, table
 
 # Which status the table has: the first of these that a line has.
 ORDER = (3, 1, 2, 4, STOPPED, 0)
@@ -54,7 +54,7 @@ def do(arguments: argparse.Namespace) -> Answer:
     refuse_wrong_conflicts(arguments.conflicts)
     options = ["--conflicts", arguments.conflicts] if arguments.conflicts else []
     program = Program(find_program(arguments.program), arguments.seconds)
-    template, source = formula_source(arguments.template), read_source(arguments.log)
+    template, source = sources_of(arguments.template, arguments.log)
     pattern = pattern_of(arguments.over)
     log = log_with_rows(program, source)
     matches = matching(log, pattern)

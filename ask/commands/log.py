@@ -91,9 +91,9 @@ def add_words_on_clocks(words: argparse.ArgumentParser) -> None:
     for option, metavar, what in (
         ("--skew", "[HOST=]D", "how far each stamp of a host may be off, as 5ms or, in units, 5"),
         ("--gap", "[HOST=]D", "the least distance of two rows of a host on end; else 0"),
-        ("--latency", "[HOST=]LEAST,GREATEST", "how long each message took that the host receives; GREATEST may be inf"),
+        ("--latency", "[HOST=]LEAST,GREATEST", "how long messages to the host took; GREATEST may be inf"),
         ("--step", "[HOST=]STAMP,D", "the clock was stepped by D at STAMP: rows before it may be off by D more"),
-        ("--clock", "[HOST=]FILE", "the same by the lines of chronyd or ntpd in a file, as `System clock was stepped by`"),
+        ("--clock", "[HOST=]FILE", "the same by the lines of chronyd or ntpd on steps in a file"),
         ("--tracking", "[HOST=]FILE", "a tracking log of chrony, whose greatest errors are added to the skew"),
     ):
         words.add_argument(option, action="append", default=[], metavar=metavar, help=what)

@@ -8,12 +8,13 @@ from typing import Any, Dict, List, Optional
 from ask.commands.check import refuse_wrong_conflicts
 from ask.grounds import ground_facts, ground_lines
 from ask.logs import MOST_SKEW, Log, number
+from ask.nearer import brought_nearer
 from ask.program import Program, find_program
 from ask.question import (
-    Question, best_of_run, formula_source, log_with_rows, run_facts, run_lines, shown_formula,
+    Question, best_of_run, log_with_rows, run_facts, run_lines, shown_formula, sources_of,
 )
 from ask.reports import Best
-from ask.texts import Trouble, read_source
+from ask.texts import Trouble
 from ask.words import USAGE, Answer, bold, signed, table, walk_facts, walk_words
 
 MOST_ROWS_SHOWN = 40
@@ -23,7 +24,7 @@ TOO_LARGE = 67  # the status where a question is too large
 def add_words(commands: argparse._SubParsersAction, common: argparse.ArgumentParser) -> None:
     """Adds the words of the command."""
     words = commands.add_parser(
-        "tolerance", parents=[common], allow_abbrev=False, help="how far off the clocks were, for a formula to be possible",
+        "tolerance", parents=[common], allow_abbrev=False, help="how far off clocks would be for a formula to hold",
         description="The least number by which all skews of the log have to be greater for some timing to make the "
         "formula true, with that timing and the bounds that exclude it with one less. The status is 0 where there is "
         "such a number, 1 where there is none up to --most, 3 where even then there is no timing, and 4 where it "
@@ -44,7 +45,7 @@ def do(arguments: argparse.Namespace) -> Answer:
     refuse_wrong_conflicts(arguments.conflicts)
     options = ["--conflicts", arguments.conflicts] if arguments.conflicts else []
     program = Program(find_program(arguments.program), arguments.seconds)
-    question = Question(program, formula_source(arguments.formula), read_source(arguments.log), options)
+    question = Question(program, *sources_of(arguments.formula, arguments.log), options)
     log = log_with_rows(program, question.log_source)
     value = "false" if arguments.is_false else "true"
     most = most_of(arguments.most)
@@ -107,7 +108,11 @@ class Tolerance:
         said = f"{can} where all skews of {name} are {least} greater, and not {less}."
         if least == 0:
             said = f"{can} with the skews that {name} has: no stamp has to be off by more."
-        lines = [bold(said), "", f"A timing in which it is {self.value}:", *self.rows(best.times)]
+        by = "found by tolerance"
+        if least == 0:  # the timing is one of the log as it is, of which replay can be asked
+            best.times = brought_nearer(self.question, self.log, best.times, self.value == "true")
+            by += ", and brought nearer to the stamps by replay"
+        lines = [bold(said), "", f"A timing in which it is {self.value} ({by}):", *self.rows(best.times)]
         self.facts.update(sentence=said, least=least, times=best.times)
         if best.why:
             wide = widened(self.log, least - 1)
