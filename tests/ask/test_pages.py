@@ -6,7 +6,9 @@ import subprocess
 import sys
 import unittest
 
-from common import PATIENCE, ROOT
+from common import PATIENCE, ROOT, program_with
+
+from ask.program import find_program
 
 PAGE = ROOT / "docs" / "asking.md"
 
@@ -19,6 +21,14 @@ def shown_commands():
             yield command, below
 
 
+def program_of(command):
+    """The program that a command is shown with, or a stand-in where it has no `span` or `tolerance`."""
+    for word, needed in (("ask between", "span"), ("ask tolerance", "tolerance")):
+        if word in command:
+            return program_with(needed)
+    return find_program(None)
+
+
 class Pages(unittest.TestCase):
     def test_commands(self):
         for command, below in shown_commands():
@@ -26,7 +36,8 @@ class Pages(unittest.TestCase):
                 shown, _, kept = command.partition(" > ") if command.endswith(".svg") else (command, "", "")
                 done = subprocess.run(
                     ["bash", "-c", shown.replace("./ask/ask", f"{sys.executable} -B ask/ask")], cwd=ROOT, text=True,
-                    stdin=subprocess.DEVNULL, stdout=subprocess.PIPE, timeout=PATIENCE, env={**os.environ, "COLUMNS": "80"},
+                    stdin=subprocess.DEVNULL, stdout=subprocess.PIPE, timeout=PATIENCE,
+                    env={**os.environ, "COLUMNS": "80", "SKEWCHECK": program_of(shown)},
                 )
                 self.assertEqual(done.stdout, (ROOT / kept).read_text() if kept else below)
 
