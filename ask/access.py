@@ -127,23 +127,18 @@ DURATIONS: Dict[str, Reading] = {
 
 @dataclass
 class Request:
-    """A request: when it began and ended, where one is known, with the fields of its line."""
+    """A request: when it began and ended, which of the two is known, the fields of its line, and where it stands."""
 
-    began: Optional[Stamp]
-    ended: Optional[Stamp]
+    began: Stamp
+    ended: Stamp
+    known: Tuple[str, ...]
     fields: Fields
     where: str
-
-    def edges(self) -> Tuple[Stamp, Stamp]:
-        """When it began and ended, as far as is known."""
-        began, ended = self.began or self.ended, self.ended or self.began
-        assert began and ended
-        return began, ended
 
 
 def requests_of(source: Source, form: Format, time: Optional[str]) -> Iterator[Request]:
     """The requests of a file, one a line."""
-    moment = chosen(form, list(MOMENTS), time)
+    moment = moment_key(form, time)
     took = next((key for key in DURATIONS if key in form.keys), None)
     read, is_end = MOMENTS[moment]
     data = source.data[3:] if source.data.startswith(BYTE_ORDER_MARK) else source.data
@@ -157,13 +152,12 @@ def requests_of(source: Source, form: Format, time: Optional[str]) -> Iterator[R
             raise Trouble(WRONG, f"{where}: {mismatch_words(form, line)}")
         fields = dict(zip(form.keys, match.groups()))
         at = read_by(read, fields, moment, where)
-        lasted = read_by(DURATIONS[took], fields, took, where) if took else None
-        if lasted is None:
-            yield Request(None if is_end else at, at if is_end else None, fields, where)
-        elif is_end:
-            yield Request(later(at, lasted, -1), at, fields, where)
-        else:
-            yield Request(at, later(at, lasted, 1), fields, where)
+        if took is None:
+            yield Request(at, at, ("end",) if is_end else ("begin",), fields, where)
+            continue
+        lasted = read_by(DURATIONS[took], fields, took, where)
+        began, ended = (later(at, lasted, -1), at) if is_end else (at, later(at, lasted, 1))
+        yield Request(began, ended, ("begin", "end"), fields, where)
 
 
 def mismatch_words(form: Format, line: str) -> str:
@@ -175,9 +169,9 @@ def mismatch_words(form: Format, line: str) -> str:
     return f"it isn't of the format {form.text}: {shortened(line, 120)}"
 
 
-def chosen(form: Format, known: Sequence[str], wanted: Optional[str]) -> str:
+def moment_key(form: Format, wanted: Optional[str]) -> str:
     """The key of a line's moment: the wanted one, or the finest that the format has."""
-    found = [key for key in known if key in form.keys]
+    found = [key for key in MOMENTS if key in form.keys]
     if wanted and wanted not in found:
         raise Trouble(USAGE, f"--time {wanted}: the format {form.text} has as moments: {listed(found) or 'none'}")
     if not found:
@@ -193,30 +187,6 @@ def read_by(reading: Reading, fields: Fields, key: str, where: str) -> Stamp:
     return found
 
 
-def access_events(source: Source, form: Format, words: "AccessWords") -> List[Event]:
-    """The events of the requests of a file, on hosts on which no two requests are at once."""
-    requests = [
-        request for request in requests_of(source, form, words.time)
-        if not words.only or request.fields.get(words.id) in words.only
-    ]
-    if words.only and words.id not in form.keys:
-        known = listed(form.keys)
-        raise Trouble(USAGE, f"--only: the format has no {words.id}; say by --id which field is the id: {known}")
-    return [event for host, request in on_hosts(requests, words.host) for event in events_of(host, request, words)]
-
-
-def events_of(host: str, request: Request, words: "AccessWords") -> Iterator[Event]:
-    """The events of a request: it begins and ends, or is one moment where it isn't known how long it took."""
-    one: Rows = {"begin": [(words.without_kind, "asked")], "end": [(words.without_kind, "asked")]}
-    defaults = BOTH if request.began and request.ended else one
-    id_ = request.fields.get(words.id, "")
-    for name, stamp in (("begin", request.began), ("end", request.ended)):
-        if stamp:
-            for kind, pattern in words.rows.get(name, defaults[name]):
-                shown = filled(pattern, request.fields, request.where)
-                yield Event(host, stamp, f"of the {name}", kind, shown, id_, request.where)
-
-
 class AccessWords(NamedTuple):
     """What the words say of access lines: the keys of the moment and the id, the ids to keep, rows, and the host."""
 
@@ -228,13 +198,34 @@ class AccessWords(NamedTuple):
     without_kind: str
 
 
+def access_events(sources: Sequence[Source], form: Format, words: AccessWords) -> List[Event]:
+    """The events of the requests of files, on hosts on which no two requests are at once."""
+    if words.only and words.id not in form.keys:
+        known = listed(form.keys)
+        raise Trouble(USAGE, f"--only: the format has no {words.id}; say by --id which field is the id: {known}")
+    requests = [request for source in sources for request in requests_of(source, form, words.time)]
+    kept = [request for request in requests if not words.only or request.fields[words.id] in words.only]
+    return [event for host, request in on_hosts(kept, words.host) for event in events_of(host, request, words)]
+
+
+def events_of(host: str, request: Request, words: AccessWords) -> Iterator[Event]:
+    """The events of a request: it begins and ends, or is one moment where it isn't known how long it took."""
+    id_ = request.fields.get(words.id, "")
+    for name, stamp in (("begin", request.began), ("end", request.ended)):
+        if name in request.known:
+            default = BOTH[name] if len(request.known) == 2 else [(words.without_kind, "asked")]
+            for kind, pattern in words.rows.get(name, default):
+                shown = filled(pattern, request.fields, request.where)
+                yield Event(host, stamp, f"of the {name}", kind, shown, id_, request.where)
+
+
 def on_hosts(requests: Sequence[Request], name: str) -> Iterator[Tuple[str, Request]]:
     """The requests in the order of their beginnings, each with the first host that has none at the same time."""
-    free_from: List[Stamp] = []
-    for request in sorted(requests, key=lambda request: [order(stamp) for stamp in request.edges()]):
-        began, ended = request.edges()
-        place = next((place for place, free in enumerate(free_from) if order(free) < order(began)), len(free_from))
-        free_from[place : place + 1] = [ended]
+    free_from: List[Tuple[int, str]] = []
+    for request in sorted(requests, key=lambda request: (order(request.began), order(request.ended))):
+        places = range(len(free_from))
+        place = next((place for place in places if free_from[place] < order(request.began)), len(free_from))
+        free_from[place : place + 1] = [order(request.ended)]
         yield f"{name}_{place + 1}", request
 
 

@@ -58,8 +58,9 @@ def caution_of_name(log: Log, host: int, name: str, where: str, run: str) -> Cau
         ), run)
     names = set_names(log, host)
     named = log.hosts[host].name
-    has = f"Rows of {named} set {listed(names)}" if names else f"No row of {named} sets anything"
-    return Caution("unset", f"{where} is false throughout: no row sets it. {has}", run)
+    verb, verbs = ("set", "sets") if log.version == 1 else ("set or pulse", "sets or pulses")
+    has = f"Rows of {named} {verb} {listed(names)}" if names else f"No row of {named} {verbs} anything"
+    return Caution("unset", f"{where} is false throughout: no row {verbs} it. {has}", run)
 
 
 def cautions_of_implications(question: Question, tree: Tree) -> Iterator[Caution]:

@@ -86,7 +86,8 @@ def steps_told(making: Making, telling: str) -> List[ClockStep]:
         raise Trouble(USAGE, f"--step {telling}: it is STAMP,D, as 2023-11-14T22:13:28Z,31.2ms")
     stamp = read_stamp(text, "--step")
     moment = moment_in(making, stamp)
-    room = 0 if stamp.digits or stamp.kind == "whole" else 10 ** UNITS[making.unit or "s"]
+    is_exact = bool(stamp.digits) or making.is_whole and stamp.kind == "whole"
+    room = 0 if is_exact else 10 ** UNITS[making.unit or "s"]
     return [ClockStep(moment - room, moment + room + size, size)]
 
 

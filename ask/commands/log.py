@@ -144,8 +144,7 @@ def found_in_files(arguments: argparse.Namespace) -> Found:
     if arguments.access is not None:
         form = format_of(arguments.access)
         words = AccessWords(arguments.time, arguments.id, arguments.only, rows, arguments.as_host, without_kind)
-        for name in arguments.files:
-            found.events += access_events(read_source(name), form, words)
+        found.events = access_events([read_source(name) for name in arguments.files], form, words)
         return found
     keys = Keys(
         tuple(arguments.host.split(",")), arguments.time or "time", arguments.name, arguments.kind, arguments.id,

@@ -14,7 +14,7 @@ import reference
 EXAMPLES = ROOT / "examples"
 SPAN = program_with("span")
 TOLERANCE = program_with("tolerance")
-CASES = 12
+CASES = 8
 
 
 def facts_of(words, status, folder=EXAMPLES, program=SPAN):

@@ -109,6 +109,15 @@ class AccessLines(Making):
             "note,web_1,11000,r2\nnote,web_1,12000,r2\n"
         ))
 
+    def test_files_of_one_server_share_its_hosts(self):
+        with tempfile.TemporaryDirectory() as folder:
+            Path(folder, "old").write_text("9.0 5.0\n")
+            Path(folder, "new").write_text("10.0 5.5\n12.0 1.0\n")
+            ended, log, said = asked(["log", "new", "old", "--access", "$msec $request_time", "--skew", "1", "--unit", "s"], folder)
+        self.assertEqual([line.split(",")[1:3] for line in log.splitlines()[3:]], [
+            ["web_1", "4"], ["web_1", "9"], ["web_2", "4"], ["web_2", "10"], ["web_1", "11"], ["web_1", "12"],
+        ], said)
+
     def test_without_a_duration_a_request_is_a_moment(self):
         self.assertEqual(self.made(f"{COMBINED}\n", "--access", "combined", "--skew", "1"), HEAD + "host,web_1,1,0\nnote,web_1,1700000010,asked\n")
 
