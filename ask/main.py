@@ -22,7 +22,7 @@ statuses:
               4 not found within the conflicts
   64          the words are no command of ask
   65 to 75    the program's refusals and failures; 65 also a warning with --strict
-  69          the program isn't there
+  69          the program isn't there, or has no such command
   124         a run took longer than --seconds
 """
 

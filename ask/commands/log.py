@@ -28,18 +28,23 @@ def add_words(commands: argparse._SubParsersAction, common: argparse.ArgumentPar
     )
     words.add_argument("files", nargs="+", metavar="FILE")
     words.add_argument("--unit", choices=list(UNITS), help="of the log; else the coarsest that keeps all digits")
-    add_words_on_events(words)
-    add_words_on_clocks(words)
-    add_words_on_windows(words)
     words.add_argument(
         "--notes",
         metavar="NOTES",
         help="the file for what was changed: the unit, the maps of names, what was carried in",
     )
+    words.add_argument(
+        "--part",
+        action="store_true",
+        help="the log is joined with others later: receives whose send is elsewhere stay, and there may be no row",
+    )
+    add_words_on_events(words.add_argument_group("what an event is, and what it becomes"))
+    add_words_on_clocks(words.add_argument_group("clocks and messages; without a HOST it is for all hosts"))
+    add_words_on_windows(words.add_argument_group("which rows are kept"))
     words.set_defaults(do=do)
 
 
-def add_words_on_events(words: argparse.ArgumentParser) -> None:
+def add_words_on_events(words: argparse._ArgumentGroup) -> None:
     """Adds the words on what an event is, and what it becomes."""
     words.add_argument(
         "--host", default="host", metavar="KEY[,KEY]", help="the key of the host; several are joined with _",
@@ -79,19 +84,14 @@ def add_words_on_events(words: argparse.ArgumentParser) -> None:
         action="store_true",
         help="events without a kind become pulses, propositions that are true at one instant",
     )
-    words.add_argument(
-        "--part",
-        action="store_true",
-        help="the log is joined with others later: receives whose send is elsewhere stay, and there may be no row",
-    )
 
 
-def add_words_on_clocks(words: argparse.ArgumentParser) -> None:
+def add_words_on_clocks(words: argparse._ArgumentGroup) -> None:
     """Adds the words on clocks and messages."""
     for option, metavar, what in (
-        ("--skew", "[HOST=]D", "how far each stamp of a host may be off, as 5ms or, in units, 5"),
-        ("--gap", "[HOST=]D", "the least distance of two rows of a host on end; else 0"),
-        ("--latency", "[HOST=]LEAST,GREATEST", "how long messages to the host took; GREATEST may be inf"),
+        ("--skew", "[HOST=]D", "how far each stamp may be off, as 5ms or, in units, 5"),
+        ("--gap", "[HOST=]D", "the least distance of two rows on end; else 0"),
+        ("--latency", "[HOST=]LEAST,GREATEST", "how long messages to it took; GREATEST may be inf"),
         ("--step", "[HOST=]STAMP,D", "the clock was stepped by D at STAMP: rows before it may be off by D more"),
         ("--clock", "[HOST=]FILE", "the same by the lines of chronyd or ntpd on steps in a file"),
         ("--tracking", "[HOST=]FILE", "a tracking log of chrony, whose greatest errors are added to the skew"),
@@ -99,7 +99,7 @@ def add_words_on_clocks(words: argparse.ArgumentParser) -> None:
         words.add_argument(option, action="append", default=[], metavar=metavar, help=what)
 
 
-def add_words_on_windows(words: argparse.ArgumentParser) -> None:
+def add_words_on_windows(words: argparse._ArgumentGroup) -> None:
     """Adds the words on which rows are kept."""
     words.add_argument(
         "--only", action="append", default=[], metavar="ID", help="keep rows with this id alone; may be given again",

@@ -55,6 +55,10 @@ class Between(unittest.TestCase):
         self.assertEqual({step["bound"] for step in ends["greatest"]["rests_on"]}, {"low 0", "high 3"})
         self.assertEqual({step["bound"] for step in ends["least"]["rests_on"]}, {"rise 1", "message 2", "rise 3"})
 
+    def test_the_runs_are_named(self):
+        _, text, _ = asked(["between", "answered.csv", "0", "1", "--runs", "--program", SPAN], EXAMPLES)
+        self.assertIn("2 runs of the program:\n  span true 0 1 'true' answered.csv -> 0\n  span true 1 0 'true' answered.csv -> 0\n", text)
+
     def test_contradictions_and_refusals(self):
         self.assertEqual(len(facts_of(["between", "circle.csv", "0", "1"], 3)["contradiction"]), 4)
         with tempfile.TemporaryDirectory() as folder:
