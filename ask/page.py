@@ -120,6 +120,7 @@ function placeLabels() {
     const half = letter * shift.textContent.length / 2, lane = text.dataset.lane;
     const hasRoom = x - half >= (free.get(lane) ?? -Infinity);
     if (hasRoom) free.set(lane, x + half + 3);
+    shift.setAttribute("text-anchor", x > left + 12 ? "middle" : "start");
     shift.classList.toggle("off", !hasRoom);
   }
 }

@@ -17,6 +17,7 @@ from ask.reports import Step
 from ask.words import signed, step_words
 
 
+EDGE = 12  # within which figures begin at their row
 DIAMOND = "M0 -6 L5 0 L0 6 L-5 0 z"  # the mark of a pulse
 
 
@@ -132,19 +133,20 @@ def lanes_of(log: Log, top: int) -> Tuple[List[Lane], int]:
     return lanes, top
 
 
-def limits_words(log: Log, host: int) -> str:
+def limits_words(log: Log, host: int) -> List[str]:
     """The skew and the gap of a host's rows, from the least to the greatest where a resync changes them."""
     skews = sorted({row.skew for row in log.rows if row.host == host} or {log.hosts[host].skew})
     gaps = sorted({row.gap for row in log.rows if row.host == host} or {log.hosts[host].gap})
     shown = [str(found[0]) if len(found) == 1 else f"{found[0]} to {found[-1]}" for found in (skews, gaps)]
-    return f"skew {shown[0]}, gap {shown[1]}"
+    return [f"skew {shown[0]}", f"gap {shown[1]}"]
 
 
-def draw_lane_ground(canvas: Canvas, lane: Lane, name: str, limits: str) -> None:
+def draw_lane_ground(canvas: Canvas, lane: Lane, name: str, limits: Sequence[str]) -> None:
     """The ground of a lane, with the names at its left."""
     canvas.parts.append(f'<rect class="lane" x="0" y="{lane.top}" width="100%" height="{lane.height}"/>')
     canvas.text(12, lane.top + 20, name, "host")
-    canvas.text(12, lane.top + 35, limits if len(limits) < 19 else limits.replace(", ", " "), "small")
+    for place, words in enumerate(limits):
+        canvas.text(12, lane.top + 34 + 13 * place, words, "small")
     for place, strip in enumerate(lane.names):
         canvas.text(
             LEFT - 16, strip_top(lane, place) + 9, strip if len(strip) <= 16 else strip[:15] + "..", "small", "end",
@@ -244,7 +246,8 @@ def draw_rows(canvas: Canvas, log: Log, panel: Panel, scale: Scale, lanes: Seque
             f'x="{3 if is_left else -3}" y="{-8 - 11 * level}" text-anchor="{anchor}">{escape(label)}</text>'
         )
         off = "" if has_room[event] else " off"
-        parts += f'<text class="shift{off}" x="0" y="15" text-anchor="middle">{signed(shift)}</text>' if shift else ""
+        anchor = "middle" if at > EDGE else "start"  # the names begin left of the plot
+        parts += f'<text class="shift{off}" x="0" y="15" text-anchor="{anchor}">{signed(shift)}</text>' if shift else ""
         canvas.parts.append(mark(at, height, parts))
 
 
