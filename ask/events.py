@@ -209,7 +209,8 @@ def rows_of(fields: Fields, name: str, keys: Keys, rows: Rows, where: str) -> Li
     kind = fields.get(keys.kind, keys.without_kind)
     if kind not in ROW_KINDS:
         known = ", ".join(("host", "resync", "latency") + ROW_KINDS)
-        raise Trouble(WRONG, f"{where}: there is no kind {kind!r}. The kinds: {known}")
+        hint = f"--kind says under which key it stands, else {keys.kind}"
+        raise Trouble(WRONG, f"{where}: there is no kind {kind!r}. The kinds: {known}. {hint}")
     return [(kind, name.replace("{", "{{}"))]
 
 
