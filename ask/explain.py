@@ -175,6 +175,8 @@ def last_words(timing: Timing, child: str, sign: str, place: int) -> str:
 def distance_words(timing: Timing, place: int, other: int) -> str:
     """How far another position is from one."""
     distance = timing.positions[other] - timing.positions[place]
+    if distance == 0:
+        return "the same instant"
     return f"{abs(distance)} {'earlier' if distance < 0 else 'later'}"
 
 
