@@ -119,8 +119,8 @@ def moment_of_line(making: Making, line: str, where: str) -> Stamp:
             return stamp
     found = SYSLOG.match(text)
     if not found or (found.group(2) or found.group(3)) not in MONTHS:
-        known = "2023-11-14T22:13:28Z or Nov 14 22:13:28"
-        raise Trouble(WRONG, f"{where}: it begins with no time that is known, as {known}")
+        examples = "2023-11-14T22:13:28Z or Nov 14 22:13:28"
+        raise Trouble(WRONG, f"{where}: it begins with no time that is known, as {examples}")
     day, month = found.group(1) or found.group(4), MONTHS.index(found.group(2) or found.group(3)) + 1
     middle = making.lines[len(making.lines) // 2].stamp // 10 ** UNITS[making.unit or "s"]
     year = 1970 + middle // (365 * DAY + DAY // 4)

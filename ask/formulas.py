@@ -195,7 +195,7 @@ def subtrees(tree: Tree) -> Iterator[Tree]:
 
 def propositions(tree: Tree) -> List[Tree]:
     """The propositions of a tree, each host and name once, at its first place."""
-    found = {}
+    found: Dict[Tuple[str, str], Tree] = {}
     for part in subtrees(tree):
         if part.form == "prop":
             found.setdefault((part.host, part.name), part)

@@ -3,7 +3,7 @@
 from __future__ import annotations
 
 from dataclasses import dataclass
-from typing import Any, Callable, Dict, Iterator, List, NamedTuple, Optional, Sequence, Tuple
+from typing import Dict, Iterator, List, NamedTuple, Optional, Sequence, Tuple
 
 from ask.clocks import Clock, steps_of_file, steps_told, updates_of_file
 from ask.events import WRONG, Found, Latency, Limits, name_map
@@ -124,20 +124,25 @@ def limits_in_units(limits: Limits, making: Making) -> Tuple[int, int]:
 
 def clocks_of(making: Making, words: LimitWords) -> Dict[str, Clock]:
     """What the words tell of the clock of each host."""
-    readings: List[Tuple[str, Sequence[str], Callable[[Making, str], List[Any]]]] = [
-        ("--step", words.step, steps_told), ("--clock", words.clock, steps_of_file),
-        ("--tracking", words.tracking, updates_of_file),
-    ]
-    hosts, clocks = making.hosts(), {}
-    for option, texts, read in readings:
+    if making.unit is None and (words.step or words.clock or words.tracking):
+        raise Trouble(USAGE, "the unit of the stamps isn't named, so no clock can be followed: say it by --unit")
+    hosts = making.hosts()
+    clocks: Dict[str, Clock] = {}
+
+    def clocks_named(host: Optional[str]) -> List[Clock]:
+        """The clock of a host, or those of all."""
+        names = [host] if host else hosts
+        return [clocks.setdefault(name, Clock(10 ** UNITS[making.unit or "s"])) for name in names]
+
+    for option, texts, read in (("--step", words.step, steps_told), ("--clock", words.clock, steps_of_file)):
         for host, text in by_host(texts, option, hosts):
-            if making.unit is None:
-                raise Trouble(USAGE, f"{option}: the unit of the stamps isn't named; say by --unit what they count")
-            told = read(making, text)
-            for name in [host] if host else hosts:
-                clock = clocks.setdefault(name, Clock(10 ** UNITS[making.unit]))
-                kept: List[Any] = clock.updates if option == "--tracking" else clock.steps
-                kept.extend(told)
+            steps = read(making, text)
+            for clock in clocks_named(host):
+                clock.steps += steps
+    for host, text in by_host(words.tracking, "--tracking", hosts):
+        updates = updates_of_file(making, text)
+        for clock in clocks_named(host):
+            clock.updates += updates
     return clocks
 
 

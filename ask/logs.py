@@ -19,7 +19,7 @@ MOST_STAMP = 4 * 10**18
 NAME = re.compile(r"[a-z][a-z0-9_]{0,31}")
 NO_HOST_NAMES = ("true", "false", "inf")
 COLUMNS = ("host", "time", "name")
-HEADERS = {("kind",) + COLUMNS: 1, ("skewlog2",) + COLUMNS: 2}
+HEADERS: Dict[Tuple[str, ...], int] = {("kind",) + COLUMNS: 1, ("skewlog2",) + COLUMNS: 2}
 ROW_KINDS = ("set", "clear", "send", "recv", "note", "pulse")
 KINDS = {1: ("host",) + ROW_KINDS[:-1], 2: ("host", "resync", "latency") + ROW_KINDS}
 
@@ -295,7 +295,7 @@ def read_log(data: bytes) -> Union[Log, Fault]:
     if version is None:
         return Fault(1, 1)
     reader = Reader(version)
-    places = []
+    places: List[int] = []
     for place, record in enumerate(records[1:], start=2):
         fault = reader.take(record)
         if fault:

@@ -10,7 +10,7 @@ import time
 from contextlib import ExitStack
 from dataclasses import dataclass, field
 from pathlib import Path
-from typing import BinaryIO, List, NamedTuple, Optional, Sequence
+from typing import IO, List, NamedTuple, Optional, Sequence
 
 from ask.texts import Source, Trouble
 
@@ -99,12 +99,10 @@ def tell(shown: str, taken: float) -> None:
     print(f"ask: {taken:.0f} s: {short}", end=end, file=sys.stderr, flush=True)
 
 
-def handed(data: bytes) -> BinaryIO:
+def handed(data: bytes) -> IO[bytes]:
     """An unnamed file with these bytes, which a run can read by its number."""
-    if hasattr(os, "memfd_create"):
-        file = os.fdopen(os.memfd_create("skewcheck"), "w+b")
-    else:
-        file = tempfile.TemporaryFile()
+    has_memory = hasattr(os, "memfd_create")
+    file: IO[bytes] = os.fdopen(os.memfd_create("skewcheck"), "w+b") if has_memory else tempfile.TemporaryFile()
     file.write(data)
     file.flush()
     file.seek(0)

@@ -122,9 +122,12 @@ def best_of_run(run: Run, question: Question, log: Log, value: str) -> Best:
     if run.status not in (0, 1, 3, 4):
         raise refusal(run, question.formula, question.log_source)
     try:
-        return read_best(run.output, len(log.rows), command, value)
+        best: Optional[Best] = read_best(run.output, len(log.rows), command, value)
     except Unreadable:
-        raise Trouble(NOT_THERE, f"what the program wrote is no answer that ask can read, at: {run.words}") from None
+        best = None
+    if best is None or best.status() != run.status:
+        raise Trouble(NOT_THERE, f"what the program wrote is no answer that ask can read, at: {run.words}")
+    return best
 
 
 def answered(run: Run, question: Question) -> Run:

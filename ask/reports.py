@@ -116,6 +116,14 @@ class Best:
     why: Optional[Section] = None
     walk: Optional[List[Step]] = None
 
+    def status(self) -> int:
+        """The status that the program has with it."""
+        if self.number is not None:
+            return 0
+        if self.walk is not None:
+            return 3
+        return 1 if self.why and self.why.kind == "refuted" else 4
+
 
 def read_best(data: bytes, events: int, command: str, value: str) -> Best:
     """The answer of a command that bytes are, with a section of the value and one on what is beyond or below."""

@@ -187,7 +187,8 @@ LENGTHS = {
 
 def size_refusal(size: int, log: Optional[Source]) -> str:
     """What to do where a formula and a log are too large together."""
-    rows = sum(1 for record in records_of(log.data) if record.fields[0] not in ("kind", "host")) if log else 0
+    no_rows = ("kind", "skewlog2", "host", "resync", "latency")
+    rows = sum(1 for record in records_of(log.data) if record.fields[0] not in no_rows) if log else 0
     return (
         f"the formula on a log of {counted(rows, 'row')} has the size {grouped(size)}, and the limit is 4,194,304. "
         f"Each F, G, O, H, U and S counts with the square of the rows: cut a window (ask log --help), leave out "
@@ -291,8 +292,8 @@ def log_fault_words(number: str, record: Record, records: Sequence[Record]) -> "
     if number == "16":
         return f"the greatest latency, {shortened(fields[3])}, is below the least, {shortened(fields[2])}", 3
     if number == "12":
-        hosts = len(declared_hosts(records))
-        return f"{counted(hosts, 'host')}; at most 64: leave out hosts that the formula and the messages don't need", 0
+        count = len(declared_hosts(records))
+        return f"{counted(count, 'host')}; at most 64: leave out hosts that the formula and the messages don't need", 0
     if number == "13":
         rows = sum(1 for other in records[1:] if other.fields[0] not in ("host", "resync", "latency"))
         return f"{counted(rows, 'row')}; at most 1,024: cut a window (ask log --help, docs/real-logs.md)", 0

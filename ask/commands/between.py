@@ -7,7 +7,7 @@ from typing import Any, Dict, List
 
 from ask.grounds import ground_facts, ground_lines
 from ask.logs import Log
-from ask.program import Program, find_program
+from ask.program import NOT_THERE, Program, find_program
 from ask.question import Question, best_of_run, log_with_rows, run_facts, run_lines
 from ask.reports import Best
 from ask.rows import RULE, row_of
@@ -17,7 +17,7 @@ from ask.words import USAGE, Answer, bold, row_words, walk_facts, walk_words
 ANY = Source("'true'", b"true")  # a formula that every timing has
 
 
-def add_words(commands: argparse._SubParsersAction, common: argparse.ArgumentParser) -> None:
+def add_words(commands: "argparse._SubParsersAction[argparse.ArgumentParser]", common: argparse.ArgumentParser) -> None:
     """Adds the words of the command."""
     words = commands.add_parser(
         "between", parents=[common], allow_abbrev=False, help="the least and the greatest delay between two rows",
@@ -67,13 +67,16 @@ class Between:
             return self.contradiction(greatest)
         least = self.span(self.second, self.first)
         if greatest.number is None or least.number is None:
-            return self.unknown()
+            return Answer(4, [bold("Unknown: the program didn't find the delay within its conflicts.")], self.facts)
         return self.found(greatest, greatest.number, least, -least.number)
 
     def span(self, start: int, end: int) -> Best:
         """The greatest delay of one row after another, as the program's `span` has it."""
         run = self.question.program.run("span", [ANY, self.question.log_source], ["true", str(start), str(end)])
-        return best_of_run(run, self.question, self.log, "true")
+        best = best_of_run(run, self.question, self.log, "true")
+        if run.status == 1:
+            raise Trouble(NOT_THERE, f"the program says that no timing makes `true` true, at: {run.words}")
+        return best
 
     def contradiction(self, best: Best) -> Answer:
         """The answer of a log without a timing."""
@@ -82,9 +85,6 @@ class Between:
         lines = [bold(f"No timing: {name} admits none, since these bounds contradict each other.")]
         self.facts["contradiction"] = walk_facts(self.log, walk)
         return Answer(3, lines + walk_words(self.log, walk), self.facts)
-
-    def unknown(self) -> Answer:
-        return Answer(4, [bold("Unknown: the program didn't find the delay within its conflicts.")], self.facts)
 
     def found(self, greatest: Best, most: int, least: Best, fewest: int) -> Answer:
         """The answer with both ends."""

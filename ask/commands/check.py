@@ -24,7 +24,7 @@ MOST_ROWS_SHOWN = 40
 SPREAD_NOTE = "a skew is a range for each row by itself, and no offset of the clock"
 
 
-def add_words(commands: argparse._SubParsersAction, common: argparse.ArgumentParser) -> None:
+def add_words(commands: "argparse._SubParsersAction[argparse.ArgumentParser]", common: argparse.ArgumentParser) -> None:
     """Adds the words of the command."""
     words = commands.add_parser(
         "check", parents=[common], allow_abbrev=False, help="the verdict on a formula and a log, in words",

@@ -22,7 +22,7 @@ SAID = {
 }
 
 
-def add_words(commands: argparse._SubParsersAction, common: argparse.ArgumentParser) -> None:
+def add_words(commands: "argparse._SubParsersAction[argparse.ArgumentParser]", common: argparse.ArgumentParser) -> None:
     """Adds the words of the command."""
     words = commands.add_parser(
         "deadline", parents=[common], allow_abbrev=False, help="the least number in place of `?` that a log shows",

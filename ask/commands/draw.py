@@ -21,7 +21,7 @@ ANY = Source("true", b"true")  # a formula that every timing has, where only the
 REJECTED = 5  # the status of a report that doesn't hold
 
 
-def add_words(commands: argparse._SubParsersAction, common: argparse.ArgumentParser) -> None:
+def add_words(commands: "argparse._SubParsersAction[argparse.ArgumentParser]", common: argparse.ArgumentParser) -> None:
     """Adds the words of the command."""
     words = commands.add_parser(
         "draw", parents=[common], allow_abbrev=False, help="a log as a picture",

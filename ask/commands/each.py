@@ -20,7 +20,7 @@ ORDER = (3, 1, 2, 4, STOPPED, 0)
 SHOWN = {**VERDICTS, STOPPED: "stopped"}
 
 
-def add_words(commands: argparse._SubParsersAction, common: argparse.ArgumentParser) -> None:
+def add_words(commands: "argparse._SubParsersAction[argparse.ArgumentParser]", common: argparse.ArgumentParser) -> None:
     """Adds the words of the command."""
     words = commands.add_parser(
         "each", parents=[common], allow_abbrev=False, help="one formula for each matching name, in one table",

@@ -4,7 +4,7 @@ from __future__ import annotations
 
 import argparse
 import sys
-from typing import Dict, List, Sequence
+from typing import Dict, List, Sequence, Tuple
 
 from ask.access import AccessWords, access_events, format_of
 from ask.events import WRONG, Found, Keys, Rows, name_map, read_events
@@ -16,7 +16,7 @@ from ask.texts import Trouble, read_source, write_text
 from ask.words import USAGE, Answer, counted, listed
 
 
-def add_words(commands: argparse._SubParsersAction, common: argparse.ArgumentParser) -> None:
+def add_words(commands: "argparse._SubParsersAction[argparse.ArgumentParser]", common: argparse.ArgumentParser) -> None:
     """Adds the words of the command."""
     words = commands.add_parser(
         "log", parents=[common], allow_abbrev=False, help="make a log of tables, JSON or access lines, or cut a window",
@@ -189,7 +189,7 @@ def log_text(making: Making, hosts: Dict[str, LogHost]) -> List[str]:
             "(docs/real-logs.md)",
         )
     heads, latencies, body = [], [], []
-    known = {}
+    known: Dict[str, Tuple[int, int]] = {}
     for line in making.lines:
         host, limits = hosts[line.host], (line.skew, line.gap)
         if line.host not in known:

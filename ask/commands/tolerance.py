@@ -21,7 +21,7 @@ MOST_ROWS_SHOWN = 40
 TOO_LARGE = 67  # the status where a question is too large
 
 
-def add_words(commands: argparse._SubParsersAction, common: argparse.ArgumentParser) -> None:
+def add_words(commands: "argparse._SubParsersAction[argparse.ArgumentParser]", common: argparse.ArgumentParser) -> None:
     """Adds the words of the command."""
     words = commands.add_parser(
         "tolerance", parents=[common], allow_abbrev=False, help="how far off clocks would be for a formula to hold",

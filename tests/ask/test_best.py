@@ -119,7 +119,9 @@ class Programs(unittest.TestCase):
             for script, part in (
                 ("exit 64", "has no command `span`"), ("echo span 5", "no answer that ask can read"),
                 ("printf 'span 5\\ntrue witness\\n1\\n2\\nend\\n'", "no answer"), ("printf 'span x\\n'", "no answer"),
-                ("echo inconsistent; exit 3", "no answer"), ("exit 7", "status 7"), ("echo refused event 1; exit 69", "no row 1"),
+                ("echo inconsistent; exit 3", "no answer"), ("exit 7", "status 7"),
+                ("printf 'span none\\ntrue refuted 0\\nend\\n'; exit 1", "no timing makes"), ("printf 'span none\\ntrue refuted 0\\nend\\n'", "no answer"),
+                ("echo refused event 1; exit 69", "no row 1"),
             ):
                 program.write_text(f"#!/bin/sh\n{script}\n")
                 program.chmod(0o755)
@@ -127,6 +129,8 @@ class Programs(unittest.TestCase):
                 self.assertEqual(ended, 69, said)
                 self.assertIn(part, said)
                 self.assertNotIn("Traceback", said)
+            program.write_text("#!/bin/sh\nprintf 'span unknown\\ntrue unknown 0\\nend\\n'; exit 4\n")
+            self.assertEqual(asked(["between", "answered.csv", "0", "1", "--program", str(program)], EXAMPLES)[0], 4)
             program.write_text("#!/bin/sh\nexit 64\n")
             ended, _, said = asked(["tolerance", "a.req", "answered.csv", "--program", str(program)], EXAMPLES)
             self.assertEqual((ended, "has no command `tolerance`" in said), (69, True), said)
