@@ -1,6 +1,7 @@
 """Drives a headless Chromium over its debugging pipe: loads a page, moves the mouse, and asks the page."""
 
 import base64
+import contextlib
 import json
 import os
 import shutil
@@ -21,12 +22,12 @@ class Browser:
     """A page of a browser without a window."""
 
     def __init__(self, width, height):
-        self.folder = tempfile.TemporaryDirectory()
+        self.folder = tempfile.mkdtemp()
         from_us, to_browser = os.pipe()
         from_browser, to_us = os.pipe()
         words = [
             browser_path(), "--headless=new", "--no-sandbox", "--disable-gpu", "--remote-debugging-pipe",
-            f"--user-data-dir={self.folder.name}", f"--window-size={width},{height}", "about:blank",
+            f"--user-data-dir={self.folder}", f"--window-size={width},{height}", "about:blank",
         ]
         self.process = subprocess.Popen(
             ["bash", "-c", f'exec "$@" 3<&{from_us} 4>&{to_us}', "bash", *words], pass_fds=(from_us, to_us),
@@ -38,6 +39,14 @@ class Browser:
         self.timer = threading.Timer(PATIENCE, self.process.kill)
         self.timer.start()
         self.count, self.session = 0, None
+        try:
+            self.attach(width, height)
+        except BaseException:
+            self.__exit__()
+            raise
+
+    def attach(self, width, height):
+        """Takes the page that the browser has opened."""
         targets = self.ask("Target.getTargets")["targetInfos"]
         target = next(found["targetId"] for found in targets if found["type"] == "page")
         self.session = self.ask("Target.attachToTarget", targetId=target, flatten=True)["sessionId"]
@@ -49,11 +58,17 @@ class Browser:
 
     def __exit__(self, *_):
         self.timer.cancel()
-        self.process.kill()
-        self.process.wait()
-        self.written.close()
-        self.read.close()
-        self.folder.cleanup()
+        try:
+            self.session = None
+            self.ask("Browser.close")
+            self.process.wait(5)
+        except (OSError, RuntimeError, subprocess.TimeoutExpired):
+            self.process.kill()
+            self.process.wait()
+        for end in (self.written, self.read):
+            with contextlib.suppress(OSError):
+                end.close()
+        shutil.rmtree(self.folder, ignore_errors=True)  # its last processes may still write there
 
     def ask(self, method, **parameters):
         """The answer to a command."""
