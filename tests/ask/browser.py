@@ -9,7 +9,7 @@ import subprocess
 import tempfile
 import threading
 
-PATIENCE = 30  # seconds until an answer of the browser
+PATIENCE = 120  # seconds after which the browser is ended
 NAMES = ("chromium", "chromium-browser", "google-chrome")
 
 
