@@ -18,11 +18,11 @@ COMMANDS = (check, deadline, between, tolerance, each, log, draw)
 
 STATUSES = """\
 statuses:
-  0 to 6      those of the program (docs/statuses.md): of check 0 is true, 1 false, 2 either, 3 no timing,
+  0 to 6      those of the program (docs/usage.md): of check 0 is true, 1 false, 2 either, 3 no timing,
               4 not found within the conflicts
   64          the words are no command of ask
   65 to 75    the program's refusals and failures; 65 also a warning with --strict
-  69          the program isn't there, or has no such command
+  72          the program isn't there, or has no such command
   124         a run took longer than --seconds
 """
 

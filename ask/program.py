@@ -16,7 +16,7 @@ from ask.texts import Source, Trouble
 
 ROOT = Path(__file__).resolve().parent.parent
 BUILT = ROOT / "crates" / "skewcheck" / "out" / "skewcheck"
-NOT_THERE = 69  # the status where there is no program, which is also that of ./skewcheck
+NOT_THERE = 72  # the status where there is no program, which is also that of ./skewcheck
 STOPPED = 124  # the status where a run took longer than --seconds allows, which is also that of timeout
 MOST_SHOWN = 400  # letters of the words of a run
 PATIENCE = 1.0  # seconds after which a run is spoken of

@@ -27,11 +27,11 @@ WORDS = {0: "true", 1: "false", 2: "either", 3: "no timing", 4: "unknown"}
 ORDER = (3, 1, 2, 4, 0)  # of answers: the first that some question has is the status of the whole
 TROUBLES = 10  # lines of them that are told
 REFUSED = 64  # the least status that is no answer
-WRONG_WORDS, UNAVAILABLE, NO_FILE, NOT_ASKED, BROKEN_OFF = 64, 69, 74, 125, 130
+WRONG_WORDS, UNAVAILABLE, NO_FILE, NOT_ASKED, BROKEN_OFF = 64, 72, 74, 125, 130
 
 # A job: unpacks a bundle in a folder of its own, asks its questions, and writes the reports as an archive.
 JOB = """\
-command -v {program} >/dev/null || {{ echo "many_logs: {program} isn't there" >&2; exit 69; }}
+command -v {program} >/dev/null || {{ echo "many_logs: {program} isn't there" >&2; exit 72; }}
 room=$(mktemp -d) || exit 74
 trap 'rm -rf "$room"' EXIT
 trap 'exit 130' INT TERM

@@ -126,14 +126,14 @@ class Programs(unittest.TestCase):
                 program.write_text(f"#!/bin/sh\n{script}\n")
                 program.chmod(0o755)
                 ended, _, said = asked(["between", "answered.csv", "0", "1", "--program", str(program)], EXAMPLES)
-                self.assertEqual(ended, 69, said)
+                self.assertEqual(ended, 72, said)
                 self.assertIn(part, said)
                 self.assertNotIn("Traceback", said)
             program.write_text("#!/bin/sh\nprintf 'span unknown\\ntrue unknown 0\\nend\\n'; exit 4\n")
             self.assertEqual(asked(["between", "answered.csv", "0", "1", "--program", str(program)], EXAMPLES)[0], 4)
             program.write_text("#!/bin/sh\nexit 64\n")
             ended, _, said = asked(["tolerance", "a.req", "answered.csv", "--program", str(program)], EXAMPLES)
-            self.assertEqual((ended, "has no command `tolerance`" in said), (69, True), said)
+            self.assertEqual((ended, "has no command `tolerance`" in said), (72, True), said)
 
 
 if __name__ == "__main__":

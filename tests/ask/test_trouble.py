@@ -46,12 +46,12 @@ class Words(unittest.TestCase):
         self.told(["log", "set.csv", "--notes", "missing/notes"], 75, "missing/notes")
 
     def test_programs_that_are_none(self):
-        self.told(["check", "a.p", "set.csv", "--program", "missing"], 69, "missing")
-        self.told(["check", "a.p", "set.csv"], 69, "SKEWCHECK", SKEWCHECK="missing")
-        self.told(["check", "a.p", "set.csv", "--program", "/bin/true"], 69)
-        self.told(["check", "a.p", "set.csv", "--program", "/bin/false"], 69)
-        self.told(["draw", "set.csv", "--program", "/bin/false"], 69)
-        self.told(["check", "a.p", "set.csv", "--program", "set.csv"], 69)
+        self.told(["check", "a.p", "set.csv", "--program", "missing"], 72, "missing")
+        self.told(["check", "a.p", "set.csv"], 72, "SKEWCHECK", SKEWCHECK="missing")
+        self.told(["check", "a.p", "set.csv", "--program", "/bin/true"], 72)
+        self.told(["check", "a.p", "set.csv", "--program", "/bin/false"], 72)
+        self.told(["draw", "set.csv", "--program", "/bin/false"], 72)
+        self.told(["check", "a.p", "set.csv", "--program", "set.csv"], 72)
 
     def test_reports_of_others(self):
         self.told(["draw", "answered.csv", "--report", "checkout_within_5000.report"], 5, "7 rows", "has 2")

@@ -149,8 +149,8 @@ class Refusals(WithRoom):
         self.assertRefused([LOGS, FORMULAS[0], "--to", self.room / "file", "--program", PROGRAM], 74, str(self.room / "file"))
 
     def test_what_is_not_there(self):
-        self.assertRefused(self.words(), 69, "parallel", PATH="/nonexistent")
-        self.assertRefused(self.words("--program", self.room / "nothing"), 69, "nothing isn't there")
+        self.assertRefused(self.words(), 72, "parallel", PATH="/nonexistent")
+        self.assertRefused(self.words("--program", self.room / "nothing"), 72, "nothing isn't there")
 
     def test_answers_to_other_questions(self):
         asked(self.words())
