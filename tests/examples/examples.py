@@ -7,12 +7,13 @@ writes there has to be the one that is kept, and is audited with the same files:
 by the program, and by the second audit in tests/reference. Then the runs of
 many_rows.py have to end as it says. Then each command of
 README.md and docs/ that a block of shell shows, and that the program, cat or
-python3 is in, has to write what stands below it, each clause that a block of
-text quotes has to stand in the code, and each link has to lead to a file, and to
-a heading of it where it names one. What the tables of refusals show has to be
-refused so, and the picture of the crates has to be that of crates.txt. Every
-difference is printed, and the end is 1 where there is one. With --write the
-reports that differ and the picture are kept anew.
+python3 is in, has to write what stands below it (those with jq are left out where
+there is none), each clause that a block of text quotes has to stand in the code,
+and each link has to lead to a file, and to a heading of it where it names one.
+What the tables of refusals show has to be refused so, and the picture of the
+crates has to be that of crates.txt. Every difference is printed, and the end is 1
+where there is one. With --write the reports that differ and the picture are kept
+anew.
 """
 
 import argparse
