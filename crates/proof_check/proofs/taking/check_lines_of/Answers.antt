@@ -43,5 +43,5 @@ returns-clause-learn c =
     let none : (lines : List Line) → IsTextOf c.loop-kept.rest.now lines → lines ≡ [] = λ lines is. rw c.in_default.is at (c.in_ok-line.ensures.head lines is) in
     λ lines is derives. counted_all c.args.rules.now c.args.text.now c.loop-kept.kept c.loop-kept.rest.now c.loop-kept.learn_lines c.loop-kept.invariant none lines is
 
-pub takes-requires-spelled : goal.takes-requires-spelled
-takes-requires-spelled c = let front = rw c.in-Some.is at c.in_ok-line.ensures.front in front.spelled
+pub takes-requires-clause-spelled : goal.takes-requires-clause-spelled
+takes-requires-clause-spelled c = let front = rw c.in-Some.is at c.in_ok-line.ensures.front in front.spelled
