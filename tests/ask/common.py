@@ -28,15 +28,6 @@ def reads_pulses():
     return status_of(["times", "-"], PULSED) == 0
 
 
-def program_with(command):
-    """The program where it has a command, and else the stand-in for one that has it."""
-    operands = {"span": ["true", "0", "1"], "tolerance": ["true", "1"]}[command]
-    if status_of([command, *operands, os.devnull, os.devnull]) != 64:
-        return find_program(None)
-    os.environ["ASK_REAL"] = find_program(None)
-    return str(ROOT / "tests" / "ask" / "standin.py")
-
-
 @contextlib.contextmanager
 def standing_in(folder):
     """Has a folder as the one in which names are looked up."""

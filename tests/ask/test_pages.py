@@ -6,7 +6,7 @@ import subprocess
 import sys
 import unittest
 
-from common import PATIENCE, ROOT, program_with
+from common import PATIENCE, ROOT
 
 from ask.program import find_program
 
@@ -21,14 +21,6 @@ def shown_commands():
             yield command, below
 
 
-def program_of(command):
-    """The program that a command is shown with, or a stand-in where it has no `span` or `tolerance`."""
-    for word, needed in (("ask between", "span"), ("ask tolerance", "tolerance")):
-        if word in command:
-            return program_with(needed)
-    return find_program(None)
-
-
 class Pages(unittest.TestCase):
     def test_commands(self):
         for command, below in shown_commands():
@@ -37,7 +29,7 @@ class Pages(unittest.TestCase):
                 done = subprocess.run(
                     ["bash", "-c", shown.replace("./ask/ask", f"{sys.executable} -B ask/ask")], cwd=ROOT, text=True,
                     stdin=subprocess.DEVNULL, stdout=subprocess.PIPE, timeout=PATIENCE,
-                    env={**os.environ, "COLUMNS": "80", "SKEWCHECK": program_of(shown)},
+                    env={**os.environ, "COLUMNS": "80", "SKEWCHECK": find_program(None)},
                 )
                 self.assertEqual(done.stdout, (ROOT / kept).read_text() if kept else below)
 
