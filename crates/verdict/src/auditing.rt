@@ -3,6 +3,7 @@
 ghost use Rattle.std.specs.Prelude.{◌≡◌, ◌↔◌, ◌<◌, ◌^◌, ℕ, length, IfErr, IfOk, IfSome, IsTrue, OnOk, None};
 ghost use Rattle.mt_model.specs.Form.{Form, form_of};
 ghost use Rattle.mt_model.specs.Timing.{Admissible};
+ghost use Rattle.skew_bounds.specs.RowEdges.{IsEdgeTableOf};
 ghost use Rattle.skew_bounds.specs.System.{IsSystemOf};
 ghost use Rattle.proof_log.specs.Derivations.{Derives, FirstWrong, Refutes};
 ghost use Rattle.proof_log.specs.Freshness.{learn_lines as learn_lines_of};
@@ -18,10 +19,10 @@ use crate::given::{Given, prepare, truth_in};
 use crate::laws::{accepted_reports_are_true, audits_are_exact, right_reports_are_accepted};
 use crate::{Audit, Part, VerdictFault};
 use mt_model::{Formula, Log, Step};
-use proof_check::{Check, Checker, check_cycle};
+use proof_check::{Check, Checker, check_cycle_by};
 use proof_log::Line;
 use report_text::{Report, Section};
-use skew_bounds::{BoundSystem, first_broken};
+use skew_bounds::{BoundSystem, EdgeTable, first_broken};
 use std::alloc::{AllocError, Global};
 
 // Whether a log admits times, of which there is one for each row.
@@ -193,11 +194,12 @@ fn audit_of_verdicts(
 }
 
 /// What an audit says of a walk of a report on as many events as the log has rows.
-pub fn audit_of_walk(log: &Log, steps: &[Step]) -> Audit
+pub fn audit_of_walk(log: &Log, table: &EdgeTable, steps: &[Step]) -> Audit
+    requires table { IsEdgeTableOf log.now table.now }
     requires few { length steps.now < 2 ^ 32 }
     ensures audit { (f : Form) (budget events : ℕ) → events ≡ length log.now.rows → IsAudit log.now f budget (Report.Inconsistent events steps.now) result }
 {
-    match check_cycle(log, steps) {
+    match check_cycle_by(log, table, steps) {
         None => Audit::Accepted,
         Some(line) => Audit::Refused {
             part: Part::Inconsistent,
@@ -226,7 +228,10 @@ fn audit_of(
         return Ok(Audit::Refused { part, line: 0 });
     }
     match report {
-        Report::Inconsistent { steps, .. } => Ok(audit_of_walk(log, steps.as_slice())),
+        Report::Inconsistent { steps, .. } => {
+            let table = EdgeTable::of(alloc, log)?;
+            Ok(audit_of_walk(log, &table, steps.as_slice()))
+        }
         Report::Verdicts {
             on_true,
             on_false,

@@ -27,6 +27,7 @@ use crate::{Audit, Part, VerdictFault};
 use mt_model::{Formula, Log};
 use proof_check::{Check, Checker, TextCheck};
 use report_text::{Kind, Outline, SectionOutline, steps_of, times_of};
+use skew_bounds::EdgeTable;
 use std::alloc::{AllocError, Global};
 
 // What the lines of a text are.
@@ -161,7 +162,8 @@ fn audit_of(
     match outline {
         Outline::Inconsistent { count, text, .. } => {
             let steps = steps_of(alloc, count, text)?;
-            Ok(audit_of_walk(log, steps.as_slice()))
+            let table = EdgeTable::of(alloc, log)?;
+            Ok(audit_of_walk(log, &table, steps.as_slice()))
         }
         Outline::Verdicts {
             on_true,

@@ -5,8 +5,8 @@ use Rattle.report_text.proofs.ReadBack.{found-walk}
 use Rattle.verdict.specs.AuditPlace.{IsAudit}
 use Rattle.verdict.proofs.outlined.audit_of.Goals as goal
 
-pub returns-in_ok-steps-in-Inconsistent : goal.returns-in_ok-steps-in-Inconsistent
-returns-in_ok-steps-in-Inconsistent c = λ r out spelled.
+pub returns-in_ok-table-in-Inconsistent : goal.returns-in_ok-table-in-Inconsistent
+returns-in_ok-table-in-Inconsistent c = λ r out spelled.
     let log = c.args.log.now in
     let f = form_of c.args.f.now in
     let o = rw c.in-Inconsistent.is at out in
