@@ -5,6 +5,7 @@ pub mod ListedNumbers
 pub mod SizeLemmas
 pub mod SizeBounds
 pub mod SizesUnique
+pub mod RuleLengths
 pub mod SizesFall
 pub mod ClauseGrowth
 pub mod ChangeCounts

@@ -19,7 +19,6 @@ use axiom_rules::Rules;
 use formula_arena::{Arena, ArenaFault};
 use mt_model::{Formula, Log, NodeId};
 use proof_log::Line;
-use skew_bounds::EdgeTable;
 use smallvec::SmallVec;
 use std::alloc::{AllocError, Global};
 use std::marker::Model;

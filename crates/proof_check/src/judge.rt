@@ -3,6 +3,7 @@
 ghost use Rattle.std.specs.Prelude.{◌≡◌, ◌↔◌, ◌+◌, if◌then◌else◌, length, IfOk, IsTrue, None, Some};
 ghost use Rattle.std.specs.Result.{result_ok};
 ghost use Rattle.axiom_rules.specs.Clauses.{clause_of as clause_of_rule};
+ghost use Rattle.skew_bounds.specs.RowEdges.{IsEdgeTableOf};
 ghost use Rattle.proof_log.specs.Derivations.{IsLearnt};
 ghost use Rattle.proof_log.specs.Spelled.{IsSpelled};
 ghost use Rattle.proof_check.specs.Judging.{AreRefuting, IsHintTaken, IsRight};
@@ -16,6 +17,7 @@ use crate::walk::is_conflict;
 use axiom_rules::{Literal, Rule, RuleFault, Rules};
 use hint_refutation::{assumed_is_set, refuters_give, steps_are_forced};
 use proof_log::{Hint, Line};
+use skew_bounds::EdgeTable;
 use smallvec::SmallVec;
 use std::alloc::{AllocError, Global};
 
@@ -108,11 +110,13 @@ fn is_learnt(
 pub fn is_right(
     alloc: Global,
     rules: &Rules,
+    table: &EdgeTable,
     kept: &Clauses,
     line: &Line,
     clause: &mut Clause,
 ) -> Result<bool, AllocError>
-    requires { IsSpelled line.now }
+    requires table { IsEdgeTableOf rules.now.log table.now }
+    requires spelled { IsSpelled line.now }
     ensures { IfOk result (λ b. IsTrue b ↔ IsRight rules.now (lines_with kept.now) (length kept.now + 1) line.now) }
 {
     match line {

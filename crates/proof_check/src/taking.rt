@@ -1,6 +1,7 @@
 //! Lines that are judged one after another, each by the clauses of those before it.
 
 ghost use Rattle.std.specs.Prelude.{◌≡◌, ◌↔◌, ◌+◌, ◌<◌, ◌^◌, [], ◌∷◌, ◌++◌, List, length, IfOk, IsTrue};
+ghost use Rattle.skew_bounds.specs.RowEdges.{IsEdgeTableOf};
 ghost use Rattle.proof_log.specs.Derivations.{IsEmptyAt, clause_of_line};
 ghost use Rattle.proof_log.specs.Freshness.{learn_lines};
 ghost use Rattle.proof_log.specs.LinesOf.{IsTextOf};
@@ -15,6 +16,7 @@ use crate::judge::{Clause, is_right};
 use crate::kept::Clauses;
 use axiom_rules::Rules;
 use proof_log::{Line, has_spelling, next_line};
+use skew_bounds::EdgeTable;
 use std::alloc::{AllocError, Global};
 
 // Whether a line that has a spelling is good as the one after those whose clauses are kept. If so, its clause is kept
@@ -22,18 +24,20 @@ use std::alloc::{AllocError, Global};
 fn takes(
     alloc: Global,
     rules: &Rules,
+    table: &EdgeTable,
     kept: &mut Clauses,
     clause: &mut Clause,
     line: &Line,
 ) -> Result<bool, AllocError>
-    requires { IsSpelled line.now }
+    requires table { IsEdgeTableOf rules.now.log table.now }
+    requires spelled { IsSpelled line.now }
     ensures good { IfOk result (λ b. IsTrue b ↔ IsNext rules.now kept.old line.now) }
     ensures grown { IfOk result (λ b. IsTrue b → kept.new ≡ kept.old ++ clause_of_line line.now ∷ []) }
 {
     if ends_empty(kept) {
         return Ok(false);
     }
-    if !is_right(alloc, rules, kept, line, clause)? {
+    if !is_right(alloc, rules, table, kept, line, clause)? {
         return Ok(false);
     }
     keep(alloc, kept, line)?;
@@ -62,13 +66,14 @@ pub fn check_lines(
     requires { length lines.now < 2 ^ 32 }
     ensures { IfOk result (λ c. OfSought rules.now (λ log f v. IsAnswer log f v lines.now c)) }
 {
+    let table = EdgeTable::of(alloc, rules.log())?;
     let mut kept = Clauses::new(alloc);
     for (i, line) in lines.iter().enumerate() {
         let number = i as u32 + 1;
         if !has_spelling(alloc, line)? {
             return Ok(Check::Wrong(number));
         }
-        if !takes(alloc, rules, &mut kept, clause, line)? {
+        if !takes(alloc, rules, &table, &mut kept, clause, line)? {
             return Ok(Check::Wrong(number));
         }
     }
@@ -97,13 +102,14 @@ pub fn check_lines_of(
     ensures answer { IfOk result (λ t. (lines : List Line) → IsTextOf text.now lines → OfSought rules.now (λ log f v. IsAnswer log f v lines t.check)) }
     ensures learn { IfOk result (λ t. (lines : List Line) → IsTextOf text.now lines → t.check ≡ Check.Derives → t.learn_lines ≡ learn_lines lines) }
 {
+    let table = EdgeTable::of(alloc, rules.log())?;
     let mut kept = Clauses::new(alloc);
     let mut learn_lines = 0;
     let mut rest = text;
     while let Some((line, after)) = next_line(alloc, rest)? {
         let number = kept.len() as u32 + 1;
         // What was read has a spelling.
-        if !takes(alloc, rules, &mut kept, clause, &line)? {
+        if !takes(alloc, rules, &table, &mut kept, clause, &line)? {
             let check = Check::Wrong(number);
             return Ok(TextCheck { check, learn_lines });
         }
