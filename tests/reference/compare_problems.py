@@ -215,14 +215,16 @@ def atoms_difference(question, printed):
 
 
 def rank(log, atom):
-    """What orders an atom among the others: orders first, by how near their events are, then by nodes, and first last."""
+    """What orders an atom among the others: orders, by how near their events are, then `same`, by nodes, and `first`."""
     kind, *numbers = atom
     if kind == "order":
         e, f, _ = numbers
         return 0, abs(log.rows[e].local - log.rows[f].local), 0
+    if kind == "same":
+        return 1, 0, 0
     if kind == "first":
-        return 2, 0, 0
-    return 1, numbers[0], KINDS_OF_A_NODE.index(kind)
+        return 3, 0, 0
+    return 2, numbers[0], KINDS_OF_A_NODE.index(kind)
 
 
 def edges_difference(question, printed):
