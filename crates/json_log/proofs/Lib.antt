@@ -2,4 +2,3 @@ pub mod Adding
 pub mod Looking
 pub mod Sizes
 pub mod Few
-pub mod Plain

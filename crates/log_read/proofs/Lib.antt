@@ -11,6 +11,7 @@ pub mod Listing
 pub mod Middles
 pub mod NoMemory
 pub mod PlainFields
+pub mod PlainLogs
 pub mod PushedLines
 pub mod ReadBack
 pub mod Runs

@@ -1,8 +1,13 @@
-ghost use Rattle.log_read.specs.ValidLogs.{LogsAreValid, NoFileLacksMemory};
+ghost use Rattle.log_read.specs.ValidLogs.{LogsArePlain, LogsAreValid, NoFileLacksMemory};
 
 /// The log that a file's bytes are is valid.
 pub fn logs_are_valid()
     ensures { LogsAreValid }
+{}
+
+/// The log that a file's bytes are can be stated by a file again: its skews are written ones, and it has no extra bounds.
+pub fn logs_are_plain()
+    ensures { LogsArePlain }
 {}
 
 /// A law: want of memory is no fault of a file.

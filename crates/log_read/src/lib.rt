@@ -15,6 +15,6 @@ mod writer;
 
 pub use fault::LogFault;
 pub use fields::{Field, Fields, RecordList};
-pub use laws::{logs_are_valid, no_file_lacks_memory};
+pub use laws::{logs_are_plain, logs_are_valid, no_file_lacks_memory};
 pub use reader::{read_log, read_records};
 pub use writer::{texts_read_back, write_log};

@@ -10,10 +10,10 @@ use Rattle.mt_model.specs.declared.limits.TheConstants.{MAX_SKEW}
 use Rattle.mt_model.specs.Log.{AreResyncs, IsHost, IsLog, IsResync, IsWithin, Logged, widened, widened_host, widened_resync}
 
 module _ (s : ℤ) (low : pos 0 ≤ℤ s) where
-  abbrev HasRoom : Host → Type 0
+  abbrev pub HasRoom : Host → Type 0
   HasRoom h = (h.skew +ℤ s) ≤ℤ MAX_SKEW
 
-  abbrev HasRoomAfter : Resync → Type 0
+  abbrev pub HasRoomAfter : Resync → Type 0
   HasRoomAfter r = (r.skew +ℤ s) ≤ℤ MAX_SKEW
 
   -- there is a host, and its skew is at least 0

@@ -16,7 +16,7 @@ pub mod PlacesInOrder
 pub mod LastPassing
 mod VersionOneCases
 mod HappenedBefore
-mod GreaterSkews
+pub mod GreaterSkews
 mod WorkedCases
 mod ClockCases
 mod PulseCases

@@ -1,4 +1,4 @@
-use Rattle.json_log.proofs.Plain.{records-plain}
+use Rattle.log_read.proofs.PlainLogs.{records-plain}
 use Rattle.json_log.proofs.reader.read_json.Goals as goal
 
 pub returns-in-Ok-clause-plain : goal.returns-in-Ok-clause-plain

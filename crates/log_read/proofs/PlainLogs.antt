@@ -1,9 +1,10 @@
--- The log that records list can be stated by a log file.
+-- The log that records list can be stated by a log file again.
 use Rattle.std.proofs.Common.{◌≡◌, ap, sym, subst, refl, ℕ, ◌+◌, List, get_or, [], ◌∷◌, ◌++◌, length, Option, Some, None, Ok, ℤ, ◌≤ℤ◌}
 use Rattle.std.specs.Prelude.{All, map, option_map, option_and_then, option_to_list}
 use Rattle.std.specs.Option.{option_map_or}
 use Rattle.std.specs.List.{cons_option}
 use Rattle.std.proofs.lemmas.List.Elements.{All-append, All-cons, All-map, All-nil}
+use Rattle.csv.specs.Reading.{default_config, records, strip_bom}
 use Rattle.mt_model.specs.declared.log.Host.{Host}
 use Rattle.mt_model.specs.declared.resync.Resync.{Resync}
 use Rattle.mt_model.specs.declared.limits.TheConstants.{MAX_GAP, MAX_WRITTEN_SKEW, MIN_DELAY}
@@ -15,6 +16,7 @@ use Rattle.log_read.specs.declared.latency.Latency.{Latency}
 use Rattle.log_read.specs.declared.version.Version.{Version}
 use Rattle.log_read.specs.LogOf.{log_of_records, log_under, unless, version_of}
 use Rattle.log_read.specs.Records.{Record, delayed, delayed_by, host_by, host_in, host_with, hosts_in, kind_of, latencies_in, latency_of, listed, log_from, place_of_host, resync_by, resync_in, resync_with, resyncs_after, row_in}
+use Rattle.log_read.specs.ValidLogs.{LogsArePlain}
 use Rattle.log_read.proofs.Begun.{number_in_range}
 use Rattle.decimal.specs.Numbers.{number_up_to}
 
@@ -121,3 +123,6 @@ records-plain (header ∷ rest) log is = by (version_of header) is
     by : (o : Option Version) → log_under o rest ≡ Ok log → IsPlain log
     by None is = absurd (cc)
     by (Some v) is = subst IsPlain (unless-ok _ (log_from (listed rest)) log is) (listed-plain rest)
+
+pub logs-plain : LogsArePlain
+logs-plain bytes log is = records-plain (records default_config (strip_bom bytes)) log is
