@@ -8,6 +8,7 @@ pub mod PlainWords
 pub mod LineReading
 pub mod ReadingLines
 pub mod FrontLines
+pub mod CitedHints
 pub mod Texts
 pub mod OrderedSets
 pub mod AtomsApart

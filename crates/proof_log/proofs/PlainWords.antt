@@ -93,11 +93,11 @@ plain-numbers : (ns : List ℕ) → All IsNumber ns → ArePlain (number_words n
 plain-numbers [] all = tt
 plain-numbers (n ∷ ns) all = (plain-number n (All-head IsNumber n ns all), plain-numbers ns (All-tail IsNumber n ns all))
 
-plain-hint : (h : Hint) → IsSpelledHint h → ArePlain (hint_words h)
+pub plain-hint : (h : Hint) → IsSpelledHint h → ArePlain (hint_words h)
 plain-hint (hint.Line n) is = (refl, (plain-number n is, tt))
 plain-hint (hint.Rule r) is = (refl, (plain-decimal r.number (omega (arith, is.number)), plain-numbers _ is.used))
 
-plain-all : {X : Type 0} (words : X → List Word) (Valid : X → Type 0) → ((x : X) → Valid x → ArePlain (words x)) → (xs : List X) → All Valid xs → ArePlain (flat_map words xs)
+pub plain-all : {X : Type 0} (words : X → List Word) (Valid : X → Type 0) → ((x : X) → Valid x → ArePlain (words x)) → (xs : List X) → All Valid xs → ArePlain (flat_map words xs)
 plain-all words Valid plain [] all = tt
 plain-all words Valid plain (x ∷ xs) all = plain-append (words x) (flat_map words xs) (plain x (All-head Valid x xs all)) (plain-all words Valid plain xs (All-tail Valid x xs all))
 

@@ -32,7 +32,7 @@ abbrev joined : Line → List ℕ
 joined l = join_with_byte space (line_words l)
 
 -- a line's text, cut at its newline
-text-cut : (l : Line) (after : List ℕ) → IsSpelled l → slice_split (is_byte newline) (line_text l ++ after) ≡ joined l ∷ slice_split (is_byte newline) after
+pub text-cut : (l : Line) (after : List ℕ) → IsSpelled l → slice_split (is_byte newline) (line_text l ++ after) ≡ joined l ∷ slice_split (is_byte newline) after
 text-cut l after is =
     ap (slice_split (is_byte newline)) (append_assoc (joined l) (newline ∷ []) after)
     ∙ slice_split_at (is_byte newline) (joined l) newline after (joined-lacks (line_words l) (plain-line l is)) refl

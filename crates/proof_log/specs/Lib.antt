@@ -1,6 +1,7 @@
 pub mod Spelled
 pub mod LinesText
 pub mod LinesOf
+pub mod Citing
 pub mod Derivations
 pub mod Freshness
 pub mod FreshLaws

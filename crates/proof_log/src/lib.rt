@@ -2,6 +2,7 @@
 #![tactic(auto)]
 
 mod atoms;
+mod citing;
 mod fault;
 mod front;
 mod item;
@@ -13,6 +14,7 @@ mod spelling;
 mod word;
 
 pub use atoms::has_atoms_once;
+pub use citing::{LineText, next_line_text, read_cited};
 pub use fault::LineFault;
 pub use front::next_line;
 pub use laws::{
@@ -20,6 +22,6 @@ pub use laws::{
     steps_read_alike, texts_read_back, texts_tell_apart,
 };
 pub use line::{Hint, Hints, Line, Lines, Lits};
-pub use printer::{print_lines, push_line};
+pub use printer::{print_lines, push_hints, push_line};
 pub use reader::{read_line, read_lines};
 pub use spelling::has_spelling;

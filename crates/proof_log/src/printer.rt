@@ -149,8 +149,8 @@ fn push_literals(alloc: Global, text: &mut Vec<u8>, lits: &[Literal]) -> Result<
     Ok(())
 }
 
-// Adds the number of hints, and the hints.
-fn push_hints(alloc: Global, text: &mut Vec<u8>, hints: &[Hint]) -> Result<(), AllocError>
+/// Adds the number of hints, and the hints, with a space before each word. The error only says that memory ran out.
+pub fn push_hints(alloc: Global, text: &mut Vec<u8>, hints: &[Hint]) -> Result<(), AllocError>
     requires { length hints.now < 2 ^ 32 }
     ensures { OnOk result (text.new.items ≡ text.old.items ++ spaced (decimal (length hints.now) ∷ flat_map hint_words hints.now)) }
 {

@@ -12,3 +12,5 @@ pub mod ReadBack
 pub mod CutShort
 pub mod Spellings
 pub mod Walks
+pub mod RightLines
+mod OutlineTexts

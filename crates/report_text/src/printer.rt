@@ -14,17 +14,17 @@ use mt_model::Step;
 use proof_log::{Line, push_line};
 use std::alloc::{AllocError, Global};
 
-// Adds a line.
-fn push_ended(text: &mut Vec<u8>, line: &[u8]) -> Result<(), AllocError>
-    ensures { OnOk result (text.new.items ≡ text.old.items ++ ended line.now) }
+/// Adds a line, with its newline. The error only says that memory ran out.
+pub fn push_ended(text: &mut Vec<u8>, line: &[u8]) -> Result<(), AllocError>
+    ensures text { OnOk result (text.new.items ≡ text.old.items ++ ended line.now) }
 {
     text.extend_from_slice(line)?;
     text.push(b'\n')?;
     Ok(())
 }
 
-// Adds a line of words and a number.
-fn push_numbered(
+/// Adds a line of words and a number.
+pub fn push_numbered(
     alloc: Global,
     text: &mut Vec<u8>,
     words: &[u8],
@@ -72,8 +72,9 @@ fn push_walk(alloc: Global, text: &mut Vec<u8>, steps: &[Step]) -> Result<(), Al
     Ok(())
 }
 
-// Adds the number of lines after some words, and the lines.
-fn push_derivation(
+/// Adds the number of lines after some words, and the lines, each of which has a spelling. The error only
+/// says that memory ran out.
+pub fn push_derivation(
     alloc: Global,
     text: &mut Vec<u8>,
     words: &[u8],
@@ -81,7 +82,7 @@ fn push_derivation(
 ) -> Result<(), AllocError>
     requires count { length lines.now < 2 ^ 32 }
     requires spelled { All IsSpelledLine lines.now }
-    ensures { OnOk result (text.new.items ≡ text.old.items ++ (ended (words.now ++ decimal (length lines.now)) ++ lines_text lines.now)) }
+    ensures text { OnOk result (text.new.items ≡ text.old.items ++ (ended (words.now ++ decimal (length lines.now)) ++ lines_text lines.now)) }
 {
     push_numbered(alloc, text, words, lines.len() as u32)?;
     for line in lines {
@@ -90,14 +91,16 @@ fn push_derivation(
     Ok(())
 }
 
-fn push_section(
+/// Adds the section of a truth value, which has a spelling in a report. The error only says that memory ran
+/// out.
+pub fn push_section(
     alloc: Global,
     text: &mut Vec<u8>,
     value: bool,
     section: &Section,
 ) -> Result<(), AllocError>
     requires { (events : ℕ) × IsSpelledSection events section.now }
-    ensures { OnOk result (text.new.items ≡ text.old.items ++ section_text value section.now) }
+    ensures text { OnOk result (text.new.items ≡ text.old.items ++ section_text value section.now) }
 {
     text.extend_from_slice(word_of(value))?;
     match section {

@@ -6,8 +6,9 @@ use Rattle.proof_log.specs.declared.line.Line.{Line}
 use Rattle.cdcl_core.specs.Values.{GivesValue, RefutesWithin, SpendsWithin}
 use Rattle.report_text.specs.declared.report.Section.TheVariants as section
 use Rattle.report_text.specs.Spelled.{IsSpelledSection}
+use Rattle.report_text.proofs.RightLines.{lines_spelled}
 use Rattle.verdict.specs.Right.{IsRightSection}
-use Rattle.verdict.proofs.Spelling.{lines_spelled, witness_spelled}
+use Rattle.verdict.proofs.Spelling.{witness_spelled}
 
 module _ (log : Logged) (f : Form) (budget : ℕ) (v : Bool) (valid : IsLog log) where
   pub timing_right : (t : List ℤ) → GivesValue log f v t → IsRightSection log f budget v (section.Witness t)

@@ -1,32 +1,18 @@
 -- What is found has a spelling.
-use Rattle.std.proofs.Common.{◌≡◌, ◌∙◌, sym, arith, ℕ, suc, ◌*◌, ◌≤◌, Bool, List, length, ℤ}
+use Rattle.std.proofs.Common.{◌≡◌, ◌∙◌, sym, ℕ, List, length, ℤ}
 use Rattle.mt_model.specs.declared.step.Step.{Step}
 use Rattle.mt_model.specs.declared.step.Step.TheVariants.{Low, High, Rise, Message, Late, Extra, Order}
 use Rattle.mt_model.specs.Laws.{IsBound}
-use Rattle.std.proofs.lemmas.Option.{get_or_from_slice_get}
-use Rattle.mt_model.specs.Form.{Form}
 use Rattle.mt_model.specs.Log.{IsLog, Logged}
 use Rattle.mt_model.specs.Timing.{Admissible}
 use Rattle.skew_bounds.proofs.Near.{times-near}
 use Rattle.skew_bounds.specs.Consistency.{IsConflict}
 use Rattle.cdcl_core.proofs.ShortWalks.{walk_spelled}
 use Rattle.proof_log.specs.Spelled.{IsSpelledStep}
-use Rattle.proof_log.specs.declared.line.Line.{Line}
-use Rattle.proof_log.specs.Derivations.{NoneWrong}
-use Rattle.report_text.specs.Spelled.{AreSpelledBounds, AreSpelledLines, IsSpelledBound, IsSpelledWitness}
+use Rattle.report_text.specs.Spelled.{AreSpelledBounds, IsSpelledBound, IsSpelledWitness}
 
 pub witness_spelled : (log : Logged) (t : List ℤ) (events : ℕ) → IsLog log → Admissible log t → events ≡ length log.rows → IsSpelledWitness events t
 witness_spelled log t events valid admissible same = record { full = admissible.count ∙ sym same; each = times-near log valid t admissible }
-
--- lines of which none is wrong have a spelling each
-pub lines_spelled : (log : Logged) (f : Form) (v : Bool) (lines : List Line) (budget : ℕ) → NoneWrong log f v lines → budget ≤ 1000000 → length lines ≤ 2 * budget → AreSpelledLines lines
-lines_spelled log f v lines budget none most few = record {
-  count = omega (arith, most, few);
-  each = λ k d below.
-      let right = (none (suc k) (omega arith) (omega (arith, below))).right in
-      let there = get_or_from_slice_get lines k right.line d right.stands in
-      rw there right.spelled;
-}
 
 -- a step that is a bound and has a spelling has one as a bound
 bound_spelled : (s : Step) → IsBound s → IsSpelledStep s → IsSpelledBound s
