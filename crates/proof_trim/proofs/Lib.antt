@@ -4,3 +4,9 @@ mod Marking
 mod Copying
 mod Kept
 mod Refuting
+mod Placing
+mod Forward
+mod TextCopying
+mod Renumbering
+mod CitedMarks
+mod TrimmedLines

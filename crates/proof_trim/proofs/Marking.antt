@@ -1,8 +1,8 @@
 -- The lines that hints name are marked, one hint after another, and one line after another from the last one back.
-use Rattle.std.proofs.Common.{◌≡◌, ◌∙◌, sym, subst, refl, inl, inr, ℕ, suc, ◌-◌, ◌<◌, ◌≤◌, Bool, true, false, List, ◌++◌, length, get_or, set, take, drop, Some, arith}
+use Rattle.std.proofs.Common.{◌≡◌, ◌∙◌, ap, sym, subst, refl, inl, inr, ℕ, suc, ◌-◌, ◌<◌, ◌≤◌, Bool, true, false, List, ◌++◌, length, get_or, set, take, drop, Some, arith}
 use Rattle.std.specs.Prelude.{◌⊎◌, Contains, nat_lt, replicate}
 use Rattle.std.proofs.lemmas.Bool.Decides.{nat_tests}
-use Rattle.std.proofs.lemmas.Grind.{common_steps}
+use Rattle.std.proofs.Math.Seq.{take-append_seam}
 use Rattle.std.proofs.lemmas.List.{length-replicate, length-set}
 use Rattle.proof_log.specs.declared.line.Hint.{Hint}
 use Rattle.proof_log.specs.declared.line.Hint.TheVariants as hint
@@ -28,8 +28,8 @@ pub record NeededAfter (lines : List Line) (i : ℕ) (marks : List Bool) : Type 
   pub closed : (m n : ℕ) → i < m → IsMarked marks m → Names lines m n → IsMarked marks n
 
 -- a slice that was written is the list again
-pub written-back : (new old : List Bool) (len : ℕ) → length new ≡ length old → len ≡ length old → take len (new ++ drop (length new) old) ≡ new
-written-back new old len same full = grind (arith, common_steps)
+pub written-back : {X : Type 0} (new old : List X) (len : ℕ) → length new ≡ length old → len ≡ length old → take len (new ++ drop (length new) old) ≡ new
+written-back new old len same full = ap (λ n. take n (new ++ drop (length new) old)) (full ∙ sym same) ∙ take-append_seam new (drop (length new) old)
 
 module _ (lines : List Line) where
   pub needed-start : (marks : List Bool) → 1 ≤ length lines → marks ≡ replicate (length lines) false → NeededAfter lines (length lines) (set marks (length lines - 1) true)

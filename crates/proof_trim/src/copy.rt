@@ -32,15 +32,23 @@ fn hint_copy(hint: Hint, places: &[u32]) -> Hint
     }
 }
 
+/// Gives hints the new numbers of the lines that they name, which `places` has for lines 1, 2 and so on.
+pub fn renumber(hints: &mut [Hint], places: &[u32])
+    requires { All (NamesEarlier (length places.now + 1)) hints.old }
+    ensures { hints.new ≡ map (hint_renumbered (λ n. slice_index places.now (n - 1))) hints.old }
+{
+    for hint in hints.iter_mut() {
+        *hint = hint_copy(*hint, places);
+    }
+}
+
 fn hints_copy(alloc: Global, hints: &[Hint], places: &[u32]) -> Result<Hints, AllocError>
     requires { All (NamesEarlier (length places.now + 1)) hints.now }
     ensures { IfOk result (λ copy. copy ≡ map (hint_renumbered (λ n. slice_index places.now (n - 1))) hints.now) }
 {
-    let mut copy = Hints::new(alloc);
-    for hint in hints {
-        copy.push(hint_copy(*hint, places))?;
-    }
-    Ok(copy)
+    let mut copy = hints.to_vec(alloc)?;
+    renumber(&mut copy, places);
+    Ok(Hints::from_vec(copy))
 }
 
 fn line_copy(alloc: Global, line: &Line, places: &[u32]) -> Result<Line, AllocError>

@@ -1,6 +1,6 @@
 //! The lines that hints name.
 
-ghost use Rattle.std.specs.Prelude.{◌≡◌, ◌↔◌, ◌+◌, ◌<◌, ◌^◌, ℕ, IsTrue, MatchOption, length};
+ghost use Rattle.std.specs.Prelude.{◌≡◌, ◌↔◌, ◌+◌, ◌<◌, ◌^◌, ℕ, All, IsTrue, MatchOption, length};
 ghost use Rattle.proof_trim.specs.Needed.{IsFirstForward, LooksBack, NamesEarlier, NoneForward};
 
 use proof_log::{Hint, Line};
@@ -15,16 +15,20 @@ fn names_earlier(hint: Hint, number: u32) -> bool
     }
 }
 
+/// Whether each of some hints of a line does so.
+pub fn name_earlier(hints: &[Hint], number: u32) -> bool
+    ensures { IsTrue result ↔ All (NamesEarlier number) hints.now }
+{
+    hints.iter().all(|hint| names_earlier(*hint, number))
+}
+
 // Whether each hint of a line does so.
 fn looks_back(line: &Line, number: u32) -> bool
     ensures { IsTrue result ↔ LooksBack number line.now }
 {
     match line {
         Line::Cycle(_) => true,
-        Line::Learn { hints, .. } => hints
-            .as_slice()
-            .iter()
-            .all(|hint| names_earlier(*hint, number)),
+        Line::Learn { hints, .. } => name_earlier(hints.as_slice(), number),
     }
 }
 

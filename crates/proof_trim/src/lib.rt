@@ -6,8 +6,13 @@ mod fault;
 mod hints;
 mod laws;
 mod needed;
+mod places;
+mod text_copy;
+mod text_needed;
+mod text_trimming;
 mod trimming;
 
 pub use fault::TrimFault;
 pub use laws::trims_keep_refuting;
+pub use text_trimming::{TrimmedText, trim_text};
 pub use trimming::trim;
