@@ -15,7 +15,7 @@ use Rattle.least_skew.proofs.Widenings.{named-at, skews-may-grow}
 
 -- where two logs give each proposition the same states, they give each formula the same truth
 module _ {X : Type 0} (a b : Logged) (t : List ℤ) (same : (u : ℤ) (host name : List ℕ) → state_named a t u host name ≡ state_named b t u host name) (F : Frame X) where
-  truths : (f : Form) → ◌≡◌ {A = X → Bool} (λ x. truth_in a t F x f) (λ x. truth_in b t F x f)
+  pub truths : (f : Form) → ◌≡◌ {A = X → Bool} (λ x. truth_in a t F x f) (λ x. truth_in b t F x f)
   truths True = refl
   truths False = refl
   truths (Prop host name) = fun_ext (λ x. same (F.instant x) host name)

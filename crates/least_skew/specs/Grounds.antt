@@ -1,12 +1,14 @@
 -- What is known of a log before any search.
-use Rattle.std.specs.Prelude.{ℕ, ◌<◌, ◌≤◌}
+use Rattle.std.specs.Prelude.{◌≡◌, ℕ, ◌<◌, ◌≤◌, Some}
 use Rattle.mt_model.specs.Form.{Form}
 use Rattle.mt_model.specs.Log.{Logged}
+use Rattle.mt_model.specs.State.{unknown_host}
 use Rattle.skew_bounds.specs.Consistency.{IsConflict}
-use Rattle.skew_bounds.specs.Tight.{IsConsistent}
+use Rattle.skew_bounds.specs.Tight.{IsConsistent, IsTight}
 use Rattle.formula_arena.specs.Nodes.{nodes_of}
 use Rattle.mtl_encode.specs.Size.{IsSize}
 use Rattle.mtl_encode.specs.declared.size.TheConstants.{MAX_SIZE}
+use Rattle.least_skew.specs.Faults.{HasTooManyNodes}
 use Rattle.least_skew.specs.declared.fault.ToleranceFault.{ToleranceFault}
 use Rattle.least_skew.specs.declared.fault.ToleranceFault.TheVariants as fault
 use Rattle.least_skew.specs.declared.nodes.Ground.{Ground}
@@ -19,6 +21,13 @@ pub record HasSmallSize (log : Logged) (f : Form) : Type 0 where
   pub is_size : IsSize log (nodes_of f) size
   pub small : size ≤ MAX_SIZE
 
+-- the fault of a formula whose nodes aren't made; want of memory says nothing
+abbrev pub IsNodesFault : Logged → Form → ToleranceFault → Type 0
+IsNodesFault log f (fault.UnknownHost index) = unknown_host log f ≡ Some index
+IsNodesFault log f fault.TooManyNodes = HasTooManyNodes log f
+IsNodesFault log f (fault.TooLarge n) = ⊥
+IsNodesFault log f fault.Memory = Unit {0}
+
 -- the size of the problem, which is this one, is above the limit; want of memory says nothing
 abbrev pub IsSizeFault : Logged → Form → ToleranceFault → Type 0
 IsSizeFault log f (fault.UnknownHost index) = ⊥
@@ -26,7 +35,7 @@ IsSizeFault log f fault.TooManyNodes = ⊥
 IsSizeFault log f (fault.TooLarge n) = IsSize log (nodes_of f) n × (MAX_SIZE < n)
 IsSizeFault log f fault.Memory = Unit {0}
 
--- a timing is admissible and the problem small enough, or bounds are in conflict
+-- a timing is admissible, the problem small enough and the differences are those of the log, or bounds are in conflict
 abbrev pub IsGround : Logged → Form → Ground → Type 0
-IsGround log f ground.Consistent = HasSmallSize log f
+IsGround log f (ground.Consistent tight) = HasSmallSize log f × IsTight log tight
 IsGround log f (ground.Conflict steps) = IsConflict log steps

@@ -89,6 +89,6 @@ pub fn least(
     let wide = widened(alloc, log, max)?;
     match ground_of(alloc, &wide, f, &nodes)? {
         Ground::Conflict(steps) => Ok(Tolerance::Inconsistent(steps)),
-        Ground::Consistent => Ok(search_least(alloc, log, f, &nodes, value, max, budget)?),
+        Ground::Consistent(_) => Ok(search_least(alloc, log, f, &nodes, value, max, budget)?),
     }
 }

@@ -15,5 +15,7 @@ mod widening;
 pub use fault::ToleranceFault;
 pub use finding::least;
 pub use laws::{right_tolerances_are_least, skews_may_grow, values_may_grow};
+pub use nodes::{Ground, ground_of, nodes_of};
+pub use reach::walk_slack;
 pub use tolerance::Tolerance;
 pub use widening::MAX_WIDENING;

@@ -1,14 +1,13 @@
-//! The nodes of the formula, and what is known of the greatest widening before any search.
+//! The nodes of the formula, and what is known of a log before any search.
 
-ghost use Rattle.std.specs.Prelude.{◌≡◌, ◌≤◌, ℕ, length, IfErr, IfOk, OnOk, None};
+ghost use Rattle.std.specs.Prelude.{◌≡◌, ◌≤◌, length, IfErr, IfOk, OnOk, None};
 ghost use Rattle.mt_model.specs.Form.{form_of};
 ghost use Rattle.mt_model.specs.State.{unknown_host};
 ghost use Rattle.skew_bounds.specs.Tight.{IsConsistent, IsTight};
 ghost use Rattle.formula_arena.specs.Nodes.{nodes_of as nodes_of_form};
 ghost use Rattle.formula_arena.specs.declared.arena.TheConstants.{MAX_NODES};
 ghost use Rattle.cdcl_core.specs.Values.{AreNodesOf};
-ghost use Rattle.least_skew.specs.Faults.{IsFault};
-ghost use Rattle.least_skew.specs.Grounds.{HasSmallSize, IsGround, IsSizeFault};
+ghost use Rattle.least_skew.specs.Grounds.{HasSmallSize, IsGround, IsNodesFault, IsSizeFault};
 
 use crate::ToleranceFault;
 use cdcl_core::Nodes;
@@ -21,8 +20,8 @@ use std::alloc::Global;
 /// Whether a log admits a timing.
 #[derive(Debug, Drop)]
 pub enum Ground {
-    /// It does.
-    Consistent,
+    /// It does, and its events are so far apart.
+    Consistent(Tight),
     /// These bounds are in conflict.
     Conflict(Steps),
 }
@@ -33,7 +32,7 @@ pub fn nodes_of(alloc: Global, log: &Log, f: &Formula) -> Result<Nodes, Toleranc
     ensures hosts { OnOk result (unknown_host log.now (form_of f.now) ≡ None) }
     ensures few { OnOk result (length (nodes_of_form (form_of f.now)) ≤ MAX_NODES) }
     ensures nodes { IfOk result (AreNodesOf (form_of f.now)) }
-    ensures fault { IfErr result (λ fault. (max : ℕ) → IsFault log.now (form_of f.now) max fault) }
+    ensures fault { IfErr result (IsNodesFault log.now (form_of f.now)) }
 {
     if let Some(index) = f.unknown_host(log) {
         return Err(ToleranceFault::UnknownHost { index });
@@ -76,7 +75,7 @@ pub fn ground_of(
         Consistency::Timing(times) => {
             let tight = tight_by(alloc, wide, &system, times.as_slice())?;
             small_enough(wide, f, nodes, &tight)?;
-            Ok(Ground::Consistent)
+            Ok(Ground::Consistent(tight))
         }
     }
 }

@@ -106,19 +106,29 @@ fn bound_of(log: &Log, step: Step) -> i128 {
     }
 }
 
-// By how much all skews of a log can grow further with the sum of a walk below 0: each step that is a row's own bound grows
-// with them.
-fn walk_room(log: &Log, steps: &[Step]) -> i128 {
+/// By how much the sum of a walk in a log can grow and still be below 0.
+pub fn walk_slack(log: &Log, steps: &[Step]) -> i128 {
     let mut sum: i128 = 0;
-    let mut growing: i128 = 0;
     for step in steps {
         sum = sum.saturating_add(bound_of(log, *step));
+    }
+    (-1i128).saturating_sub(sum)
+}
+
+// How many steps of a walk are a row's own bound, which grows with the skews.
+fn growing_steps(steps: &[Step]) -> i128 {
+    let mut growing: i128 = 0;
+    for step in steps {
         if matches!(step, Step::Low(_) | Step::High(_)) {
             growing = growing.saturating_add(1);
         }
     }
-    let room = (-1i128).saturating_sub(sum);
-    match room.checked_div(growing) {
+    growing
+}
+
+// By how much all skews of a log can grow further with the sum of a walk below 0.
+fn walk_room(log: &Log, steps: &[Step]) -> i128 {
+    match walk_slack(log, steps).checked_div(growing_steps(steps)) {
         Some(room) => room,
         None => i128::MAX,
     }

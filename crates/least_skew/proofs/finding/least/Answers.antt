@@ -4,13 +4,14 @@ use Rattle.mt_model.specs.Form.{form_of}
 use Rattle.least_skew.specs.declared.tolerance.Tolerance.TheVariants as tolerance
 use Rattle.least_skew.specs.Least.{wide}
 use Rattle.least_skew.proofs.Narrowing.{small-below}
+use Rattle.least_skew.proofs.NotAsked.{of-nodes}
 use Rattle.least_skew.proofs.Answering.{conflict-right, conflict-small}
 use Rattle.least_skew.proofs.finding.least.Goals as goal
 
 pub returns-in_err-nodes-clause-fault : goal.returns-in_err-nodes-clause-fault
 returns-in_err-nodes-clause-fault c =
     let p = err_from_is_err_and c.from_residual.result c.from_residual.ensures.1 in
-    rw (p.1, p.2) (c.in_err-nodes.ensures.fault c.args.max)
+    rw (p.1, p.2) (of-nodes c.args.log.now (form_of c.args.f.now) c.args.max c.in_err-nodes.field-0.0 c.in_err-nodes.ensures.fault)
 
 pub returns-in-Conflict-clause-tells : goal.returns-in-Conflict-clause-tells
 returns-in-Conflict-clause-tells c = λ t ok.
@@ -31,7 +32,7 @@ returns-in-Conflict-clause-asked c =
 pub search_least-requires-clause-small : goal.search_least-requires-clause-small
 search_least-requires-clause-small c =
     let ground = rw (c.in_ok-wide.ensures.wide, c.in-Consistent.is) at c.in_ok-steps.ensures.ground in
-    small-below c.sizes_fall.ensures.fall c.skews_may_grow.ensures.grow c.args.log.now (form_of c.args.f.now) c.args.max ground
+    small-below c.sizes_fall.ensures.fall c.skews_may_grow.ensures.grow c.args.log.now (form_of c.args.f.now) c.args.max ground.0
 
 pub returns-clause-asked : goal.returns-clause-asked
 returns-clause-asked c =
@@ -39,5 +40,5 @@ returns-clause-asked c =
     record {
       hosts = c.in_ok-nodes.ensures.hosts;
       few = c.in_ok-nodes.ensures.few;
-      small = small-below c.sizes_fall.ensures.fall c.skews_may_grow.ensures.grow c.args.log.now (form_of c.args.f.now) c.args.max ground c.args.max (omega arith);
+      small = small-below c.sizes_fall.ensures.fall c.skews_may_grow.ensures.grow c.args.log.now (form_of c.args.f.now) c.args.max ground.0 c.args.max (omega arith);
     }

@@ -14,4 +14,4 @@ returns-in_err-root-clause-fault c =
     let hosts : unknown_host c.args.log.now (form_of c.args.f.now) ≡ None = search rules in
     let many = λ (fault : c.intern.result ≡ Err TooManyNodes). subst (λ trees. MAX_NODES < length trees) (with_nodes-empty c.new-arena.result (form_of c.args.f.now) c.new-arena.ensures.empty) (c.intern.ensures.too_many fault) in
     let was : c.intern.result ≡ Err c.in_err-root.field-0.0 = search rules in
-    rw p.1 (λ max. of-arena c.args.log.now (form_of c.args.f.now) max c.intern.result c.in_err-root.field-0.0 p.0 was hosts many p.2)
+    rw p.1 (of-arena c.args.log.now (form_of c.args.f.now) c.intern.result c.in_err-root.field-0.0 p.0 was hosts many p.2)

@@ -1,0 +1,4 @@
+pub mod Extras
+pub mod Telling
+pub mod NotAsked
+pub mod Climbing

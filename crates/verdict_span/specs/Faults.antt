@@ -1,0 +1,41 @@
+-- For which formulas and logs a distance is looked for, and the fault of the others.
+use Rattle.std.specs.Prelude.{◌≡◌, ℕ, ◌<◌, ◌≤◌, length, Some, None}
+use Rattle.mt_model.specs.Form.{Form}
+use Rattle.mt_model.specs.Log.{Logged}
+use Rattle.mt_model.specs.State.{unknown_host}
+use Rattle.formula_arena.specs.Nodes.{nodes_of}
+use Rattle.formula_arena.specs.declared.arena.TheConstants.{MAX_NODES}
+use Rattle.mtl_encode.specs.Size.{IsSize, IsSmall}
+use Rattle.mtl_encode.specs.declared.size.TheConstants.{MAX_SIZE}
+use Rattle.least_skew.specs.Faults.{HasTooManyNodes}
+use Rattle.least_skew.specs.declared.fault.ToleranceFault.{ToleranceFault}
+use Rattle.least_skew.specs.declared.fault.ToleranceFault.TheVariants as tolerance
+use Rattle.verdict_span.specs.declared.fault.SpanFault.{SpanFault}
+use Rattle.verdict_span.specs.declared.fault.SpanFault.TheVariants as fault
+
+-- the hosts of the formula are in the log, it has few enough nodes, and their problem is small enough
+pub record IsAsked (log : Logged) (f : Form) : Type 0 where
+  pub hosts : unknown_host log f ≡ None
+  pub few : length (nodes_of f) ≤ MAX_NODES
+  pub small : IsSmall log (nodes_of f)
+
+-- the hosts of the formula are in the log, it has few enough nodes, and the size of their problem, which is this one, is too large
+pub record IsTooLarge (log : Logged) (f : Form) (n : ℕ) : Type 0 where
+  pub hosts : unknown_host log f ≡ None
+  pub few : length (nodes_of f) ≤ MAX_NODES
+  pub size : IsSize log (nodes_of f) n
+  pub large : MAX_SIZE < n
+
+-- why no distance is looked for; want of memory says nothing
+abbrev pub IsFault : Logged → Form → SpanFault → Type 0
+IsFault log f (fault.UnknownHost index) = unknown_host log f ≡ Some index
+IsFault log f fault.TooManyNodes = HasTooManyNodes log f
+IsFault log f (fault.TooLarge n) = IsTooLarge log f n
+IsFault log f fault.Memory = Unit {0}
+
+-- the same fault, of another search
+abbrev pub IsOfTolerance : ToleranceFault → SpanFault → Type 0
+IsOfTolerance (tolerance.UnknownHost index) f = f ≡ fault.UnknownHost index
+IsOfTolerance tolerance.TooManyNodes f = f ≡ fault.TooManyNodes
+IsOfTolerance (tolerance.TooLarge n) f = f ≡ fault.TooLarge n
+IsOfTolerance tolerance.Memory f = f ≡ fault.Memory

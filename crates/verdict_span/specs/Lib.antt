@@ -1,0 +1,6 @@
+pub mod Spaced
+pub mod Faults
+pub mod Widest
+pub mod Told
+pub mod Climbs
+pub mod Laws

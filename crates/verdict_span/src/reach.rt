@@ -1,0 +1,96 @@
+//! How far below a search its lines refute too: those that refute a distance may refute smaller ones.
+
+ghost use Rattle.std.specs.Prelude.{◌≡◌, ◌<◌, ◌≤◌, ◌^◌, length, pos, ◌-ℤ◌, IfOk};
+ghost use Rattle.mt_model.specs.Form.{form_of};
+ghost use Rattle.mt_model.specs.Log.{IsWithin};
+ghost use Rattle.mt_model.specs.declared.limits.TheConstants.{MAX_EXTRA};
+ghost use Rattle.proof_log.specs.Derivations.{Refutes};
+ghost use Rattle.cdcl_core.specs.Values.{AreNodesOf};
+ghost use Rattle.verdict_span.specs.Spaced.{CanBeSpaced, spaced as spaced_log};
+
+use crate::spacing::spaced;
+use cdcl_core::Nodes;
+use least_skew::walk_slack;
+use mt_model::{EventId, Formula, Log, Step};
+use proof_check::{Check, Checker};
+use proof_log::Line;
+use std::alloc::{AllocError, Global};
+
+// A number from 0 to this one.
+fn clamped(number: i128, most: u128) -> u128
+    ensures { result ≤ most }
+{
+    if number <= 0 {
+        0
+    } else {
+        (number as u128).min(most)
+    }
+}
+
+// How often a walk has an extra bound as a step.
+fn times_taken(steps: &[Step], extra: u32) -> i128 {
+    let mut taken: i128 = 0;
+    for step in steps {
+        if *step == Step::Extra(extra) {
+            taken = taken.saturating_add(1);
+        }
+    }
+    taken
+}
+
+// By how much an extra bound of a log can grow with the sum of a walk below 0.
+fn walk_room(log: &Log, steps: &[Step], extra: u32) -> i128 {
+    match walk_slack(log, steps).checked_div(times_taken(steps, extra)) {
+        Some(room) => room,
+        None => i128::MAX,
+    }
+}
+
+// By how much it can grow with the sums of all walks of a derivation below 0, as far as this.
+fn room(log: &Log, lines: &[Line], extra: u32, most: u128) -> u128
+    ensures { result ≤ most }
+{
+    let mut room = most;
+    for line in lines {
+        if let Line::Cycle(steps) = line {
+            room = clamped(walk_room(log, steps.as_slice(), extra), room);
+        }
+    }
+    room
+}
+
+/// By how much smaller the distance c can be, up to this much, with lines that refute the value at c still refuting it, so
+/// far as their walks tell. `far` is the log in which `to` comes at least c after e.
+pub fn refuted_below(
+    alloc: Global,
+    log: &Log,
+    f: &Formula,
+    nodes: &Nodes,
+    value: bool,
+    e: EventId,
+    to: EventId,
+    far: &Log,
+    c: i128,
+    most: u128,
+    lines: &[Line],
+) -> Result<u128, AllocError>
+    requires pair { CanBeSpaced log.now e to }
+    requires high { IsWithin MAX_EXTRA c }
+    requires low { IsWithin MAX_EXTRA (c -ℤ pos most) }
+    requires nodes { AreNodesOf (form_of f.now) nodes.now }
+    requires few { length lines.now < 2 ^ 32 }
+    requires refutes { Refutes (spaced_log e to c log.now) (form_of f.now) value lines.now }
+    ensures within { IfOk result (λ r. r ≤ most) }
+    ensures refutes { IfOk result (λ r. Refutes (spaced_log e to (c -ℤ pos r) log.now) (form_of f.now) value lines.now) }
+{
+    let r = room(far, lines, log.extras().len() as u32, most);
+    if r == 0 {
+        return Ok(0);
+    }
+    let near = spaced(alloc, log, e, to, c - r as i128)?;
+    let mut checker = Checker::by(alloc, &near, &nodes.arena, nodes.root, value)?;
+    match checker.check(lines)? {
+        Check::Refutes => Ok(r),
+        Check::Derives | Check::Wrong(_) => Ok(0),
+    }
+}
