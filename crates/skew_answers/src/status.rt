@@ -28,6 +28,8 @@ pub enum Status {
     TooLarge,
     /// The times file has a fault.
     TimesRefused,
+    /// An event that is asked for is not in the log.
+    EventRefused,
     /// Memory ran out; nothing was written.
     NoMemory,
     /// A file could not be read; nothing was written.
@@ -54,6 +56,7 @@ impl Status {
             Status::LogRefused => 66,
             Status::TooLarge => 67,
             Status::TimesRefused => 68,
+            Status::EventRefused => 69,
             Status::NoMemory => 70,
             Status::ReadFailed => 74,
             Status::WriteFailed => 75,

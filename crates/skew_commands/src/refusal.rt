@@ -50,6 +50,8 @@ pub enum Refusal {
     JsonShape,
     /// The formula has more than 512 distinct nodes.
     Nodes,
+    /// An event that is asked for, counted from 0, is not below the number of rows of the log.
+    Event { event: u32 },
     /// A line of the times file is no time.
     TimesNumber { line: u32 },
     /// The times file lacks the line, or has one too many.
@@ -119,6 +121,7 @@ impl fmt::Display for Refusal {
             Refusal::JsonSyntax => f.write_str("refused json 1"),
             Refusal::JsonShape => f.write_str("refused json 2"),
             Refusal::Nodes => f.write_str("refused nodes above 512"),
+            Refusal::Event { event } => write!(f, "refused event {event}"),
             Refusal::TimesNumber { line } => write!(f, "refused times 1 at line {line}"),
             Refusal::TimesCount { line } => write!(f, "refused times 2 at line {line}"),
             Refusal::Size { size } => write!(f, "refused size {size}"),
@@ -143,6 +146,7 @@ impl Refusal {
             Refusal::Formula(_) | Refusal::UnknownHost { .. } => Status::FormulaRefused,
             Refusal::Log(_) | Refusal::JsonSyntax | Refusal::JsonShape => Status::LogRefused,
             Refusal::TimesNumber { .. } | Refusal::TimesCount { .. } => Status::TimesRefused,
+            Refusal::Event { .. } => Status::EventRefused,
             Refusal::Report { .. } | Refusal::Part { .. } => Status::Rejected,
         }
     }

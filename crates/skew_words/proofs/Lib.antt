@@ -1,3 +1,4 @@
 mod OperandLemmas
 mod TableLemmas
 mod NormalLemmas
+mod CommandLemmas

@@ -13,7 +13,7 @@ use Rattle.skew_words.specs.NormalWords.{IsNormal, command_given, command_said, 
 use Rattle.skew_words.specs.Matched.{GivesSpoken, app_for, command_matched}
 use Rattle.skew_words.specs.Table.{are_operands, row_of}
 use Rattle.skew_words.specs.Words.{Word}
-use Rattle.skew_words.proofs.TableLemmas.{fits-length, one-is, three-is, two-is}
+use Rattle.skew_words.proofs.TableLemmas.{fits-length, five-is, four-is, one-is, three-is, two-is}
 
 -- the list is taken, and each value is found under its name
 record IsRead (v : Verb) (conflicts : Option Word) (operands : List Word) : Type 0 where
@@ -50,6 +50,16 @@ read-json : (json : Word) → IsRead verb.Json None (json ∷ [])
 unfolding clap_on_literals
 read-json json = record { taken = refl; found = refl }
 
+read-tolerance : (conflicts : Option Word) (value max formula log : Word) → IsRead verb.Tolerance conflicts (value ∷ max ∷ formula ∷ log ∷ [])
+unfolding clap_on_literals
+read-tolerance None value max formula log = record { taken = refl; found = refl }
+read-tolerance (Some text) value max formula log = record { taken = refl; found = refl }
+
+read-span : (conflicts : Option Word) (value from to formula log : Word) → IsRead verb.Span conflicts (value ∷ from ∷ to ∷ formula ∷ log ∷ [])
+unfolding clap_on_literals
+read-span None value from to formula log = record { taken = refl; found = refl }
+read-span (Some text) value from to formula log = record { taken = refl; found = refl }
+
 read-demo : (seed : Word) → IsRead verb.Demo None (seed ∷ [])
 unfolding clap_on_literals
 read-demo seed = record { taken = refl; found = refl }
@@ -63,6 +73,8 @@ read-row verb.Check conflicts ws fits some = let (formula, log, is) = two-is ws 
 read-row verb.Audit conflicts ws fits some = let (formula, log, report, is) = three-is ws (fits-length (row_of verb.Audit).operands ws fits) in rw is (read-audit conflicts formula log report)
 read-row verb.Trim None ws fits some = let (report, is) = one-is ws (fits-length (row_of verb.Trim).operands ws fits) in rw is (read-trim report)
 read-row verb.Json None ws fits some = let (json, is) = one-is ws (fits-length (row_of verb.Json).operands ws fits) in rw is (read-json json)
+read-row verb.Tolerance conflicts ws fits some = let (value, max, formula, log, is) = four-is ws (fits-length (row_of verb.Tolerance).operands ws fits) in rw is (read-tolerance conflicts value max formula log)
+read-row verb.Span conflicts ws fits some = let (value, from, to, formula, log, is) = five-is ws (fits-length (row_of verb.Span).operands ws fits) in rw is (read-span conflicts value from to formula log)
 read-row verb.Demo None ws fits some = let (seed, is) = one-is ws (fits-length (row_of verb.Demo).operands ws fits) in rw is (read-demo seed)
 read-row verb.Times (Some text) ws fits some = let never : ⊥ = cc in absurd never
 read-row verb.Replay (Some text) ws fits some = let never : ⊥ = cc in absurd never

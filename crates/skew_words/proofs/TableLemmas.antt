@@ -74,3 +74,15 @@ three-is ws is =
     let (a, rest, first, left) = some-more ws 2 is in
     let (b, c, last) = two-is rest left in
     (a, b, c, first ∙ ap (λ r. a ∷ r) last)
+
+pub four-is : (ws : List Word) → length ws ≡ 4 → (a b c d : Word) × (ws ≡ a ∷ b ∷ c ∷ d ∷ [])
+four-is ws is =
+    let (a, rest, first, left) = some-more ws 3 is in
+    let (b, c, d, last) = three-is rest left in
+    (a, b, c, d, first ∙ ap (λ r. a ∷ r) last)
+
+pub five-is : (ws : List Word) → length ws ≡ 5 → (a b c d e : Word) × (ws ≡ a ∷ b ∷ c ∷ d ∷ e ∷ [])
+five-is ws is =
+    let (a, rest, first, left) = some-more ws 4 is in
+    let (b, c, d, e, last) = four-is rest left in
+    (a, b, c, d, e, first ∙ ap (λ r. a ∷ r) last)

@@ -2,14 +2,15 @@
 use Rattle.std.specs.Prelude.{ℕ, ◌+◌, ◌==◌, ◌&&◌, nat_le, Bool, false, List, [], ◌∷◌, ◌++◌, Option, Some, None, option_map, option_and_then, unwrap_or, if◌then◌else◌, bytes_eq, codes, length, take, drop}
 use Rattle.std.specs.Str.Parse.{digits_value}
 use Rattle.decimal.specs.Numbers.{is_number, number_below}
-use Rattle.skew_words.specs.declared.limits.TheConstants.{DEFAULT_CONFLICTS, MAX_CONFLICTS}
+use Rattle.skew_words.specs.declared.limits.TheConstants.{DEFAULT_CONFLICTS, MAX_CONFLICTS, MAX_EVENT, MAX_WIDENING}
 use Rattle.demo_log.specs.declared.limits.TheConstants.{MAX_SEED}
 use Rattle.skew_words.specs.declared.table.Verb.{Verb}
 use Rattle.skew_words.specs.declared.table.Verb.TheVariants as verb
-use Rattle.skew_words.specs.Table.{are_operands, row_of, verb_named}
+use Rattle.skew_words.specs.Table.{are_operands, row_of, value_of, verb_named}
 pub use Rattle.skew_words.specs.Table.{Word}
 
--- a command with the names of its files; `check` and `audit` have a number of conflicts too, and `demo` has a seed and no file
+-- a command with the names of its files; `check`, `audit`, `tolerance` and `span` have a number of conflicts too, the last two also a truth value, and
+-- the greatest widening or two events; and `demo` has a seed and no file
 pub data Command : Type 0 where
   Times : (log : Word) → Command
   Replay : (formula : Word) → (log : Word) → (times : Word) → Command
@@ -18,6 +19,8 @@ pub data Command : Type 0 where
   Audit : (conflicts : ℕ) → (formula : Word) → (log : Word) → (report : Word) → Command
   Trim : (report : Word) → Command
   Json : (json : Word) → Command
+  Tolerance : (conflicts : ℕ) → (value : Bool) → (max : ℕ) → (formula : Word) → (log : Word) → Command
+  Span : (conflicts : ℕ) → (value : Bool) → (from : ℕ) → (to : ℕ) → (formula : Word) → (log : Word) → Command
   Demo : (seed : ℕ) → Command
 
 -- a word that begins with `-` and is not `-` alone
@@ -84,6 +87,18 @@ given_of (word ∷ words) =
 abbrev pub seed_of : Word → Option ℕ
 seed_of word = number_below (MAX_SEED + 1) word
 
+-- the greatest widening: a number from 0 to 10^18
+abbrev pub widening_of : Word → Option ℕ
+widening_of word = number_below (MAX_WIDENING + 1) word
+
+-- an event: a number from 0 to 4,294,967,295
+abbrev pub event_of : Word → Option ℕ
+event_of word = number_below (MAX_EVENT + 1) word
+
+-- two events, where they differ
+abbrev pub events_of : Word → Word → Option (ℕ × ℕ)
+events_of from to = option_and_then (λ e. option_and_then (λ f. if e == f then None else Some (e, f)) (event_of to)) (event_of from)
+
 -- the number of conflicts that is given, or else 200,000
 abbrev pub conflicts_in : Given → ℕ
 conflicts_in g = unwrap_or g.conflicts DEFAULT_CONFLICTS
@@ -97,6 +112,9 @@ command_from verb.Check n (formula ∷ log ∷ []) = Some (Check n formula log)
 command_from verb.Audit n (formula ∷ log ∷ report ∷ []) = Some (Audit n formula log report)
 command_from verb.Trim n (report ∷ []) = Some (Trim report)
 command_from verb.Json n (json ∷ []) = Some (Json json)
+command_from verb.Tolerance n (value ∷ max ∷ formula ∷ log ∷ []) = option_and_then (λ v. option_map (λ m. Tolerance n v m formula log) (widening_of max)) (value_of value)
+command_from verb.Span n (value ∷ from ∷ to ∷ formula ∷ log ∷ []) =
+    option_and_then (λ v. option_map (λ events. Span n v events.0 events.1 formula log) (events_of from to)) (value_of value)
 command_from verb.Demo n (seed ∷ []) = option_map Demo (seed_of seed)
 command_from v n operands = None
 

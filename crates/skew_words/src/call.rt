@@ -1,4 +1,4 @@
-/// A command with the names of its files, and the number of conflicts of each section of a report.
+/// A command with the names of its files, and the number of conflicts of each section of a report or of each search.
 #[derive(Clone, Copy)]
 pub enum Call<'a> {
     /// An admissible timing of a log.
@@ -35,6 +35,23 @@ pub enum Call<'a> {
     /// The text of the log that a JSON file is.
     Json {
         json: &'a str,
+    },
+    /// The least widening of all skews, up to a greatest one, with which a formula can have a value.
+    Tolerance {
+        conflicts: u32,
+        value: bool,
+        max: u64,
+        formula: &'a str,
+        log: &'a str,
+    },
+    /// The greatest distance from one event to another in the timings that give a formula a value.
+    Span {
+        conflicts: u32,
+        value: bool,
+        from: u32,
+        to: u32,
+        formula: &'a str,
+        log: &'a str,
     },
     /// The truth values of the demo's formula over all timings of the log of a seed.
     Demo {

@@ -9,10 +9,11 @@ mod normal;
 mod numbers;
 mod operands;
 mod table;
+mod values;
 mod words;
 
 pub use call::Call;
-pub use limits::{DEFAULT_CONFLICTS, MAX_CONFLICTS, limits_are_numbers};
+pub use limits::{DEFAULT_CONFLICTS, MAX_CONFLICTS, MAX_EVENT, MAX_WIDENING, limits_are_numbers};
 pub use matches::call_of;
 pub use table::Verb;
 pub use words::{Spoken, spoken_of};

@@ -2,7 +2,7 @@
 
 ghost use Rattle.std.specs.Prelude.{◌≡◌, ◌≤◌, IfOk, IfSome, codes, fold, map, option_map, string_bytes, true, false};
 ghost use Rattle.clap.specs.Words.{app_of, first_value, found_of, new_app, rule_of, with_rule};
-ghost use Rattle.skew_words.specs.Called.{HasFewConflicts, command_in};
+ghost use Rattle.skew_words.specs.Called.{HasFewConflicts, HasSmallWidening, HasTwoEvents, command_in};
 ghost use Rattle.skew_words.specs.NormalWords.{Calls, IsNormal, command_said, conflicts_said};
 ghost use Rattle.skew_words.specs.Matched.{GivesSpoken, app_for, command_matched, conflicts_rule, operand_rule, option_rules};
 ghost use Rattle.skew_words.specs.Table.{name_of};
@@ -10,8 +10,9 @@ ghost use Rattle.skew_words.specs.declared.limits.TheConstants.{MAX_CONFLICTS};
 
 use crate::call::Call;
 use crate::limits::DEFAULT_CONFLICTS;
-use crate::numbers::{conflicts, seed};
+use crate::numbers::{conflicts, seed, two_events, widening};
 use crate::table::{Operand, Row, Verb};
+use crate::values::truth_value;
 use clap::error::ErrorKind;
 use clap::{Arg, ArgAction, ArgMatches, Command};
 use std::alloc::{AllocError, Global};
@@ -99,6 +100,8 @@ fn conflicts_matched(matches: &ArgMatches<'_>) -> Option<u32>
 fn call_in<'a>(verb: Verb, matches: &ArgMatches<'a>) -> Option<Call<'a>>
     ensures command { option_map command_in result ≡ command_matched verb (first_value (found_of matches.now)) }
     ensures conflicts { IfSome result HasFewConflicts }
+    ensures widening { IfSome result HasSmallWidening }
+    ensures events { IfSome result HasTwoEvents }
 {
     match verb {
         Verb::Times => Some(Call::Times {
@@ -129,6 +132,27 @@ fn call_in<'a>(verb: Verb, matches: &ArgMatches<'a>) -> Option<Call<'a>>
         Verb::Json => Some(Call::Json {
             json: value(matches, Operand::Json)?,
         }),
+        Verb::Tolerance => Some(Call::Tolerance {
+            conflicts: conflicts_matched(matches)?,
+            value: truth_value(value(matches, Operand::Value)?)?,
+            max: widening(value(matches, Operand::Max)?)?,
+            formula: value(matches, Operand::Formula)?,
+            log: value(matches, Operand::Log)?,
+        }),
+        Verb::Span => {
+            let (from, to) = two_events(
+                value(matches, Operand::From)?,
+                value(matches, Operand::To)?,
+            )?;
+            Some(Call::Span {
+                conflicts: conflicts_matched(matches)?,
+                value: truth_value(value(matches, Operand::Value)?)?,
+                from,
+                to,
+                formula: value(matches, Operand::Formula)?,
+                log: value(matches, Operand::Log)?,
+            })
+        }
         Verb::Demo => Some(Call::Demo {
             seed: seed(value(matches, Operand::Seed)?)?,
         }),
@@ -140,6 +164,8 @@ pub fn call_of<'a>(alloc: Global, verb: Verb, list: &'a [String]) -> Result<Call
     requires { IsNormal verb (map string_bytes list.now) }
     ensures command { IfOk result (Calls verb (map string_bytes list.now)) }
     ensures conflicts { IfOk result HasFewConflicts }
+    ensures widening { IfOk result HasSmallWidening }
+    ensures events { IfOk result HasTwoEvents }
 {
     let matches = matches_in(alloc, verb, list)?;
     match call_in(verb, &matches) {

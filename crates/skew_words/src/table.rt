@@ -3,6 +3,8 @@
 ghost use Rattle.std.specs.Prelude.{◌≡◌};
 ghost use Rattle.skew_words.specs.Table.{is_of_kind, kind_of, name_of, row_of, verb_named};
 
+use crate::limits::{MAX_EVENT, MAX_WIDENING};
+use crate::values::truth_value;
 use decimal::number;
 use demo_log::MAX_SEED;
 
@@ -16,10 +18,12 @@ pub enum Verb {
     Audit,
     Trim,
     Json,
+    Tolerance,
+    Span,
     Demo,
 }
 
-const VERBS: [Verb; 8] = [
+const VERBS: [Verb; 10] = [
     Verb::Times,
     Verb::Replay,
     Verb::Order,
@@ -27,6 +31,8 @@ const VERBS: [Verb; 8] = [
     Verb::Audit,
     Verb::Trim,
     Verb::Json,
+    Verb::Tolerance,
+    Verb::Span,
     Verb::Demo,
 ];
 
@@ -38,6 +44,10 @@ pub enum Operand {
     Times,
     Report,
     Json,
+    Value,
+    Max,
+    From,
+    To,
     Seed,
 }
 
@@ -46,6 +56,8 @@ pub enum Operand {
 pub enum Kind {
     /// The name of a file: a word that is not empty.
     File,
+    /// A truth value.
+    Value,
     /// A number below a limit.
     Number { below: u128 },
 }
@@ -65,6 +77,7 @@ impl Kind {
     {
         match self {
             Kind::File => !word.is_empty(),
+            Kind::Value => truth_value(word).is_some(),
             Kind::Number { below } => number(word.as_bytes(), below).is_some(),
         }
     }
@@ -81,6 +94,10 @@ impl Operand {
             Operand::Times => "times",
             Operand::Report => "report",
             Operand::Json => "json",
+            Operand::Value => "value",
+            Operand::Max => "max",
+            Operand::From => "from",
+            Operand::To => "to",
             Operand::Seed => "seed",
         }
     }
@@ -91,6 +108,13 @@ impl Operand {
         match self {
             Operand::Formula | Operand::Log | Operand::Times | Operand::Report | Operand::Json =>
                 Kind::File,
+            Operand::Value => Kind::Value,
+            Operand::Max => Kind::Number {
+                below: MAX_WIDENING as u128 + 1,
+            },
+            Operand::From | Operand::To => Kind::Number {
+                below: MAX_EVENT as u128 + 1,
+            },
             Operand::Seed => Kind::Number {
                 below: MAX_SEED as u128 + 1,
             },
@@ -147,6 +171,22 @@ impl Verb {
                 word: "json",
                 operands: &[Operand::Json],
                 takes_conflicts: false,
+            },
+            Verb::Tolerance => Row {
+                word: "tolerance",
+                operands: &[Operand::Value, Operand::Max, Operand::Formula, Operand::Log],
+                takes_conflicts: true,
+            },
+            Verb::Span => Row {
+                word: "span",
+                operands: &[
+                    Operand::Value,
+                    Operand::From,
+                    Operand::To,
+                    Operand::Formula,
+                    Operand::Log,
+                ],
+                takes_conflicts: true,
             },
             Verb::Demo => Row {
                 word: "demo",

@@ -1,12 +1,13 @@
 //! What the words of a command say, before the command's file names and numbers are taken from them.
 
-ghost use Rattle.std.specs.Prelude.{◌≡◌, IfSome, IsSome, map, option_and_then, string_bytes};
+ghost use Rattle.std.specs.Prelude.{◌≡◌, ℕ, IfSome, IsSome, IsTrue, is_some, map, option_and_then, string_bytes};
 ghost use Rattle.skew_words.specs.Called.{words_in};
 ghost use Rattle.skew_words.specs.NormalWords.{command_said, verb_of};
-ghost use Rattle.skew_words.specs.Table.{are_operands};
-ghost use Rattle.skew_words.specs.Words.{command_after, command_of};
+ghost use Rattle.skew_words.specs.Table.{are_operands, row_of};
+ghost use Rattle.skew_words.specs.Words.{command_after, command_from, command_of, command_with};
 
 use crate::given::Given;
+use crate::numbers::two_events;
 use crate::operands::Operands;
 use crate::table::{Operand, Verb};
 
@@ -42,13 +43,31 @@ fn fit(operands: &[Operand], words: &Operands<'_>) -> bool
     true
 }
 
+// Whether the two events of `span` differ; no other command has any.
+fn events_differ(verb: Verb, words: &Operands<'_>) -> bool
+    requires { IsTrue (are_operands (row_of verb).operands (words_in words.now)) }
+    ensures { (n : ℕ) → result ≡ is_some (command_from verb n (words_in words.now)) }
+{
+    match verb {
+        Verb::Span => two_events(words.word(1), words.word(2)).is_some(),
+        _ => true,
+    }
+}
+
+// Whether words are the operands of a command of this first word.
+fn make_command(verb: Verb, words: &Operands<'_>) -> bool
+    ensures { (n : ℕ) → result ≡ is_some (command_with verb n (words_in words.now)) }
+{
+    fit(verb.row().operands, words) && events_differ(verb, words)
+}
+
 // What a first word says with the words after it.
 fn spoken_after<'a>(verb: Verb, words: &'a [String]) -> Option<Spoken<'a>>
     ensures command { option_and_then command_said result ≡ command_after verb (map string_bytes words.now) }
     ensures said { IfSome result (λ s. IsSome (command_said s)) }
 {
     let given = Given::to(verb, words)?;
-    if !fit(verb.row().operands, &given.operands) {
+    if !make_command(verb, &given.operands) {
         return None;
     }
     Some(Spoken {
