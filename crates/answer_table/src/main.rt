@@ -6,6 +6,9 @@
 //! - `?`: words of `check`. Only those lines of the report are told that don't depend on which timings and
 //!   which lines were found, and then what `audit` answers for the report and the same words.
 //! - `!`: words of `check`, of whose report the section for false is told.
+//! - `%`: words of `tolerance` or `span`. Only those lines of the answer are told that don't depend on which timing and
+//!   which lines were found.
+//! - `&`: such words, of whose answer the times of the witness are told too, where only one timing is right.
 //! - `<`: words. Each call on the files fails in turn, first with one byte a call, and then with 65,536. How many
 //!   calls there are is told, each of which must be answered as a failed read with nothing written, and the status
 //!   where a later call would fail, which must be the answer of sound devices.
@@ -19,8 +22,11 @@
 //!   without an end or with a newline each time.
 #![tactic(auto)]
 
+mod outline;
+
 use log_read::write_log;
 use mt_port::{MemShelf, MemSink};
+use outline::{push_false_section, push_outline, push_timed_outline};
 use skew_cli::{Status, demo_log};
 use std::alloc::Global;
 use std::process::ExitCode;
@@ -58,6 +64,8 @@ enum Telling {
     Whole,
     Outline,
     FalseSection,
+    Best,
+    BestWitness,
     FailedReads,
     FailedWrites,
 }
@@ -127,38 +135,6 @@ fn answer(alloc: Global, words: &Vec<String>, files: Files, out: &mut Vec<u8>) -
     let line = format!(in alloc; "status {}", status.code()).ok()?;
     push_line(out, line.as_bytes())?;
     Some(text)
-}
-
-// Adds what a line of a report says of any report on the same question.
-fn push_outlined(line: &[u8], out: &mut Vec<u8>) -> Option<()> {
-    let mut words = line.split(|byte| *byte == b' ');
-    let first = words.next()?;
-    if first == b"true".as_slice() || first == b"false".as_slice() {
-        out.extend_from_slice(first).ok()?;
-        push_marked(out, b' ', words.next()?)?;
-    } else if [b"skewcheck".as_slice(), b"events", b"inconsistent", b"end"].contains(&first) {
-        push_line(out, line)?;
-    }
-    Some(())
-}
-
-fn push_outline(report: &[u8], out: &mut Vec<u8>) -> Option<()> {
-    for line in report.split(|byte| *byte == b'\n') {
-        push_outlined(line, out)?;
-    }
-    Some(())
-}
-
-// Adds the section for false of a report, and its end.
-fn push_false_section(report: &[u8], out: &mut Vec<u8>) -> Option<()> {
-    let mut told = false;
-    for line in report.split(|byte| *byte == b'\n') {
-        told = told || line.starts_with(b"false ");
-        if told && !line.is_empty() {
-            push_line(out, line)?;
-        }
-    }
-    Some(())
 }
 
 // A copy of files.
@@ -322,6 +298,14 @@ fn push_answer(alloc: Global, case: Case, out: &mut Vec<u8>) -> Option<()> {
             let report = answer(alloc, &words, files, out)?;
             push_false_section(&report, out)
         }
+        Telling::Best => {
+            let text = answer(alloc, &words, files, out)?;
+            push_outline(&text, out)
+        }
+        Telling::BestWitness => {
+            let text = answer(alloc, &words, files, out)?;
+            push_timed_outline(&text, out)
+        }
         Telling::FailedReads => {
             push_failed_reads(alloc, 1, &words, &files, out)?;
             push_failed_reads(alloc, PIECE, &words, &files, out)
@@ -336,6 +320,8 @@ fn told_after(mark: u8) -> Option<Telling> {
         b'=' => Some(Telling::Whole),
         b'?' => Some(Telling::Outline),
         b'!' => Some(Telling::FalseSection),
+        b'%' => Some(Telling::Best),
+        b'&' => Some(Telling::BestWitness),
         b'<' => Some(Telling::FailedReads),
         b'^' => Some(Telling::FailedWrites),
         _ => None,

@@ -21,10 +21,12 @@ use Rattle.skew_cli.specs.CheckOutcome.{CheckOfLog, Checked}
 use Rattle.skew_cli.specs.Laws.{AcceptedFilesAreTrue, ChecksAreAccepted}
 use Rattle.skew_cli.specs.Outcome.{Says}
 use Rattle.skew_commands.specs.Reads.{IsQuestion}
-use Rattle.skew_cli.specs.ReportTests.{OnReport, OnSize}
+use Rattle.skew_best.specs.SizeTests.{OnSize}
+use Rattle.skew_cli.specs.ReportTests.{OnReport}
 use Rattle.skew_commands.specs.Tests.{OnFile, OnNodes}
-use Rattle.skew_cli.proofs.Passing.{pass-file, pass-hosts, pass-nodes, pass-question, pass-report, pass-size, too-long}
-use Rattle.skew_cli.proofs.Reaching.{reach-file, reach-hosts, reach-nodes, reach-question, reach-report, reach-size, refuses-no_verdict}
+use Rattle.skew_best.proofs.Passing.{pass-file, pass-hosts, pass-nodes, pass-question, pass-size, too-long}
+use Rattle.skew_best.proofs.Reaching.{reach-file, reach-hosts, reach-nodes, reach-question, reach-size, refuses-no_verdict}
+use Rattle.skew_cli.proofs.ReportSteps.{pass-report, reach-report}
 
 zero-claims : (conflicts : ℕ) (f : Form) (log : Logged) (r : Report) (out : List ℕ) → AuditOfReport conflicts f log r out status.Zero → Claims log f r
 zero-claims conflicts f log r out (inl a) = a.claims

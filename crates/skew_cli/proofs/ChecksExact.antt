@@ -2,10 +2,10 @@
 use Rattle.mtl_parse.specs.Laws.{TextsAreUnambiguous}
 use Rattle.skew_cli.specs.CheckOutcome.{CheckOfLog, Checked}
 use Rattle.skew_cli.specs.Laws.{ChecksAreExact, ChecksAreJudged}
-use Rattle.skew_cli.specs.ReportTests.{OnSize}
+use Rattle.skew_best.specs.SizeTests.{OnSize}
 use Rattle.skew_commands.specs.Tests.{OnNodes}
-use Rattle.skew_cli.proofs.Passing.{pass-hosts, pass-nodes, pass-question, pass-size}
-use Rattle.skew_cli.proofs.Reaching.{reach-hosts, reach-nodes, reach-question, reach-size}
+use Rattle.skew_best.proofs.Passing.{pass-hosts, pass-nodes, pass-question, pass-size}
+use Rattle.skew_best.proofs.Reaching.{reach-hosts, reach-nodes, reach-question, reach-size}
 use Rattle.skew_cli.proofs.StatusValues.{exact-status}
 use Rattle.skew_cli.proofs.Witnesses.{exact-witnesses}
 

@@ -22,7 +22,7 @@ use Rattle.skew_commands.specs.Stops.{RefusesFor}
 use Rattle.skew_commands.proofs.Steps.{reason-weaker}
 use Rattle.skew_cli.specs.DemoLaws.{DemosAreExact, DemosAreJudged}
 use Rattle.skew_cli.specs.Laws.{IsStatusOfValues}
-use Rattle.skew_cli.specs.ReportTests.{TellsLarge}
+use Rattle.skew_best.specs.SizeTests.{TellsLarge}
 use Rattle.skew_cli.proofs.DemoJudged.{demo-few, demo-known, demo-small}
 use Rattle.skew_cli.proofs.StatusValues.{exact-status}
 use Rattle.skew_cli.proofs.Witnesses.{exact-witnesses}

@@ -13,8 +13,8 @@ use Rattle.skew_answers.specs.Texts.{line}
 use Rattle.skew_commands.specs.declared.refusal.Refusal.TheVariants as refusal
 use Rattle.skew_cli.specs.AuditOutcome.{AuditOfReport, refused_part}
 use Rattle.skew_commands.specs.Refusals.{text_of}
-use Rattle.skew_cli.specs.ReportTests.{TellsLarge, OnSize}
-use Rattle.skew_cli.proofs.ReportSteps.{size-refused, size-small}
+use Rattle.skew_best.specs.SizeTests.{TellsLarge, OnSize}
+use Rattle.skew_best.proofs.SizeSteps.{size-refused, size-small}
 use Rattle.skew_commands.proofs.Steps.{At}
 
 module _ (log : Logged) (f : Form) where

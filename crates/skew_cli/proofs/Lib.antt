@@ -2,8 +2,6 @@ mod ReportSteps
 mod Judging
 mod Outcomes
 mod StatusValues
-mod Reaching
-mod Passing
 mod Replayed
 mod Witnesses
 mod LeftUnknown
@@ -12,6 +10,6 @@ mod AcceptedAgain
 mod DemoJudged
 mod DemosExact
 mod TrimmedAgain
-mod ShortReports
+mod TrimmedTexts
 mod TrimSteps
 mod JsonSteps

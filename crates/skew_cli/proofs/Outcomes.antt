@@ -1,11 +1,11 @@
 -- From what was due to what words and files give.
-use Rattle.std.proofs.Common.{◌≡◌, ◌∙◌, ◌++◌, ◌⊎◌, ap, sym, refl, inl, inr, List, ℕ, Some, None, codes, subst}
+use Rattle.std.proofs.Common.{◌≡◌, ◌∙◌, ◌++◌, ◌⊎◌, ap, sym, refl, inl, inr, Bool, List, ℕ, Some, None, codes, subst}
 use Rattle.mt_port.specs.Port.{Files}
 use Rattle.skew_answers.specs.declared.status.Status.{Status}
 use Rattle.skew_answers.specs.declared.status.Status.TheVariants as status
 use Rattle.skew_answers.specs.Statuses.{IsAnswer, IsRefusal}
 use Rattle.skew_answers.specs.Texts.{line}
-use Rattle.skew_words.specs.Words.{Audit, Check, Command, Demo, Json, Order, Replay, Times, Trim, Word, command_of}
+use Rattle.skew_words.specs.Words.{Audit, Check, Command, Demo, Json, Order, Replay, Span, Times, Tolerance, Trim, Word, command_of}
 use Rattle.skew_commands.specs.declared.limits.TheConstants.{LOG_LIMIT, TIMES_LIMIT}
 use Rattle.skew_commands.specs.declared.refusal.Named.TheVariants as named
 use Rattle.skew_commands.specs.Reads.{Agree}
@@ -20,7 +20,10 @@ use Rattle.skew_cli.specs.AuditOutcome.{AuditOfLog, AuditOfReport, AuditOutcome}
 use Rattle.skew_cli.specs.CheckOutcome.{CheckOfLog, CheckOutcome}
 use Rattle.skew_cli.specs.Outcome.{CommandOutcome, Ends, HasOutcome, HasPossible, IsPossible, IsPossibleOf, Outcome}
 use Rattle.skew_cli.specs.JsonOutcome.{Converted, JsonOutcome, OnJson}
-use Rattle.skew_cli.specs.ReportTests.{OnReport, OnSize}
+use Rattle.skew_best.specs.SizeTests.{OnSize}
+use Rattle.skew_best.specs.ToleranceOutcome.{ToleranceOfLog, ToleranceOutcome}
+use Rattle.skew_best.specs.SpanOutcome.{SpanOfLog, SpanOutcome}
+use Rattle.skew_cli.specs.ReportTests.{OnReport}
 use Rattle.skew_cli.specs.TrimOutcome.{TrimOfReport, TrimOutcome}
 
 -- what is due may be said in a weaker way
@@ -43,6 +46,12 @@ module _ (held files : Files) (agree : Agree held files) (out : List ℕ) (s : S
   same-check : (conflicts : ℕ) (formula log : Word) → CheckOutcome held conflicts formula log out s → CheckOutcome files conflicts formula log out s
   same-check conflicts formula log = same-question held files agree out s formula log (CheckOfLog conflicts) (CheckOfLog conflicts) (λ text f l h. h)
 
+  same-tolerance : (conflicts : ℕ) (value : Bool) (max : ℕ) (formula log : Word) → ToleranceOutcome held conflicts value max formula log out s → ToleranceOutcome files conflicts value max formula log out s
+  same-tolerance conflicts value max formula log = same-question held files agree out s formula log (ToleranceOfLog conflicts value max) (ToleranceOfLog conflicts value max) (λ text f l h. h)
+
+  same-span : (conflicts : ℕ) (value : Bool) (from to : ℕ) (formula log : Word) → SpanOutcome held conflicts value from to formula log out s → SpanOutcome files conflicts value from to formula log out s
+  same-span conflicts value from to formula log = same-question held files agree out s formula log (SpanOfLog conflicts value from to) (SpanOfLog conflicts value from to) (λ text f l h. h)
+
   same-audit : (conflicts : ℕ) (formula log report : Word) → AuditOutcome held conflicts formula log report out s → AuditOutcome files conflicts formula log report out s
   same-audit conflicts formula log report =
       same-question held files agree out s formula log (AuditOfLog held conflicts report) (AuditOfLog files conflicts report)
@@ -62,6 +71,8 @@ module _ (held files : Files) (agree : Agree held files) (out : List ℕ) (s : S
   same-command (Audit conflicts formula log report) = same-audit conflicts formula log report
   same-command (Trim name) = same-trim name
   same-command (Json name) = same-json name
+  same-command (Tolerance conflicts value max formula log) = same-tolerance conflicts value max formula log
+  same-command (Span conflicts value from to formula log) = same-span conflicts value from to formula log
   same-command (Demo seed) = λ h. h
 
 -- the outcome of a command, for files that agree with those that are held

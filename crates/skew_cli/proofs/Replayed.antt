@@ -17,7 +17,7 @@ use Rattle.skew_cli.specs.Laws.{IsWitnessOf, WitnessesAreReplayed}
 use Rattle.skew_cli.specs.Outcome.{Says}
 use Rattle.skew_commands.specs.ReplayOutcome.{ReplayOfLog, ReplayOfTimes, value_status, value_text}
 use Rattle.skew_commands.specs.Tests.{OnFile, OnNodes, OnTimes}
-use Rattle.skew_cli.proofs.Passing.{pass-file, pass-hosts, pass-nodes, pass-question}
+use Rattle.skew_best.proofs.Passing.{pass-file, pass-hosts, pass-nodes, pass-question}
 
 module _ (log : Logged) (f : Form) (conflicts : ℕ) where
   -- a witness of a right report is an admissible timing in which the formula has the value

@@ -1,14 +1,13 @@
 -- From what was found of a report that is to be trimmed to what is asked for.
-use Rattle.std.proofs.Common.{◌≡◌, ◌∙◌, sym, subst, refl, inl, inr, ℕ, ◌≤◌, List, [], length, Some, Ok, Err}
-use Rattle.std.specs.Prelude.{◌↔◌, Result}
+use Rattle.std.proofs.Common.{◌≡◌, refl, inl, inr, ℕ, ◌≤◌, List, [], length, Some, Ok}
+use Rattle.std.specs.Prelude.{Result}
 use Rattle.mt_port.specs.Port.{Files, file_of}
 use Rattle.proof_log.specs.declared.line.Line.{Line}
-use Rattle.proof_trim.specs.declared.fault.TrimFault.{TrimFault}
-use Rattle.proof_trim.specs.declared.fault.TrimFault.TheVariants as fault
-use Rattle.proof_trim.specs.Needed.{IsFirstForward}
+use Rattle.proof_trim.specs.Laws.{CanBeTrimmed}
 use Rattle.report_text.specs.declared.report.Report.{Report}
 use Rattle.report_text.specs.declared.report.Report.TheVariants as report
 use Rattle.report_text.specs.declared.report.Section.{Section}
+use Rattle.report_text.specs.declared.report.Section.TheVariants as section
 use Rattle.report_text.specs.ReportOf.{ReportOf}
 use Rattle.skew_answers.specs.declared.status.Status.{Status}
 use Rattle.skew_answers.specs.Texts.{line}
@@ -27,22 +26,15 @@ use Rattle.skew_commands.proofs.Possible.{length-refused, longer, only}
 use Rattle.skew_commands.proofs.Steps.{At, file-read, gives-weaker, reason-weaker}
 use Rattle.skew_cli.specs.declared.limits.TheConstants.{REPORT_LIMIT}
 use Rattle.skew_cli.specs.ReportTests.{OnReport, TellsFaultyLine}
-use Rattle.skew_cli.specs.TrimOutcome.{AreUntrimmedAt, CanTrim, CanTrimSection, IsUntrimmedAt, OfSomeReport, TellsSection, TellsUntrimmed, TrimOfReport, TrimOutcome}
+use Rattle.skew_cli.specs.TrimOutcome.{CanTrim, CanTrimSection, IsUntrimmedAt, OfSomeReport, TellsSection, TellsUntrimmed, TrimOfReport, TrimOutcome}
 use Rattle.skew_cli.proofs.ReportSteps.{report-read, report-refused}
 
 -- ---- the sections of a report
 
--- lines that were trimmed can be
-pub trimmed-can : (lines slice : List Line) → slice ≡ lines → (result : Result (List Line) TrimFault) (t : List Line) → result ≡ Ok t → ((result ≡ Err fault.Empty) ↔ (slice ≡ []))
-    → ((n : ℕ) → (result ≡ Err (fault.Hint n)) ↔ IsFirstForward slice n) → (n : ℕ) → AreUntrimmedAt lines n → ⊥
-trimmed-can lines slice same result t is empty hint n (inl none) =
-    let faulty = empty.1 (same ∙ none.0) in
-    let never : ⊥ = cc in
-    never
-trimmed-can lines slice same result t is empty hint n (inr first) =
-    let faulty = (hint n).1 (subst (λ l. IsFirstForward l n) (sym same) first) in
-    let never : ⊥ = cc in
-    never
+-- lines that can be trimmed are a section that can
+pub lines-can : (lines : List Line) → CanBeTrimmed lines → CanTrimSection (section.Refuted lines)
+lines-can lines can n (inl none) = can.some none.0
+lines-can lines can n (inr first) = can.back n first
 
 module _ (events : ℕ) (on_true on_false : Section) where
   pub true-told : (s : Stop) → HasReason s (TellsSection part.OnTrue on_true) → HasReason s (TellsUntrimmed (report.Verdicts events on_true on_false))

@@ -18,7 +18,8 @@ use Rattle.skew_commands.specs.declared.refusal.Refusal.TheVariants as refusal
 use Rattle.skew_commands.specs.declared.refusal.ReportPart.{ReportPart}
 use Rattle.skew_commands.specs.declared.refusal.ReportPart.TheVariants as name
 use Rattle.skew_commands.specs.Refusals.{Refuses}
-use Rattle.skew_cli.specs.ReportTests.{OnReport, OnSize}
+use Rattle.skew_best.specs.SizeTests.{OnSize}
+use Rattle.skew_cli.specs.ReportTests.{OnReport}
 use Rattle.skew_commands.specs.Tests.{OnFile, OnHosts, OnNodes, OnQuestion}
 
 -- the report is accepted, and what it claims is so

@@ -13,7 +13,7 @@ use Rattle.verdict.specs.Right.{CyclesOnce, IsRight, is_unknown, is_witness}
 use Rattle.skew_answers.specs.declared.status.Status.{Status}
 use Rattle.skew_answers.specs.declared.status.Status.TheVariants as status
 use Rattle.skew_words.specs.Words.{Word}
-use Rattle.skew_cli.specs.ReportTests.{OnSize}
+use Rattle.skew_best.specs.SizeTests.{OnSize}
 use Rattle.skew_commands.specs.Tests.{OnHosts, OnNodes, OnQuestion}
 
 -- the status of the sections for true and for false: Unknown where one of them is, and else whether true alone, false alone or both have a witness

@@ -3,6 +3,7 @@ pub mod CheckOutcome
 pub mod AuditOutcome
 pub mod DemoOutcome
 pub mod TrimOutcome
+pub mod TrimmedText
 pub mod JsonOutcome
 pub mod Outcome
 pub mod Laws
@@ -16,6 +17,12 @@ pub use Rattle.skew_commands.specs.Possible
 pub use Rattle.skew_commands.specs.TimesOutcome
 pub use Rattle.skew_commands.specs.ReplayOutcome
 pub use Rattle.skew_commands.specs.OrderOutcome
+pub use Rattle.skew_best.specs.EventTests
+pub use Rattle.skew_best.specs.SizeTests
+pub use Rattle.skew_best.specs.ToleranceOutcome
+pub use Rattle.skew_best.specs.ToleranceText
+pub use Rattle.skew_best.specs.SpanOutcome
+pub use Rattle.skew_best.specs.SpanText
 pub use Rattle.skew_words.specs.Words
 pub use Rattle.skew_answers.specs.Statuses
 pub use Rattle.skew_answers.specs.Texts

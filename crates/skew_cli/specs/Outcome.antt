@@ -6,12 +6,14 @@ use Rattle.skew_answers.specs.declared.status.Status.{Status}
 use Rattle.skew_answers.specs.declared.status.Status.TheVariants as status
 use Rattle.skew_answers.specs.Statuses.{IsAnswer}
 use Rattle.skew_answers.specs.Texts.{line}
-use Rattle.skew_words.specs.Words.{Audit, Check, Command, Demo, Json, Order, Replay, Times, Trim, Word, command_of}
+use Rattle.skew_words.specs.Words.{Audit, Check, Command, Demo, Json, Order, Replay, Span, Times, Tolerance, Trim, Word, command_of}
 use Rattle.skew_commands.specs.Possible.{OfSomeLog, OfSomeQuestion, OfSomeThird}
 use Rattle.skew_commands.specs.Reads.{HoldsQuestion, HoldsThird, NoThird}
 use Rattle.skew_commands.specs.TimesOutcome.{TimesOutcome}
 use Rattle.skew_commands.specs.ReplayOutcome.{ReplayOutcome}
 use Rattle.skew_commands.specs.OrderOutcome.{OrderOutcome}
+use Rattle.skew_best.specs.ToleranceOutcome.{ToleranceOutcome}
+use Rattle.skew_best.specs.SpanOutcome.{SpanOutcome}
 use Rattle.skew_cli.specs.CheckOutcome.{CheckOutcome}
 use Rattle.skew_cli.specs.AuditOutcome.{AuditOutcome}
 use Rattle.skew_cli.specs.DemoOutcome.{DemoOutcome}
@@ -59,6 +61,8 @@ due_for (Check conflicts formula log) = due_of_question (λ files. CheckOutcome 
 due_for (Audit conflicts formula log report) = due_of_third (λ files. AuditOutcome files conflicts) formula log report
 due_for (Trim name) = due_of_report TrimOutcome name
 due_for (Json name) = due_of_log JsonOutcome name
+due_for (Tolerance conflicts value max formula log) = due_of_question (λ files. ToleranceOutcome files conflicts value max) formula log
+due_for (Span conflicts value from to formula log) = due_of_question (λ files. SpanOutcome files conflicts value from to) formula log
 due_for (Demo seed) = due_of_nothing (DemoOutcome seed)
 
 -- what a command gives, where the files that it comes to read are held

@@ -1,5 +1,5 @@
 -- What `trim` answers.
-use Rattle.std.specs.Prelude.{◌≡◌, ◌⊎◌, ◌-◌, ◌<◌, ◌^◌, ℕ, List, [], length}
+use Rattle.std.specs.Prelude.{◌≡◌, ◌⊎◌, ℕ, List, []}
 use Rattle.mt_port.specs.Port.{Files}
 use Rattle.proof_log.specs.declared.line.Line.{Line}
 use Rattle.proof_trim.specs.Needed.{IsFirstForward}
@@ -100,17 +100,6 @@ pub record OfSomeReport (Given : Files → Word → List ℕ → Status → Type
   pub files : Files
   pub name : Word
   pub due : Given files name out s
-
--- a derivation in a section has no more lines than a trim takes
-abbrev pub HasFewLines : Section → Type 0
-HasFewLines (section.Witness t) = Unit {0}
-HasFewLines (section.Refuted lines) = length lines < 2 ^ 32 - 1
-HasFewLines (section.Unknown lines) = length lines < 2 ^ 32 - 1
-
--- so has each section of a report
-abbrev pub HasShortSections : Report → Type 0
-HasShortSections (report.Inconsistent events steps) = Unit {0}
-HasShortSections (report.Verdicts events on_true on_false) = HasFewLines on_true × HasFewLines on_false
 
 -- the refusal tells the line at which a section can't be trimmed
 pub record TellsSection (p : ReportPart) (s : Section) (r : Refusal) : Type 0 where

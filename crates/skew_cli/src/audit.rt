@@ -15,7 +15,7 @@ ghost use Rattle.skew_commands.specs.Possible.{OfSomeThird};
 ghost use Rattle.skew_commands.specs.Reads.{HoldsQuestion, HoldsThird};
 ghost use Rattle.skew_commands.specs.Stops.{Gives};
 ghost use Rattle.skew_commands.specs.Untold.{GivesForSome};
-ghost use Rattle.skew_cli.specs.ReportTests.{OnSize};
+ghost use Rattle.skew_best.specs.SizeTests.{OnSize};
 
 use crate::limits::REPORT_LIMIT;
 use crate::report_file;

@@ -13,7 +13,7 @@ ghost use Rattle.skew_answers.specs.Statuses.{IsVerdict};
 ghost use Rattle.skew_cli.specs.CheckOutcome.{CheckOfLog, CheckOutcome, IsReportStatus, IsVerdictsStatus, IsWitnessed};
 ghost use Rattle.skew_commands.specs.Possible.{OfSomeQuestion};
 ghost use Rattle.skew_commands.specs.Reads.{HoldsQuestion, NoThird};
-ghost use Rattle.skew_cli.specs.ReportTests.{TellsLarge};
+ghost use Rattle.skew_best.specs.SizeTests.{TellsLarge};
 ghost use Rattle.skew_commands.specs.Stops.{Gives, RefusesFor};
 
 use mt_model::{Formula, Log};

@@ -1,6 +1,6 @@
 ghost use Rattle.std.specs.Prelude.{◌≡◌, ◌⊎◌, ◌++◌, ◌≤◌, ℕ, List, true, None, IfOk, IfErr, IsErrOf, codes, map, string_bytes};
 ghost use Rattle.mt_port.specs.Port.{Files, Rose};
-ghost use Rattle.skew_words.specs.Called.{HasFewConflicts, command_in};
+ghost use Rattle.skew_words.specs.Called.{HasFewConflicts, HasSmallWidening, HasTwoEvents, command_in};
 ghost use Rattle.skew_answers.specs.Statuses.{IsAnswer, IsRefusal, IsVerdict};
 ghost use Rattle.skew_answers.specs.Texts.{line};
 ghost use Rattle.skew_words.specs.Words.{command_of};
@@ -16,6 +16,7 @@ use crate::json::json;
 use crate::trim::trim;
 use mt_port::{Failed, Shelf, Sink, write_all};
 use skew_answers::Status;
+use skew_best::{span, tolerance};
 use skew_commands::{Reply, Stop, order, replay, times};
 use skew_words::{Call, call_of, spoken_of};
 use std::alloc::Global;
@@ -36,7 +37,9 @@ fn finish<K: Sink>(out: &mut K, text: &[u8], status: Status) -> Status
 
 // What a command gives, before anything is written.
 fn work<S: Shelf>(alloc: Global, shelf: &mut S, call: Call<'_>) -> Result<Reply, Stop>
-    requires { HasFewConflicts call }
+    requires conflicts { HasFewConflicts call }
+    requires widening { HasSmallWidening call }
+    requires events { HasTwoEvents call }
     ensures outcome { S.tells shelf.old ≡ true → Gives (CommandOutcome (command_in call.entry) (S.files shelf.old)) result }
     ensures possible { Gives (IsPossibleOf (command_in call.entry)) result }
     ensures verdict { IfOk result (λ r. IsVerdict r.status) }
@@ -65,13 +68,30 @@ fn work<S: Shelf>(alloc: Global, shelf: &mut S, call: Call<'_>) -> Result<Reply,
         } => audit(alloc, shelf, conflicts, formula, log, report),
         Call::Trim { report } => trim(alloc, shelf, report),
         Call::Json { json: name } => json(alloc, shelf, name),
+        Call::Tolerance {
+            conflicts,
+            value,
+            max,
+            formula,
+            log,
+        } => tolerance(alloc, shelf, conflicts, value, max, formula, log),
+        Call::Span {
+            conflicts,
+            value,
+            from,
+            to,
+            formula,
+            log,
+        } => span(alloc, shelf, conflicts, value, from, to, formula, log),
         Call::Demo { seed } => demo(alloc, seed),
     }
 }
 
 // The same, where a refusal is a reply too.
 fn reply<S: Shelf>(alloc: Global, shelf: &mut S, call: Call<'_>) -> Result<Reply, Stop>
-    requires { HasFewConflicts call }
+    requires conflicts { HasFewConflicts call }
+    requires widening { HasSmallWidening call }
+    requires events { HasTwoEvents call }
     ensures outcome { IfOk result (λ r. S.tells shelf.old ≡ true → CommandOutcome (command_in call.entry) (S.files shelf.old) r.text.items r.status) }
     ensures possible { IfOk result (λ r. IsPossibleOf (command_in call.entry) r.text.items r.status) }
     ensures answer { IfOk result (λ r. IsAnswer r.status) }

@@ -1,13 +1,11 @@
 //! The file of a report.
 
-ghost use Rattle.std.specs.Prelude.{◌≡◌, ◌^◌, ◌<◌, length, IfOk, IsErrOf, Ok};
+ghost use Rattle.std.specs.Prelude.{◌≡◌, ◌^◌, ◌<◌, length, IfOk, IsErrOf};
 ghost use Rattle.report_text.specs.Outlines.{IsOutlineIn};
-ghost use Rattle.report_text.specs.ReportOf.{ReportOf};
-ghost use Rattle.report_text.specs.Spelled.{IsSpelled};
 ghost use Rattle.skew_commands.specs.Stops.{RefusesFor};
 ghost use Rattle.skew_cli.specs.ReportTests.{TellsFaultyLine};
 
-use report_text::{Outline, Report, ReportFault, read_outline, read_report};
+use report_text::{Outline, ReportFault, read_outline};
 use skew_commands::{Refusal, Stop};
 use std::alloc::Global;
 
@@ -16,21 +14,6 @@ fn refused_at(line: u32) -> Stop
     ensures { result ≡ Stop.Refused (Refusal.Report line) }
 {
     Stop::Refused(Refusal::Report { line })
-}
-
-/// The report that a file is.
-pub fn report(alloc: Global, file: &[u8]) -> Result<Report, Stop>
-    requires { length file.now < 2 ^ 31 }
-    ensures report { IfOk result (λ r. ReportOf file.now (Ok r)) }
-    ensures spelled { IfOk result IsSpelled }
-    ensures read { IsErrOf result Stop.ReadFailed → ⊥ }
-    ensures refused { RefusesFor result (TellsFaultyLine file.now) }
-{
-    match read_report(alloc, file) {
-        Ok(report) => Ok(report),
-        Err(ReportFault::Syntax { line }) => Err(refused_at(line)),
-        Err(ReportFault::Memory) => Err(Stop::NoMemory),
-    }
 }
 
 /// The outline of the report that a file is.

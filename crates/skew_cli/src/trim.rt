@@ -1,92 +1,122 @@
-ghost use Rattle.std.specs.Prelude.{◌≡◌, ◌^◌, ◌<◌, ◌≤◌, ℕ, length, true, IfOk, OnOk, IsErrOf, IsSome, Ok};
+ghost use Rattle.std.specs.Prelude.{◌≡◌, ◌^◌, ◌<◌, ◌≤◌, ℕ, List, length, true, IfOk, OnOk, IsErrOf, IsSome};
 ghost use Rattle.mt_port.specs.Port.{Rose, file_of};
-ghost use Rattle.report_text.specs.ReportOf.{ReportOf};
-ghost use Rattle.report_text.specs.ReportText.{report_text};
+ghost use Rattle.proof_log.specs.declared.line.Line.{Line};
+ghost use Rattle.proof_log.specs.LinesOf.{IsTextOf};
+ghost use Rattle.proof_trim.specs.Placed.{IsTrimmedText};
+ghost use Rattle.report_text.specs.declared.report.Report.{Report};
+ghost use Rattle.report_text.specs.declared.report.Report.TheVariants.{Verdicts};
+ghost use Rattle.report_text.specs.declared.report.Section.{Section};
+ghost use Rattle.report_text.specs.declared.report.Section.TheVariants.{Refuted};
+ghost use Rattle.report_text.specs.Outlines.{IsOutlineIn, IsOutlineOf, IsSectionOutline};
 ghost use Rattle.report_text.specs.Spelled.{IsSpelled, IsSpelledSection};
 ghost use Rattle.skew_answers.specs.Statuses.{IsVerdict};
 ghost use Rattle.skew_commands.specs.Stops.{Gives, RefusesFor};
-ghost use Rattle.skew_cli.specs.ReportTests.{TellsFaultyLine};
-ghost use Rattle.skew_cli.specs.TrimOutcome.{CanTrim, CanTrimSection, HasFewLines, HasShortSections, IsReportTrim, IsSectionTrim, OfSomeReport, TellsSection, TellsUntrimmed, TrimOfReport, TrimOutcome};
+ghost use Rattle.skew_cli.specs.TrimOutcome.{CanTrim, CanTrimSection, OfSomeReport, TellsSection, TellsUntrimmed, TrimOfReport, TrimOutcome};
+ghost use Rattle.skew_cli.specs.TrimmedText.{AreOutlined, IsSectionLeft, IsTrimText, kind_left, text_left};
 
 use crate::limits::REPORT_LIMIT;
 use crate::report_file;
 use mt_port::Shelf;
-use proof_log::Lines;
-use proof_trim::TrimFault;
-use report_text::{Report, Section, print_report};
+use proof_trim::{TrimFault, TrimmedText, trim_text};
+use report_text::{Kind, Outline, SectionOutline, print_outline};
 use skew_answers::Status;
 use skew_commands::{Named, Refusal, Reply, ReportPart, Stop, files};
-use std::alloc::{AllocError, Global};
+use std::alloc::Global;
 
-// The lines of a refuted section, trimmed.
-fn trimmed_lines(alloc: Global, part: ReportPart, lines: &Lines) -> Result<Section, Stop>
-    requires few { HasFewLines (Section.Refuted lines.now) }
-    ensures trimmed { IfOk result (IsSectionTrim (Section.Refuted lines.now)) }
-    ensures can { OnOk result (CanTrimSection (Section.Refuted lines.now)) }
-    ensures spelled { IfOk result (λ t. (events : ℕ) → IsSpelledSection events (Section.Refuted lines.now) → IsSpelledSection events t) }
+// The text of lines, trimmed.
+fn trimmed_lines(
+    alloc: Global,
+    part: ReportPart,
+    text: &[u8],
+    count: u32,
+) -> Result<TrimmedText, Stop>
+    requires few { length text.now < 2 ^ 31 }
+    requires lines { (lines : List Line) × IsTextOf text.now lines }
+    ensures trimmed { IfOk result (λ t. (lines : List Line) → IsTextOf text.now lines → IsTrimmedText lines t.text.items t.count) }
+    ensures can { OnOk result ((lines : List Line) → IsTextOf text.now lines → CanTrimSection (Refuted lines)) }
     ensures read { IsErrOf result Stop.ReadFailed → ⊥ }
-    ensures refused { RefusesFor result (TellsSection part (Section.Refuted lines.now)) }
+    ensures refused { (lines : List Line) → IsTextOf text.now lines → RefusesFor result (TellsSection part (Refuted lines)) }
 {
-    match proof_trim::trim(alloc, lines.as_slice()) {
-        Ok(lines) => Ok(Section::Refuted(lines)),
+    match trim_text(alloc, text, count) {
+        Ok(trimmed) => Ok(trimmed),
         Err(TrimFault::Empty) => Err(Stop::Refused(Refusal::Part { part, line: 0 })),
         Err(TrimFault::Hint { line }) => Err(Stop::Refused(Refusal::Part { part, line })),
         Err(TrimFault::Memory) => Err(Stop::NoMemory),
     }
 }
 
-// A section, trimmed where it is refuted.
-fn trimmed_section(alloc: Global, part: ReportPart, section: Section) -> Result<Section, Stop>
-    requires few { HasFewLines section }
-    ensures trimmed { IfOk result (IsSectionTrim section) }
-    ensures can { OnOk result (CanTrimSection section) }
-    ensures spelled { IfOk result (λ t. (events : ℕ) → IsSpelledSection events section → IsSpelledSection events t) }
+// The text of a refuted section's lines, trimmed, and None for any other section, which stays as it is.
+fn trimmed_section(
+    alloc: Global,
+    part: ReportPart,
+    section: SectionOutline,
+) -> Result<Option<TrimmedText>, Stop>
+    requires short { length section.text.now < 2 ^ 31 }
+    requires some { (events : ℕ) × (s : Section) × IsSectionOutline section s × IsSpelledSection events s }
+    ensures trimmed { IfOk result (λ o. (events : ℕ) (s : Section) → IsSectionOutline section.entry s → IsSpelledSection events s → IsSectionLeft events section.entry s o) }
+    ensures can { OnOk result ((events : ℕ) (s : Section) → IsSectionOutline section.entry s → IsSpelledSection events s → CanTrimSection s) }
     ensures read { IsErrOf result Stop.ReadFailed → ⊥ }
-    ensures refused { RefusesFor result (TellsSection part section) }
+    ensures refused { (events : ℕ) (s : Section) → IsSectionOutline section.entry s → IsSpelledSection events s → RefusesFor result (TellsSection part s) }
 {
-    match section {
-        Section::Witness(times) => Ok(Section::Witness(times)),
-        Section::Refuted(lines) => trimmed_lines(alloc, part, &lines),
-        Section::Unknown(lines) => Ok(Section::Unknown(lines)),
+    match section.kind {
+        Kind::Refuted(count) => Ok(Some(trimmed_lines(alloc, part, section.text, count)?)),
+        Kind::Witness | Kind::Unknown(_) => Ok(None),
     }
 }
 
-// Both sections of verdicts, trimmed.
+// The outline of a section with its trimmed lines, where it has such.
+fn outline_with<'a>(
+    section: SectionOutline<'a>,
+    trimmed: &'a Option<TrimmedText>,
+) -> SectionOutline<'a>
+    ensures kind { result.kind ≡ kind_left section.entry trimmed.now }
+    ensures text { result.text.now ≡ text_left section.entry trimmed.now }
+{
+    match trimmed {
+        Some(trimmed) => SectionOutline {
+            kind: Kind::Refuted(trimmed.count),
+            text: &trimmed.text,
+        },
+        None => section,
+    }
+}
+
+// The text of a report of verdicts, trimmed.
 fn trimmed_verdicts(
     alloc: Global,
     events: u32,
-    on_true: Section,
-    on_false: Section,
-) -> Result<Report, Stop>
-    requires few { HasShortSections (Report.Verdicts events on_true on_false) }
-    ensures trimmed { IfOk result (IsReportTrim (Report.Verdicts events on_true on_false)) }
-    ensures can { OnOk result (CanTrim (Report.Verdicts events on_true on_false)) }
-    ensures spelled { IsSpelled (Report.Verdicts events on_true on_false) → IfOk result IsSpelled }
+    on_true: SectionOutline,
+    on_false: SectionOutline,
+) -> Result<Vec<u8>, Stop>
+    requires true_short { length on_true.text.now < 2 ^ 31 }
+    requires false_short { length on_false.text.now < 2 ^ 31 }
+    requires some { (s t : Section) × AreOutlined events on_true on_false s t }
+    ensures trimmed { IfOk result (λ text. (s t : Section) → AreOutlined events on_true.entry on_false.entry s t → IsTrimText (Verdicts events s t) text.items) }
+    ensures can { OnOk result ((s t : Section) → AreOutlined events on_true.entry on_false.entry s t → CanTrim (Verdicts events s t)) }
     ensures read { IsErrOf result Stop.ReadFailed → ⊥ }
-    ensures refused { RefusesFor result (TellsUntrimmed (Report.Verdicts events on_true on_false)) }
+    ensures refused { (s t : Section) → AreOutlined events on_true.entry on_false.entry s t → RefusesFor result (TellsUntrimmed (Verdicts events s t)) }
 {
-    let on_true = trimmed_section(alloc, ReportPart::OnTrue, on_true)?;
-    let on_false = trimmed_section(alloc, ReportPart::OnFalse, on_false)?;
-    Ok(Report::Verdicts {
+    let left_true = trimmed_section(alloc, ReportPart::OnTrue, on_true)?;
+    let left_false = trimmed_section(alloc, ReportPart::OnFalse, on_false)?;
+    let outline = Outline::Verdicts {
         events,
-        on_true,
-        on_false,
-    })
+        on_true: outline_with(on_true, &left_true),
+        on_false: outline_with(on_false, &left_false),
+    };
+    Ok(print_outline(alloc, outline)?)
 }
 
-// A report, trimmed.
-fn trimmed_report(alloc: Global, report: Report) -> Result<Report, Stop>
-    requires spelled { IsSpelled report }
-    requires few { HasShortSections report }
-    ensures trimmed { IfOk result (IsReportTrim report) }
-    ensures can { OnOk result (CanTrim report) }
-    ensures spelled { IfOk result IsSpelled }
+// The text of the report of an outline, trimmed.
+fn trimmed_report(alloc: Global, outline: Outline) -> Result<Vec<u8>, Stop>
+    requires whole { (bytes : List ℕ) × (length bytes < 2 ^ 31) × IsOutlineIn bytes outline }
+    ensures trimmed { IfOk result (λ text. (r : Report) → IsOutlineOf outline.entry r → IsSpelled r → IsTrimText r text.items) }
+    ensures can { OnOk result ((r : Report) → IsOutlineOf outline.entry r → IsSpelled r → CanTrim r) }
     ensures read { IsErrOf result Stop.ReadFailed → ⊥ }
-    ensures refused { RefusesFor result (TellsUntrimmed report) }
+    ensures refused { (r : Report) → IsOutlineOf outline.entry r → IsSpelled r → RefusesFor result (TellsUntrimmed r) }
 {
-    match report {
-        Report::Inconsistent { events, steps } => Ok(Report::Inconsistent { events, steps }),
-        Report::Verdicts {
+    match outline {
+        Outline::Inconsistent { .. } => Ok(print_outline(alloc, outline)?),
+        Outline::Verdicts {
             events,
             on_true,
             on_false,
@@ -94,40 +124,18 @@ fn trimmed_report(alloc: Global, report: Report) -> Result<Report, Stop>
     }
 }
 
-// A report as a reply.
-fn report_reply(alloc: Global, report: &Report) -> Result<Reply, AllocError>
-    requires { IsSpelled report.now }
-    ensures text { IfOk result (λ r. r.text.items ≡ report_text report.now) }
-    ensures zero { IfOk result (λ r. r.status ≡ Status.Zero) }
-{
-    Ok(Reply {
-        text: print_report(alloc, report)?,
-        status: Status::Zero,
-    })
-}
-
-// What `trim` answers for a report.
-fn trim_of_report(alloc: Global, report: Report) -> Result<Reply, Stop>
-    requires spelled { IsSpelled report }
-    requires few { HasShortSections report }
-    ensures outcome { Gives (TrimOfReport report) result }
+// What `trim` answers for the report of an outline.
+fn trim_of_report(alloc: Global, outline: Outline) -> Result<Reply, Stop>
+    requires whole { (bytes : List ℕ) × (length bytes < 2 ^ 31) × IsOutlineIn bytes outline }
+    ensures outcome { (r : Report) → IsOutlineOf outline.entry r → IsSpelled r → Gives (TrimOfReport r) result }
     ensures verdict { IfOk result (λ r. IsVerdict r.status) }
     ensures read { IsErrOf result Stop.ReadFailed → ⊥ }
 {
-    let report = trimmed_report(alloc, report)?;
-    Ok(report_reply(alloc, &report)?)
-}
-
-// The report that a file within the limit is, whose sections are short since the file is.
-fn short_report(alloc: Global, file: &[u8]) -> Result<Report, Stop>
-    requires { length file.now ≤ REPORT_LIMIT }
-    ensures report { IfOk result (λ r. ReportOf file.now (Ok r)) }
-    ensures spelled { IfOk result IsSpelled }
-    ensures few { IfOk result HasShortSections }
-    ensures read { IsErrOf result Stop.ReadFailed → ⊥ }
-    ensures refused { RefusesFor result (TellsFaultyLine file.now) }
-{
-    report_file::report(alloc, file)
+    let text = trimmed_report(alloc, outline)?;
+    Ok(Reply {
+        text,
+        status: Status::Zero,
+    })
 }
 
 /// What `trim` answers for the report of a name.
@@ -140,6 +148,6 @@ pub fn trim<S: Shelf>(alloc: Global, shelf: &mut S, report: &str) -> Result<Repl
     ensures later { S.faults shelf.old ≤ S.faults shelf.new }
 {
     let file = files::file(alloc, shelf, report, REPORT_LIMIT, Named::Report)?;
-    let report = short_report(alloc, &file)?;
-    trim_of_report(alloc, report)
+    let outline = report_file::outline_of(alloc, &file)?;
+    trim_of_report(alloc, outline)
 }

@@ -6,7 +6,8 @@ use Rattle.skew_answers.specs.declared.status.Status.{Status}
 use Rattle.skew_cli.specs.declared.limits.TheConstants.{REPORT_LIMIT}
 use Rattle.skew_commands.specs.declared.refusal.Named.TheVariants as named
 use Rattle.skew_cli.specs.AuditOutcome.{AuditOfReport}
-use Rattle.skew_cli.specs.ReportTests.{TellsFaultyLine, OnReport, OnSize}
+use Rattle.skew_best.specs.SizeTests.{OnSize}
+use Rattle.skew_cli.specs.ReportTests.{TellsFaultyLine, OnReport}
 use Rattle.skew_cli.proofs.ReportSteps.{report-read, report-refused}
 use Rattle.skew_commands.proofs.Possible.{third-long, third-read, third-uncounted, third-unread}
 use Rattle.skew_commands.proofs.Steps.{At, gives-weaker, reason-weaker, third-given, third-too_long}

@@ -3,9 +3,9 @@ use Rattle.mt_model.specs.Form.{form_of}
 use Rattle.skew_answers.specs.Texts.{line}
 use Rattle.skew_cli.specs.CheckOutcome.{CheckOfLog, Checked}
 use Rattle.skew_commands.specs.Refusals.{status_of, text_of}
-use Rattle.skew_cli.specs.ReportTests.{TellsLarge, OnSize}
+use Rattle.skew_best.specs.SizeTests.{TellsLarge, OnSize}
 use Rattle.skew_commands.specs.Tests.{OnNodes}
-use Rattle.skew_cli.proofs.ReportSteps.{large-refused, size-small}
+use Rattle.skew_best.proofs.SizeSteps.{large-refused, size-small}
 use Rattle.skew_commands.proofs.Steps.{At, hosts-known, nodes-few, reason-weaker}
 use Rattle.skew_cli.proofs.check.check_of_question.Goals as goal
 

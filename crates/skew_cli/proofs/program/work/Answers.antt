@@ -26,3 +26,15 @@ returns-in-Json-clause-outcome g c = rw c.in-Json.is c.json.ensures.outcome
 
 pub returns-in-Json-clause-possible : goal.returns-in-Json-clause-possible
 returns-in-Json-clause-possible g c = rw c.in-Json.is c.json.ensures.possible
+
+pub returns-in-Tolerance-clause-outcome : goal.returns-in-Tolerance-clause-outcome
+returns-in-Tolerance-clause-outcome g c = rw c.in-Tolerance.is c.tolerance.ensures.outcome
+
+pub returns-in-Tolerance-clause-possible : goal.returns-in-Tolerance-clause-possible
+returns-in-Tolerance-clause-possible g c = rw c.in-Tolerance.is c.tolerance.ensures.possible
+
+pub returns-in-Span-clause-outcome : goal.returns-in-Span-clause-outcome
+returns-in-Span-clause-outcome g c = rw c.in-Span.is c.span.ensures.outcome
+
+pub returns-in-Span-clause-possible : goal.returns-in-Span-clause-possible
+returns-in-Span-clause-possible g c = rw c.in-Span.is c.span.ensures.possible

@@ -12,9 +12,6 @@ use Rattle.formula_arena.specs.declared.arena.TheConstants.{MAX_NODES}
 use Rattle.mtl_encode.specs.Size.{IsSmall}
 use Rattle.mtl_parse.specs.FormulaOf.{FormulaOf}
 use Rattle.mtl_parse.specs.Laws.{TextsAreUnambiguous}
-use Rattle.report_text.specs.declared.report.Report.{Report}
-use Rattle.report_text.specs.Laws.{BytesAreUnambiguous}
-use Rattle.report_text.specs.ReportOf.{ReportOf}
 use Rattle.skew_answers.specs.declared.status.Status.{Status}
 use Rattle.skew_words.specs.Words.{Word}
 use Rattle.skew_commands.specs.declared.limits.TheConstants.{FORMULA_LIMIT, LOG_LIMIT}
@@ -23,8 +20,8 @@ use Rattle.skew_commands.specs.declared.refusal.Named.TheVariants as named
 use Rattle.skew_commands.specs.declared.refusal.Refusal.TheVariants as refusal
 use Rattle.skew_commands.specs.Reads.{IsQuestion}
 use Rattle.skew_commands.specs.Refusals.{Refuses}
-use Rattle.skew_cli.specs.ReportTests.{OnReport, OnSize, RefusesReport}
 use Rattle.skew_commands.specs.Tests.{OnFile, OnFormula, OnHosts, OnLog, OnNodes, OnQuestion}
+use Rattle.skew_best.specs.SizeTests.{OnSize}
 
 module _ (out : List ℕ) (s : Status) where
   pub pass-file : (files : Files) (name : Word) (limit : ℕ) (n : Named) (next : List ℕ → List ℕ → Status → Type 0) (file : List ℕ) → file_of files name ≡ Some file → length file ≤ limit → OnFile files name limit n next out s → next file out s
@@ -55,6 +52,3 @@ module _ (out : List ℕ) (s : Status) where
   pub pass-size : (f : Form) (log : Logged) (next : List ℕ → Status → Type 0) → IsSmall log (nodes_of f) → OnSize f log next out s → next out s
   pass-size f log next small (inl h) = let (n, is, refused) = h in let low = small n is.size in let high = is.large in absurd (omega (arith, low, high))
   pass-size f log next small (inr h) = h.1
-
-  pub pass-report : BytesAreUnambiguous → (bytes : List ℕ) (next : Report → List ℕ → Status → Type 0) (r : Report) → ReportOf bytes (Ok r) → OnReport bytes next out s → next r out s
-  pass-report unambiguous bytes next r is h = subst (λ reading. MatchResult reading (λ r. next r out s) (λ fault. RefusesReport fault out s)) (unambiguous bytes h.0 (Ok r) h.1 is) h.2

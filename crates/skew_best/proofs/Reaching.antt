@@ -15,10 +15,6 @@ use Rattle.mtl_encode.specs.Size.{IsSmall}
 use Rattle.mtl_parse.specs.declared.fault.FormulaFault.{FormulaFault}
 use Rattle.mtl_parse.specs.FormulaOf.{FormulaOf}
 use Rattle.mtl_parse.specs.Places.{host_byte}
-use Rattle.report_text.specs.declared.fault.ReportFault.{ReportFault}
-use Rattle.report_text.specs.declared.fault.ReportFault.TheVariants as report
-use Rattle.report_text.specs.declared.report.Report.{Report}
-use Rattle.report_text.specs.ReportOf.{ReportOf}
 use Rattle.skew_answers.specs.declared.status.Status.{Status}
 use Rattle.skew_answers.specs.Statuses.{IsVerdict}
 use Rattle.skew_words.specs.Words.{Word}
@@ -29,8 +25,8 @@ use Rattle.skew_commands.specs.declared.refusal.Refusal.{Refusal}
 use Rattle.skew_commands.specs.declared.refusal.Refusal.TheVariants as refusal
 use Rattle.skew_commands.specs.Reads.{IsQuestion}
 use Rattle.skew_commands.specs.Refusals.{Refuses, status_of}
-use Rattle.skew_cli.specs.ReportTests.{OnReport, OnSize, RefusesReport}
 use Rattle.skew_commands.specs.Tests.{OnFile, OnFormula, OnHosts, OnLog, OnNodes, OnQuestion}
+use Rattle.skew_best.specs.SizeTests.{OnSize}
 
 -- the status of a refusal is no verdict
 refusal-no_verdict : (r : Refusal) → IsVerdict (status_of r) → ⊥
@@ -39,6 +35,7 @@ refusal-no_verdict (refusal.Formula fault) v = v
 refusal-no_verdict (refusal.UnknownHost byte) v = v
 refusal-no_verdict (refusal.Log fault) v = v
 refusal-no_verdict refusal.Nodes v = v
+refusal-no_verdict (refusal.Event event) v = v
 refusal-no_verdict (refusal.TimesNumber number) v = v
 refusal-no_verdict (refusal.TimesCount number) v = v
 refusal-no_verdict refusal.JsonSyntax v = v
@@ -129,11 +126,3 @@ module _ (out : List ℕ) (s : Status) (verdict : IsVerdict s) where
   pub reach-size : (f : Form) (log : Logged) (next : List ℕ → Status → Type 0) → OnSize f log next out s → IsSmall log (nodes_of f) × next out s
   reach-size f log next (inl h) = let (n, large, refused) = h in not-refused (refusal.Size n) refused
   reach-size f log next (inr h) = h
-
-  pub reach-report : (bytes : List ℕ) (next : Report → List ℕ → Status → Type 0) → OnReport bytes next out s → (r : Report) × ReportOf bytes (Ok r) × next r out s
-  reach-report bytes next h = go h.0 h.1 h.2
-    where
-      go : (reading : Result Report ReportFault) → ReportOf bytes reading → MatchResult reading (λ r. next r out s) (λ fault. RefusesReport fault out s) → (r : Report) × ReportOf bytes (Ok r) × next r out s
-      go (Ok r) is h = (r, is, h)
-      go (Err (report.Syntax number)) is h = not-refused (refusal.Report number) h
-      go (Err report.Memory) is h = absurd h

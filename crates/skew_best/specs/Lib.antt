@@ -1,0 +1,14 @@
+pub mod SizeTests
+pub mod Spelled
+pub mod ToleranceText
+pub mod ToleranceOutcome
+pub mod BestLaws
+pub mod EventTests
+pub mod SpanText
+pub mod SpanOutcome
+pub mod SpanLaws
+pub use Rattle.skew_commands.specs.Refusals
+pub use Rattle.skew_commands.specs.Stops
+pub use Rattle.skew_commands.specs.Tests
+pub use Rattle.skew_commands.specs.Reads
+pub use Rattle.skew_commands.specs.Possible
