@@ -1,19 +1,21 @@
 """A second checker of derivations: it reads their text and says what they show.
 
-Run as: python3 derivations.py FORMULA LOG VALUE DERIVATION
+Run as: python3 derivations.py FORMULA LOG VALUE DERIVATION [--widened N] [--extra E F C]
 
-FORMULA, LOG and DERIVATION are files, and VALUE is true or false. The answer
-is one line. `refutes`: each line is right and the last one has an empty
-clause, so the formula has the value in no admissible timing. `derives`: each
-line is right, but no clause is empty. `wrong N`: line N is the first that isn't
-right, or the line before it has an empty clause already. `syntax N`: line N is
-the first that isn't in the grammar of lines.
+FORMULA, LOG and DERIVATION are files, and VALUE is true or false. With N all
+skews of the log are greater by N, and with E, F and C it has the extra bound
+t_E - t_F <= C. The answer is one line. `refutes`: each line is right and the
+last one has an empty clause, so the formula has the value in no admissible
+timing. `derives`: each line is right, but no clause is empty. `wrong N`: line N
+is the first that isn't right, or the line before it has an empty clause
+already. `syntax N`: line N is the first that isn't in the grammar of lines.
 
 The module reads from top to bottom: literals, the grammar of lines, their
 texts, the clause of each rule, the test of a line, the verdict. It goes over
 lines and hints one after another and searches for nothing.
 """
 
+import argparse
 import itertools
 import sys
 from enum import Enum
@@ -686,13 +688,27 @@ def read_inputs(formula_name, log_name):
     return formula, log
 
 
-def main(words):
-    """Prints the answer to the files that the words name."""
-    if len(words) != 4 or words[2] not in ("true", "false"):
-        sys.exit("usage: derivations.py FORMULA LOG VALUE DERIVATION")
-    formula, log = read_inputs(words[0], words[1])
-    print(answer(problem_of(log, formula, words[2] == "true"), read_file(words[3])))
+def read_arguments():
+    """The files, the value and the options of the command line."""
+    parser = argparse.ArgumentParser(description="check a derivation")
+    for name in ("formula", "log"):
+        parser.add_argument(name)
+    parser.add_argument("value", choices=("true", "false"))
+    parser.add_argument("derivation")
+    parser.add_argument("--widened", type=int, default=0, metavar="N", help="all skews are greater by N")
+    parser.add_argument("--extra", type=int, nargs=3, metavar=("E", "F", "C"), help="t_E - t_F is at most C")
+    return parser.parse_args()
+
+
+def main():
+    """Prints the answer to the files of the command line."""
+    arguments = read_arguments()
+    formula, log = read_inputs(arguments.formula, arguments.log)
+    log = logs.widened(log, arguments.widened)
+    if arguments.extra:
+        log = logs.with_extra(log, logs.Extra(*arguments.extra))
+    print(answer(problem_of(log, formula, arguments.value == "true"), read_file(arguments.derivation)))
 
 
 if __name__ == "__main__":
-    main(sys.argv[1:])
+    main()

@@ -1,8 +1,8 @@
 """How far apart two rows of a log may be, over all its admissible timings.
 
-The differences of two rows' times range from a least to a greatest number. Rises, messages and the greatest latencies
-tie a row to another one, and else both are tied to the zero moment. So the most that one row may be above another is
-told by the ways from the one to the other along these bounds, and by the latest time of the one and the earliest of
+The differences of two rows' times range from a least to a greatest number. Rises, messages, the greatest latencies and
+extras tie a row to another one, and else both are tied to the zero moment. So the most that one row may be above another
+is told by the ways from the one to the other along these bounds, and by the latest time of the one and the earliest of
 the other.
 """
 

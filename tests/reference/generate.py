@@ -447,21 +447,24 @@ def replay_case(draw):
     return Case(["replay", *names], files)
 
 
-# The names of the files that commands take in cases of words.
-FILES_OF_WORDS = {"times": "l", "order": "l", "replay": "flt", "check": "fl", "audit": "flr", "trim": "r", "json": "l"}
+# The operands of commands in cases of words: names of files, and what is asked before them.
+OPERANDS_OF_WORDS = {
+    "times": "l", "order": "l", "replay": "f l t", "check": "f l", "audit": "f l r", "trim": "r", "json": "l",
+    "tolerance": "true 5 f l", "span": "false 0 1 f l",
+}
 NUMBERS_OF_CONFLICTS = "1 5 1000000 0 1000001 05 +5 -5 5x 1e3".split() + [""]
 
 
 def words_case(draw):
     """A case of words that are often no command, with short files that are without fault."""
-    command = draw.choice((*FILES_OF_WORDS, "replay", "check", "audit", "demo"))
-    words = list(FILES_OF_WORDS.get(command, "l"))
+    command = draw.choice((*OPERANDS_OF_WORDS, "replay", "check", "audit", "demo"))
+    words = OPERANDS_OF_WORDS.get(command, "l").split()
     for place in range(len(words)):
         if chance(draw, 0.2):
             words[place] = draw.choice(("-", "--", "--", "-x", "5", "", "none"))
     for _ in range(draw.choice((0, 0, 1, 1, 1, 2))):
         words.insert(draw.randint(0, len(words)), "--")
-    if chance(draw, 0.6 if command in ("check", "audit") else 0.1):
+    if chance(draw, 0.6 if command in program.SEARCHES else 0.1):
         for _ in range(draw.choice((1, 1, 1, 1, 2))):
             place = draw.randint(0, len(words))
             words[place:place] = option_words(draw)
@@ -500,7 +503,7 @@ def files_of_words(draw):
 def edit_words(draw, words):
     """Drops, adds, exchanges or doubles a word."""
     loose = "- - -- -- -- -x --- --conflicts --conflicts=5 5 f l t no \u00e9 Times".split()
-    loose += "times order replay check audit trim json demo look --help -h --version -V".split()
+    loose += "times order replay check audit trim json demo tolerance span true 0 look --help -h --version -V".split()
     loose += ["", "", "times "]
     choice = draw.randrange(6)
     if choice == 0 and words:

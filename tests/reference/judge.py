@@ -6,6 +6,7 @@ these are checked by adding up. A report is audited, and where a log has few
 timings, all of them are gone through.
 """
 
+import best_answers
 import derivations
 import formats
 import meanings
@@ -23,9 +24,16 @@ def complaint(words, files, output, status):
         return "" if right else "another status or other bytes are expected"
     if wanted.command == "check":
         return report_complaint(wanted, output, status)
+    if wanted.asked is not None:
+        return best_answers.complaint(question_of(wanted), output, status)
     if wanted.command == "order":
         return cycle_complaint(wanted.log, output, status)
     return times_complaint(wanted.log, output, status)
+
+
+def question_of(wanted):
+    """What is asked of a log and a formula where the best number is wanted."""
+    return best_answers.Question(wanted.asked, wanted.log, wanted.formula, wanted.conflicts)
 
 
 def expectation(words, files):
@@ -35,6 +43,8 @@ def expectation(words, files):
         return f"status {wanted.status}, output {wanted.output!r}"
     if wanted.command == "check":
         return "a right report and its status, " + values_in_words(wanted.log, wanted.formula)
+    if wanted.asked is not None:
+        return f"a right answer and its status to {wanted.asked}"
     if wanted.command == "order":
         return "status 3, a cycle of events that are each directly before the next"
     return "status 0 and an admissible timing, or status 3 and bounds that can't all hold"

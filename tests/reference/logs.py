@@ -46,10 +46,19 @@ class Resync(NamedTuple):
     gap: int
 
 
+class Extra(NamedTuple):
+    """A bound beside those that a file tells: the time of one row less that of another is at most a number."""
+
+    first: int
+    second: int
+    most: int
+
+
 class Log(NamedTuple):
     hosts: list
     rows: list
     resyncs: list = ()
+    extras: list = ()  # none in the log of a file
 
 
 class LogFault(NamedTuple):
@@ -68,6 +77,17 @@ def host_number(log, name):
 def sent_names(log):
     """The messages that the rows of the log send."""
     return [row.name for row in log.rows if row.act == b"send"]
+
+
+def widened(log, more):
+    """The log with all skews, of hosts and of resyncs, greater by a number."""
+    hosts, resyncs = ([clock._replace(skew=clock.skew + more) for clock in clocks] for clocks in (log.hosts, log.resyncs))
+    return log._replace(hosts=hosts, resyncs=resyncs)
+
+
+def with_extra(log, extra):
+    """The log with one bound more."""
+    return log._replace(extras=[*log.extras, extra])
 
 
 # Records

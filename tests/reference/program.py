@@ -6,6 +6,7 @@ answers leave no choice; what is asked of the others is left to judge.py.
 
 from typing import NamedTuple, Optional
 
+import best_answers
 import formats
 import json_logs
 import reference
@@ -28,10 +29,14 @@ from formats import (
 from logs import LOG_LIMIT, Log, LogFault, log_text, read_log
 from size import size_of
 
-# The commands of the program, each with its number of operands: files, or a seed.
-COMMANDS = {"times": 1, "replay": 3, "order": 1, "check": 2, "audit": 3, "trim": 1, "json": 1, "demo": 1}
+# The commands of the program, each with its number of operands: files, a seed, or what is asked of a formula and a log.
+COMMANDS = {
+    "times": 1, "replay": 3, "order": 1, "check": 2, "audit": 3, "trim": 1, "json": 1, "demo": 1, "tolerance": 4, "span": 5,
+}
+# Those that tell the best number with which a formula has a value.
+BEST = ("tolerance", "span")
 # Those that take the option on conflicts.
-SEARCHES = ("check", "audit")
+SEARCHES = ("check", "audit", *BEST)
 OPTION = "--conflicts"
 # The greatest seed of a demo.
 MAX_SEED = 2**64 - 1
@@ -51,6 +56,7 @@ class Judged(NamedTuple):
     log: Log
     formula: Optional[Tree] = None
     conflicts: Optional[int] = None
+    asked: Optional[best_answers.Asked] = None
 
 
 class Refusal(Exception):
@@ -89,7 +95,7 @@ class Files:
 
 class Command(NamedTuple):
     name: str
-    operands: list  # the names of its files, or the seed of a demo
+    operands: list  # the names of its files, with what is asked before them, or the seed of a demo
     conflicts: int
 
 
@@ -103,13 +109,18 @@ def command_of(words):
     operands += rest[end + 1 :]
     numbers = [reports.conflicts_number(value) for value in values]
     allowed = 1 if name in SEARCHES else 0
-    if len(numbers) > allowed or None in numbers:
-        return None
-    if len(operands) != COMMANDS[name] or "" in operands:
-        return None
-    if name == "demo" and not is_seed(operands[0]):
+    if len(numbers) > allowed or None in numbers or not are_operands(name, operands):
         return None
     return Command(name, operands, *(numbers or [reports.CONFLICTS]))
+
+
+def are_operands(name, operands):
+    """Whether operands are those of a command."""
+    if len(operands) != COMMANDS[name] or "" in operands:
+        return False
+    if name == "demo":
+        return is_seed(operands[0])
+    return name not in BEST or best_answers.asked_of(name, operands) is not None
 
 
 def is_seed(word):
@@ -159,6 +170,9 @@ def answer(words, held):
             return json_answer(files, *command.operands)
         if command.name == "check":
             return check_answer(files, command.conflicts, *command.operands)
+        if command.name in BEST:
+            asked = best_answers.asked_of(command.name, command.operands)
+            return best_answer(files, command, asked)
         return audit_answer(files, command.conflicts, *command.operands)
     except Refusal as refusal:
         return refusal.answer
@@ -249,6 +263,16 @@ def check_answer(files, conflicts, formula_name, log_name):
     formula, log = formula_and_log_from(files, formula_name, log_name)
     refuse_too_large(formula, log)
     return Judged("check", log, formula, conflicts)
+
+
+def best_answer(files, command, asked):
+    """The demand for the best number; the tests raise their Refusals in their order."""
+    formula, log = formula_and_log_from(files, *command.operands[-2:])
+    for event in asked.events():
+        if event >= len(log.rows):
+            raise Refusal(69, f"refused event {event}")
+    refuse_too_large(formula, asked.whole(log))
+    return Judged(command.name, log, formula, command.conflicts, asked)
 
 
 def audit_answer(files, conflicts, formula_name, log_name, report_name):

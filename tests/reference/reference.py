@@ -13,7 +13,7 @@ class Bound(NamedTuple):
     """The bound t_start - t_end <= most; an end that is None is the zero moment."""
 
     kind: bytes
-    event: int
+    event: int  # of an extra its number
     start: Optional[int]
     end: Optional[int]
     most: int
@@ -34,6 +34,8 @@ def bounds(log):
             found.append(Bound(b"message", event, send, event, -host.least))
             if host.most is not None:
                 found.append(Bound(b"late", event, event, send, host.most))
+    for number, extra in enumerate(log.extras):
+        found.append(Bound(b"extra", number, *extra))
     return found
 
 
@@ -87,7 +89,7 @@ def first_broken(log, times):
 
 
 def admissible(log, times):
-    """Whether the times keep skews, gaps and latencies, row by row."""
+    """Whether the times keep skews, gaps and latencies, row by row, and the extras."""
     for event, row in enumerate(log.rows):
         if abs(times[event] - row.local) > skew_of(log, event):
             return False
@@ -96,7 +98,7 @@ def admissible(log, times):
             return False
         if row.act == b"recv" and not keeps_latency(log, times, event):
             return False
-    return True
+    return all(times[first] - times[second] <= most for first, second, most in log.extras)
 
 
 def keeps_latency(log, times, event):

@@ -327,7 +327,7 @@ def check_shut(wanted, report):
     """Both values refuted aren't what check may write of a log that admits no timing."""
     refuted = Refuted([derivations.Cycle(report.steps)])
     both = Verdicts(report.events, refuted, refuted)
-    check(reports.first_faulty_place(*wanted[1:], both) is None, wanted, both)
+    check(reports.first_faulty_place(wanted.log, wanted.formula, wanted.conflicts, both) is None, wanted, both)
     for status in range(5):
         check(complaint(wanted, both, status), wanted, both)
         check(complaint(wanted, report._replace(steps=[]), status), wanted)
@@ -342,7 +342,7 @@ def check_verdicts(draw, question, wanted, report):
     ]
     few = wanted._replace(conflicts=min(conflicts, 5))
     neither = Verdicts(report.events, *left_open)
-    check(reports.first_faulty_place(*few[1:], neither) is None, few, neither)
+    check(reports.first_faulty_place(few.log, few.formula, few.conflicts, neither) is None, few, neither)
     check(complaint(few, neither, 4), few, neither)
     for value, part in ((True, "on_true"), (False, "on_false")):
         section = getattr(report, part)
