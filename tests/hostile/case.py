@@ -64,3 +64,8 @@ def audit(title, report, status, line, formula=TRUE, log=ONE_ROW, option=(), mos
     """A report that `audit` is asked about."""
     files = {"f": formula, "l": log, "r": report}
     return Case("report", title, ["audit", *option, "f", "l", "r"], files, (status,), line, most)
+
+
+def trim(title, report, status, line, most=None):
+    """A report that `trim` is asked about."""
+    return Case("report", title, ["trim", "r"], {"r": report}, (status,), line, most)

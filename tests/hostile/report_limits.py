@@ -6,7 +6,7 @@ time of the row, of false by a derivation.
 
 from itertools import combinations
 
-from case import TWO_ROWS, Blank, Case, audit, log_of
+from case import TWO_ROWS, Blank, Case, audit, log_of, trim
 
 LENGTH = 1_073_741_824
 MEBIBYTE = 1_048_576
@@ -172,6 +172,23 @@ def many_lines():
     yield audit("16 MiB of times of a witness", times, 5, at(b"events", 0), most=most)
 
 
+def many_lines_to_trim():
+    """Reports of 16 MiB in many lines to be trimmed, each of which takes at most six times its length in memory."""
+    size, first, most = 16 * MEBIBYTE, TITLE[:-1], 6
+    right = b"learn 1 +first 0 1 rule 11"
+    number = size // (len(right) + 1)
+    yield trim("16 MiB of which the last line is needed", report_of(*[right] * number, EMPTY_CLAUSE[:-1]), 0, first, most)
+    chain = [right, *[b"learn 1 +first 0 1 line %d" % line for line in range(1, number)]]
+    yield trim("16 MiB of which every line is needed", report_of(*chain), 0, first, most)
+    forward = report_of(*chain, b"learn 0 1 line %d" % (number + 1))
+    yield trim("the same, and the last line names itself", forward, 5, at(b"false", number + 1), most)
+    walk = b"cycle 3 low 1 order 1 0 0 high 0"
+    yield trim("16 MiB of walks to trim", report_of(*[walk] * (size // (len(walk) + 1))), 0, first, most)
+    hints = b"learn 1 +first 0 1000" + b" line 1" * 1000
+    yield trim("lines of 1,000 hints to trim", report_of(right, *[hints] * (size // len(hints))), 0, first, most)
+    yield trim("a refuted section without a line", report_of(), 5, at(b"false", 0))
+
+
 def distinct_lists():
     """A walk of distinct steps, and lines of distinct literals that would share a hash."""
     pairs = 33_000
@@ -242,6 +259,6 @@ def longest():
 
 def cases():
     """All cases of reports but those of a gibibyte."""
-    for some in (numbers_of_lists, numbers_in_lines, times_of_witnesses, long_lists, many_lines, distinct_lists,
-                 odd_bytes):
+    for some in (numbers_of_lists, numbers_in_lines, times_of_witnesses, long_lists, many_lines, many_lines_to_trim,
+                 distinct_lists, odd_bytes):
         yield from some()
