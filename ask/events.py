@@ -7,10 +7,10 @@ import re
 from dataclasses import dataclass, field
 from typing import Any, Dict, Iterator, List, Optional, Sequence, Tuple
 
-from ask.logs import NAME, ROW_KINDS, records_of
+from ask.logs import NAME, ROW_KINDS, is_log_in_json, records_of
 from ask.stamps import Stamp, stamp_of
 from ask.texts import BYTE_ORDER_MARK, Source, Trouble
-from ask.words import USAGE, listed, shortened
+from ask.words import USAGE, listed, log_in_json_words, shortened
 
 WRONG = 66  # the status where a file can't be made into a log
 MOST_NAME = 32
@@ -80,6 +80,8 @@ Rows = Dict[str, List[Tuple[str, str]]]
 def fields_of_file(source: Source, keys: Keys) -> Iterator[Tuple[Fields, str]]:
     """The fields of each event of a file, and where it stands."""
     data = source.data[3:] if source.data.startswith(BYTE_ORDER_MARK) else source.data
+    if is_log_in_json(data):
+        raise Trouble(WRONG, log_in_json_words(source))
     if data.lstrip()[:1] == b"{":
         yield from fields_of_json(source, data)
     elif data.lstrip()[:1] == b"[":

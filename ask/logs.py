@@ -6,6 +6,7 @@ here only with what the words of a refusal need.
 
 from __future__ import annotations
 
+import json
 import re
 from dataclasses import dataclass, field
 from typing import Dict, Iterator, List, NamedTuple, Optional, Sequence, Tuple, Union
@@ -174,6 +175,15 @@ def shown_field(part: bytes) -> str:
 
 
 # Numbers and names
+
+
+def is_log_in_json(data: bytes) -> bool:
+    """Whether bytes are an object in JSON with hosts and events, of which the program's `json` makes a log."""
+    try:
+        found = json.loads(data.decode("utf-8", "replace"))
+    except (ValueError, RecursionError):
+        return False
+    return isinstance(found, dict) and {"hosts", "events"} <= found.keys()
 
 
 def number(text: str, most: int) -> Optional[int]:

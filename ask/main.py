@@ -9,12 +9,12 @@ import os
 import sys
 from typing import List, NoReturn, Sequence
 
-from ask.commands import check, deadline, draw, each, log
+from ask.commands import between, check, deadline, draw, each, log, tolerance
 from ask.program import STOPPED, Stopped
 from ask.texts import Trouble
 from ask.words import USAGE, Answer, print_answer
 
-COMMANDS = (check, deadline, each, log, draw)
+COMMANDS = (check, deadline, between, tolerance, each, log, draw)
 
 STATUSES = """\
 statuses:
@@ -22,7 +22,7 @@ statuses:
               4 not found within the conflicts
   64          the words are no command of ask
   65 to 75    the program's refusals and failures; 65 also a warning with --strict
-  72          the program isn't there
+  72          the program isn't there, or has no such command
   124         a run took longer than --seconds
 """
 

@@ -9,10 +9,11 @@ from typing import List, Optional, Sequence, Tuple
 from ask.formulas import Tree, read_formula
 from ask.logs import Log, read_log
 from ask.program import NOT_THERE, Program, Run
-from ask.reports import Report, Unreadable, read_report
+from ask.reports import Best, Report, Unreadable, read_best, read_report
 from ask.texts import Source, Trouble, is_existing_file, read_source
 from ask.words import TYPED, counted, refusal, shortened
 
+UNKNOWN_WORDS = 64  # the status of the program where it doesn't know a command
 VERDICTS = {0: "true", 1: "false", 2: "either", 3: "no timing", 4: "unknown"}
 
 
@@ -108,6 +109,25 @@ def report_of_run(run: Run) -> Report:
         return read_report(run.output)
     except Unreadable:
         raise Trouble(NOT_THERE, f"what the program wrote is no report that ask can read, at: {run.words}") from None
+
+
+def best_of_run(run: Run, question: Question, log: Log, value: str) -> Best:
+    """What a run of `span` or `tolerance` found, or the trouble that its refusal is."""
+    command = run.words.split(" ")[0]
+    if run.status == UNKNOWN_WORDS:
+        raise Trouble(NOT_THERE, (
+            f"{question.program.path} has no command `{command}`: it is older than ask. ./skewcheck builds a new one, "
+            f"which is taken where neither --program nor SKEWCHECK names another"
+        ))
+    if run.status not in (0, 1, 3, 4):
+        raise refusal(run, question.formula, question.log_source)
+    try:
+        best: Optional[Best] = read_best(run.output, len(log.rows), command, value)
+    except Unreadable:
+        best = None
+    if best is None or best.status() != run.status:
+        raise Trouble(NOT_THERE, f"what the program wrote is no answer that ask can read, at: {run.words}")
+    return best
 
 
 def answered(run: Run, question: Question) -> Run:

@@ -103,7 +103,60 @@ def steps_of(words: List[str]) -> List[Step]:
     return steps
 
 
+@dataclass
+class Best:
+    """An answer of `span` or `tolerance`: the best number, a timing that has it, and why no other is better.
+
+    Where there is no number, it is a walk that excludes every timing, or a derivation that excludes the value or was
+    cut off.
+    """
+
+    number: Optional[int] = None
+    times: List[int] = field(default_factory=list)
+    why: Optional[Section] = None
+    walk: Optional[List[Step]] = None
+
+    def status(self) -> int:
+        """The status that the program has with it."""
+        if self.number is not None:
+            return 0
+        if self.walk is not None:
+            return 3
+        return 1 if self.why and self.why.kind == "refuted" else 4
+
+
+def read_best(data: bytes, events: int, command: str, value: str) -> Best:
+    """The answer of a command that bytes are, with a section of the value and one on what is beyond or below."""
+    try:
+        return best_of(data.decode("ascii").split("\n"), events, command, value)
+    except (ValueError, IndexError, KeyError):
+        raise Unreadable from None
+
+
+def best_of(lines: List[str], events: int, command: str, value: str) -> Best:
+    """The answer of lines, the last of which is empty."""
+    word, *rest = lines[0].split(" ")
+    if word == "inconsistent":
+        return Best(walk=[steps_of(line.split(" "))[0] for line in lines[1 : 1 + int(rest[0])]])
+    if word != command or lines[-2:] != ["end", ""]:
+        raise ValueError(lines[0])
+    section, place = section_at(lines, 1, value, events)
+    if section.kind != "witness":
+        return Best(why=section)
+    best = Best(int(rest[0]), section.times)
+    if command == "span" or best.number:
+        best.why, place = section_at(lines, place, {"span": "beyond", "tolerance": "below"}[command], events)
+        if best.why.kind != "refuted":
+            raise ValueError(best.why.kind)
+    if lines[place] != "end":
+        raise ValueError(lines[place])
+    return best
+
+
 def bounds_used(section: Section) -> List[Tuple[Step, int]]:
-    """The bounds of the log that the cycles of a derivation rest on, each with its uses, most used first."""
-    uses = Counter(step for cycle in section.cycles for step in cycle if step.kind != "order")
+    """The bounds of the log that the cycles of a derivation rest on, each with its uses, most used first.
+
+    An extra bound is what the derivation assumes beside the log.
+    """
+    uses = Counter(step for cycle in section.cycles for step in cycle if step.kind not in ("order", "extra"))
     return sorted(uses.items(), key=lambda item: (-item[1], item[0].numbers, item[0].kind))

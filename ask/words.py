@@ -9,7 +9,9 @@ import sys
 from dataclasses import dataclass, field
 from typing import Any, Dict, List, Optional, Sequence
 
-from ask.logs import HEADERS, KINDS, Log, Record, bound_of, declared_hosts, number as number_of, records_of
+from ask.logs import (
+    HEADERS, KINDS, Log, Record, bound_of, declared_hosts, is_log_in_json, number as number_of, records_of,
+)
 from ask.program import NOT_THERE, Run
 from ask.reports import Step
 from ask.texts import Source, Trouble, place_of, shown_text
@@ -217,7 +219,9 @@ def formula_refusal(words: Sequence[str], formula: Source, log: Optional[Source]
         host = re.match(rb"[a-z0-9_]*", rest)
         hosts = declared_hosts(records_of(log.data)) if log else []
         name = host.group().decode() if host else ""
-        return f"{where}: the log has no host {name}. Its hosts: {listed(hosts) or 'none'}"
+        before = formula.data[:offset][-1:].decode("ascii", "replace")
+        hint = f". {before} before it is an operator; names are in small letters" if re.match("[A-Z]", before) else ""
+        return f"{where}: the log has no host {name}. Its hosts: {listed(hosts) or 'none'}{hint}"
     said = FORMULA_FAULTS.get(number, " ".join(words))
     if re.match(rb"\W*(kind|skewlog2),host,", formula.data):
         return f"{formula.name} is a log; the formula stands before the log"
@@ -225,6 +229,7 @@ def formula_refusal(words: Sequence[str], formula: Source, log: Optional[Source]
         said = "a name has at most 32 characters"
     if number == "2" and not rest.strip():
         said = "the formula ends too early"
+    said += spelling_hint(number, formula.data[:offset], rest)
     if formula.name == TYPED and not re.search(rb"[\s(\[!]", formula.data):
         said += ". There is no file of that name, so it was read as a formula"
     lines = re.split(r"\r\n|\n|\r", formula.data.decode("utf-8", "replace").lstrip("\ufeff"))
@@ -233,6 +238,23 @@ def formula_refusal(words: Sequence[str], formula: Source, log: Optional[Source]
     shown = line[start : start + 100].replace("\t", " ")
     pointer = " " * (place.column - 1 - start) + "^"
     return f"{where}: {said}\n  {shown}\n  {pointer}"
+
+
+OTHER_SPELLINGS = {
+    "?": "a ? is found by ask deadline", "=": "an implication is ->", "&": "a conjunction is one &",
+    "|": "a disjunction is one |",
+}
+
+
+def spelling_hint(number: str, before: bytes, rest: bytes) -> str:
+    """What else the words may be meant to be where they are refused."""
+    sign = rest[:1].decode("ascii", "replace")
+    if sign in OTHER_SPELLINGS and (number == "1" or number == "2" and before.endswith(rest[:1])):
+        return f": {OTHER_SPELLINGS[sign]}"
+    word = re.search(rb"(?<![a-z0-9_.])([a-z][a-z0-9_]*)[ \t\r\n]*$", before)
+    if number == "2" and word and word.group(1) not in (b"true", b"false"):
+        return f" after {word.group(1).decode()}: a proposition is HOST.NAME, and the operators are ! & | -> F G O H U S"
+    return ""
 
 
 def log_refusal(words: Sequence[str], log: Source) -> str:
@@ -244,10 +266,26 @@ def log_refusal(words: Sequence[str], log: Source) -> str:
     place = int(words[-1])
     if place > len(records):
         return f"{log.name} is empty: the first line has to be kind,host,time,name"
+    if number == "1" and is_log_in_json(log.data):
+        return log_in_json_words(log)
     record = records[place - 1]
     said, wrong = log_fault_words(number, record, records)
     column = place_of(log.data, record.offsets[wrong]).column if wrong < len(record.offsets) else 1
     return f"{log.name}, line {record.line}, column {column}: {said}"
+
+
+def header_hint(line: str) -> str:
+    """What a first line that is no header may come of."""
+    if "\0" in line:
+        return ". It has NUL bytes, as a file in UTF-16 has: the file has to be in UTF-8 or ASCII"
+    if line.lstrip("\ufeff \t")[:1] in ("{", "["):
+        return ". This is JSON: ask log makes a log of events in JSON"
+    return ". Its fields are to be separated by commas" if re.search("[;\t|]", line) else ""
+
+
+def log_in_json_words(log: Source) -> str:
+    """What is to be done with a log in JSON."""
+    return f"{log.name} is a log in JSON: `./skewcheck json FILE` writes it as a log that can be asked of"
 
 
 def log_fault_words(number: str, record: Record, records: Sequence[Record]) -> "tuple[str, int]":
@@ -257,7 +295,7 @@ def log_fault_words(number: str, record: Record, records: Sequence[Record]) -> "
     kinds = ", ".join(KINDS[version])
     if number == "1":
         line = shown_text(",".join(record.fields).encode())
-        hint = ". Its fields are to be separated by commas" if re.search("[;\t|]", ",".join(record.fields)) else ""
+        hint = header_hint(",".join(record.fields))
         wanted = "kind,host,time,name or skewlog2,host,time,name"
         return f"the first line has to be {wanted}, and is {shortened(line)}{hint}", 0
     if number == "2":

@@ -11,13 +11,16 @@ from ask.cautions import cautions_of_names
 from ask.commands.check import refuse_wrong_conflicts
 from ask.logs import Log
 from ask.program import STOPPED, Program, Stopped, find_program
-from ask.question import VERDICTS, Question, accepted_tree, log_with_rows, run_facts, sources_of, text_of_source
+from ask.question import (
+    VERDICTS, Question, accepted_tree, log_with_rows, run_facts, shown_formula, sources_of, text_of_source,
+)
 from ask.texts import Source, Trouble
 from ask.words import USAGE, Answer, bold, counted, refusal, table
 
 # Which status the table has: the first of these that a line has.
 ORDER = (3, 1, 2, 4, STOPPED, 0)
 SHOWN = {**VERDICTS, STOPPED: "stopped"}
+PLACE = re.compile(r"\{(\d{0,3})\}")  # of the name or a group of it in a template
 
 
 def add_words(commands: "argparse._SubParsersAction[argparse.ArgumentParser]", common: argparse.ArgumentParser) -> None:
@@ -55,6 +58,8 @@ def do(arguments: argparse.Namespace) -> Answer:
     options = ["--conflicts", arguments.conflicts] if arguments.conflicts else []
     program = Program(find_program(arguments.program), arguments.seconds)
     template, source = sources_of(arguments.template, arguments.log)
+    if not re.search(PLACE, text_of_source(template)):
+        raise Trouble(USAGE, f"{shown_formula(template)} has no {{}} for the names: each of them would have this formula")
     pattern = pattern_of(arguments.over)
     log = log_with_rows(program, source)
     matches = matching(log, pattern)
@@ -96,7 +101,7 @@ def filled(template: str, name: str, groups: Sequence[str]) -> str:
             raise Trouble(USAGE, f"the template has {match.group()}, and --over has {counted(len(groups), 'group')}")
         return name if number == 0 else groups[number - 1]
 
-    return re.sub(r"\{(\d{0,3})\}", place, template)
+    return re.sub(PLACE, place, template)
 
 
 def line_of(

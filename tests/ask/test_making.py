@@ -48,6 +48,10 @@ class SecondVersion(Making):
     def test_version_1_where_nothing_needs_the_second(self):
         self.assertEqual(self.made(SECOND + "host,a,5,1\nset,a,1,p\nresync,a,5,1\nnote,a,2,n\n"), HEAD + "host,a,5,1\nset,a,1,p\nnote,a,2,n\n")
 
+    def test_logs_in_json(self):
+        for text in ('{"hosts": [], "events": []}\n', '{\n "events": [],\n "hosts": []\n}'):
+            self.refused(text, ["--skew", "1"], 66, "a log in JSON", "skewcheck json")
+
     def test_latencies(self):
         text = '{"time": 0.5, "host": "a", "name": "m", "kind": "send"}\n{"time": 0.6, "host": "b", "name": "m", "kind": "recv"}\n'
         for said, latency in (("1.5ms,2.5ms", "1,3"), ("0,inf", "1,inf"), ("3,3", "3,3")):

@@ -25,8 +25,8 @@ class Words(unittest.TestCase):
     def test_no_command(self):
         for words in ([], ["what"], ["check"], ["check", "a.p"], ["check", "a.p", "set.csv", "--seconds", "0"],
                       ["check", "a.p", "set.csv", "--conflicts", "0"], ["deadline", "F[0,5] a.p", "set.csv"],
-                      ["each", "F a.{7}", "set.csv", "--over", ".*"], ["each", "F a.p", "set.csv", "--over", "("],
-                      ["each", "F a.p", "set.csv", "--over", "nothing"], ["log", "set.csv", "--skew", "x"],
+                      ["each", "F a.{7}", "set.csv", "--over", ".*"], ["each", "F a.{}", "set.csv", "--over", "("],
+                      ["each", "F a.{}", "set.csv", "--over", "nothing"], ["each", "F a.p", "set.csv", "--over", ".*"], ["log", "set.csv", "--skew", "x"],
                       ["log", "set.csv", "--row", "x"], ["draw", "set.csv", "--report", "x", "--times", "y"],
                       ["deadline", "F[0,?] a.p & G[0,?] a.p", "set.csv"], ["check", "-", "-"], ["log", "-", "-"],
                       ["deadline", "F[9,?] a.p & F[?,3] a.p", "set.csv"], ["check", "a.p", "set.csv", "--nothing"]):
@@ -129,6 +129,9 @@ class Refusals(unittest.TestCase):
             ("a.p\n& (a.p", ["line 2, column 7", "ends too early"]), ("F[5,3] a.p", ["column 2", "above the second"]),
             ("F[01,3] a.p", ["column 3", "leading zero"]), ("", ["empty"]), ("!" * 200 + "a.p", ["200 levels"]),
             ("a.p a.p", ["column 5", "a whole formula ends"]), ("a." + "p" * 33, ["at most 32"]), (b"\xff\xfe", ["column 1"]),
+            ("F[0,?] a.p", ["column 5", "ask deadline"]), ("a.p => a.p", ["column 5", "->"]), ("a.p && a.p", ["one &"]),
+            ("a.p || a.p", ["one |"]), ("G (Fa.p & Fab.p)", ["no host ab", "F before it is an operator"]),
+            ("always (a.p)", ["after always", "HOST.NAME"]), ("F (p)", ["column 5", "after p", "HOST.NAME"]),
         ):
             self.refused(formula, log, 65, *parts)
 
@@ -145,6 +148,8 @@ class Refusals(unittest.TestCase):
             (HEAD + "pulse,a,1,p\n", ["line 3", "no kind 'pulse'", "skewlog2,host,time,name allows it"]), (HEAD + "resync,a,1,1\n", ["skewlog2"]),
             ("skewlog2,host,time,name\nhost,a,1,1\nlatency,a,5,3\n", ["greatest latency", "column 13"]),
             (HEAD + "set,b,1,p\nhost,b,1,0\n", ["line 3", "declared further down"]),
+            ('{"hosts": [], "events": []}', ["a log in JSON", "skewcheck json"]), ('{"kind": "set"}\n', ["This is JSON", "ask log"]),
+            ("kind,host,time,name\n".encode("utf-16"), ["UTF-16"]), ("kind;host;time;name\n", ["commas"]),
             ("\ufeff\r\nkind,host,time,name\r\n\r\nhost,a,2,1\r\nset,a,1o,p\r\n", ["line 5, column 7", "'1o'"]),
         ):
             self.refused("a.p", text, 66, *parts)

@@ -1,0 +1,154 @@
+"""`ask tolerance`: how much greater all skews have to be for a formula to be possible."""
+
+from __future__ import annotations
+
+import argparse
+from dataclasses import replace
+from typing import Any, Dict, List, Optional
+
+from ask.commands.check import refuse_wrong_conflicts
+from ask.grounds import ground_facts, ground_lines
+from ask.logs import MOST_SKEW, Log, number, records_of
+from ask.nearer import brought_nearer
+from ask.program import Program, find_program
+from ask.question import (
+    Question, best_of_run, log_with_rows, run_facts, run_lines, shown_formula, sources_of,
+)
+from ask.reports import Best
+from ask.texts import Source, Trouble
+from ask.words import USAGE, Answer, bold, signed, table, walk_facts, walk_words
+
+MOST_ROWS_SHOWN = 40
+
+
+def add_words(commands: "argparse._SubParsersAction[argparse.ArgumentParser]", common: argparse.ArgumentParser) -> None:
+    """Adds the words of the command."""
+    words = commands.add_parser(
+        "tolerance", parents=[common], allow_abbrev=False, help="how far off clocks would be for a formula to hold",
+        description="The least number by which all skews of the log have to be greater for some timing to give the "
+        "formula the value, with that timing and the bounds that exclude it with one less. The status is 0 where there "
+        "is such a number, 1 where there is none up to MAX, 3 where even then there is no timing, and 4 where it wasn't "
+        "found within the conflicts.",
+    )
+    words.add_argument("value", metavar="VALUE", choices=("true", "false"), help="true or false: what the formula is to be")
+    words.add_argument("formula", metavar="FORMULA", help="a file, or the formula itself")
+    words.add_argument("log", metavar="LOG")
+    words.add_argument("--up-to", dest="most", metavar="MAX", help="the greatest number that is tried, else 10^18")
+    words.add_argument("--conflicts", metavar="N", help="of each search, as for the program")
+    words.add_argument("--all", action="store_true", help="show all rows, and all bounds")
+    words.add_argument("--runs", action="store_true", help="name all runs of the program")
+    words.set_defaults(do=do)
+
+
+def do(arguments: argparse.Namespace) -> Answer:
+    """The answer of the command."""
+    refuse_wrong_conflicts(arguments.conflicts)
+    options = ["--conflicts", arguments.conflicts] if arguments.conflicts else []
+    program = Program(find_program(arguments.program), arguments.seconds)
+    question = Question(program, *sources_of(arguments.formula, arguments.log), options)
+    log = log_with_rows(program, question.log_source)
+    most = most_of(arguments.most)
+    asked = [*options, arguments.value, str(most)]
+    run = program.run("tolerance", [question.formula, question.log_source], asked)
+    try:
+        best = best_of_run(run, question, log, arguments.value)
+    except Trouble as trouble:
+        more = f"; the size is that with all skews {most_words(most)} greater, and a smaller --up-to may make it smaller"
+        raise Trouble(trouble.status, trouble.message + more * run.line().startswith("refused size")) from None
+    answer = Tolerance(question, log, arguments.value, most, arguments.all).answer(run.status, best)
+    answer.facts["runs"] = run_facts(program.runs)
+    if arguments.runs:
+        answer.lines += run_lines(program.runs)
+    return answer
+
+
+def most_of(text: Optional[str]) -> int:
+    """The greatest number to be tried."""
+    if text is None:
+        return MOST_SKEW
+    found = number(text, MOST_SKEW)
+    if found is None:
+        raise Trouble(USAGE, f"--up-to is a number from 0 to 10^18, and not {text!r}")
+    return found
+
+
+def most_words(most: int) -> str:
+    """The greatest number that was tried, in short."""
+    return "10^18" if most == MOST_SKEW else str(most)
+
+
+class Tolerance:
+    """A formula and a log, and what is said of the least widening of its skews."""
+
+    def __init__(self, question: Question, log: Log, value: str, most: int, is_all: bool):
+        self.question, self.log, self.value, self.most, self.is_all = question, log, value, most, is_all
+        self.facts: Dict[str, Any] = {"value": value, "most": most}
+
+    def answer(self, status: int, best: Best) -> Answer:
+        """The answer: a sentence, the timing, and why less isn't enough."""
+        formula, name = shown_formula(self.question.formula), self.question.log_source.name
+        if best.number is not None:
+            return self.found(best, best.number, f"{formula} {{}} {self.value}")
+        more = f"with all skews of {name} {most_words(self.most)} greater"
+        said = {
+            1: f"Never: even {more} {formula} can't be {self.value}.",
+            3: f"No timing: even {more} the log admits none, since these bounds contradict each other.",
+            4: f"Unknown: it wasn't found within the conflicts how much greater the skews of {name} have to be.",
+        }[status]
+        lines = [bold(said)]
+        wide = widened(self.log, self.most)
+        if best.walk is not None:
+            lines += walk_words(wide, best.walk)
+            self.facts["contradiction"] = walk_facts(wide, best.walk)
+        elif status == 1 and best.why:
+            lines += ["The derivation rests on", *ground_lines(wide, best.why, self.is_all)]
+        self.facts.update(sentence=said, least=None)
+        return Answer(status, lines, self.facts)
+
+    def found(self, best: Best, least: int, what: str) -> Answer:
+        """The answer where there is a number."""
+        name, can = self.question.log_source.name, what.format("can be")
+        less = "as they are" if least == 1 else f"where they are {least - 1} greater"
+        said = f"{can} where all skews of {name} are {least} greater, and not {less}."
+        if least == 0:
+            said = f"{can} with the skews that {name} has: no stamp has to be off by more."
+        question = replace(self.question, log_source=widened_source(self.question.log_source, least))
+        best.times = brought_nearer(question, self.log, best.times, self.value == "true")
+        by = "found by tolerance, and brought nearer to the stamps by replay"
+        lines = [bold(said), "", f"A timing in which it is {self.value} ({by}):", *self.rows(best.times)]
+        self.facts.update(sentence=said, least=least, times=best.times)
+        if best.why:
+            wide = widened(self.log, least - 1)
+            self.facts["rests_on"] = ground_facts(wide, best.why)
+            skews = "With the skews as they are" if least == 1 else f"With skews {least - 1} greater"
+            lines += ["", f"{skews} it can't be {self.value}, since", *ground_lines(wide, best.why, self.is_all)]
+        return Answer(0, lines, self.facts)
+
+    def rows(self, times: List[int]) -> List[str]:
+        """The rows of a timing, with how far each is beyond its skew; of a long log those that are shifted."""
+        rows = []
+        for event, (row, time) in enumerate(zip(self.log.rows, times)):
+            shift = time - row.stamp
+            beyond = f"{abs(shift) - row.skew} beyond its skew" if abs(shift) > row.skew else ""
+            if shift or self.is_all or len(times) <= MOST_ROWS_SHOWN:
+                cells = [str(row.line), self.log.host_of(event), f"{row.kind} {row.name}", str(row.stamp)]
+                rows.append([*cells, signed(shift), str(time), beyond])
+        shown = rows if self.is_all else rows[:MOST_ROWS_SHOWN]
+        lines = table(["line", "host", "row", "stamp", "shift", "time", ""], shown, left=(1, 2, 6))
+        rest = len(times) - len(shown)
+        return lines + ([f"  {rest} rows left out; --all shows all"] if rest else [])
+
+
+def widened_source(source: Source, amount: int) -> Source:
+    """The file of a log with all skews greater by an amount, which the program refuses where a skew is above 10^18."""
+    records = [record.fields for record in records_of(source.data)]
+    for fields in records:
+        if fields[0] in ("host", "resync"):
+            fields[2] = str(int(fields[2]) + amount)
+    text = "".join(",".join(fields) + "\n" for fields in records)
+    return Source(f"'{source.name}, skews {amount} greater'" if amount else source.name, text.encode())
+
+
+def widened(log: Log, amount: int) -> Log:
+    """The log with all skews greater by an amount."""
+    return Log(log.version, log.hosts, [row._replace(skew=row.skew + amount) for row in log.rows])
