@@ -4,14 +4,14 @@ from pathlib import Path
 
 ROOT = Path(__file__).resolve().parent.parent.parent
 PICTURE = ROOT / "docs" / "crates.svg"
-WIDTH, LEFT, ROW = 860, 96, 44  # of the picture, of the names of groups, and the height of a group
+WIDTH, LEFT, ROW = 884, 96, 44  # of the picture, of the names of groups, and the height of a group
 
 
 def groups():
     """The groups but the gate's by name, each with its crates, upper ones first."""
     found = {}
     for line in (ROOT / "crates.txt").read_text().splitlines():
-        name = line.removeprefix("# ").split(":")[0].split(" ")[0]
+        name = line.removeprefix("# ").split(":")[0]
         if line.startswith("# ") and ":" in line and not line.startswith("# Lower"):
             found[name] = []
         elif line and not line.startswith("#"):

@@ -2,15 +2,15 @@
 
 Run as: python3 examples.py PROGRAM [--write]
 
-examples/runs.txt lists the runs of check, audit, trim and json. Each report that check
-writes there has to be the one that is kept, and is audited with the same files:
-by the program, and by the second audit in tests/reference. Then the runs of
-many_rows.py have to end as it says. Then each command of
-README.md and docs/ that a block of shell shows, and that the program, cat or
-python3 is in, has to write what stands below it (those with jq are left out where
-there is none), each clause that a block of text quotes has to stand in the code,
-and each link has to lead to a file, and to a heading of it where it names one.
-What the tables of refusals show has to be refused so, and the picture of the
+examples/runs.txt lists the runs of check, audit, trim, json, tolerance and span. Each
+report that check writes there has to be the one that is kept, and is audited with the
+same files: by the program, and by the second audit in tests/reference, which judges the
+answers of tolerance and span too. Then the runs of many_rows.py have to end as it
+says. Then each command of README.md and docs/ that a block of shell shows, and that
+the program, cat or python3 is in, has to write what stands below it (those with jq are
+left out where there is none), each clause that a block of text quotes has to stand in
+the code, and each link has to lead to a file, and to a heading of it where it names
+one. What the tables of refusals show has to be refused so, and the picture of the
 crates has to be that of crates.txt. Every difference is printed, and the end is 1
 where there is one. With --write the reports that differ and the picture are kept
 anew.
@@ -68,7 +68,7 @@ def listed_runs():
             continue
         words, status, output = (part.strip() for part in line.split("|"))
         kept = EXAMPLES / output
-        is_file = output.endswith(".report")
+        is_file = output.endswith((".report", ".answer"))
         text = kept.read_bytes() if is_file and kept.exists() else output.encode() + b"\n"
         yield Run(words.split(), int(status), text, output if is_file else "")
 
@@ -98,6 +98,8 @@ def differences_of_runs(program, is_written):
             yield f"{title}: it writes {outcome.output!r}, not {run.report or run.output!r}"
         if run.report and run.words[0] == "check":
             yield from differences_of_audits(program, run)
+        if run.words[0] in answers.BEST and (found := judge.complaint(run.words, files_of_examples(), *outcome[::-1])):
+            yield f"{title}: by the second reading {found}"
 
 
 def differences_of_audits(program, run):
@@ -107,9 +109,13 @@ def differences_of_audits(program, run):
     outcome = outcome_of(program, words)
     if outcome != (0, b"accepted\n"):
         yield f"{title}: status {outcome.status}, {outcome.output!r}"
-    files = {path.name: path.read_bytes() for path in EXAMPLES.iterdir() if path.is_file()}
-    if answers.answer(words, files) != answers.Exact(0, b"accepted\n"):
+    if answers.answer(words, files_of_examples()) != answers.Exact(0, b"accepted\n"):
         yield f"{title}: the second audit refuses it"
+
+
+def files_of_examples():
+    """The files of the folder of examples by their names."""
+    return {path.name: path.read_bytes() for path in EXAMPLES.iterdir() if path.is_file()}
 
 
 # Logs of the most rows
