@@ -212,7 +212,7 @@ def change_section(draw, question, report):
 
 def changed_times(draw, times):
     """The times with one of them moved, exchanged, added or dropped."""
-    times = list(times)
+    times = list(times) or [0]
     place = draw.randrange(len(times))
     choice = draw.random()
     if choice < 0.6:
