@@ -1,4 +1,4 @@
-"""Times `check` and `audit` on logs of more and more rows.
+"""Times `check`, `audit` and `trim` on logs of more and more rows.
 
 Run as: python3 benches/check.py [PROGRAM] [--patience SECONDS] [--only FAMILY] [--rows N..]
 
@@ -9,7 +9,9 @@ the first run of check that takes longer than the patience, 60 seconds where
 none is given: that run is stopped. Seconds are those of processor time, of one
 run, the start of the process included; memory is looked at every five
 milliseconds. The conflicts are the clauses that the report's derivations learn:
-a value that has a timing shows none.
+a value that has a timing shows none. The clauses are those of the problem that
+the formula is true, which `logic_table` tells where the gate or `rt run` has
+built it. `audit` and `trim` take the report; what trim leaves is audited too.
 """
 
 import argparse
@@ -36,7 +38,9 @@ ROWS = (16, 32, 48, 64, 128, 256, 512, 1024)
 TOO_LARGE = 67  # the status where a log has too many rows for its formula
 SHORTEST_SEEN = 0.05  # seconds that a run takes at least whose memory is told
 MEBIBYTE = 1024 * 1024
-COLUMNS = "{:<22} {:>4} {:>8} {:>9} {:>6} {:>8} {:>10} {:>9} {:>8}"
+COLUMNS = "{:<22} {:>4} {:>8} {:>8} {:>9} {:>6} {:>8} {:>9} {:>9} {:>8} {:>9} {:>8}"
+HEADS = ("check", "rows", "size", "clauses", "seconds", "MiB", "status", "conflicts", "bytes", "audit", "trimmed", "trim")
+CLAUSE_TABLE = ROOT / "crates/logic_table/out/logic_table"
 
 
 # Runs
@@ -84,28 +88,53 @@ def high_water(process_id):
 # The table
 
 
+def clauses_of(log, formula):
+    """How many clauses the problem has, or - where that can't be told."""
+    if not CLAUSE_TABLE.exists():
+        return "-"
+    lines = ["[problems]", "=" + formula, *("|" + line for line in log.splitlines()), "+", "!"]
+    done = subprocess.run([CLAUSE_TABLE], input="\n".join(lines) + "\n", capture_output=True, text=True)
+    counts = [line.split()[1] for line in done.stdout.splitlines() if line.startswith("clauses ")]
+    return counts[0] if counts else "-"
+
+
+def on_report(name, report, folder, patience):
+    """What the last columns say of a report: its bytes, its audit, and what trim leaves of it."""
+    audited = accepted(name, report, folder, patience)
+    trimmed = taken([name, "trim", "r"], folder, patience)
+    accepted(name, trimmed.output, folder, patience)
+    return [len(report), f"{audited.seconds:.3f}", len(trimmed.output), f"{trimmed.seconds:.3f}"]
+
+
+def accepted(name, report, folder, patience):
+    """The audit of a report, which has to be accepted and stays in the folder."""
+    Path(folder, "r").write_bytes(report)
+    audited = taken([name, "audit", "f", "l", "r"], folder, patience)
+    if audited.status != 0:
+        sys.exit(f"{folder}: a report isn't accepted")
+    return audited
+
+
 def rows_of_table(name, family, numbers, folder, patience):
     """The rows of the table for a family, up to the first run that is stopped or refused."""
     for rows in numbers:
-        log, formula = family.log(rows).encode(), family.formula(rows).encode()
+        log, formula = family.log(rows), family.formula(rows)
         for file, text in (("f", formula), ("l", log)):
-            Path(folder, file).write_bytes(text)
+            Path(folder, file).write_text(text)
         checked = taken([name, "check", "f", "l"], folder, patience)
-        size = size_of(formats.read_formula(formula), logs.read_log(log))
+        size = size_of(formats.read_formula(formula.encode()), logs.read_log(log.encode()))
+        asked = [family.title, rows, size, clauses_of(log, formula)]
         was_seen = checked.seconds >= SHORTEST_SEEN
         memory = f"{checked.memory / MEBIBYTE:.1f}" if was_seen else "-"
-        row = [family.title, rows, size, f"{checked.seconds:.3f}", memory, checked.status]
         if checked.status < 0:
-            yield [*row[:3], f"over {patience}", memory, "stopped", "", "", ""]
+            yield [*asked, f"over {patience}", memory, "stopped", *[""] * 5]
             return
+        row = [*asked, f"{checked.seconds:.3f}", memory, checked.status]
         if checked.status == TOO_LARGE:
-            yield [*row, "", "", ""]
+            yield [*row, *[""] * 5]
             return
-        Path(folder, "r").write_bytes(checked.output)
-        audited = taken([name, "audit", "f", "l", "r"], folder, patience)
-        if audited.status != 0:
-            sys.exit(f"the report of {family.title} with {rows} rows isn't accepted")
-        yield [*row, conflicts(checked.output), len(checked.output), f"{audited.seconds:.3f}"]
+        report = checked.output
+        yield [*row, conflicts(report), *on_report(name, report, folder, patience)]
 
 
 def conflicts(report):
@@ -129,7 +158,7 @@ def built_program():
 
 def main():
     """Prints the table."""
-    parser = argparse.ArgumentParser(description="time check and audit on logs of growing length")
+    parser = argparse.ArgumentParser(description="time check, audit and trim on logs of growing length")
     parser.add_argument("program", nargs="?", help="the built program of this folder by default")
     parser.add_argument("--patience", type=int, default=60, help="seconds after which to stop")
     titles = [family.title for family in FAMILIES]
@@ -137,7 +166,7 @@ def main():
     parser.add_argument("--rows", type=int, nargs="+", help="take logs of these sizes alone")
     arguments = parser.parse_args()
     name = os.path.abspath(arguments.program or built_program())
-    print(COLUMNS.format("check", "rows", "size", "seconds", "MiB", "status", "conflicts", "bytes", "audit"))
+    print(COLUMNS.format(*HEADS))
     with tempfile.TemporaryDirectory() as folder:
         for family in FAMILIES:
             if arguments.only in (None, family.title):

@@ -1,14 +1,13 @@
 #!/usr/bin/env bash
 # Runs the built program on logs with each of its allocations failing in turn. Each run has to write
 # nothing and end with 70, or with 71 before there are words, or to answer as with ample memory.
-# Needs a C compiler, `cc`. The status is 0 where all runs did so.
+# The program is the built one of this folder, or the one that SKEWCHECK names. Needs a C compiler, `cc`. The status is 0 where all runs did so.
 cd "$(dirname "$0")/.." || exit 2
-program=./crates/skewcheck/out/skewcheck
+program=${SKEWCHECK:-./crates/skewcheck/out/skewcheck}
 folder=$(mktemp -d) || exit 2
 trap 'rm -rf "$folder"' EXIT
 cc -shared -fPIC -O1 -o "$folder/fail_alloc.so" faults/fail_alloc.c -ldl || exit 2
-./skewcheck -- </dev/null >/dev/null
-[ $? -eq 64 ] || exit 2
+[ -x "$program" ] || ./skewcheck -- </dev/null >/dev/null
 
 runs=0
 wrong=0
@@ -57,6 +56,27 @@ try /dev/null audit examples/within_9.formula $log examples/answered_within_9.re
 try /dev/null audit examples/within_9.formula $log examples/answered_within_8.report
 try /dev/null audit --conflicts 1 examples/either.formula examples/apart.csv examples/apart_either_after_1.report
 try /dev/null audit examples/within_9.formula $log README.md
+try examples/lease.report audit examples/lease.formula examples/lease.csv -
+for report in examples/{together_both,lease,one_by_hand,hint_missing,end_missing,not_empty,walk_of_nothing}.report; do
+  try /dev/null trim "$report"
+  try "$report" trim -
+done
+for file in examples/*.json; do
+  try /dev/null json "$file"
+  try "$file" json -
+done
+try /dev/null json README.md
+for value in true false; do
+  try /dev/null tolerance $value 100 examples/lease.formula examples/lease_stamps.csv
+  try /dev/null tolerance --conflicts 1 $value 10 examples/lease.formula examples/handover_stamps.csv
+  try /dev/null tolerance $value 9 examples/true.formula examples/message.csv
+  try /dev/null span $value 0 1 examples/within_5.formula $log
+  try /dev/null span $value 1 0 examples/lease.formula examples/lease.csv
+  try /dev/null span --conflicts 1 $value 0 1 examples/either.formula examples/apart.csv
+  try /dev/null span $value 0 1 examples/true.formula examples/impossible.csv
+done
+try /dev/null span true 0 99 examples/within_5.formula $log
+try $log tolerance true 3 examples/within_8.formula -
 try /dev/null times -
 try README.md times -
 try /dev/null times -x
