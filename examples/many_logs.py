@@ -62,6 +62,9 @@ def files_of(options):
     formulas = {Path(name).name: Path(name) for name in options.formulas}
     if not logs:
         raise Refused(NO_FILE, f"{folder} has no file NAME.csv")
+    others = sum(path.name not in logs for path in folder.iterdir())
+    if others:
+        print(f"many_logs: left out of {folder}, being no NAME.csv: {others}", file=sys.stderr)
     if len(formulas) < len(options.formulas):
         raise Refused(WRONG_WORDS, "two formulas have one name")
     for name in [*logs, *formulas]:

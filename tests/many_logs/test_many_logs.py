@@ -74,6 +74,15 @@ class Answers(WithRoom):
         self.assertEqual((done.returncode, done.stdout), (66, COUNTS))
         self.assertEqual(reports_of(self.to), reports_by_hand())
 
+    def test_what_is_no_log_is_left_out(self):
+        logs = self.room / "logs"
+        shutil.copytree(LOGS, logs)
+        (logs / "saga.json").write_text("[]\n")
+        (logs / "older").mkdir()
+        done = asked(self.words(logs=logs))
+        self.assertEqual((done.returncode, done.stdout), (66, COUNTS))
+        self.assertIn(f"left out of {logs}, being no NAME.csv: 2\n", done.stderr)
+
     def test_whole_status_of_answers(self):
         logs = self.room / "logs"
         for status, name in ((0, "met"), (2, "unclear"), (1, "late"), (3, "impossible")):
