@@ -20,7 +20,7 @@ use Rattle.proof_log.specs.Spelled.{IsSpelled, IsSpelledHint, IsSpelledLiteral}
 use Rattle.proof_log.proofs.Cuts.{cut-at, cut-none}
 use Rattle.proof_log.proofs.Items.{AreReadUpTo, all-read, counted, none-read, one-read, stopped}
 use Rattle.proof_log.proofs.LineReading.{split-line}
-use Rattle.proof_log.proofs.PlainWords.{ArePlain, joined-lacks, plain-all, plain-hint, plain-line, plain-number, split-joined}
+use Rattle.proof_log.proofs.PlainWords.{ArePlain, joined-lacks, plain-all, plain-hint, plain-number, split-joined}
 use Rattle.proof_log.proofs.ReadingLines.{cut, text-cut}
 use Rattle.proof_log.proofs.Spacing.{joined-spaced, spaced-append}
 use Rattle.proof_log.proofs.WrittenItems.{counted-written, hint-written, literal-written}
@@ -89,10 +89,10 @@ words-long (b ∷ bs) w ws is =
     let joined : join_with_byte space (w ∷ ws) ≡ bs = ap (join_with_byte space) (sym is) ∙ join_with_byte-slice_split space bs in
     ap (λ t. suc (length t)) (sym joined ∙ joined-spaced w ws)
 
-first_word : (w v : Word) (ws vs : List Word) → w ∷ ws ≡ v ∷ vs → w ≡ v
+pub first_word : (w v : Word) (ws vs : List Word) → w ∷ ws ≡ v ∷ vs → w ≡ v
 first_word w v ws vs same = cc
 
-later_words : (w v : Word) (ws vs : List Word) → w ∷ ws ≡ v ∷ vs → ws ≡ vs
+pub later_words : (w v : Word) (ws vs : List Word) → w ∷ ws ≡ v ∷ vs → ws ≡ vs
 later_words w v ws vs same = cc
 
 -- what was read, and the words after it
@@ -108,11 +108,11 @@ abbrev first_byte : Word → ℕ
 first_byte [] = 0
 first_byte (b ∷ bs) = b
 
-other-word : codes "cycle" ≡ codes "learn" → ⊥
+pub other-word : codes "cycle" ≡ codes "learn" → ⊥
 other-word same = let first : 99 ≡ 108 = ap first_byte same in let never : ⊥ = omega (arith, first) in never
 
 module _ (words word rest : List ℕ) (cut_is : slice_split (is_byte space) words ≡ word ∷ words_after rest) where
-  parted : (l : Line) → IsSpelled l → words ≡ join_with_byte space (line_words l) → line_words l ≡ word ∷ words_after rest
+  pub parted : (l : Line) → IsSpelled l → words ≡ join_with_byte space (line_words l) → line_words l ≡ word ∷ words_after rest
   parted l is text = sym (split-line l is) ∙ ap (slice_split (is_byte space)) (sym text) ∙ cut_is
 
   -- a line that is no Learn line has no hints

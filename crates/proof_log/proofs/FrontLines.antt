@@ -1,6 +1,5 @@
 -- The line with which bytes begin, and the first of the lines whose text they are.
-use Rattle.std.proofs.Common.{◌≡◌, ◌∙◌, sym, ap, refl, List, ℕ, [], ◌∷◌, ◌++◌, append_assoc, Some, None, Option, Bor}
-use Rattle.std.specs.Prelude.{MatchOption}
+use Rattle.std.proofs.Common.{◌≡◌, ◌∙◌, sym, ap, refl, List, ℕ, [], ◌∷◌, ◌++◌}
 use Rattle.std.proofs.lemmas.List.{append_cancel_left}
 use Rattle.std.proofs.lemmas.List.Elements.{All-head, All-tail}
 use Rattle.proof_log.specs.declared.line.Line.{Line}

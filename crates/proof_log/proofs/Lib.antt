@@ -9,6 +9,8 @@ pub mod LineReading
 pub mod ReadingLines
 pub mod FrontLines
 pub mod CitedHints
+pub mod PassedLines
+pub mod HandedWords
 pub mod Texts
 pub mod OrderedSets
 pub mod AtomsApart

@@ -29,7 +29,7 @@ readable-spelled : (l : Line) → IsReadable l → HasAtomsOnce l → IsSpelled 
 readable-spelled (line.Cycle steps) is once = record { count = is.few; each = is.each }
 readable-spelled (line.Learn lits hints) is once = record { lit_count = is.0.few; hint_count = is.1.few; each_lit = is.0.each; each_hint = is.1.each; once = once }
 
-spelled-once : (l : Line) → IsSpelled l → HasAtomsOnce l
+pub spelled-once : (l : Line) → IsSpelled l → HasAtomsOnce l
 spelled-once (line.Cycle steps) is = tt
 spelled-once (line.Learn lits hints) is = is.once
 
@@ -120,7 +120,7 @@ line-of bytes l is once =
       text = ap (λ t. t ++ newline ∷ []) (ap (join_with_byte space) (sym of_words.words_are) ∙ join_with_byte-slice_split space bytes);
     }
 
-some_same : (a b : Line) → Some a ≡ Some b → a ≡ b
+pub some_same : (a b : Line) → Some a ≡ Some b → a ≡ b
 some_same a b same = cc
 
 -- bytes are at most one line

@@ -34,7 +34,7 @@ before rest x = (x, rest)
 with_rest : {X : Type 0} (rest : List Word) (o : Option X) (x : X) → o ≡ Some x → option_map (before rest) o ≡ Some (x, rest)
 with_rest rest o x is = ap (option_map (before rest)) is
 
-number-written : (n : ℕ) (rest : List Word) → IsNumber n → number_in (decimal n ∷ rest) ≡ Some (n, rest)
+pub number-written : (n : ℕ) (rest : List Word) → IsNumber n → number_in (decimal n ∷ rest) ≡ Some (n, rest)
 number-written n rest is = with_rest rest (number_below (2 ^ 32) (decimal n)) n (number-below-printed (2 ^ 32) n (lit≤ tt) is)
 
 byte-written : (n : ℕ) (rest : List Word) → n < 2 ^ 8 → byte_in (decimal n ∷ rest) ≡ Some (n, rest)

@@ -6,4 +6,5 @@ pub mod Derivations
 pub mod Freshness
 pub mod FreshLaws
 pub mod Reading
+pub mod Parts
 pub mod Laws

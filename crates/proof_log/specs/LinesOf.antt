@@ -1,5 +1,5 @@
 -- The lines that bytes are, or the first line that is none.
-use Rattle.std.specs.Prelude.{◌≡◌, ◌⊎◌, ℕ, ◌+◌, ◌≤◌, List, [], ◌∷◌, ◌++◌, length, All, AllPairs, Result, Ok, Err, MatchResult}
+use Rattle.std.specs.Prelude.{◌≡◌, ◌⊎◌, ℕ, ◌+◌, ◌≤◌, List, [], ◌∷◌, ◌++◌, length, All, AllPairs, Option, Some, Result, Ok, Err, MatchResult}
 use Rattle.proof_log.specs.declared.fault.LineFault.{LineFault}
 use Rattle.proof_log.specs.declared.fault.LineFault.TheVariants as fault
 use Rattle.proof_log.specs.declared.line.Line.{Line}
@@ -59,3 +59,9 @@ pub record IsLine (bytes : List ℕ) (line : Line) : Type 0 where
 abbrev pub HasAtomsOnce : Line → Type 0
 HasAtomsOnce (line.Cycle steps) = Unit {0}
 HasAtomsOnce (line.Learn lits hints) = AllPairs (λ l m. m.atom ≡ l.atom → ⊥) lits
+
+-- a line was read, and no atom stands twice in it
+pub record GivesLine (reading : Option Line) : Type 0 where
+  pub line : Line
+  pub is : reading ≡ Some line
+  pub once : HasAtomsOnce line

@@ -1,23 +1,35 @@
 //! Whether atoms differ.
 
-ghost use Rattle.std.specs.Prelude.{◌≡◌, ◌↔◌, AllPairs, IfOk, IsTrue};
+ghost use Rattle.std.specs.Prelude.{◌≡◌, ◌≢◌, ◌↔◌, AllPairs, IfOk, IsTrue};
 
-use axiom_rules::Literal;
+use axiom_rules::{Atom, Literal};
 use std::alloc::{AllocError, Global};
-use std::collections::BTreeSet;
+
+/// Whether no two atoms are equal. They are left in order.
+pub fn are_apart(atoms: &mut [Atom]) -> bool
+    ensures { IsTrue result ↔ AllPairs (λ a b. a ≢ b) atoms.old }
+{
+    atoms.sort_unstable();
+    for next in 1..atoms.len() {
+        if atoms[next - 1] == atoms[next] {
+            return false;
+        }
+    }
+    true
+}
 
 /// Whether no atom stands twice. The error only says that memory ran out.
 ///
-/// A look-up compares and doesn't hash, since atoms could be chosen that share a hash.
+/// The atoms are compared, not hashed, since atoms could be chosen that share a hash.
 pub fn has_atoms_once(alloc: Global, lits: &[Literal]) -> Result<bool, AllocError>
     ensures once { IfOk result (λ b. IsTrue b ↔ AllPairs (λ l m. m.atom ≡ l.atom → ⊥) lits.now) }
 {
-    let mut atoms = BTreeSet::new(alloc);
-    for literal in lits {
-        let added = atoms.insert(literal.atom)?;
-        if !added {
-            return Ok(false);
-        }
+    if lits.len() < 2 {
+        return Ok(true);
     }
-    Ok(true)
+    let mut atoms = Vec::with_capacity(alloc, lits.len())?;
+    for literal in lits {
+        atoms.push(literal.atom)?;
+    }
+    Ok(are_apart(&mut atoms))
 }

@@ -1,18 +1,16 @@
 //! The hints of a line, read without what stands before them.
 
-ghost use Rattle.std.specs.Prelude.{◌≡◌, ◌++◌, ◌<◌, ◌^◌, [], ℕ, List, length, IfOk, IfSome, MatchOption, Option, None, Some};
+ghost use Rattle.std.specs.Prelude.{◌≡◌, ◌++◌, [], ℕ, List, length, IfOk, IfSome, MatchOption, Option};
 ghost use Rattle.std.specs.List.{join_with_byte};
-ghost use Rattle.axiom_rules.specs.declared.literal.Literal.{Literal};
 ghost use Rattle.proof_log.specs.declared.line.Hint.{Hint};
 ghost use Rattle.proof_log.specs.declared.line.Line.{Line};
 ghost use Rattle.proof_log.specs.Citing.{AreSpelledHints, IsHeadCut, cited_text, cited_words, hints_of_line};
 ghost use Rattle.proof_log.specs.LinesOf.{IsTextOf};
 ghost use Rattle.proof_log.specs.LinesText.{line_words, space, spaced};
-ghost use Rattle.proof_log.specs.Reading.{counted_in, literal_in, words_after};
 ghost use Rattle.proof_log.specs.Spelled.{IsSpelled};
 
-use crate::item::{next_literal, next_number};
 use crate::line::Hints;
+use crate::passing::pass_literals;
 use crate::reader::read_hints;
 use crate::word::cut_word;
 use memchr::memchr;
@@ -26,25 +24,6 @@ pub struct LineText<'a> {
     /// The hints, with their number before them and a newline after them.
     pub hints: &'a [u8],
     pub rest: &'a [u8],
-}
-
-// What follows a number and so many literals, of which none is kept.
-fn pass_literals(words: &[u8]) -> Option<&[u8]>
-    ensures { MatchOption result (counted_in literal_in (words_after words.now) ≡ None) (λ rest. (lits : List Literal) × (counted_in literal_in (words_after words.now) ≡ Some (lits, words_after rest.now))) }
-{
-    let Some((count, first)) = next_number(words) else {
-        return None;
-    };
-    let mut rest = first;
-    let mut passed = 0;
-    while passed < count {
-        let Some((_, after)) = next_literal(rest) else {
-            return None;
-        };
-        passed += 1;
-        rest = after;
-    }
-    Some(rest)
 }
 
 // The words of a line's hints, each after a space.

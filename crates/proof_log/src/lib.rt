@@ -8,6 +8,8 @@ mod front;
 mod item;
 mod laws;
 mod line;
+mod parts;
+mod passing;
 mod printer;
 mod reader;
 mod spelling;
@@ -22,6 +24,8 @@ pub use laws::{
     steps_read_alike, texts_read_back, texts_tell_apart,
 };
 pub use line::{Hint, Hints, Line, Lines, Lits};
+pub use parts::{LineWords, next_words, read_count, read_hint, read_literal, read_step};
+pub use passing::pass_line;
 pub use printer::{print_lines, push_hints, push_line};
 pub use reader::{read_line, read_lines};
 pub use spelling::has_spelling;

@@ -1,6 +1,6 @@
 //! The words of a line.
 
-ghost use Rattle.std.specs.Prelude.{◌≡◌, ◌∷◌, [], MatchOption};
+ghost use Rattle.std.specs.Prelude.{◌≡◌, ◌∷◌, ◌++◌, [], MatchOption};
 ghost use Rattle.std.specs.List.{slice_split};
 ghost use Rattle.memchr.specs.Find.{is_byte};
 ghost use Rattle.proof_log.specs.LinesText.{space};
@@ -10,7 +10,8 @@ use memchr::memchr;
 
 /// The first word, and what is left from the space after it on.
 pub fn cut_word(words: &[u8]) -> (&[u8], &[u8])
-    ensures { slice_split (is_byte space) words.now ≡ result.0.now ∷ words_after result.1.now }
+    ensures words { slice_split (is_byte space) words.now ≡ result.0.now ∷ words_after result.1.now }
+    ensures bytes { words.now ≡ result.0.now ++ result.1.now }
 {
     match memchr(b' ', words) {
         Some(end) => (&words[..end], &words[end..]),

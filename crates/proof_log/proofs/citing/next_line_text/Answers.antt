@@ -1,4 +1,4 @@
-use Rattle.std.proofs.Common.{◌+◌, ◌≤◌, length, arith}
+use Rattle.std.proofs.Common.{◌+◌, length, arith}
 use Rattle.std.proofs.lemmas.List.{take_rest}
 use Rattle.proof_log.specs.LinesText.{newline}
 use Rattle.proof_log.proofs.CitedHints.{head-at, head-cut}

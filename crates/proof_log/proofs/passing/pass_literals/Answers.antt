@@ -2,7 +2,7 @@ use Rattle.std.proofs.Common.{arith}
 use Rattle.proof_log.specs.Reading.{literal_in, words_after}
 use Rattle.proof_log.proofs.CitedHints.{all-passed, none-left, none-passed, one-passed}
 use Rattle.proof_log.proofs.Items.{uncounted}
-use Rattle.proof_log.proofs.citing.pass_literals.Goals as goal
+use Rattle.proof_log.proofs.passing.pass_literals.Goals as goal
 
 pub loop-passed-init : goal.loop-passed-init
 loop-passed-init c = none-passed literal_in (words_after c.args.words.now) (words_after c.in-Some.first.now) c.in-Some.count c.in-Some.ensures

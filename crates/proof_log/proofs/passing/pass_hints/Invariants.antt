@@ -1,10 +1,10 @@
 use Rattle.std.proofs.Common.{◌-◌}
-use Rattle.proof_log.specs.Reading.{literal_in, words_after}
+use Rattle.proof_log.specs.Reading.{hint_in, words_after}
 use Rattle.proof_log.proofs.CitedHints.{ArePassed}
-use Rattle.proof_log.proofs.citing.pass_literals.Given as goal
+use Rattle.proof_log.proofs.passing.pass_hints.Given as goal
 
 abbrev pub invariant-loop-passed : goal.invariant-loop-passed
-invariant-loop-passed l = ArePassed literal_in (words_after l.words) (words_after l.rest) l.count l.passed
+invariant-loop-passed l = ArePassed hint_in (words_after l.words) (words_after l.rest) l.count l.passed
 
 abbrev pub decreases-loop-passed : goal.decreases-loop-passed
 decreases-loop-passed l = l.count - l.passed
