@@ -14,3 +14,4 @@ pub mod Spellings
 pub mod Walks
 pub mod RightLines
 mod OutlineTexts
+mod HandedParts

@@ -1,5 +1,5 @@
 -- The text of a report by its outline.
-use Rattle.std.proofs.Common.{◌≡◌, ◌∙◌, sym, ap, ap₂, refl, ℕ, Bool, true, false, List, ◌++◌, length, codes}
+use Rattle.std.proofs.Common.{◌≡◌, ◌∙◌, sym, ap, ap₂, refl, ℕ, Bool, true, false, List, ◌++◌, codes}
 use Rattle.std.specs.Fmt.{decimal}
 use Rattle.report_text.specs.declared.outline.SectionOutline.{SectionOutline}
 use Rattle.report_text.specs.declared.report.Report.{Report}
@@ -7,7 +7,7 @@ use Rattle.report_text.specs.declared.report.Section.{Section}
 use Rattle.report_text.specs.declared.report.Section.TheVariants as section
 use Rattle.report_text.specs.Outlines.{AreOutlines, IsSectionOutline, IsWalkOutline}
 use Rattle.report_text.specs.Parts.{kind_line, kind_of, kind_text}
-use Rattle.report_text.specs.ReportText.{body_text, ended, events_of, section_line, section_text}
+use Rattle.report_text.specs.ReportText.{body_text, ended, section_line, section_text}
 
 line-of-kind : (v : Bool) (s : Section) → section_line v s ≡ kind_line v (kind_of s)
 line-of-kind v (section.Witness times) = refl

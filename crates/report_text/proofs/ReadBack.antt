@@ -1,5 +1,5 @@
 -- Reports read from their outlines.
-use Rattle.std.proofs.Common.{◌≡◌, ◌∙◌, sym, ap, refl, arith, ℕ, ◌+◌, ◌<◌, ◌≤◌, ◌^◌, List, ◌++◌, length, length-append, ℤ, true, false, inl, inr, Ok, Err}
+use Rattle.std.proofs.Common.{◌≡◌, ◌∙◌, sym, ap, arith, ℕ, ◌+◌, ◌<◌, ◌≤◌, ◌^◌, List, ◌++◌, length, length-append, ℤ, true, false, inl, inr, Ok, Err}
 use Rattle.std.specs.Prelude.{◌⊎◌, All}
 use Rattle.std.specs.List.{flat_map}
 use Rattle.mt_model.specs.declared.limits.TheConstants.{MAX_TIME}
@@ -9,18 +9,15 @@ use Rattle.proof_log.specs.declared.line.Line.{Line}
 use Rattle.proof_log.specs.declared.fault.LineFault.{LineFault}
 use Rattle.proof_log.specs.declared.fault.LineFault.TheVariants as line_fault
 use Rattle.proof_log.specs.LinesOf.{IsTextOf as IsTextOfLines, LinesOf}
-use Rattle.proof_log.specs.Spelled.{IsSpelled as IsSpelledLine}
 use Rattle.report_text.specs.declared.outline.Outline.{Outline}
 use Rattle.report_text.specs.declared.outline.Outline.TheVariants as outline
 use Rattle.report_text.specs.declared.outline.SectionOutline.{SectionOutline}
-use Rattle.report_text.specs.declared.part.Kind.{Kind}
 use Rattle.report_text.specs.declared.part.Kind.TheVariants as kind
 use Rattle.report_text.specs.declared.report.Section.{Section}
 use Rattle.report_text.specs.declared.report.Section.TheVariants as section
 use Rattle.report_text.specs.declared.report.Report.{Report}
 use Rattle.report_text.specs.declared.report.Report.TheVariants as report
-use Rattle.report_text.specs.Outlines.{AreOutlines, IsOutlineIn, IsOutlineOf, IsSectionOutline, IsWalkOutline}
-use Rattle.report_text.specs.Parts.{kind_of}
+use Rattle.report_text.specs.Outlines.{AreOutlines, IsOutlineIn, IsSectionOutline, IsWalkOutline}
 use Rattle.report_text.specs.ReportText.{body_text, bound_text, ended, entries_text, events_line, events_of, last_line, mark, report_text, section_line, section_text, time_text}
 use Rattle.report_text.specs.Spelled.{IsSpelled, IsSpelledBound, IsSpelledSection}
 use Rattle.report_text.specs.Stops.{AreItems}

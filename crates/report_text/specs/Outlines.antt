@@ -1,5 +1,5 @@
 -- Reports by where their parts stand.
-use Rattle.std.specs.Prelude.{◌≡◌, ◌⊎◌, ℕ, List, length, All, Result, Ok, Err, MatchResult}
+use Rattle.std.specs.Prelude.{◌≡◌, ◌⊎◌, ℕ, List, length, Result, Ok, Err, MatchResult}
 use Rattle.std.specs.List.{flat_map}
 use Rattle.mt_model.specs.declared.step.Step.{Step}
 use Rattle.report_text.specs.declared.fault.ReportFault.{ReportFault}

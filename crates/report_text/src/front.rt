@@ -17,7 +17,7 @@ use crate::part::{Kind, Opening};
 use decimal::{number, signed_number};
 use memchr::memchr;
 use mt_model::{MAX_TIME, Step};
-use proof_log::next_line;
+use proof_log::pass_line;
 use std::alloc::{AllocError, Global};
 
 // The bytes before the first newline, and those after it.
@@ -167,8 +167,5 @@ pub fn next_bound(bytes: &[u8]) -> Option<(Step, &[u8])>
 pub fn after_line(alloc: Global, bytes: &[u8]) -> Result<Option<&[u8]>, AllocError>
     ensures { IfOk result (λ o. MatchOption o (NoFront IsSpelledLine line_text bytes.now) (λ rest. (line : Line) × IsFront IsSpelledLine line_text bytes.now line rest.now)) }
 {
-    let Some((_, rest)) = next_line(alloc, bytes)? else {
-        return Ok(None);
-    };
-    Ok(Some(rest))
+    pass_line(alloc, bytes)
 }

@@ -79,7 +79,7 @@ pub fn pass_bounds(count: u32, bytes: &[u8]) -> Result<&[u8], Stop>
     Ok(rest)
 }
 
-/// So many lines of a derivation, of which none is kept: memory is taken for one of them.
+/// So many lines of a derivation, of which none is kept: memory is taken for the atoms of one of them.
 pub fn pass_lines(alloc: Global, count: u32, bytes: &[u8]) -> Result<&[u8], Stop>
     ensures { MatchResult result (λ rest. ArePassed IsSpelledLine line_text count bytes.now rest.now) (Stopped (AreItems IsSpelledLine line_text count) bytes.now) }
 {

@@ -1,6 +1,7 @@
 //! Reports: what is said of both truth values of a formula, and its text both ways.
 #![tactic(auto)]
 
+mod bounds;
 mod fault;
 mod front;
 mod items;
@@ -15,6 +16,7 @@ mod report;
 mod spelling;
 mod stop;
 
+pub use bounds::read_bound;
 pub use fault::ReportFault;
 pub use laws::{bytes_are_unambiguous, cut_texts_are_faulty, texts_read_back, texts_tell_apart};
 pub use outline::{Outline, SectionOutline};

@@ -146,8 +146,8 @@ fn fault_at(bytes: &[u8], left: usize) -> ReportFault
     }
 }
 
-/// The outline of the report whose text the bytes are, with the faults of `read_report`. Memory is taken for one line of a
-/// derivation at a time.
+/// The outline of the report whose text the bytes are, with the faults of `read_report`. Memory is taken for the
+/// atoms of one line of a derivation at a time.
 pub fn read_outline(alloc: Global, bytes: &[u8]) -> Result<Outline, ReportFault>
     requires { length bytes.now < 2 ^ 31 }
     ensures answer { AnswersOutline bytes.now result }

@@ -1,4 +1,4 @@
-use Rattle.std.proofs.Common.{◌≡◌, ◌∙◌, sym, ap, refl, arith, length, length-append, rules, subst}
+use Rattle.std.proofs.Common.{◌∙◌, sym, ap, refl, arith, length, length-append, rules, subst}
 use Rattle.std.specs.List.{flat_map}
 use Rattle.std.proofs.lemmas.Result.{err_from_is_err_and}
 use Rattle.proof_log.specs.Spelled.{IsNumber}

@@ -1,7 +1,3 @@
-use Rattle.std.proofs.Common.{◌≡◌, Ok, Err, List}
-use Rattle.std.specs.Prelude.{Result}
-use Rattle.proof_log.specs.declared.line.Line.{Line}
-use Rattle.proof_log.specs.LinesOf.{IsTextOf}
 use Rattle.report_text.proofs.ReadBack.{lines-found, lines-go_on}
 use Rattle.report_text.proofs.reader.lines_of.Goals as goal
 

@@ -1,4 +1,4 @@
-use Rattle.std.proofs.Common.{◌≡◌, refl, subst, sym, inl, Ok, Err}
+use Rattle.std.proofs.Common.{refl, subst, sym, inl, Ok, Err}
 use Rattle.std.proofs.lemmas.Result.{err_from_is_err_and}
 use Rattle.report_text.specs.declared.fault.ReportFault.TheVariants as fault
 use Rattle.report_text.specs.ReportOf.{Answers, ReportOf}

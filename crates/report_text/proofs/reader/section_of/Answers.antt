@@ -1,5 +1,4 @@
-use Rattle.std.proofs.Common.{length}
-use Rattle.report_text.proofs.ReadBack.{found-refuted, found-times, found-unknown, outlined-refuted, outlined-times, outlined-unknown}
+use Rattle.report_text.proofs.ReadBack.{outlined-refuted, outlined-times}
 use Rattle.report_text.proofs.reader.section_of.Goals as goal
 
 pub times_of-requires : goal.times_of-requires

@@ -1,4 +1,3 @@
-use Rattle.std.proofs.Common.{length}
 use Rattle.mt_model.specs.Texts.{step_text}
 use Rattle.report_text.specs.Spelled.{IsSpelledBound}
 use Rattle.report_text.proofs.ItemLists.{items-found, items-go_on}
