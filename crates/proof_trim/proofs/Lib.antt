@@ -4,9 +4,14 @@ mod Marking
 mod Copying
 mod Kept
 mod Refuting
-mod Placing
+mod LineTexts
+mod FirstWords
+mod NamedWords
+mod NextNamedLine
+mod NamedLists
+mod NamedHints
+mod Renaming
 mod Forward
 mod TextCopying
 mod Renumbering
-mod CitedMarks
 mod TrimmedLines

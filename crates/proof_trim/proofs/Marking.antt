@@ -20,6 +20,13 @@ pub record MarkedTo (old : List Bool) (hints : List Hint) (j : ℕ) (marks : Lis
   pub only : (n : ℕ) → IsMarked marks n → IsMarked old n ⊎ Contains hints (hint.Line n)
   pub count : length marks ≡ length old
 
+-- the same of the lines of these numbers
+pub record NumbersMarkedTo (old : List Bool) (numbers : List ℕ) (j : ℕ) (marks : List Bool) : Type 0 where
+  pub named : (k n : ℕ) → k < j → get_or numbers k n ≡ n → IsMarked marks n
+  pub kept : (n : ℕ) → IsMarked old n → IsMarked marks n
+  pub only : (n : ℕ) → IsMarked marks n → IsMarked old n ⊎ Contains numbers n
+  pub count : length marks ≡ length old
+
 -- the lines after the first ones have been looked at: what is marked is needed, and what a marked one of these names is marked
 pub record NeededAfter (lines : List Line) (i : ℕ) (marks : List Bool) : Type 0 where
   pub count : length marks ≡ length lines

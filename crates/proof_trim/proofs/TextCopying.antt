@@ -1,45 +1,67 @@
 -- The text of lines that are copied where they are marked, one after another.
-use Rattle.std.proofs.Common.{◌≡◌, ◌∙◌, sym, ap, subst, refl, ℕ, ◌+◌, ◌-◌, ◌^◌, ◌<◌, ◌≤◌, Bool, true, false, List, [], ◌∷◌, ◌++◌, append_assoc, length, length-append, get_or, map, take, Option, Some, arith}
-use Rattle.std.specs.Prelude.{IfSome, option_map, slice_get, if◌then◌else◌}
+use Rattle.std.proofs.Common.{◌≡◌, ◌∙◌, sym, ap, subst, refl, ℕ, ◌+◌, ◌-◌, ◌≤◌, Bool, true, false, List, [], ◌∷◌, ◌++◌, length, length-append, drop, get_or, map, take, Some, Result, Ok, Err, Bor, codes, arith}
+use Rattle.std.specs.Prelude.{All, OnOk, is_ok, slice_get, if◌then◌else◌}
+use Rattle.std.specs.Fmt.{decimal}
+use Rattle.std.specs.List.{flat_map, join_with_byte}
 use Rattle.std.proofs.lemmas.List.{append-nil, take_all}
 use Rattle.std.proofs.lemmas.List.Concat.{flat_map-append}
-use Rattle.proof_log.specs.declared.line.Hint.{Hint}
+use Rattle.std.proofs.lemmas.Option.{slice_get-get_or}
 use Rattle.proof_log.specs.declared.line.Line.{Line}
 use Rattle.proof_log.specs.declared.line.Line.TheVariants as line
-use Rattle.proof_log.specs.Citing.{cited_text, cited_words, front_text, hints_of_line}
-use Rattle.proof_log.specs.LinesText.{line_text, lines_text, newline, spaced}
+use Rattle.proof_log.specs.declared.parts.LineWords.{LineWords}
+use Rattle.proof_log.specs.declared.parts.LineWords.TheVariants as words
+use Rattle.proof_log.specs.LinesOf.{IsTextOf}
+use Rattle.proof_log.specs.LinesText.{line_text, line_words, lines_text, space, spaced, step_words}
+use Rattle.proof_log.specs.Parts.{AreWordsOf, bytes_of}
+use Rattle.proof_log.specs.Reading.{words_after}
 use Rattle.proof_log.specs.Spelled.{IsSpelled}
-use Rattle.proof_log.proofs.CitedHints.{line-parts}
+use Rattle.proof_log.proofs.Spacing.{joined-after}
+use Rattle.proof_trim.specs.Naming.{IsEarlier, named_in, renamed_in}
+use Rattle.proof_trim.proofs.NamedHints.{back-earlier}
+use Rattle.proof_trim.proofs.NamedLists.{learn-adds}
 use Rattle.proof_trim.specs.Needed.{LooksBack}
 use Rattle.proof_trim.specs.Placed.{left_of}
 use Rattle.proof_trim.specs.Trimmed.{hint_renumbered, marked, place_of, renumbered}
+use Rattle.proof_trim.proofs.NamedWords.{learn-renamed, learn_words}
+use Rattle.proof_trim.proofs.LineTexts.{IsLineAfter, none-after}
 use Rattle.proof_trim.proofs.Copying.{CopiedTo, copied-few, copied-more}
 
 -- ---- the text of a line with other numbers
 
-same-front : (place : ℕ → ℕ) (l : Line) → front_text (renumbered place l) ≡ front_text l
-same-front place (line.Cycle steps) = refl
-same-front place (line.Learn lits hints) = refl
+-- what was added where a call succeeded
+pub when_ok : {T E : Type 0} (r : Result T E) (new old more : List ℕ) → new ≡ (if is_ok r then old ++ more else old) → OnOk r (new ≡ old ++ more)
+when_ok (Ok x) new old more is = is
+when_ok (Err e) new old more is = tt
 
-other-hints : (place : ℕ → ℕ) (l : Line) → hints_of_line (renumbered place l) ≡ option_map (map (hint_renumbered place)) (hints_of_line l)
-other-hints place (line.Cycle steps) = refl
-other-hints place (line.Learn lits hints) = refl
+module _ (ws : LineWords) (w : Bor (List ℕ)) (l : Line) (are : AreWordsOf ws l) where
+  -- a Cycle line has no number
+  pub cycle-added : (place : ℕ → ℕ) (old one two : List ℕ) → ws ≡ words.Cycle w → bytes_of ws ≡ spaced (words_after (bytes_of ws)) → one ≡ old ++ codes "cycle" → two ≡ one ++ w.now → two ≡ old ++ join_with_byte space (line_words (renumbered place l))
+  cycle-added place old one two is bytes first second = go l (subst (λ v. AreWordsOf v l) is are)
+    where
+      spaced_words : w.now ≡ spaced (words_after w.now)
+      spaced_words = subst (λ v. bytes_of v ≡ spaced (words_after (bytes_of v))) is bytes
 
--- what was added to a text is a line with other numbers
-pub line-added : (place : ℕ → ℕ) (l : Line) (old front one two new : List ℕ) (hints : Option (List Hint)) → front ≡ front_text l → hints ≡ hints_of_line l → one ≡ old ++ front → two ≡ one ++ spaced (cited_words (option_map (map (hint_renumbered place)) hints))
-    → new ≡ two ++ newline ∷ [] → new ≡ old ++ line_text (renumbered place l)
-line-added place l old front one two new hints is_front are_hints added_front added_hints added_end =
-    let words = spaced (cited_words (option_map (map (hint_renumbered place)) hints)) in
-    let cited_is : words ++ newline ∷ [] ≡ cited_text (hints_of_line (renumbered place l)) = ap (λ o. spaced (cited_words (option_map (map (hint_renumbered place)) o)) ++ newline ∷ []) are_hints ∙ ap cited_text (sym (other-hints place l)) in
-    let front_is : front ≡ front_text (renumbered place l) = is_front ∙ sym (same-front place l) in
-    added_end ∙ ap (λ t. t ++ newline ∷ []) added_hints ∙ append_assoc one words (newline ∷ []) ∙ ap (λ t. one ++ t) cited_is
-    ∙ ap (λ t. t ++ cited_text (hints_of_line (renumbered place l))) (added_front ∙ ap (λ t. old ++ t) front_is)
-    ∙ append_assoc old (front_text (renumbered place l)) (cited_text (hints_of_line (renumbered place l))) ∙ ap (λ t. old ++ t) (sym (line-parts (renumbered place l)))
+      go : (k : Line) → AreWordsOf (words.Cycle w) k → two ≡ old ++ join_with_byte space (line_words (renumbered place k))
+      go (line.Cycle steps) words_are = joined-after old one two (codes "cycle") (decimal (length steps) ∷ flat_map step_words steps) first (second ∙ ap (λ t. one ++ t) (spaced_words ∙ ap spaced words_are))
+      go (line.Learn lits hints) words_are = absurd words_are
 
--- its hints are few
-pub few-hints : (l : Line) → IsSpelled l → IfSome (hints_of_line l) (λ hs. length hs < 2 ^ 32)
-few-hints (line.Cycle steps) is = tt
-few-hints (line.Learn lits hints) is = is.hint_count
+  module _ (spelled : IsSpelled l) (is : ws ≡ words.Learn w) where
+    words-are : AreWordsOf (words.Learn w) l
+    words-are = subst (λ v. AreWordsOf v l) is are
+
+    pub learn-earlier : (number : ℕ) → LooksBack number l → All (IsEarlier number) (named_in false (words_after w.now))
+    learn-earlier number back = subst (All (IsEarlier number)) (sym (learn-adds w l spelled words-are)) (back-earlier number l back)
+
+    pub learn-spaced : bytes_of ws ≡ spaced (words_after (bytes_of ws)) → w.now ≡ spaced (words_after w.now)
+    learn-spaced bytes = subst (λ v. bytes_of v ≡ spaced (words_after (bytes_of v))) is bytes
+
+    pub learn-added : (place : ℕ → ℕ) (old one two : List ℕ) → one ≡ old ++ codes "learn" → two ≡ one ++ spaced (renamed_in place false (words_after w.now)) → two ≡ old ++ join_with_byte space (line_words (renumbered place l))
+    learn-added place old one two first second = go l spelled words-are
+      where
+        go : (k : Line) → IsSpelled k → AreWordsOf (words.Learn w) k → two ≡ old ++ join_with_byte space (line_words (renumbered place k))
+        go (line.Cycle steps) k_spelled k_words = absurd k_words
+        go (line.Learn lits hints) k_spelled k_words =
+            joined-after old one two (codes "learn") (learn_words lits (map (hint_renumbered place) hints)) first (second ∙ ap (λ t. one ++ spaced t) (ap (renamed_in place false) k_words ∙ learn-renamed lits hints k_spelled place))
 
 -- ---- lines one after another
 
@@ -89,3 +111,33 @@ module _ (marks : List Bool) (lines : List Line) (i : ℕ) (places : List ℕ) (
 
     pub left-full : count ≡ length (left_of marks lines)
     left-full = so_far.full ∙ ap length left-is
+
+-- ---- the same along the text of the lines
+
+-- so many lines are copied as there are places, and the rest is the text of the others
+pub record IsTextLeftTo (marks : List Bool) (lines : List Line) (places text : List ℕ) (count : ℕ) (rest : List ℕ) : Type 0 where
+  pub left_to : IsLeftTo marks lines (length places) places text count
+  pub within : length places ≤ length lines
+  pub rest_is : IsTextOf rest (drop (length places) lines)
+
+pub none-text_left : (marks : List Bool) (lines : List Line) (text : List ℕ) → IsTextOf text lines → IsTextLeftTo marks lines [] [] 0 text
+none-text_left marks lines text is = record { left_to = none-left marks lines; within = omega arith; rest_is = is }
+
+module _ (marks : List Bool) (lines : List Line) (places text : List ℕ) (count : ℕ) (rest : List ℕ) (so_far : IsTextLeftTo marks lines places text count rest) where
+  module _ (l : Line) (after : List ℕ) (next : IsLineAfter lines (length places) l rest after) where
+    pub stands-next : slice_get lines (length places) ≡ Some l
+    stands-next = slice_get-get_or lines (length places) l next.low ∙ ap Some next.stands
+
+    pub text_left-more : (mark : Bool) (new : List ℕ) (counted : ℕ) (new_places : List ℕ) → slice_get marks (length places) ≡ Some mark → LooksBack (length places + 1) l
+        → new ≡ (if mark then text ++ line_text (renumbered (λ n. get_or places (n - 1) 0) l) else text) → counted ≡ (if mark then count + 1 else count) → new_places ≡ places ++ counted ∷ [] → IsTextLeftTo marks lines new_places new counted after
+    text_left-more mark new counted new_places is back added one pushed =
+        let more = left-more marks lines (length places) places text count so_far.left_to mark l new counted is stands-next back added one in
+        let size : length new_places ≡ length places + 1 = ap length pushed ∙ length-append places (counted ∷ []) in
+        record {
+          left_to = subst (λ n. IsLeftTo marks lines n new_places new counted) (sym size) (subst (λ ps. IsLeftTo marks lines (length places + 1) ps new counted) (sym pushed) more);
+          within = omega (arith, size, next.low);
+          rest_is = subst (λ k. IsTextOf after (drop k lines)) (sym size) next.after_is;
+        }
+
+  pub all-left : ((ls : List Line) → IsTextOf rest ls → ls ≡ []) → length marks ≡ length lines → length marks ≡ length places
+  all-left none full = omega (arith, full, so_far.within, none-after lines (length places) (none (drop (length places) lines) so_far.rest_is))

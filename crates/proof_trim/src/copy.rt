@@ -32,8 +32,8 @@ fn hint_copy(hint: Hint, places: &[u32]) -> Hint
     }
 }
 
-/// Gives hints the new numbers of the lines that they name, which `places` has for lines 1, 2 and so on.
-pub fn renumber(hints: &mut [Hint], places: &[u32])
+// Gives hints the new numbers of the lines that they name, which `places` has for lines 1, 2 and so on.
+fn renumber(hints: &mut [Hint], places: &[u32])
     requires { All (NamesEarlier (length places.now + 1)) hints.old }
     ensures { hints.new ≡ map (hint_renumbered (λ n. slice_index places.now (n - 1))) hints.old }
 {

@@ -15,8 +15,8 @@ fn names_earlier(hint: Hint, number: u32) -> bool
     }
 }
 
-/// Whether each of some hints of a line does so.
-pub fn name_earlier(hints: &[Hint], number: u32) -> bool
+// Whether each of some hints of a line does so.
+fn name_earlier(hints: &[Hint], number: u32) -> bool
     ensures { IsTrue result ↔ All (NamesEarlier number) hints.now }
 {
     hints.iter().all(|hint| names_earlier(*hint, number))

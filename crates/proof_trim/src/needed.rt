@@ -6,8 +6,8 @@ ghost use Rattle.proof_trim.specs.Trimmed.{AreNeeded, IsMarked};
 use proof_log::{Hint, Line};
 use std::alloc::{AllocError, Global};
 
-/// Marks the lines that hints of a line name.
-pub fn mark_named(marks: &mut [bool], hints: &[Hint], number: usize)
+// Marks the lines that hints of a line name.
+fn mark_named(marks: &mut [bool], hints: &[Hint], number: usize)
     requires earlier { All (NamesEarlier number) hints.now }
     requires within { number ≤ length marks.old }
     ensures named { (n : ℕ) → Contains hints.now (hint.Line n) → IsMarked marks.new n }

@@ -1,84 +1,90 @@
 //! The text of the lines that are marked, from that of all lines.
 
-ghost use Rattle.std.specs.Prelude.{◌≡◌, ◌+◌, ◌-◌, ◌++◌, ◌<◌, ◌^◌, List, All, length, map, option_map, Some, IfOk, IfSome, OnOk, slice_index, if◌then◌else◌};
+ghost use Rattle.std.specs.Prelude.{◌≡◌, ◌+◌, ◌-◌, ◌++◌, ◌∷◌, ◌<◌, ◌^◌, [], List, All, length, false, IfOk, OnOk, slice_index, if◌then◌else◌};
+ghost use Rattle.std.specs.Fmt.{decimal};
+ghost use Rattle.std.specs.List.{join_with_byte};
 ghost use Rattle.proof_log.specs.declared.line.Line.{Line};
-ghost use Rattle.proof_log.specs.Citing.{cited_text, cited_words};
-ghost use Rattle.proof_log.specs.LinesText.{line_text, lines_text, spaced};
-ghost use Rattle.proof_trim.specs.Needed.{LooksBack, NamesEarlier, NoneForward};
-ghost use Rattle.proof_trim.specs.Placed.{ArePlaces, StandsAt, cited, left_of};
-ghost use Rattle.proof_trim.specs.Trimmed.{hint_renumbered, renumbered};
+ghost use Rattle.proof_log.specs.LinesOf.{IsTextOf};
+ghost use Rattle.proof_log.specs.LinesText.{line_text, line_words, lines_text, space, spaced};
+ghost use Rattle.proof_log.specs.Parts.{AreWordsOf, bytes_of};
+ghost use Rattle.proof_log.specs.Reading.{words_after};
+ghost use Rattle.proof_log.specs.Spelled.{IsSpelled};
+ghost use Rattle.proof_trim.specs.Naming.{IsEarlier, named_in, renamed_in};
+ghost use Rattle.proof_trim.specs.Needed.{LooksBack, NoneForward};
+ghost use Rattle.proof_trim.specs.Placed.{left_of};
+ghost use Rattle.proof_trim.specs.Trimmed.{renumbered};
 
-use crate::copy::renumber;
-use crate::places::{Place, hints_at};
-use proof_log::{Hints, push_hints};
+use crate::naming::next_named;
+use itoa::Buffer;
+use proof_log::{LineWords, next_words};
 use std::alloc::{AllocError, Global};
 
-// Adds the number of hints, and the hints with their new numbers.
-fn push_renumbered(
-    alloc: Global,
-    left: &mut Vec<u8>,
-    hints: Hints,
-    places: &[u32],
-) -> Result<(), AllocError>
-    requires few { length hints < 2 ^ 32 }
-    requires earlier { All (NamesEarlier (length places.now + 1)) hints }
-    ensures { OnOk result (left.new.items ≡ left.old.items ++ spaced (cited_words (Some (map (hint_renumbered (λ n. slice_index places.now (n - 1))) hints)))) }
+// Adds a number after a space.
+fn push_number(left: &mut Vec<u8>, number: u32) -> Result<(), AllocError>
+    ensures { OnOk result (left.new.items ≡ left.old.items ++ spaced (decimal number ∷ [])) }
 {
-    let mut hints = hints.into_vec();
-    renumber(&mut hints, places);
-    push_hints(alloc, left, &hints)
+    let mut digits = Buffer::new();
+    left.push(b' ')?;
+    left.extend_from_slice(digits.format(number).as_bytes())
 }
 
-// Adds the hints that a line has, if it has any.
-fn push_words(
-    alloc: Global,
-    left: &mut Vec<u8>,
-    hints: Option<Hints>,
-    places: &[u32],
-) -> Result<(), AllocError>
-    requires few { IfSome hints (λ hs. length hs < 2 ^ 32) }
-    requires earlier { All (NamesEarlier (length places.now + 1)) (cited hints) }
-    ensures { OnOk result (left.new.items ≡ left.old.items ++ spaced (cited_words (option_map (map (hint_renumbered (λ n. slice_index places.now (n - 1)))) hints))) }
+// Adds words of a line, with the new numbers of the lines that they name. `places` has these for lines 1, 2 and so on.
+fn push_renamed(left: &mut Vec<u8>, words: &[u8], places: &[u32]) -> Result<(), AllocError>
+    requires earlier { All (IsEarlier (length places.now + 1)) (named_in false (words_after words.now)) }
+    requires spaced { words.now ≡ spaced (words_after words.now) }
+    ensures { OnOk result (left.new.items ≡ left.old.items ++ spaced (renamed_in (λ n. slice_index places.now (n - 1)) false (words_after words.now))) }
 {
-    match hints {
-        Some(hints) => push_renumbered(alloc, left, hints, places),
-        None => Ok(()),
+    let mut rest = words;
+    while let Some(next) = next_named(rest) {
+        left.extend_from_slice(next.before)?;
+        push_number(left, places[next.line as usize - 1])?;
+        rest = next.after;
+    }
+    left.extend_from_slice(rest)
+}
+
+// Adds the words of a line, with new numbers.
+fn push_words(left: &mut Vec<u8>, words: LineWords, places: &[u32]) -> Result<(), AllocError>
+    requires line { (l : Line) × IsSpelled l × AreWordsOf words l × LooksBack (length places.now + 1) l }
+    requires spaced { bytes_of words ≡ spaced (words_after (bytes_of words)) }
+    ensures { OnOk result ((l : Line) → IsSpelled l → AreWordsOf words.entry l → left.new.items ≡ left.old.items ++ join_with_byte space (line_words (renumbered (λ n. slice_index places.now (n - 1)) l))) }
+{
+    match words {
+        LineWords::Cycle(words) => {
+            left.extend_from_slice(b"cycle")?;
+            left.extend_from_slice(words)
+        }
+        LineWords::Learn(words) => {
+            left.extend_from_slice(b"learn")?;
+            push_renamed(left, words, places)
+        }
     }
 }
 
-// Adds the line of a place. The numbers of `places` are the new ones of the lines before it.
-fn push_line_at(
-    alloc: Global,
-    left: &mut Vec<u8>,
-    text: &[u8],
-    place: Place,
-    places: &[u32],
-) -> Result<(), AllocError>
-    requires stands { (l : Line) × StandsAt text.now place l × LooksBack (length places.now + 1) l }
-    ensures { OnOk result ((l : Line) → StandsAt text.now place l → LooksBack (length places.now + 1) l → left.new.items ≡ left.old.items ++ line_text (renumbered (λ n. slice_index places.now (n - 1)) l)) }
+// Adds a line.
+fn push_line(left: &mut Vec<u8>, words: LineWords, places: &[u32]) -> Result<(), AllocError>
+    requires line { (l : Line) × IsSpelled l × AreWordsOf words l × LooksBack (length places.now + 1) l }
+    requires spaced { bytes_of words ≡ spaced (words_after (bytes_of words)) }
+    ensures { OnOk result ((l : Line) → IsSpelled l → AreWordsOf words.entry l → left.new.items ≡ left.old.items ++ line_text (renumbered (λ n. slice_index places.now (n - 1)) l)) }
 {
-    let front = &text[place.begin as usize..place.hints as usize];
-    left.extend_from_slice(front)?;
-    let hints = hints_at(alloc, text, place)?;
-    push_words(alloc, left, hints, places)?;
+    push_words(left, words, places)?;
     left.push(b'\n')?;
     Ok(())
 }
 
 // Adds it if it is marked.
 fn push_marked(
-    alloc: Global,
     left: &mut Vec<u8>,
     mark: bool,
-    text: &[u8],
-    place: Place,
+    words: LineWords,
     places: &[u32],
 ) -> Result<(), AllocError>
-    requires stands { (l : Line) × StandsAt text.now place l × LooksBack (length places.now + 1) l }
-    ensures { OnOk result ((l : Line) → StandsAt text.now place l → LooksBack (length places.now + 1) l → left.new.items ≡ (if mark then left.old.items ++ line_text (renumbered (λ n. slice_index places.now (n - 1)) l) else left.old.items)) }
+    requires line { (l : Line) × IsSpelled l × AreWordsOf words l × LooksBack (length places.now + 1) l }
+    requires spaced { bytes_of words ≡ spaced (words_after (bytes_of words)) }
+    ensures { OnOk result ((l : Line) → IsSpelled l → AreWordsOf words.entry l → left.new.items ≡ (if mark then left.old.items ++ line_text (renumbered (λ n. slice_index places.now (n - 1)) l) else left.old.items)) }
 {
     if mark {
-        push_line_at(alloc, left, text, place, places)
+        push_line(left, words, places)
     } else {
         Ok(())
     }
@@ -94,25 +100,22 @@ fn count_with(count: u32, mark: bool) -> u32
 
 /// The text of the lines that are marked, where a hint that names a line has the place of that line among these, and how
 /// many these are. Room for the text of all lines is taken at once.
-pub fn marked_text(
-    alloc: Global,
-    text: &[u8],
-    places: &[Place],
-    marks: &[bool],
-) -> Result<(Vec<u8>, u32), AllocError>
-    requires few { length places.now < 2 ^ 31 }
-    requires count { length marks.now ≡ length places.now }
-    requires placed { (lines : List Line) × ArePlaces text.now places.now lines × NoneForward lines }
-    ensures left { IfOk result (λ r. (lines : List Line) → ArePlaces text.now places.now lines → NoneForward lines → r.0.items ≡ lines_text (left_of marks.now lines)) }
-    ensures full { IfOk result (λ r. (lines : List Line) → ArePlaces text.now places.now lines → NoneForward lines → r.1 ≡ length (left_of marks.now lines)) }
+pub fn marked_text(alloc: Global, text: &[u8], marks: &[bool]) -> Result<(Vec<u8>, u32), AllocError>
+    requires few { length marks.now < 2 ^ 31 }
+    requires lines { (lines : List Line) × IsTextOf text.now lines × (length marks.now ≡ length lines) × NoneForward lines }
+    ensures left { IfOk result (λ r. (lines : List Line) → IsTextOf text.now lines → length marks.now ≡ length lines → NoneForward lines → r.0.items ≡ lines_text (left_of marks.now lines)) }
+    ensures full { IfOk result (λ r. (lines : List Line) → IsTextOf text.now lines → length marks.now ≡ length lines → NoneForward lines → r.1 ≡ length (left_of marks.now lines)) }
 {
     let mut left = Vec::with_capacity(alloc, text.len())?;
-    let mut numbers = Vec::with_capacity(alloc, places.len())?;
+    let mut places = Vec::with_capacity(alloc, marks.len())?;
     let mut count = 0;
-    for (i, place) in places.iter().enumerate() {
-        push_marked(alloc, &mut left, marks[i], text, *place, &numbers)?;
-        count = count_with(count, marks[i]);
-        numbers.push(count)?;
+    let mut rest = text;
+    while let Some((words, after)) = next_words(rest) {
+        let mark = marks[places.len()];
+        push_marked(&mut left, mark, words, &places)?;
+        count = count_with(count, mark);
+        places.push(count)?;
+        rest = after;
     }
     Ok((left, count))
 }

@@ -1,48 +1,54 @@
-//! Which lines of a text the last one needs: of one line at a time the hints are read.
+//! Which lines of a text the last one needs, by the numbers that its hints name.
 
-ghost use Rattle.std.specs.Prelude.{◌≡◌, ◌+◌, ◌<◌, ◌≤◌, ◌^◌, List, length, IfOk, MatchOption};
+ghost use Rattle.std.specs.Prelude.{◌≡◌, ◌⊎◌, ◌+◌, ◌<◌, ◌≤◌, ◌^◌, ℕ, List, All, Contains, length, IfOk, MatchOption};
 ghost use Rattle.proof_log.specs.declared.line.Line.{Line};
+ghost use Rattle.proof_trim.specs.Naming.{AreNamed, IsEarlier};
 ghost use Rattle.proof_trim.specs.Needed.{IsFirstForward, NoneForward};
-ghost use Rattle.proof_trim.specs.Placed.{ArePlaces, IsPlaced};
-ghost use Rattle.proof_trim.specs.Trimmed.{AreNeeded};
+ghost use Rattle.proof_trim.specs.Trimmed.{AreNeeded, IsMarked};
 
-use crate::hints::name_earlier;
-use crate::needed::mark_named;
-use crate::places::{Place, cited, hints_at};
+use crate::named::{NamedLines, are_earlier, numbers_at};
 use std::alloc::{AllocError, Global};
 
 /// The first line, counted from 1, with a hint that names a line which does not come before it.
-pub fn first_forward_in(
-    alloc: Global,
-    text: &[u8],
-    places: &[Place],
-) -> Result<Option<u32>, AllocError>
-    requires few { length places.now < 2 ^ 32 }
-    requires placed { IsPlaced text.now places.now }
-    ensures first { IfOk result (λ o. (lines : List Line) → ArePlaces text.now places.now lines → MatchOption o (NoneForward lines) (IsFirstForward lines)) }
+pub fn first_forward_in(numbers: &[u32], ends: &[usize]) -> Option<u32>
+    requires few { length ends.now < 2 ^ 32 }
+    requires named { (lines : List Line) × AreNamed lines numbers.now ends.now }
+    ensures first { (lines : List Line) → AreNamed lines numbers.now ends.now → MatchOption result (NoneForward lines) (IsFirstForward lines) }
 {
-    for (i, place) in places.iter().enumerate() {
+    for i in 0..ends.len() {
         let number = i as u32 + 1;
-        let hints = hints_at(alloc, text, *place)?;
-        if !name_earlier(cited(&hints), number) {
-            return Ok(Some(number));
+        if !are_earlier(numbers_at(numbers, ends, i), number) {
+            return Some(number);
         }
     }
-    Ok(None)
+    None
+}
+
+// Marks the lines of these numbers.
+fn mark_numbers(marks: &mut [bool], named: &[u32], number: usize)
+    requires earlier { All (IsEarlier number) named.now }
+    requires within { number ≤ length marks.old }
+    ensures named { (n : ℕ) → Contains named.now n → IsMarked marks.new n }
+    ensures kept { (n : ℕ) → IsMarked marks.old n → IsMarked marks.new n }
+    ensures only { (n : ℕ) → IsMarked marks.new n → IsMarked marks.old n ⊎ Contains named.now n }
+    ensures count { length marks.new ≡ length marks.old }
+{
+    for n in named {
+        marks[*n as usize - 1] = true;
+    }
 }
 
 /// Which lines the last one needs.
-pub fn needed_in(alloc: Global, text: &[u8], places: &[Place]) -> Result<Vec<bool>, AllocError>
-    requires some { 1 ≤ length places.now }
-    requires placed { (lines : List Line) × ArePlaces text.now places.now lines × NoneForward lines }
-    ensures needed { IfOk result (λ marks. (lines : List Line) → ArePlaces text.now places.now lines → NoneForward lines → AreNeeded lines marks.items) }
+pub fn needed_in(alloc: Global, numbers: &[u32], ends: &[usize]) -> Result<Vec<bool>, AllocError>
+    requires some { 1 ≤ length ends.now }
+    requires named { (lines : List Line) × AreNamed lines numbers.now ends.now × NoneForward lines }
+    ensures needed { IfOk result (λ marks. (lines : List Line) → AreNamed lines numbers.now ends.now → NoneForward lines → AreNeeded lines marks.items) }
 {
-    let mut marks = vec![in alloc; false; places.len()]?;
-    marks[places.len() - 1] = true;
-    for i in (0..places.len()).rev() {
+    let mut marks = vec![in alloc; false; ends.len()]?;
+    marks[ends.len() - 1] = true;
+    for i in (0..ends.len()).rev() {
         if marks[i] {
-            let hints = hints_at(alloc, text, places[i])?;
-            mark_named(&mut marks, cited(&hints), i + 1);
+            mark_numbers(&mut marks, numbers_at(numbers, ends, i), i + 1);
         }
     }
     Ok(marks)

@@ -3,10 +3,11 @@ ghost use Rattle.proof_log.specs.declared.line.Line.{Line};
 ghost use Rattle.proof_log.specs.LinesOf.{IsTextOf};
 ghost use Rattle.proof_trim.specs.Laws.{CanBeTrimmed};
 ghost use Rattle.proof_trim.specs.Needed.{IsFirstForward, NoneForward};
-ghost use Rattle.proof_trim.specs.Placed.{ArePlaces, IsPlaced, IsTrimmedText};
+ghost use Rattle.proof_trim.specs.Naming.{AreNamed};
+ghost use Rattle.proof_trim.specs.Placed.{IsTrimmedText};
 
 use crate::fault::TrimFault;
-use crate::places::{Place, places_of};
+use crate::named::named_lines;
 use crate::text_copy::marked_text;
 use crate::text_needed::{first_forward_in, needed_in};
 use std::alloc::{AllocError, Global};
@@ -18,38 +19,48 @@ pub struct TrimmedText {
     pub count: u32,
 }
 
-// What is left of the lines of these places, each of whose hints that names a line names an earlier one.
-fn left_text(alloc: Global, text: &[u8], places: &[Place]) -> Result<TrimmedText, AllocError>
-    requires some { 1 ≤ length places.now }
-    requires few { length places.now < 2 ^ 31 }
-    requires placed { (lines : List Line) × ArePlaces text.now places.now lines × NoneForward lines }
-    ensures trimmed { IfOk result (λ t. (lines : List Line) → ArePlaces text.now places.now lines → NoneForward lines → IsTrimmedText lines t.text.items t.count) }
+// What is left of the lines of a text whose hints name these, each an earlier line.
+fn left_text(
+    alloc: Global,
+    text: &[u8],
+    numbers: &[u32],
+    ends: &[usize],
+) -> Result<TrimmedText, AllocError>
+    requires some { 1 ≤ length ends.now }
+    requires few { length ends.now < 2 ^ 31 }
+    requires named { (lines : List Line) × IsTextOf text.now lines × AreNamed lines numbers.now ends.now × NoneForward lines }
+    ensures trimmed { IfOk result (λ t. (lines : List Line) → IsTextOf text.now lines → AreNamed lines numbers.now ends.now → NoneForward lines → IsTrimmedText lines t.text.items t.count) }
 {
-    let marks = needed_in(alloc, text, places)?;
-    let (text, count) = marked_text(alloc, text, places, &marks)?;
+    let marks = needed_in(alloc, numbers, ends)?;
+    let (text, count) = marked_text(alloc, text, &marks)?;
     Ok(TrimmedText { text, count })
 }
 
-// What is left of the lines of these places.
-fn trim_placed(alloc: Global, text: &[u8], places: &[Place]) -> Result<TrimmedText, TrimFault>
-    requires few { length places.now < 2 ^ 31 }
-    requires placed { IsPlaced text.now places.now }
-    ensures trimmed { IfOk result (λ t. (lines : List Line) → ArePlaces text.now places.now lines → IsTrimmedText lines t.text.items t.count) }
-    ensures can { OnOk result ((lines : List Line) → ArePlaces text.now places.now lines → CanBeTrimmed lines) }
-    ensures empty { result ≡ Err TrimFault.Empty → (lines : List Line) → ArePlaces text.now places.now lines → lines ≡ [] }
-    ensures hint { (n : ℕ) → result ≡ Err (TrimFault.Hint n) → (lines : List Line) → ArePlaces text.now places.now lines → IsFirstForward lines n }
+// What is left of the lines of a text whose hints name these.
+fn trim_named(
+    alloc: Global,
+    text: &[u8],
+    numbers: &[u32],
+    ends: &[usize],
+) -> Result<TrimmedText, TrimFault>
+    requires few { length ends.now < 2 ^ 31 }
+    requires named { (lines : List Line) × IsTextOf text.now lines × AreNamed lines numbers.now ends.now }
+    ensures trimmed { IfOk result (λ t. (lines : List Line) → IsTextOf text.now lines → AreNamed lines numbers.now ends.now → IsTrimmedText lines t.text.items t.count) }
+    ensures can { OnOk result ((lines : List Line) → AreNamed lines numbers.now ends.now → CanBeTrimmed lines) }
+    ensures empty { result ≡ Err TrimFault.Empty → (lines : List Line) → AreNamed lines numbers.now ends.now → lines ≡ [] }
+    ensures hint { (n : ℕ) → result ≡ Err (TrimFault.Hint n) → (lines : List Line) → AreNamed lines numbers.now ends.now → IsFirstForward lines n }
 {
-    if places.is_empty() {
+    if ends.is_empty() {
         return Err(TrimFault::Empty);
     }
-    match first_forward_in(alloc, text, places)? {
+    match first_forward_in(numbers, ends) {
         Some(line) => Err(TrimFault::Hint { line }),
-        None => Ok(left_text(alloc, text, places)?),
+        None => Ok(left_text(alloc, text, numbers, ends)?),
     }
 }
 
 /// What `trim` makes of lines of which the bytes are the text, in so many of which they are. Beside the text of what is
-/// left memory is taken for a few numbers a line, and for the hints of one line at a time.
+/// left memory is taken for a few numbers a line, and for one number a line that a hint names.
 pub fn trim_text(alloc: Global, text: &[u8], count: u32) -> Result<TrimmedText, TrimFault>
     requires few { length text.now < 2 ^ 31 }
     requires lines { (lines : List Line) × IsTextOf text.now lines }
@@ -58,6 +69,6 @@ pub fn trim_text(alloc: Global, text: &[u8], count: u32) -> Result<TrimmedText, 
     ensures empty { result ≡ Err TrimFault.Empty → (lines : List Line) → IsTextOf text.now lines → lines ≡ [] }
     ensures hint { (n : ℕ) → result ≡ Err (TrimFault.Hint n) → (lines : List Line) → IsTextOf text.now lines → IsFirstForward lines n }
 {
-    let places = places_of(alloc, text, count)?;
-    trim_placed(alloc, text, &places)
+    let named = named_lines(alloc, text, count)?;
+    trim_named(alloc, text, &named.numbers, &named.ends)
 }

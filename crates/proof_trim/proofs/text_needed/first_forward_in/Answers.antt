@@ -1,32 +1,30 @@
-use Rattle.std.proofs.Common.{◌≡◌, ◌∙◌, sym, ap, subst, ◌+◌, rules}
+use Rattle.std.proofs.Common.{◌≡◌, subst, sym, ◌+◌, length, arith, rules}
 use Rattle.std.specs.Prelude.{All, IsTrue}
-use Rattle.proof_log.specs.Citing.{hints_of_line}
-use Rattle.proof_trim.specs.Needed.{NamesEarlier}
-use Rattle.proof_trim.specs.Placed.{cited}
+use Rattle.proof_trim.specs.Naming.{IsEarlier}
+use Rattle.proof_trim.specs.Needed.{LookBackTo}
 use Rattle.proof_trim.proofs.Forward.{back-more, first-here}
-use Rattle.proof_trim.proofs.Placing.{back-cited, cited-back, line-at-place}
+use Rattle.proof_trim.proofs.NamedHints.{back-earlier, earlier-back}
+use Rattle.proof_trim.proofs.NamedLists.{line-here}
 use Rattle.proof_trim.proofs.text_needed.first_forward_in.Goals as goal
 
-pub hints_at-requires : goal.hints_at-requires
-hints_at-requires c =
-    let p = line-at-place c.args.text.now c.args.places.now c.requires.placed.0 c.requires.placed.1 c.loop-i.i (record { begin = 0; hints = 0 }) c.loop-i-test.true in
-    (p.line, p.placed)
-
-pub returns-then-not-name_earlier : goal.returns-then-not-name_earlier
-returns-then-not-name_earlier c = record {
+pub returns-then-not-are_earlier : goal.returns-then-not-are_earlier
+returns-then-not-are_earlier c = record {
   first = λ lines are.
       let i = c.loop-i.i in
-      let p = line-at-place c.args.text.now c.args.places.now lines are i (record { begin = 0; hints = 0 }) c.loop-i-test.true in
-      let same : c.cited.result.now ≡ cited (hints_of_line p.line) = c.cited.ensures ∙ ap cited (c.in_ok-hints.ensures p.line p.placed) in
-      first-here lines i p.line p.stands (c.loop-i.invariant lines are) (λ back.
-      let yes : IsTrue c.name_earlier.result = c.name_earlier.ensures.1 (subst (All (NamesEarlier (i + 1))) (sym same) (cited-back (i + 1) p.line back)) in
+      let (l, stands) = line-here lines c.args.numbers.now c.args.ends.now are i c.loop-i-test.true in
+      let same = c.numbers_at.ensures.named lines l are stands in
+      first-here lines i l stands (c.loop-i.invariant lines are) (λ back.
+      let yes : IsTrue c.are_earlier.result = c.are_earlier.ensures.1 (subst (All (IsEarlier (i + 1))) (sym same) (back-earlier (i + 1) l back)) in
       search rules);
 }
 
 pub loop-i-preserved : goal.loop-i-preserved
 loop-i-preserved c = λ lines are.
     let i = c.loop-i.i in
-    let p = line-at-place c.args.text.now c.args.places.now lines are i (record { begin = 0; hints = 0 }) c.loop-i-test.true in
-    let same : c.cited.result.now ≡ cited (hints_of_line p.line) = c.cited.ensures ∙ ap cited (c.in_ok-hints.ensures p.line p.placed) in
-    let yes : IsTrue c.name_earlier.result = search rules in
-    back-more lines i p.line p.stands (c.loop-i.invariant lines are) (back-cited (i + 1) p.line (subst (All (NamesEarlier (i + 1))) same (c.name_earlier.ensures.0 yes)))
+    let (l, stands) = line-here lines c.args.numbers.now c.args.ends.now are i c.loop-i-test.true in
+    let same = c.numbers_at.ensures.named lines l are stands in
+    let yes : IsTrue c.are_earlier.result = search rules in
+    back-more lines i l stands (c.loop-i.invariant lines are) (earlier-back (i + 1) l (subst (All (IsEarlier (i + 1))) same (c.are_earlier.ensures.0 yes)))
+
+pub returns : goal.returns
+returns c = record { first = λ lines are. subst (λ n. LookBackTo lines n) (let last : c.loop-i.i ≡ length lines = omega (arith, are.count, c.loop-i-test.false, c.loop-i.auto.i-end) in last) (c.loop-i.invariant lines are) }
