@@ -10,12 +10,10 @@ use Rattle.axiom_rules.specs.Literals.{negated}
 use Rattle.axiom_rules.specs.Sought.{Sought}
 use Rattle.proof_log.specs.declared.line.Hint.{Hint}
 use Rattle.proof_log.specs.declared.line.Line.{Line}
-use Rattle.proof_log.specs.declared.line.Line.TheVariants as line
-use Rattle.proof_log.specs.Derivations.{HasClauses, IsLearnt, IsShown, clause_of_hint, is_in_range}
-use Rattle.proof_log.specs.Spelled.{IsSpelled}
+use Rattle.proof_log.specs.Derivations.{HasClauses, IsLearnt, clause_of_hint, is_in_range}
 use Rattle.proof_check.specs.declared.refutation.Taken.{Taken}
 use Rattle.proof_check.specs.declared.refutation.Taken.TheVariants as taken
-use Rattle.proof_check.specs.Judging.{AreRefuting, IsHintTaken, IsRight}
+use Rattle.proof_check.specs.Judging.{AreRefuting, IsHintTaken}
 use Rattle.proof_check.specs.Refutation.{AreThose, IsTaken}
 use Rattle.proof_check.proofs.StepLemmas.{none_refute, same_set, taken_false, taken_gives, taken_stuck}
 
@@ -163,18 +161,3 @@ module _ (s : Sought) (lines : List Line) (n : ℕ) where
       refuted = (same_set giving set forced (map negated lits) assumed is.clauses those.has those.only).0 is.refuted;
     }),
   )
-
-  -- a Learn line that has a spelling is right where it is learnt
-  pub right_learn : {E : Type 0} (l : Line) (lits some : List Literal) (hints few : List Hint) → IsSpelled l → l ≡ line.Learn lits hints → some ≡ lits → few ≡ hints
-      → (r : Result Bool E) → IfOk r (λ b. IsTrue b ↔ IsLearnt s lines n some few) → IfOk r (λ b. IsTrue b ↔ IsRight s lines n l)
-  right_learn l lits some hints few spelled is same these (Err e) learnt = tt
-  right_learn l lits some hints few spelled is same these (Ok b) learnt = (
-    λ yes. record { spelled = spelled; shown = subst (λ (k : Line). IsShown s lines n k) (sym is) (to_both (learnt.0 yes)) },
-    λ right. learnt.1 (of_both (subst (λ (k : Line). IsShown s lines n k) is right.shown)),
-  )
-    where
-      to_both : IsLearnt s lines n some few → IsLearnt s lines n lits hints
-      to_both is = subst (λ ls. IsLearnt s lines n ls hints) same (subst (IsLearnt s lines n some) these is)
-
-      of_both : IsLearnt s lines n lits hints → IsLearnt s lines n some few
-      of_both is = subst (λ ls. IsLearnt s lines n ls few) (sym same) (subst (IsLearnt s lines n lits) (sym these) is)

@@ -2,9 +2,13 @@ mod Standing
 mod TakeLemmas
 pub mod StepLemmas
 mod Pieces
+mod PlaceLemmas
+mod OnceLemmas
 mod KeptLemmas
 mod HintLemmas
 pub mod AnswerLemmas
+mod WordLemmas
+mod HintWords
 mod TextLemmas
 mod WalksHold
 mod LinesHold

@@ -5,18 +5,18 @@ use Rattle.std.specs.BTreeSet.{BTreeSet, Updates}
 use Rattle.std.specs.Ordering.{is_eq}
 use Rattle.std.proofs.lemmas.Bool.{cases_Bool}
 use Rattle.std.proofs.Math.Seq.{take-length}
-use Rattle.std.proofs.lemmas.List.{map_push, take_more}
-use Rattle.std.proofs.lemmas.List.Elements.{All-contains, All-push, Contains-append_left, Contains-get_or, Contains-push}
+use Rattle.std.proofs.lemmas.List.{take_more}
+use Rattle.std.proofs.lemmas.List.Elements.{All-contains, All-push, Contains-append_cases, Contains-append_left, Contains-append_right, Contains-get_or, Contains-push}
 use Rattle.std.proofs.lemmas.Map.Lookups.{CmpEqualImpliesEq}
 use Rattle.hint_refutation.specs.Hints.{Gives, IsFalseUnder}
 use Rattle.hint_refutation.proofs.Hinted.{is_false, left_or_false}
-use Rattle.hint_refutation.proofs.Lists.{all_from, contains_cases, contains_first, contains_later}
+use Rattle.hint_refutation.proofs.Lists.{all_from, contains_cases, contains_first, contains_later, contains_map, contains_unmap}
 use Rattle.axiom_rules.specs.declared.literal.Literal.{Literal}
 use Rattle.axiom_rules.specs.contracts.literal.LiteralOrd.TheImpl.{cmp-value as literal_cmp}
 use Rattle.axiom_rules.specs.contracts.literal.LiteralOrd.TheImpl.Laws.{matches_eq-law, total-law}
 use Rattle.axiom_rules.specs.contracts.literal.LiteralPartialEq.TheImpl.{eq-value as literal_eq}
 use Rattle.axiom_rules.specs.Literals.{negated, same_literal}
-use Rattle.axiom_rules.proofs.AddingLemmas.{literal-itself}
+use Rattle.axiom_rules.proofs.AddingLemmas.{literal-itself, negated-twice}
 use Rattle.axiom_rules.proofs.PartLemmas.{literals_same}
 use Rattle.proof_log.proofs.OrderedSets.{has_more}
 use Rattle.proof_check.specs.Refutation.{AreThose, GivesNext, IsNeither}
@@ -28,6 +28,15 @@ literal_is l m = grind arith
 -- so the order of literals tells them apart
 pub literals_told : CmpEqualImpliesEq literal_cmp.it
 literals_told l m equal = literals_same l m (sym (literal_is l m) ∙ matches_eq-law l m ∙ ap is_eq equal)
+
+-- what a test of two literals for being equal says
+pub equal_same : (l m : Literal) (b : Bool) → b ≡ literal_eq.it l m → b ≡ true → l ≡ m
+equal_same l m b is equal = literals_same l m (sym (literal_is l m) ∙ sym is ∙ equal)
+
+pub unequal_apart : (l m : Literal) (b : Bool) → b ≡ literal_eq.it l m → b ≡ false → l ≡ m → ⊥
+unequal_apart l m b is unequal same =
+    let equal : literal_eq.it l m ≡ true = literal_is l m ∙ ap (same_literal l) (sym same) ∙ literal-itself l in
+    true≢false (sym equal ∙ sym is ∙ unequal)
 
 -- what a test for a difference of two literals says
 differ : (l m : Literal) (b : Bool) → b ≡ not (literal_eq.it l m) → b ≡ true → m ≢ l
@@ -54,23 +63,36 @@ assumed_more old new l updates = record {
     grown : (m : Literal) → Contains new.keys m ↔ (Contains old.keys m ⊎ (l ≡ m))
     grown m = has_more total-law literals_told old new l updates m
 
-those_with : (these old new : List Literal) (l : Literal) → AreThose these old → AreThose (l ∷ old) new → AreThose (these ++ l ∷ []) new
-those_with these old new l those more = record {
-  has = All-push (Contains new) these l
-      (all_from (Contains new) these (λ m has. All-contains (Contains new) (l ∷ old) m more.has (contains_later l m old (All-contains (Contains old) these m those.has has))))
-      (All-contains (Contains new) (l ∷ old) l more.has (contains_first l old));
-  only = all_from (Contains (these ++ l ∷ [])) new (λ m has. elim (contains_cases l m old (All-contains (Contains (l ∷ old)) new m more.only has)) [
-    | inl same ↦ subst (λ (k : Literal). Contains (these ++ l ∷ []) k) same (Contains-push these l)
-    | inr before ↦ Contains-append_left these (l ∷ []) m (All-contains (Contains these) old m those.only before)
+-- the same beside others
+pub those_behind : (front these those : List Literal) (l : Literal) → AreThose (l ∷ these) those → AreThose (l ∷ (front ++ these)) (front ++ those)
+those_behind front these those l same = record {
+  has = all_from (Contains (front ++ those)) (l ∷ (front ++ these)) (λ m has. elim (contains_cases l m (front ++ these) has) [
+    | inl here ↦ Contains-append_right front those m (All-contains (Contains those) (l ∷ these) m same.has (subst (λ (k : Literal). Contains (l ∷ these) k) here (contains_first l these)))
+    | inr there ↦ elim (Contains-append_cases front these m there) [
+      | inl before ↦ Contains-append_left front those m before
+      | inr behind ↦ Contains-append_right front those m (All-contains (Contains those) (l ∷ these) m same.has (contains_later l m these behind))
+    ]
+  ]);
+  only = all_from (Contains (l ∷ (front ++ these))) (front ++ those) (λ m has. elim (Contains-append_cases front those m has) [
+    | inl before ↦ contains_later l m (front ++ these) (Contains-append_left front these m before)
+    | inr behind ↦ elim (contains_cases l m these (All-contains (Contains (l ∷ these)) those m same.only behind)) [
+      | inl here ↦ subst (λ (k : Literal). Contains (l ∷ (front ++ these)) k) here (contains_first l (front ++ these))
+      | inr there ↦ contains_later l m (front ++ these) (Contains-append_right front these m there)
+    ]
   ]);
 }
 
--- with one more literal denied
-pub denied_more : (lits old new : List Literal) (i : ℕ) (d l : Literal) → i < length lits → l ≡ negated (get_or lits i d) → AreThose (map negated (take i lits)) old → AreThose (l ∷ old) new
-    → AreThose (map negated (take (i + 1) lits)) new
-denied_more lits old new i d l below is those grown =
-    let more : map negated (take (i + 1) lits) ≡ map negated (take i lits) ++ l ∷ [] = rw (take_more lits i d below, map_push negated (take i lits) (get_or lits i d), is) refl in
-    rw more (those_with (map negated (take i lits)) old new l those grown)
+pub those_same : (these those : List Literal) → those ≡ these → AreThose these those
+those_same these those same = subst (AreThose these) (sym same) (record { has = all_from (Contains these) these (λ m has. has); only = all_from (Contains these) these (λ m has. has) })
+
+-- a literal is denied where its negation stands in the clause
+pub denied_has : (lits : List Literal) (l : Literal) → Contains lits (negated l) → Contains (map negated lits) l
+denied_has lits l has = subst (λ (k : Literal). Contains (map negated lits) k) (negated-twice l) (contains_map negated lits (negated l) has)
+
+pub has_denied : (lits : List Literal) (l : Literal) → Contains (map negated lits) l → Contains lits (negated l)
+has_denied lits l has =
+    let (m, there, is) = contains_unmap negated lits l has in
+    subst (λ (k : Literal). Contains lits k) (sym (negated-twice m) ∙ ap negated is) there
 
 module _ (assumed : List Literal) where
   -- each literal that was read is false, or one is open, which the clause would give if it ended here
@@ -175,5 +197,5 @@ module _ (assumed : List Literal) where
         subst (λ (ls : List Literal). IsOpen ls u) (ap (λ n. take n clause) same ∙ take-length clause) is
 
 -- what is assumed after a clause that gives a literal
-pub given_next : (keys old clause new : List Literal) (u : Literal) → keys ≡ old → Gives negated keys clause u → AreThose (u ∷ keys) new → GivesNext old clause new
-given_next keys old clause new u same gives grown = subst (λ (ls : List Literal). GivesNext ls clause new) same (record { literal = u; gives = gives; assumed = grown })
+pub given_next : (front keys old clause new : List Literal) (u : Literal) → front ++ keys ≡ old → Gives negated old clause u → AreThose (u ∷ keys) new → GivesNext old clause (front ++ new)
+given_next front keys old clause new u same gives grown = record { literal = u; gives = gives; assumed = subst (λ ls. AreThose (u ∷ ls) (front ++ new)) same (those_behind front keys new u grown) }

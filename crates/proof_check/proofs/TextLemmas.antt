@@ -1,15 +1,20 @@
 -- Lines that are judged as they are read from their text.
-use Rattle.std.proofs.Common.{◌≡◌, ◌∙◌, sym, ap, refl, subst, cond, ℕ, ◌+◌, ◌-◌, ◌<◌, ◌≤◌, List, [], ◌∷◌, ◌++◌, length, length-append, length-drop, get_or, take, drop, arith}
+use Rattle.std.proofs.Common.{◌≡◌, ◌∙◌, sym, ap, refl, subst, cond, ℕ, ◌+◌, ◌<◌, ◌≤◌, List, [], ◌∷◌, ◌++◌, length, length-append, length-drop, get_or, take, drop, append-nil, Bool, Ok, Err, arith}
+use Rattle.std.specs.Prelude.{IfOk, Result}
 use Rattle.std.specs.List.{join_with_byte}
 use Rattle.std.proofs.lemmas.List.{drop_more, take_all, take_more}
+use Rattle.std.proofs.lemmas.List.Elements.{All-cons, All-nil}
 use Rattle.std.proofs.lemmas.List.Sums.{sum_by-append}
 use Rattle.axiom_rules.specs.declared.literal.Literal.{Literal}
 use Rattle.axiom_rules.specs.Sought.{Sought}
 use Rattle.proof_log.specs.declared.line.Line.{Line}
 use Rattle.proof_log.specs.Derivations.{IsEmptyAt, clause_of_line}
 use Rattle.proof_log.specs.Freshness.{is_learn, learn_lines}
-use Rattle.proof_log.specs.LinesOf.{IsFrontLine, IsHeadLine, IsTextOf}
-use Rattle.proof_log.specs.LinesText.{line_text, line_words, newline, space}
+use Rattle.proof_log.specs.declared.parts.LineWords.{LineWords}
+use Rattle.proof_log.specs.LinesOf.{IsTextOf}
+use Rattle.proof_log.specs.LinesText.{line_text, line_words, lines_text, newline, space}
+use Rattle.proof_log.specs.Parts.{AreWordsOf, IsHeadWords}
+use Rattle.proof_log.specs.Spelled.{IsSpelled}
 use Rattle.proof_check.specs.declared.check.Check.{Check}
 use Rattle.proof_check.specs.declared.check.Check.TheVariants as check
 use Rattle.proof_check.specs.Answering.{AreJudged, IsAnswer, OfSought}
@@ -60,44 +65,64 @@ none_taken_yet s text = record {
   few = omega arith;
 }
 
--- a line has a byte at least, and more Learn lines than one it can't be
+-- a line has a byte at least
 text_some : (l : Line) → 1 ≤ length (line_text l)
 text_some l = omega (arith, length-append (join_with_byte space (line_words l)) (newline ∷ []))
 
-module _ (s : Sought) (text : List ℕ) (kept : List (List Literal)) (rest : List ℕ) (count : ℕ) (before : AreTaken s text kept rest count) (line : Line) (after : List ℕ) (front : IsFrontLine rest line after)
-    (head : (lines : List Line) → IsTextOf rest lines → IsHeadLine lines line after) where
-  pub shorter : length after < length rest
-  shorter = omega (arith, ap length front.split, length-append (line_text line) after, text_some line)
+-- what follows the first of the lines of a text is shorter than the text
+pub rest_shorter : (text : List ℕ) (lines : List Line) (ws : LineWords) (rest : List ℕ) → IsTextOf text lines → IsHeadWords lines ws rest → length rest < length text
+rest_shorter text lines ws rest is head =
+    let whole : text ≡ line_text head.line ++ lines_text head.others = is.text ∙ ap lines_text head.split in
+    omega (arith, ap length whole, length-append (line_text head.line) (lines_text head.others), ap length head.text.text, text_some head.line)
 
-  next_line : (lines : List Line) (is : IsTextOf text lines) → IsNextOf lines (length kept) line (head (drop (length kept) lines) (before.each lines is).text).others
+-- a line alone is the one of which these are the words
+pub words_alone : (l : Line) (ws : LineWords) (rest : List ℕ) → IsHeadWords (l ∷ []) ws rest → AreWordsOf ws l
+words_alone l ws rest head = let same : head.line ≡ l = sym (parted l head.line [] head.others head.split).0 in subst (AreWordsOf ws) same head.words
+
+pub text_alone : (l : Line) (text : List ℕ) → IsSpelled l → text ≡ line_text l → IsTextOf text (l ∷ [])
+text_alone l text spelled is = record { spelled = All-cons IsSpelled l [] spelled (All-nil IsSpelled); text = is ∙ sym (append-nil (line_text l)) }
+
+-- what is known of each line with these words is known of the line whose text they are from
+pub by_words : {E : Type 0} (P : Bool → Line → Type 0) (text : List ℕ) (ws : LineWords) (rest : List ℕ) → ((lines : List Line) → IsTextOf text lines → IsHeadWords lines ws rest) → (l : Line) → IsSpelled l → text ≡ line_text l
+    → (r : Result Bool E) → IfOk r (λ b. (k : Line) → IsSpelled k → AreWordsOf ws k → P b k) → IfOk r (λ b. P b l)
+by_words P text ws rest head l spelled is (Ok b) each = each l spelled (words_alone l ws rest (head (l ∷ []) (text_alone l text spelled is)))
+by_words P text ws rest head l spelled is (Err e) each = tt
+
+-- and some words are there
+pub none_alone : (l : Line) (text : List ℕ) → IsSpelled l → text ≡ line_text l → ((lines : List Line) → IsTextOf text lines → lines ≡ []) → ⊥
+none_alone l text spelled is none = let both = none (l ∷ []) (text_alone l text spelled is) in omega (arith, ap length both)
+
+module _ (s : Sought) (text : List ℕ) (kept : List (List Literal)) (rest : List ℕ) (count : ℕ) (before : AreTaken s text kept rest count) (ws : LineWords) (after : List ℕ)
+    (head : (lines : List Line) → IsTextOf rest lines → IsHeadWords lines ws after) where
+  next_line : (lines : List Line) (is : IsTextOf text lines) → (let h = head (drop (length kept) lines) (before.each lines is).text in IsNextOf lines (length kept) h.line h.others)
   next_line lines is =
       let h = head (drop (length kept) lines) (before.each lines is).text in
-      next_of lines (length kept) line h.others h.split
+      next_of lines (length kept) h.line h.others h.split
 
-  pub taken_wrong : (IsNext s kept line → ⊥) → (n : ℕ) → n ≡ length kept + 1 → (lines : List Line) → IsTextOf text lines → OfSought s (λ log f v. IsAnswer log f v lines (check.Wrong n))
+  pub taken_wrong : ((line : Line) → IsSpelled line → AreWordsOf ws line → IsNext s kept line → ⊥) → (n : ℕ) → n ≡ length kept + 1 → (lines : List Line) → IsTextOf text lines → OfSought s (λ log f v. IsAnswer log f v lines (check.Wrong n))
   taken_wrong wrong n number lines is =
+      let h = head (drop (length kept) lines) (before.each lines is).text in
       let next = next_line lines is in
-      subst (λ k. OfSought s (λ log f v. IsAnswer log f v lines (check.Wrong k))) (sym number) (judged_wrong s lines (length kept) kept line next.low next.at (before.each lines is).judged wrong)
+      subst (λ k. OfSought s (λ log f v. IsAnswer log f v lines (check.Wrong k))) (sym number) (judged_wrong s lines (length kept) kept h.line next.low next.at (before.each lines is).judged (wrong h.line h.spelled h.words))
 
-  pub taken_more : IsNext s kept line → (more : List (List Literal)) → more ≡ kept ++ clause_of_line line ∷ [] → (counted : ℕ) → counted ≡ count + learn_lines (line ∷ []) → learn_lines (line ∷ []) ≤ 1
+  pub taken_more : ((line : Line) → IsSpelled line → AreWordsOf ws line → IsNext s kept line) → length after < length rest → (more : List (List Literal)) → length more ≡ length kept + 1
+      → ((line : Line) → IsSpelled line → AreWordsOf ws line → more ≡ kept ++ clause_of_line line ∷ []) → (counted : ℕ) → ((line : Line) → AreWordsOf ws line → counted ≡ count + learn_lines (line ∷ [])) → counted ≤ count + 1
       → AreTaken s text more after counted
-  taken_more good more grown counted is_counted one =
-      let size : length more ≡ length kept + 1 = omega (arith, ap length grown, length-append kept (clause_of_line line ∷ [])) in
-      record {
-        each = λ lines is.
-            let so_far = before.each lines is in
-            let h = head (drop (length kept) lines) so_far.text in
-            let next = next_line lines is in
-            record {
-              within = omega (arith, size, next.low);
-              judged = subst (λ k. AreJudged s lines k more) (sym size) (judged_more s lines (length kept) kept line next.low next.at so_far.judged good more grown);
-              text = subst (IsTextOf after) (next.later ∙ ap (λ k. drop k lines) (sym size)) h.text;
-              learnt = is_counted ∙ ap (λ k. k + learn_lines (line ∷ [])) so_far.learnt ∙ sym (sum_by-append (λ (l : Line). cond (is_learn l) 1 0) (take (length kept) lines) (line ∷ []))
-                  ∙ ap learn_lines (ap (λ l. take (length kept) lines ++ l ∷ []) next.at ∙ sym (take_more lines (length kept) line next.low)) ∙ ap (λ k. learn_lines (take k lines)) (sym size);
-            };
-        room = omega (arith, before.room, size, shorter);
-        few = omega (arith, before.few, size, is_counted, one);
-      }
+  taken_more good shorter more size grown counted is_counted one = record {
+    each = λ lines is.
+        let so_far = before.each lines is in
+        let h = head (drop (length kept) lines) so_far.text in
+        let next = next_line lines is in
+        record {
+          within = omega (arith, size, next.low);
+          judged = subst (λ k. AreJudged s lines k more) (sym size) (judged_more s lines (length kept) kept h.line next.low next.at so_far.judged (good h.line h.spelled h.words) more (grown h.line h.spelled h.words));
+          text = subst (IsTextOf after) (next.later ∙ ap (λ k. drop k lines) (sym size)) h.text;
+          learnt = is_counted h.line h.words ∙ ap (λ k. k + learn_lines (h.line ∷ [])) so_far.learnt ∙ sym (sum_by-append (λ (l : Line). cond (is_learn l) 1 0) (take (length kept) lines) (h.line ∷ []))
+              ∙ ap learn_lines (ap (λ l. take (length kept) lines ++ l ∷ []) next.at ∙ sym (take_more lines (length kept) h.line next.low)) ∙ ap (λ k. learn_lines (take k lines)) (sym size);
+        };
+    room = omega (arith, before.room, size, shorter);
+    few = omega (arith, before.few, size, one);
+  }
 
 -- where nothing is left
 module _ (s : Sought) (text : List ℕ) (kept : List (List Literal)) (rest : List ℕ) (count : ℕ) (before : AreTaken s text kept rest count) (none : (lines : List Line) → IsTextOf rest lines → lines ≡ []) where

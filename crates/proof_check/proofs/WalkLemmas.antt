@@ -1,10 +1,10 @@
 -- Walks that go on, and walks that stop.
-use Rattle.std.proofs.Common.{◌≡◌, ◌∙◌, sym, ap, refl, subst, ℕ, zero, suc, ◌+◌, ◌-◌, ◌*◌, ◌^◌, ◌<◌, ◌≤◌, List, [], ◌∷◌, ◌++◌, length, take, get_or, map, Option, Some, None, inl, ℤ, pos, ◌+ℤ◌, ◌<ℤ◌, arith, length-append}
-use Rattle.std.specs.Prelude.{◌≢◌, IfSome, option_map, option_and_then, slice_get, All}
+use Rattle.std.proofs.Common.{◌≡◌, ◌∙◌, sym, ap, refl, subst, ℕ, zero, suc, ◌+◌, ◌-◌, ◌*◌, ◌^◌, ◌<◌, ◌≤◌, List, [], ◌∷◌, ◌++◌, length, take, map, Option, Some, None, inl, inr, ◌↔◌, Bool, true, false, IsTrue, ℤ, pos, ◌+ℤ◌, ◌<ℤ◌, arith, length-append}
+use Rattle.std.specs.Prelude.{◌≢◌, IfSome, option_map, All}
 use Rattle.std.proofs.lemmas.Int.{ints}
 use Rattle.std.proofs.lemmas.List.Elements.{All-nil, All-cons, All-head, All-tail}
-use Rattle.std.proofs.Math.Seq.{take-length, take-suc}
-use Rattle.std.proofs.lemmas.List.{length-take-le}
+use Rattle.std.proofs.Math.Seq.{take-length}
+use Rattle.std.proofs.lemmas.List.{take-append-le}
 use Rattle.mt_model.specs.declared.step.Step.{Step}
 use Rattle.mt_model.specs.declared.step.Step.TheVariants.{Low, High, Rise, Message, Late, Extra, Order}
 use Rattle.mt_model.specs.Laws.{IsBound}
@@ -14,7 +14,7 @@ use Rattle.neg_cycle.specs.declared.system.Edge.{Edge as SystemEdge}
 use Rattle.skew_bounds.specs.Edges.{edge_in}
 use Rattle.proof_check.specs.declared.walk.Walk.{Walk}
 use Rattle.proof_check.specs.Cycles.{FollowOneAnother, IsCycle, IsPlace, IsWalk, bound_edge_of}
-use Rattle.proof_check.specs.Walking.{BeginsAt, Covers, Goes, IsNear, Stops, with_edge}
+use Rattle.proof_check.specs.Walking.{BeginsAt, Covers, Follows, Goes, IsCyclic, IsJoined, IsNear, Stops, StopsAt, with_edge}
 
 somes_same : {X : Type 0} (xs ys : List X) → map Some xs ≡ map Some ys → xs ≡ ys
 somes_same [] [] same = refl
@@ -50,37 +50,25 @@ map_more : {X Y : Type 0} (h : X → Y) (xs : List X) (x : X) → map h (xs ++ x
 map_more h [] x = refl
 map_more h (y ∷ ys) x = ap (λ zs. h y ∷ zs) (map_more h ys x)
 
-take_more : {X : Type 0} (xs : List X) (i : ℕ) (d : X) → i < length xs → take (i + 1) xs ≡ take i xs ++ get_or xs i d ∷ []
-take_more xs i d below =
-    let next : suc i ≡ i + 1 = omega arith in
-    subst (λ n. take n xs ≡ take i xs ++ get_or xs i d ∷ []) next (take-suc xs i d below)
+take_front : {X : Type 0} (xs ys : List X) → take (length xs) (xs ++ ys) ≡ xs
+take_front xs ys = take-append-le (length xs) xs ys (omega arith) ∙ take-length xs
 
 -- a sum of few bounds has room
-pub near_room : (steps : List Step) (i : ℕ) (x : ℤ) → length steps < 2 ^ 32 → i < length steps → IsNear (length (take i steps) * 2 ^ 90) x → IsNear (2 ^ 122) x
-near_room steps i x few below near =
-    let count : length (take i steps) ≡ i = length-take-le i steps (omega (arith, below)) in
-    let there = subst (λ n. IsNear (n * 2 ^ 90) x) count near in
-    record { low = omega (arith, ints, there.low, few, below); high = omega (arith, ints, there.high, few, below) }
+pub near_few : (n : ℕ) (x : ℤ) → n < 2 ^ 32 → IsNear (n * 2 ^ 90) x → IsNear (2 ^ 122) x
+near_few n x few near = record { low = omega (arith, ints, near.low, few); high = omega (arith, ints, near.high, few) }
+
+near_edge : (o : Option SystemEdge) (x : Edge) → IfSome o (λ e. IsNear (2 ^ 90) e.bound) → option_map edge_in o ≡ Some x → IsNear (2 ^ 90) x.bound
+near_edge None x near is = absurd (cc)
+near_edge (Some e) x near is = let same : edge_in e ≡ x = cc in subst (λ (y : Edge). IsNear (2 ^ 90) y.bound) same near
+
+-- and with one more
+pub near_next : (n : ℕ) (w further : Walk) (o : Option SystemEdge) → 1 ≤ n → IsNear ((n - 1) * 2 ^ 90) w.sum → IfSome o (λ e. IsNear (2 ^ 90) e.bound) → Goes w (option_map edge_in o) further → IsNear (n * 2 ^ 90) further.sum
+near_next n w further o some near bound goes =
+    let same : n - 1 + 1 ≡ n = omega (arith, some) in
+    subst (λ (v : Walk). IsNear (n * 2 ^ 90) v.sum) (sym goes.is)
+    (subst (λ k. IsNear (k * 2 ^ 90) (w.sum +ℤ goes.x.bound)) same (near_more (n - 1) (2 ^ 90) w.sum goes.x.bound near (near_edge o goes.x bound goes.there)))
 
 module _ (edge : Step → Option Edge) where
-  -- the walk is that of the steps before a place, and begins where the first step does
-  pub record Follows (steps : List Step) (i : ℕ) (w : Walk) : Type 0 where
-    pub begins : BeginsAt edge steps w.start
-    pub covers : Covers edge (take i steps) w
-
-  -- the edges of steps that form a closed walk of negative sum
-  pub record IsCyclic (steps : List Step) : Type 0 where
-    pub edges : List Edge
-    pub found : map edge steps ≡ map Some edges
-    pub closed : IsClosedWalk edges
-    pub negative : sum_of_bounds edges <ℤ pos 0
-
-  -- the edges of steps that follow one another
-  pub record IsJoined (steps : List Step) : Type 0 where
-    pub edges : List Edge
-    pub found : map edge steps ≡ map Some edges
-    pub joined : FollowOneAnother edges
-
   pub covers_none : (a : ℕ) → Covers edge [] (record { start = a; «end» = a; sum = pos 0 })
   covers_none a = record { edges = []; found = refl; leads = refl; sum = refl; near = record { low = omega (arith, ints); high = omega (arith, ints) } }
 
@@ -92,23 +80,6 @@ module _ (edge : Step → Option Edge) where
     sum = ap (λ n. n +ℤ x.bound) covers.sum ∙ sym (sum_more covers.edges x);
     near = let count : length steps + 1 ≡ length (steps ++ s ∷ []) = omega (arith, length-append steps (s ∷ [])) in subst (λ n. IsNear (n * 2 ^ 90) (w.sum +ℤ x.bound)) count (near_more (length steps) (2 ^ 90) w.sum x.bound covers.near near);
   }
-
-  some_bound : (o : Option SystemEdge) (x : Edge) → IfSome o (λ e. IsNear (2 ^ 90) e.bound) → option_map edge_in o ≡ Some x → IsNear (2 ^ 90) x.bound
-  some_bound None x near is = absurd (cc)
-  some_bound (Some e) x near is = let same : edge_in e ≡ x = cc in subst (λ (y : Edge). IsNear (2 ^ 90) y.bound) same near
-
-  -- a walk that goes on by the next step
-  pub covers_more : (steps : List Step) (i : ℕ) (d : Step) (w further : Walk) (o : Option SystemEdge) → i < length steps → Covers edge (take i steps) w → option_map edge_in o ≡ edge (get_or steps i d)
-      → IfSome o (λ e. IsNear (2 ^ 90) e.bound) → Goes w (option_map edge_in o) further → Covers edge (take (i + 1) steps) further
-  covers_more steps i d w further o below covers is near goes =
-      rw (goes.is, take_more steps i d below) (covers_push (take i steps) (get_or steps i d) w goes.x covers (sym is ∙ goes.there) goes.joined (some_bound o goes.x near goes.there))
-
-  first_of_take : (steps : List Step) (i : ℕ) → slice_get (take (i + 1) steps) 0 ≡ slice_get steps 0
-  first_of_take steps i = let next : suc i ≡ i + 1 = omega arith in subst (λ n. slice_get (take n steps) 0 ≡ slice_get steps 0) next (first steps)
-    where
-      first : (xs : List Step) → slice_get (take (suc i) xs) 0 ≡ slice_get xs 0
-      first [] = refl
-      first (x ∷ xs) = refl
 
   -- edges that follow one another lead from the node where the first one begins
   joined_leads : (steps : List Step) (edges : List Edge) (a : ℕ) → BeginsAt edge steps a → map edge steps ≡ map Some edges → FollowOneAnother edges → (b : ℕ) × LeadsTo a edges b
@@ -133,21 +104,12 @@ module _ (edge : Step → Option Edge) where
       let first : y ≡ x = let both : Some y ≡ Some x = cc in cc in
       (z, is, ap (λ (e : Edge). e ∷ ys) first ∙ ap (λ es. x ∷ es) same)
 
-  stops_push : (steps : List Step) (s : Step) (w : Walk) → Covers edge steps w → BeginsAt edge (steps ++ s ∷ []) w.start → Stops w (edge s) → IsJoined (steps ++ s ∷ []) → ⊥
+  stops_push : (steps : List Step) (s : Step) (w : Walk) → Covers edge steps w → BeginsAt edge (steps ++ s ∷ []) w.start → Stops w (edge s) → IsJoined edge (steps ++ s ∷ []) → ⊥
   stops_push steps s w covers begins stops joined =
       let (x, is, same) = found_last steps s covers.edges joined.edges covers.found joined.found in
       let (b, leads) = joined_leads (steps ++ s ∷ []) joined.edges w.start begins joined.found joined.joined in
       let here = leads_fewer w.start b covers.edges x (subst (λ es. LeadsTo w.start es b) same leads) in
       subst (λ o. IfSome o (λ (e : Edge). e.from ≢ w.«end»)) is stops (leads_one w.start x.from w.«end» covers.edges here covers.leads)
-
-  -- a walk that stops at the next step
-  pub stops_there : (steps : List Step) (i : ℕ) (d : Step) (w : Walk) (o : Option SystemEdge) → i < length steps → BeginsAt edge steps w.start → Covers edge (take i steps) w → option_map edge_in o ≡ edge (get_or steps i d)
-      → Stops w (option_map edge_in o) → IsJoined (take (i + 1) steps) → ⊥
-  stops_there steps i d w o below (x, first, from) covers is stops joined =
-      let same = take_more steps i d below in
-      stops_push (take i steps) (get_or steps i d) w covers
-      (subst (λ ss. BeginsAt edge ss w.start) same (x, ap (option_and_then edge) (first_of_take steps i) ∙ first, from))
-      (subst (Stops w) is stops) (subst IsJoined same joined)
 
   front_found : (n : ℕ) (steps : List Step) (edges : List Edge) → map edge steps ≡ map Some edges → map edge (take n steps) ≡ map Some (take n edges)
   front_found zero steps edges found = refl
@@ -169,7 +131,7 @@ module _ (edge : Step → Option Edge) where
   front_joined (suc n) [] joined = tt
   front_joined (suc n) (x ∷ xs) joined = front_leads n x.to joined.0 xs joined.1
 
-  pub joined_front : (n : ℕ) (steps : List Step) → IsJoined steps → IsJoined (take n steps)
+  joined_front : (n : ℕ) (steps : List Step) → IsJoined edge steps → IsJoined edge (take n steps)
   joined_front n steps joined = record {
     edges = take n joined.edges;
     found = front_found n steps joined.edges joined.found;
@@ -180,14 +142,14 @@ module _ (edge : Step → Option Edge) where
   closed_joined [] closed = absurd closed
   closed_joined (x ∷ xs) closed = (x.from, closed)
 
-  pub cyclic_joined : (steps : List Step) → IsCyclic steps → IsJoined steps
+  cyclic_joined : (steps : List Step) → IsCyclic edge steps → IsJoined edge steps
   cyclic_joined steps cyclic = record { edges = cyclic.edges; found = cyclic.found; joined = closed_joined cyclic.edges cyclic.closed }
 
   leads_joined : (a b : ℕ) (edges : List Edge) → LeadsTo a edges b → FollowOneAnother edges
   leads_joined a b [] leads = tt
   leads_joined a b (x ∷ xs) leads = (b, leads.1)
 
-  pub covers_joined : (steps : List Step) (w : Walk) → Covers edge steps w → IsJoined steps
+  covers_joined : (steps : List Step) (w : Walk) → Covers edge steps w → IsJoined edge steps
   covers_joined steps w covers = record { edges = covers.edges; found = covers.found; joined = leads_joined w.start w.«end» covers.edges covers.leads }
 
   closed_from : (steps : List Step) (edges : List Edge) (a b : ℕ) → 1 ≤ length steps → map edge steps ≡ map Some edges → LeadsTo a edges b → a ≡ b → IsClosedWalk edges
@@ -196,7 +158,7 @@ module _ (edge : Step → Option Edge) where
   closed_from (s ∷ ss) (x ∷ xs) a b some found leads same = subst (LeadsTo x.to xs) (sym same ∙ sym leads.0) leads.1
 
   -- a walk that comes back to its start with a negative sum
-  pub covers_cyclic : (steps : List Step) (w : Walk) → 1 ≤ length steps → Covers edge steps w → w.start ≡ w.«end» → w.sum <ℤ pos 0 → IsCyclic steps
+  covers_cyclic : (steps : List Step) (w : Walk) → 1 ≤ length steps → Covers edge steps w → w.start ≡ w.«end» → w.sum <ℤ pos 0 → IsCyclic edge steps
   covers_cyclic steps w some covers back negative = record {
     edges = covers.edges;
     found = covers.found;
@@ -208,75 +170,87 @@ module _ (edge : Step → Option Edge) where
   comes_back [] a b leads closed = absurd closed
   comes_back (x ∷ xs) a b leads closed = sym leads.0 ∙ leads_one x.to x.from b xs closed leads.1
 
-  pub cyclic_covers : (steps : List Step) (w : Walk) → Covers edge steps w → IsCyclic steps → (w.start ≡ w.«end») × (w.sum <ℤ pos 0)
+  cyclic_covers : (steps : List Step) (w : Walk) → Covers edge steps w → IsCyclic edge steps → (w.start ≡ w.«end») × (w.sum <ℤ pos 0)
   cyclic_covers steps w covers cyclic =
       let same : cyclic.edges ≡ covers.edges = somes_same cyclic.edges covers.edges (sym cyclic.found ∙ covers.found) in (
         comes_back covers.edges w.start w.«end» covers.leads (subst IsClosedWalk same cyclic.closed),
         subst (λ n. n <ℤ pos 0) (ap sum_of_bounds same ∙ sym covers.sum) cyclic.negative,
       )
 
-  none_cyclic : IsCyclic [] → ⊥
+  pub none_cyclic : IsCyclic edge [] → ⊥
   none_cyclic cyclic = go cyclic.edges cyclic.found cyclic.closed
     where
       go : (edges : List Edge) → map edge [] ≡ map Some edges → IsClosedWalk edges → ⊥
       go [] found closed = closed
       go (x ∷ xs) found closed = cc
 
-  pub cyclic_some : (steps : List Step) → IsCyclic steps → 1 ≤ length steps
-  cyclic_some [] cyclic = absurd (none_cyclic cyclic)
-  cyclic_some (s ∷ ss) cyclic = omega arith
+  -- the first step is the same with one more
+  begins_more : (steps : List Step) (s : Step) (a : ℕ) → BeginsAt edge steps a → BeginsAt edge (steps ++ s ∷ []) a
+  begins_more [] s a (x, is, from) = absurd (cc)
+  begins_more (r ∷ rs) s a begins = begins
 
-  -- steps whose first one has no edge are not joined
-  pub first_stops : (steps : List Step) (n : ℕ) → option_and_then edge (slice_get steps 0) ≡ None → 1 ≤ length steps → IsJoined (take (n + 1) steps) → ⊥
-  first_stops [] n none some joined = absurd (omega (arith, some))
-  first_stops (s ∷ ss) n none some joined =
-      let same : n + 1 ≡ suc n = omega arith in
-      let whole = subst (λ k. IsJoined (take k (s ∷ ss))) same joined in
-      go whole.edges whole.found
-    where
-      go : (edges : List Edge) → map edge (s ∷ take n ss) ≡ map Some edges → ⊥
-      go [] found = cc
-      go (x ∷ xs) found = cc
+  pub begins_first : (s : Step) (o : Option SystemEdge) (e : SystemEdge) → option_map edge_in o ≡ edge s → o ≡ Some e → BeginsAt edge (s ∷ []) e.from
+  begins_first s o e is some = (edge_in e, sym is ∙ ap (option_map edge_in) some, refl)
 
-  -- the walk as it begins
-  pub follows_first : (steps : List Step) (first : Step) (o : Option SystemEdge) (e : SystemEdge) (w : Walk) → slice_get steps 0 ≡ Some first → option_map edge_in o ≡ edge first → o ≡ Some e
-      → w ≡ record { start = e.from; «end» = e.from; sum = pos 0 } → Follows steps 0 w
-  follows_first steps first o e w at is some begins = record {
-    begins = (edge_in e, ap (option_and_then edge) at ∙ sym is ∙ ap (option_map edge_in) some, sym (ap (λ (v : Walk). v.start) begins));
-    covers = subst (Covers edge []) (sym begins) (covers_none e.from);
-  }
-
-  pub follows_more : (steps : List Step) (i : ℕ) (d : Step) (w further : Walk) (o : Option SystemEdge) → i < length steps → Follows steps i w → option_map edge_in o ≡ edge (get_or steps i d)
-      → IfSome o (λ e. IsNear (2 ^ 90) e.bound) → Goes w (option_map edge_in o) further → Follows steps (i + 1) further
-  follows_more steps i d w further o below follows is near goes = record {
-    begins = subst (BeginsAt edge steps) (sym (ap (λ (v : Walk). v.start) goes.is)) follows.begins;
-    covers = covers_more steps i d w further o below follows.covers is near goes;
-  }
-
-  -- it stops at the next step
-  pub follows_stops : (steps : List Step) (i : ℕ) (d : Step) (w : Walk) (o : Option SystemEdge) → i < length steps → Follows steps i w → option_map edge_in o ≡ edge (get_or steps i d)
-      → Stops w (option_map edge_in o) → IsJoined (take (i + 1) steps) → ⊥
-  follows_stops steps i d w o below follows is stops joined = stops_there steps i d w o below follows.begins follows.covers is stops joined
-
-  pub follows_stops_all : (steps : List Step) (i : ℕ) (d : Step) (w : Walk) (o : Option SystemEdge) → i < length steps → Follows steps i w → option_map edge_in o ≡ edge (get_or steps i d)
-      → Stops w (option_map edge_in o) → IsCyclic steps → ⊥
-  follows_stops_all steps i d w o below follows is stops cyclic = follows_stops steps i d w o below follows is stops (joined_front (i + 1) steps (cyclic_joined steps cyclic))
-
-  -- it has come to the end
   begins_some : (steps : List Step) (a : ℕ) → BeginsAt edge steps a → 1 ≤ length steps
   begins_some [] a (x, is, from) = absurd (cc)
   begins_some (s ∷ ss) a begins = omega arith
 
-  follows_all : (steps : List Step) (i : ℕ) (w : Walk) → i ≤ length steps → length steps ≤ i → Follows steps i w → Covers edge steps w
-  follows_all steps i w most least follows =
-      let same : i ≡ length steps = omega (arith, most, least) in
-      subst (λ ss. Covers edge ss w) (ap (λ n. take n steps) same ∙ take-length steps) follows.covers
+  module _ (steps : List Step) (s : Step) (w : Walk) (o : Option SystemEdge) (n : ℕ) (is : option_map edge_in o ≡ edge s) (number : length steps + 1 ≡ n) (covers : Covers edge steps w) (begins : BeginsAt edge (steps ++ s ∷ []) w.start) where
+    -- a walk that goes on by a step more
+    pub goes_along : IfSome o (λ e. IsNear (2 ^ 90) e.bound) → (further : Walk) → Goes w (option_map edge_in o) further → Follows edge (steps ++ s ∷ []) further
+    goes_along near further goes = record {
+      begins = subst (BeginsAt edge (steps ++ s ∷ [])) (sym (ap (λ (v : Walk). v.start) goes.is)) begins;
+      covers = rw goes.is (covers_push steps s w goes.x covers (sym is ∙ goes.there) goes.joined (near_edge o goes.x near goes.there));
+    }
 
-  pub follows_cyclic : (steps : List Step) (i : ℕ) (w : Walk) → i ≤ length steps → length steps ≤ i → Follows steps i w → (w.start ≡ w.«end») × (w.sum <ℤ pos 0) → IsCyclic steps
-  follows_cyclic steps i w most least follows (back, negative) = covers_cyclic steps w (begins_some steps w.start follows.begins) (follows_all steps i w most least follows) back negative
+    -- and one that stops at it
+    pub stops_at : Stops w (option_map edge_in o) → StopsAt edge (steps ++ s ∷ []) n
+    stops_at stops =
+        let size : length (steps ++ s ∷ []) ≡ n = omega (arith, number, length-append steps (s ∷ [])) in
+        let before : n - 1 ≡ length steps = omega (arith, number) in
+        record {
+          some = omega (arith, number);
+          within = omega (arith, size);
+          before = subst (IsJoined edge) (sym (ap (λ k. take k (steps ++ s ∷ [])) before ∙ take_front steps (s ∷ []))) (covers_joined steps w covers);
+          loose = λ joined. stops_push steps s w covers begins (subst (Stops w) is stops) (subst (IsJoined edge) (ap (λ k. take k (steps ++ s ∷ [])) (sym size) ∙ take-length (steps ++ s ∷ [])) joined);
+        }
 
-  pub cyclic_follows : (steps : List Step) (i : ℕ) (w : Walk) → i ≤ length steps → length steps ≤ i → Follows steps i w → IsCyclic steps → (w.start ≡ w.«end») × (w.sum <ℤ pos 0)
-  cyclic_follows steps i w most least follows cyclic = cyclic_covers steps w (follows_all steps i w most least follows) cyclic
+  -- the first step has no edge
+  pub stops_first : (s : Step) → edge s ≡ None → StopsAt edge (s ∷ []) 1
+  stops_first s none = record {
+    some = omega arith;
+    within = omega arith;
+    before = record { edges = []; found = refl; joined = tt };
+    loose = λ joined. go joined.edges joined.found;
+  }
+    where
+      go : (edges : List Edge) → map edge (s ∷ []) ≡ map Some edges → ⊥
+      go [] found = cc
+      go (x ∷ xs) found = let is : edge s ≡ Some x = cc in let both : None ≡ Some x = sym none ∙ is in cc
+
+  -- where steps stopped, they stop with one more
+  pub stopped_more : (steps : List Step) (s : Step) (n : ℕ) → StopsAt edge steps n → StopsAt edge (steps ++ s ∷ []) n
+  stopped_more steps s n stops = record {
+    some = stops.some;
+    within = omega (arith, stops.within, length-append steps (s ∷ []));
+    before = subst (IsJoined edge) (sym (take-append-le (n - 1) steps (s ∷ []) (omega (arith, stops.within)))) stops.before;
+    loose = λ joined. stops.loose (subst (IsJoined edge) (take-append-le n steps (s ∷ []) stops.within) joined);
+  }
+
+  -- a walk goes on
+  pub along_more : (steps : List Step) (s : Step) (w : Walk) → Follows edge steps w → BeginsAt edge (steps ++ s ∷ []) w.start
+  along_more steps s w follows = begins_more steps s w.start follows.begins
+
+  -- steps that have come to an end are closed and of negative sum where their walk is
+  pub along_cyclic : (steps : List Step) (w : Walk) → Follows edge steps w → ((w.start ≡ w.«end») × (w.sum <ℤ pos 0)) ↔ IsCyclic edge steps
+  along_cyclic steps w follows = (
+    λ both. covers_cyclic steps w (begins_some steps w.start follows.begins) follows.covers both.0 both.1,
+    λ cyclic. cyclic_covers steps w follows.covers cyclic,
+  )
+
+  pub stopped_cyclic : (steps : List Step) (n : ℕ) → StopsAt edge steps n → IsCyclic edge steps → ⊥
+  stopped_cyclic steps n stops cyclic = stops.loose (joined_front n steps (cyclic_joined steps cyclic))
 
 -- conflicts and cycles are cyclic
 pub conflict_cyclic : (log : Logged) (steps : List Step) → Conflict log steps → IsCyclic (edge_of log) steps
@@ -284,6 +258,15 @@ conflict_cyclic log steps conflict = record { edges = conflict.edges; found = co
 
 pub cyclic_conflict : (log : Logged) (steps : List Step) → IsCyclic (edge_of log) steps → Conflict log steps
 cyclic_conflict log steps cyclic = record { edges = cyclic.edges; found = cyclic.found; closed = cyclic.closed; negative = cyclic.negative }
+
+-- whether steps are a conflict, by the walk over them
+pub conflict_none : (log : Logged) (steps : List Step) (b : Bool) → IsTrue b ↔ IsCyclic (edge_of log) steps → b ≡ false → IsTrue false ↔ Conflict log steps
+conflict_none log steps true says fails = absurd (cc)
+conflict_none log steps false says fails = (λ holds. absurd (cc), λ conflict. says.1 (conflict_cyclic log steps conflict))
+
+pub conflict_some : (log : Logged) (steps : List Step) (b : Bool) → IsTrue b ↔ IsCyclic (edge_of log) steps → b ≡ true → IsTrue true ↔ Conflict log steps
+conflict_some log steps true says holds = (λ is. cyclic_conflict log steps (says.0 is), λ conflict. refl)
+conflict_some log steps false says holds = absurd (cc)
 
 module _ (log : Logged) where
   bound_has : (s : Step) (x : Edge) → bound_edge_of log s ≡ Some x → IsBound s × (edge_of log s ≡ Some x)
@@ -341,20 +324,23 @@ module _ (log : Logged) where
       let both = bounds_found steps cyclic.edges cyclic.found in
       record { bounds = both.0; conflict = record { edges = cyclic.edges; found = both.1; closed = cyclic.closed; negative = cyclic.negative } }
 
-  pub joined_walk : (steps : List Step) → IsJoined (bound_edge_of log) steps → IsWalk log steps
+  joined_walk : (steps : List Step) → IsJoined (bound_edge_of log) steps → IsWalk log steps
   joined_walk steps joined = record { edges = joined.edges; found = joined.found; joined = joined.joined }
 
-  pub walk_joined : (steps : List Step) → IsWalk log steps → IsJoined (bound_edge_of log) steps
+  walk_joined : (steps : List Step) → IsWalk log steps → IsJoined (bound_edge_of log) steps
   walk_joined steps walk = record { edges = walk.edges; found = walk.found; joined = walk.joined }
 
-  -- the step at which a walk stops is the place
-  pub loose_there : (steps : List Step) (i : ℕ) (d : Step) (w : Walk) (o : Option SystemEdge) → i < length steps → Follows (bound_edge_of log) steps i w → option_map edge_in o ≡ bound_edge_of log (get_or steps i d)
-      → Stops w (option_map edge_in o) → IsPlace log steps (i + 1)
-  loose_there steps i d w o below follows is stops =
-      let back : i ≡ i + 1 - 1 = omega arith in
-      inl (record {
-        some = omega arith;
-        within = omega (arith, below);
-        before = subst (λ n. IsWalk log (take n steps)) back (joined_walk (take i steps) (covers_joined (bound_edge_of log) (take i steps) w follows.covers));
-        loose = λ walk. follows_stops (bound_edge_of log) steps i d w o below follows is stops (walk_joined (take (i + 1) steps) walk);
-      })
+  -- the place that is named
+  pub stopped_place : (steps : List Step) (n : ℕ) → StopsAt (bound_edge_of log) steps n → IsPlace log steps n
+  stopped_place steps n stops = inl (record {
+    some = stops.some;
+    within = stops.within;
+    before = joined_walk (take (n - 1) steps) stops.before;
+    loose = λ walk. stops.loose (walk_joined (take n steps) walk);
+  })
+
+  pub along_place : (steps : List Step) (w : Walk) → Follows (bound_edge_of log) steps w → (n : ℕ) → n ≡ length steps → IsPlace log steps n
+  along_place steps w follows n is = inr (joined_walk steps (covers_joined (bound_edge_of log) steps w follows.covers), is)
+
+  pub start_place : (steps : List Step) → steps ≡ [] → IsPlace log steps 0
+  start_place steps none = inr (record { edges = []; found = ap (map (bound_edge_of log)) none; joined = tt }, sym (ap length none))

@@ -1,5 +1,5 @@
 -- How the hints of a line are taken, and when a line is right.
-use Rattle.std.specs.Prelude.{◌≡◌, ◌+◌, ℕ, List, length, MatchOption}
+use Rattle.std.specs.Prelude.{◌≡◌, ◌+◌, ℕ, List, length, All, MatchOption}
 use Rattle.hint_refutation.specs.Hints.{Refutes}
 use Rattle.axiom_rules.specs.declared.literal.Literal.{Literal}
 use Rattle.axiom_rules.specs.Literals.{negated}
@@ -7,7 +7,7 @@ use Rattle.axiom_rules.specs.Sought.{Sought}
 use Rattle.proof_log.specs.declared.line.Hint.{Hint}
 use Rattle.proof_log.specs.declared.line.Line.{Line}
 use Rattle.proof_log.specs.Derivations.{HasClauses, IsEmptyAt, IsShown, clause_of_hint}
-use Rattle.proof_log.specs.Spelled.{IsSpelled}
+use Rattle.proof_log.specs.Spelled.{IsNumber, IsSpelled, IsSpelledLiteral}
 use Rattle.proof_check.specs.declared.refutation.Taken.{Taken}
 use Rattle.proof_check.specs.declared.refutation.Taken.TheVariants as taken
 use Rattle.proof_check.specs.Keeping.{lines_with}
@@ -33,3 +33,8 @@ module _ (s : Sought) (lines : List Line) (n : ℕ) where
 pub record IsNext (s : Sought) (kept : List (List Literal)) (line : Line) : Type 0 where
   pub right : IsRight s (lines_with kept) (length kept + 1) line
   pub open_before : IsEmptyAt (lines_with kept) (length kept) → ⊥
+
+-- literals have a spelling: there are fewer than 2^32, and each has one
+pub record AreSpelledLiterals (lits : List Literal) : Type 0 where
+  pub count : IsNumber (length lits)
+  pub each : All IsSpelledLiteral lits

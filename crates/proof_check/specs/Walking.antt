@@ -1,9 +1,14 @@
 -- A walk as far as it has come.
-use Rattle.std.specs.Prelude.{◌≡◌, ◌≢◌, ◌*◌, ◌^◌, ℕ, List, length, map, Option, Some, slice_get, ℤ, pos, ◌+ℤ◌, ◌≤ℤ◌}
+use Rattle.std.specs.Prelude.{◌≡◌, ◌≢◌, ◌-◌, ◌*◌, ◌^◌, ◌≤◌, ℕ, List, [], length, map, take, Option, Some, slice_get, ℤ, pos, ◌+ℤ◌, ◌≤ℤ◌, ◌<ℤ◌}
 use Rattle.std.specs.Prelude.{option_and_then, IfSome}
 use Rattle.mt_model.specs.declared.step.Step.{Step}
-use Rattle.mt_model.specs.Walks.{Edge, LeadsTo, sum_of_bounds}
+use Rattle.mt_model.specs.Log.{Logged}
+use Rattle.mt_model.specs.Walks.{Edge, IsClosedWalk, LeadsTo, sum_of_bounds}
 use Rattle.proof_check.specs.declared.walk.Walk.{Walk}
+use Rattle.proof_check.specs.declared.course.Course.{Course}
+use Rattle.proof_check.specs.declared.course.Course.TheVariants as course
+use Rattle.proof_check.specs.declared.course.CycleWalk.{CycleWalk}
+use Rattle.proof_check.specs.Cycles.{FollowOneAnother, bound_edge_of}
 
 -- from -n to n
 pub record IsNear (n : ℕ) (x : ℤ) : Type 0 where
@@ -36,3 +41,54 @@ pub record Goes (walk : Walk) (edge : Option Edge) (further : Walk) : Type 0 whe
 -- there is no edge, or it doesn't begin where the walk ends
 abbrev pub Stops : Walk → Option Edge → Type 0
 Stops walk edge = IfSome edge (λ x. x.from ≢ walk.«end»)
+
+module _ (edge : Step → Option Edge) where
+  -- there are steps, and the walk is theirs
+  pub record Follows (steps : List Step) (walk : Walk) : Type 0 where
+    pub begins : BeginsAt edge steps walk.start
+    pub covers : Covers edge steps walk
+
+  -- the steps have edges, each of which begins where the one before ends
+  pub record IsJoined (steps : List Step) : Type 0 where
+    pub edges : List Edge
+    pub found : map edge steps ≡ map Some edges
+    pub joined : FollowOneAnother edges
+
+  -- the edges of the steps form a closed walk of negative sum
+  pub record IsCyclic (steps : List Step) : Type 0 where
+    pub edges : List Edge
+    pub found : map edge steps ≡ map Some edges
+    pub closed : IsClosedWalk edges
+    pub negative : sum_of_bounds edges <ℤ pos 0
+
+  -- step n is the first one that has no edge or doesn't begin where the one before ends
+  pub record StopsAt (steps : List Step) (n : ℕ) : Type 0 where
+    pub some : 1 ≤ n
+    pub within : n ≤ length steps
+    pub before : IsJoined (take (n - 1) steps)
+    pub loose : IsJoined (take n steps) → ⊥
+
+  -- how far steps lead: there are none, they form a walk, or they stop at one
+  abbrev pub LeadsUpTo : List Step → Course → Type 0
+  LeadsUpTo steps course.Start = steps ≡ []
+  LeadsUpTo steps (course.Along walk) = Follows steps walk
+  LeadsUpTo steps (course.Stopped n) = StopsAt steps n
+
+  -- these steps were given, and lead so far
+  pub record HasCome (steps : List Step) (walk : CycleWalk) : Type 0 where
+    pub count : walk.count ≡ length steps
+    pub course : LeadsUpTo steps walk.course
+
+-- the same of the bounds of a log
+abbrev pub HasWalked : Logged → List Step → CycleWalk → Type 0
+HasWalked log = HasCome (bound_edge_of log)
+
+-- the sum of n bounds is near
+abbrev pub IsRoomy : ℕ → Course → Type 0
+IsRoomy n course.Start = Unit {0}
+IsRoomy n (course.Along walk) = IsNear (n * 2 ^ 90) walk.sum
+IsRoomy n (course.Stopped place) = Unit {0}
+
+-- the sum of a walk's bounds is near
+abbrev pub HasRoom : CycleWalk → Type 0
+HasRoom walk = IsRoomy walk.count walk.course

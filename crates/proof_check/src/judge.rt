@@ -1,23 +1,27 @@
-//! Whether a line is right, given the clauses of the lines before it.
+//! Whether the next line is right by its words, given the clauses of the lines before it.
 
-ghost use Rattle.std.specs.Prelude.{◌≡◌, ◌↔◌, ◌+◌, if◌then◌else◌, length, IfOk, IsTrue, None, Some};
+ghost use Rattle.std.specs.Prelude.{◌≡◌, ◌↔◌, ◌+◌, ◌<◌, ◌^◌, ◌∷◌, [], ◌++◌, if◌then◌else◌, List, length, IfOk, IsTrue, MatchOption, None, Some};
+ghost use Rattle.std.specs.List.{flat_map};
+ghost use Rattle.std.specs.Fmt.{decimal};
 ghost use Rattle.std.specs.Result.{result_ok};
+ghost use Rattle.axiom_rules.specs.declared.literal.Literal.{Literal};
 ghost use Rattle.axiom_rules.specs.Clauses.{clause_of as clause_of_rule};
-ghost use Rattle.skew_bounds.specs.RowEdges.{IsEdgeTableOf};
+ghost use Rattle.proof_log.specs.declared.line.Hint.{Hint};
+ghost use Rattle.proof_log.specs.Citing.{AreSpelledHints};
 ghost use Rattle.proof_log.specs.Derivations.{IsLearnt};
-ghost use Rattle.proof_log.specs.Spelled.{IsSpelled};
-ghost use Rattle.proof_check.specs.Judging.{AreRefuting, IsHintTaken, IsRight};
-ghost use Rattle.proof_check.specs.Keeping.{lines_with};
+ghost use Rattle.proof_log.specs.LinesText.{Word, hint_words, literal_words};
+ghost use Rattle.proof_log.specs.Reading.{words_after};
+ghost use Rattle.proof_log.specs.Spelled.{IsSpelledLearn};
+ghost use Rattle.proof_check.specs.Judging.{AreRefuting, AreSpelledLiterals, IsHintTaken};
+ghost use Rattle.proof_check.specs.Keeping.{closed_only, lines_with, with_pending};
 
 use crate::clauses::cited_clause;
 use crate::kept::Clauses;
 use crate::range::are_in_range;
 use crate::refutation::{Assumed, Taken};
-use crate::walk::is_conflict;
 use axiom_rules::{Literal, Rule, RuleFault, Rules};
 use hint_refutation::{assumed_is_set, refuters_give, steps_are_forced};
-use proof_log::{Hint, Line};
-use skew_bounds::EdgeTable;
+use proof_log::{Hint, read_count, read_hint, read_literal};
 use smallvec::SmallVec;
 use std::alloc::{AllocError, Global};
 
@@ -35,7 +39,7 @@ fn writes_clause(rules: &Rules, rule: &Rule, clause: &mut Clause) -> Result<bool
     }
 }
 
-// Takes the clause of a hint of the line after those whose clauses are kept.
+// Takes the clause of a hint of the line after those whose clauses are closed.
 fn take_hint(
     rules: &Rules,
     kept: &Clauses,
@@ -43,7 +47,7 @@ fn take_hint(
     clause: &mut Clause,
     assumed: &mut Assumed,
 ) -> Result<Taken, AllocError>
-    ensures { IfOk result (λ taken. IsHintTaken rules.now (lines_with kept.now) (length kept.now + 1) hint assumed.old assumed.new taken) }
+    ensures { IfOk result (λ taken. IsHintTaken rules.now (lines_with kept.now.closed) (length kept.now.closed + 1) hint assumed.old assumed.new taken) }
 {
     match hint {
         Hint::Line(m) => match cited_clause(kept, m) {
@@ -60,74 +64,94 @@ fn take_hint(
     }
 }
 
-// Whether hints refute what is assumed.
+// Whether so many hints, the words of which follow, refute what is assumed. Each is taken as it is read.
 fn are_refuting(
     rules: &Rules,
     kept: &Clauses,
-    hints: &[Hint],
+    count: u32,
+    words: &[u8],
     clause: &mut Clause,
     assumed: &mut Assumed,
 ) -> Result<bool, AllocError>
-    ensures { IfOk result (λ b. IsTrue b ↔ AreRefuting rules.now (lines_with kept.now) (length kept.now + 1) assumed.old hints.now) }
+    ensures { IfOk result (λ b. (hints : List Hint) → AreSpelledHints hints → length hints ≡ count → words_after words.now ≡ flat_map hint_words hints → IsTrue b ↔ AreRefuting rules.now (lines_with kept.now.closed) (length kept.now.closed + 1) assumed.old hints) }
 {
     refuters_give::<Literal>();
     assumed_is_set::<Literal>();
     steps_are_forced::<Literal>();
-    for (i, hint) in hints.iter().enumerate() {
-        match take_hint(rules, kept, *hint, clause, assumed)? {
-            Taken::Gives => {}
-            Taken::False => return Ok(i + 1 == hints.len()),
+    let mut rest = words;
+    for i in 0..count {
+        let Some((hint, after)) = read_hint(rest) else {
+            return Ok(false);
+        };
+        match take_hint(rules, kept, hint, clause, assumed)? {
+            Taken::Gives => rest = after,
+            Taken::False => return Ok(i + 1 == count),
             Taken::Stuck => return Ok(false),
         }
     }
     Ok(false)
 }
 
-// Whether literals are in range, and hints refute their negations.
+// Whether the pending literals are in range, and hints, the words of which follow their number, refute their negations.
 fn is_learnt(
     alloc: Global,
     rules: &Rules,
     kept: &Clauses,
-    lits: &[Literal],
-    hints: &[Hint],
+    words: &[u8],
     clause: &mut Clause,
 ) -> Result<bool, AllocError>
-    ensures { IfOk result (λ b. IsTrue b ↔ IsLearnt rules.now (lines_with kept.now) (length kept.now + 1) lits.now hints.now) }
+    requires few { length kept.now.pending < 2 ^ 32 }
+    ensures { IfOk result (λ b. (hints : List Hint) → AreSpelledHints hints → words_after words.now ≡ decimal (length hints) ∷ flat_map hint_words hints → IsTrue b ↔ IsLearnt rules.now (lines_with kept.now.closed) (length kept.now.closed + 1) kept.now.pending hints) }
 {
     refuters_give::<Literal>();
     assumed_is_set::<Literal>();
     steps_are_forced::<Literal>();
+    let lits = kept.pending();
     if !are_in_range(rules, lits) {
         return Ok(false);
     }
-    // New for each line, so that no line pays for what an earlier one assumed.
-    let mut assumed = Assumed::new(alloc);
-    assumed.deny(lits)?;
-    are_refuting(rules, kept, hints, clause, &mut assumed)
+    let mut assumed = Assumed::denying(alloc, lits)?;
+    let (count, hints) = read_count(words);
+    are_refuting(rules, kept, count, hints, clause, &mut assumed)
 }
 
-/// Whether a line that has a spelling is right as the one after those whose clauses are kept.
-pub fn is_right(
+// Adds the literals, the words of which follow their number, to the pending clause. The words after them.
+fn push_literals<'a>(kept: &mut Clauses, words: &'a [u8]) -> Result<Option<&'a [u8]>, AllocError>
+    ensures literals { IfOk result (λ found. (lits : List Literal) (after : List Word) → AreSpelledLiterals lits → words_after words.now ≡ decimal (length lits) ∷ (flat_map literal_words lits ++ after) → MatchOption found ⊥ (λ rest. (words_after rest.now ≡ after) × (kept.new ≡ with_pending kept.old lits))) }
+    ensures closed { IfOk result (λ _. kept.new.closed ≡ kept.old.closed) }
+    ensures few { IfOk result (λ _. length kept.new.pending < length kept.old.pending + 2 ^ 32) }
+{
+    let (count, first) = read_count(words);
+    let mut rest = first;
+    for _i in 0..count {
+        let Some((literal, after)) = read_literal(rest) else {
+            return Ok(None);
+        };
+        kept.push(literal)?;
+        rest = after;
+    }
+    Ok(Some(rest))
+}
+
+/// Whether a Learn line of these words is right. If so, its clause is closed.
+pub fn takes_learn(
     alloc: Global,
     rules: &Rules,
-    table: &EdgeTable,
-    kept: &Clauses,
-    line: &Line,
+    kept: &mut Clauses,
     clause: &mut Clause,
+    words: &[u8],
 ) -> Result<bool, AllocError>
-    requires table { IsEdgeTableOf rules.now.log table.now }
-    requires spelled { IsSpelled line.now }
-    ensures { IfOk result (λ b. IsTrue b ↔ IsRight rules.now (lines_with kept.now) (length kept.now + 1) line.now) }
+    requires open { kept.old.pending ≡ [] }
+    ensures learnt { IfOk result (λ b. (lits : List Literal) (hints : List Hint) → IsSpelledLearn lits hints → words_after words.now ≡ decimal (length lits) ∷ (flat_map literal_words lits ++ decimal (length hints) ∷ flat_map hint_words hints) → IsTrue b ↔ IsLearnt rules.now (lines_with kept.old.closed) (length kept.old.closed + 1) lits hints) }
+    ensures grown { IfOk result (λ b. IsTrue b → (clause : List Literal) × (kept.new ≡ closed_only (kept.old.closed ++ clause ∷ []))) }
+    ensures kept { IfOk result (λ b. (lits : List Literal) (hints : List Hint) → IsSpelledLearn lits hints → words_after words.now ≡ decimal (length lits) ∷ (flat_map literal_words lits ++ decimal (length hints) ∷ flat_map hint_words hints) → IsTrue b → kept.new ≡ closed_only (kept.old.closed ++ lits ∷ [])) }
 {
-    match line {
-        Line::Cycle(steps) => Ok(is_conflict(rules.log(), table, steps.as_slice())),
-        Line::Learn { lits, hints } => is_learnt(
-            alloc,
-            rules,
-            kept,
-            lits.as_slice(),
-            hints.as_slice(),
-            clause,
-        ),
+    let Some(hints) = push_literals(kept, words)? else {
+        return Ok(false);
+    };
+    if !is_learnt(alloc, rules, kept, hints, clause)? {
+        return Ok(false);
     }
+    kept.close()?;
+    Ok(true)
 }

@@ -1,27 +1,30 @@
-ghost use Rattle.std.specs.Prelude.{◌≡◌, ◌-◌, ◌<◌, [], ◌∷◌, ◌++◌, length, option_copied, slice_get, slice_index, slice_index_or, OnOk};
+ghost use Rattle.std.specs.Prelude.{◌≡◌, ◌-◌, ◌<◌, ◌≤◌, ◌^◌, [], ◌∷◌, ◌++◌, length, option_copied, slice_get, slice_index, slice_index_or, OnOk};
+ghost use Rattle.axiom_rules.specs.Parts.{each_once};
+ghost use Rattle.proof_check.specs.Keeping.{closed_only, last_end};
 
+use crate::places::{are_first, keep_marked};
 use axiom_rules::Literal;
 use std::alloc::{AllocError, Global};
 use std::marker::Model;
 
-/// The clauses of lines, in the order in which they were added. Contracts see a list of lists of literals.
+/// The clauses of lines, in the order in which they were closed, and after them the literals of one that isn't yet.
 ///
-/// All literals stand in one list: a list for each clause would take several times their room.
+/// All literals stand in one list: a list for each clause would take several times their room, and a literal that is
+/// pending needn't move.
 #[derive(Debug, Drop)]
 pub struct Clauses {
     literals: Vec<Literal>,
-    // The place after the last literal of each clause.
+    // The place after the last literal of each clause that is closed.
     ends: Vec<usize>,
 }
 
 impl Model for Clauses {
-    ghost use Rattle.std.specs.Prelude.{List, length};
-    ghost use Rattle.axiom_rules.specs.declared.literal.Literal.{Literal};
-    ghost use Rattle.proof_check.specs.Keeping.{Rise, pieces_from};
+    ghost use Rattle.std.specs.Prelude.{length};
+    ghost use Rattle.proof_check.specs.Keeping.{Kept, Rise, kept_in};
 
-    ghost Value = { List (List Literal) };
+    ghost Value = { Kept };
 
-    ghost view = { λ c. pieces_from 0 c.literals.items c.ends.items };
+    ghost view = { λ c. kept_in c.literals.items c.ends.items };
 
     ghost invariant = { λ c. Rise 0 c.ends.items (length c.literals.items) };
 }
@@ -29,7 +32,7 @@ impl Model for Clauses {
 impl Clauses {
     /// No clause, which takes no memory.
     pub fn new(alloc: Global) -> Clauses
-        ensures empty { result ≡ [] }
+        ensures empty { result ≡ closed_only [] }
     {
         Clauses {
             literals: Vec::new(alloc),
@@ -37,30 +40,55 @@ impl Clauses {
         }
     }
 
-    /// Adds a clause at the end.
-    pub fn add(&mut self, clause: &[Literal]) -> Result<(), AllocError>
-        ensures ok { OnOk result (self.new ≡ self.old ++ clause.now ∷ []) }
+    /// Adds a literal to the pending clause.
+    pub fn push(&mut self, literal: Literal) -> Result<(), AllocError>
+        ensures ok { OnOk result (self.new ≡ record { closed = self.old.closed; pending = self.old.pending ++ literal ∷ [] }) }
     {
-        // Room for the end comes first: nothing that fails stands after the literals.
-        self.ends.reserve(1)?;
-        self.literals.extend_from_slice(clause)?;
+        self.literals.push(literal)?;
+        Ok(())
+    }
+
+    /// The literals of the pending clause.
+    pub fn pending(&self) -> &[Literal]
+        ensures literals { result.now ≡ self.now.pending }
+    {
+        let start = start_of(&self.ends, self.ends.len());
+        let end = self.literals.len();
+        &self.literals[start..end]
+    }
+
+    /// Leaves each literal of the pending clause where it first stands, and nowhere else.
+    pub fn keep_first(&mut self, alloc: Global) -> Result<(), AllocError>
+        requires few { length self.old.pending < 2 ^ 32 }
+        ensures ok { OnOk result (self.new ≡ record { closed = self.old.closed; pending = each_once self.old.pending }) }
+    {
+        let first = are_first(alloc, self.pending())?;
+        let start = start_of(&self.ends, self.ends.len());
+        keep_marked(&mut self.literals, start, first.as_slice());
+        Ok(())
+    }
+
+    /// Closes the pending clause.
+    pub fn close(&mut self) -> Result<(), AllocError>
+        ensures ok { OnOk result (self.new ≡ closed_only (self.old.closed ++ self.old.pending ∷ [])) }
+    {
         let end = self.literals.len();
         self.ends.push(end)?;
         Ok(())
     }
 
-    // The clause at a place where there is one.
+    // The closed clause at a place where there is one.
     fn at(&self, place: usize) -> &[Literal]
-        requires { place < length self.now }
-        ensures clause { result.now ≡ slice_index_or self.now place [] }
+        requires { place < length self.now.closed }
+        ensures clause { result.now ≡ slice_index_or self.now.closed place [] }
     {
         let start = start_of(&self.ends, place);
         &self.literals[start..self.ends[place]]
     }
 
-    /// The clause at a place, from 0.
+    /// The closed clause at a place, from 0.
     pub fn get(&self, place: usize) -> Option<&[Literal]>
-        ensures clause { option_copied result ≡ slice_get self.now place }
+        ensures clause { option_copied result ≡ slice_get self.now.closed place }
     {
         if place < self.len() {
             Some(self.at(place))
@@ -69,16 +97,16 @@ impl Clauses {
         }
     }
 
-    /// The last clause.
+    /// The last closed clause.
     pub fn last(&self) -> Option<&[Literal]>
-        ensures clause { option_copied result ≡ slice_get self.now (length self.now - 1) }
+        ensures clause { option_copied result ≡ slice_get self.now.closed (length self.now.closed - 1) }
     {
         self.get(self.len().saturating_sub(1))
     }
 
-    /// How many clauses there are.
+    /// How many clauses are closed.
     pub fn len(&self) -> usize
-        ensures count { result ≡ length self.now }
+        ensures count { result ≡ length self.now.closed }
     {
         self.ends.len()
     }
@@ -86,7 +114,7 @@ impl Clauses {
 
 // Where the clause at a place starts: at the end of the one before it.
 fn start_of(ends: &[usize], place: usize) -> usize
-    requires { place < length ends.now }
+    requires { place ≤ length ends.now }
     ensures first { place ≡ 0 → result ≡ 0 }
     ensures later { 0 < place → result ≡ slice_index ends.now (place - 1) }
 {

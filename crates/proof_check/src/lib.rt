@@ -4,9 +4,13 @@
 mod check;
 mod checker;
 mod clauses;
+mod conflict;
+mod course;
+mod cycle;
 mod judge;
 mod kept;
 mod laws;
+mod places;
 mod range;
 mod refutation;
 mod taking;
@@ -14,5 +18,6 @@ mod walk;
 
 pub use check::{Check, TextCheck};
 pub use checker::Checker;
+pub use course::CycleWalk;
+pub use cycle::{check_cycle, check_cycle_by};
 pub use laws::{refuted_is_no_value, right_lines_hold};
-pub use walk::{check_cycle, check_cycle_by};

@@ -1,9 +1,11 @@
 //! Clauses that are taken one after another under literals that are assumed.
 
-ghost use Rattle.std.specs.Prelude.{◌≡◌, ◌↔◌, [], ◌∷◌, map, Contains, IsTrue, IfOk, OnOk};
+ghost use Rattle.std.specs.Prelude.{◌≡◌, ◌↔◌, ◌<◌, ◌^◌, ◌∷◌, length, map, Contains, IsTrue, IfOk, OnOk};
 ghost use Rattle.axiom_rules.specs.Literals.{negated};
+ghost use Rattle.proof_check.specs.Places.{AreSortedPlaces};
 ghost use Rattle.proof_check.specs.Refutation.{AreThose, IsLeft, IsTaken};
 
+use crate::places::{first_place, sorted_places};
 use axiom_rules::Literal;
 use std::alloc::{AllocError, Global};
 use std::collections::BTreeSet;
@@ -29,42 +31,53 @@ enum Left {
     More,
 }
 
-/// Literals that are assumed, which contracts see as a list whose order says nothing.
+/// Literals that are assumed: the negations of a clause's, and those that were given. Contracts see a list whose order
+/// says nothing.
 ///
-/// A look-up compares and doesn't hash, since literals could be chosen that share a hash.
+/// The clause stays where it stands, and is looked up by its places in the order of its literals. A look-up compares and
+/// doesn't hash, since literals could be chosen that share a hash.
 #[derive(Debug, Drop)]
-pub struct Assumed {
-    literals: BTreeSet<Literal>,
+pub struct Assumed<'a> {
+    denied: &'a [Literal],
+    places: Vec<u32>,
+    given: BTreeSet<Literal>,
 }
 
-impl Model for Assumed {
-    ghost use Rattle.std.specs.Prelude.{List};
+impl<'a> Model for Assumed<'a> {
+    ghost use Rattle.std.specs.Prelude.{List, ◌++◌, map};
     ghost use Rattle.axiom_rules.specs.declared.literal.Literal.{Literal};
+    ghost use Rattle.axiom_rules.specs.Literals.{negated};
+    ghost use Rattle.proof_check.specs.Places.{AreSortedPlaces};
 
     ghost Value = { List Literal };
 
-    ghost view = { λ a. a.literals.keys };
+    ghost view = { λ a. map negated a.denied.now ++ a.given.keys };
+
+    ghost invariant = { λ a. AreSortedPlaces a.denied.now a.places.items };
 }
 
-impl Assumed {
-    /// No literals, which takes no memory.
-    pub fn new(alloc: Global) -> Assumed
-        ensures empty { result ≡ [] }
+impl<'a> Assumed<'a> {
+    /// The negations of a clause's literals.
+    pub fn denying(alloc: Global, lits: &'a [Literal]) -> Result<Assumed<'a>, AllocError>
+        requires few { length lits.now < 2 ^ 32 }
+        ensures denied { IfOk result (λ assumed. assumed ≡ map negated lits.now) }
     {
-        Assumed {
-            literals: BTreeSet::new(alloc),
-        }
+        let places = sorted_places(alloc, lits)?;
+        Ok(Assumed {
+            denied: lits,
+            places,
+            given: BTreeSet::new(alloc),
+        })
     }
 
-    /// Assumes the negations of a clause's literals and nothing else.
-    pub fn deny(&mut self, lits: &[Literal]) -> Result<(), AllocError>
-        ensures denied { OnOk result (AreThose (map negated lits.now) self.new) }
+    // Whether a literal is assumed.
+    fn has(&self, literal: &Literal) -> bool
+        ensures { IsTrue result ↔ Contains self.now literal.now }
     {
-        self.literals.clear();
-        for literal in lits {
-            assume(&mut self.literals, literal.negated())?;
+        if is_denied(self.denied, &self.places, literal) {
+            return true;
         }
-        Ok(())
+        is_given(&self.given, literal)
     }
 
     /// Takes the next clause, and assumes the literal that it gives. After want of memory nothing is known of what is
@@ -72,10 +85,10 @@ impl Assumed {
     pub fn take(&mut self, clause: &[Literal]) -> Result<Taken, AllocError>
         ensures taken { IfOk result (λ taken. IsTaken self.old clause.now self.new taken) }
     {
-        match left_of(&self.literals, clause) {
+        match left_of(self, clause) {
             Left::Nothing => Ok(Taken::False),
             Left::Only(literal) => {
-                assume(&mut self.literals, literal)?;
+                assume(&mut self.given, literal)?;
                 Ok(Taken::Gives)
             }
             Left::More => Ok(Taken::Stuck),
@@ -83,11 +96,22 @@ impl Assumed {
     }
 }
 
-// Whether a literal is assumed.
-fn has(literals: &BTreeSet<Literal>, literal: &Literal) -> bool
-    ensures { IsTrue result ↔ Contains literals.now.keys literal.now }
+// Whether a clause whose places are in order has the negation of a literal.
+fn is_denied(denied: &[Literal], places: &[u32], literal: &Literal) -> bool
+    requires { AreSortedPlaces denied.now places.now }
+    ensures { IsTrue result ↔ Contains (map negated denied.now) literal.now }
 {
-    literals.contains(literal)
+    match first_place(denied, places, &literal.negated()) {
+        Some(_) => true,
+        None => false,
+    }
+}
+
+// Whether a literal was given.
+fn is_given(given: &BTreeSet<Literal>, literal: &Literal) -> bool
+    ensures { IsTrue result ↔ Contains given.now.keys literal.now }
+{
+    given.contains(literal)
 }
 
 // Assumes a literal, which may be assumed already.
@@ -99,15 +123,15 @@ fn assume(literals: &mut BTreeSet<Literal>, literal: Literal) -> Result<(), Allo
 }
 
 // What is left of a clause.
-fn left_of(assumed: &BTreeSet<Literal>, clause: &[Literal]) -> Left
-    ensures { IsLeft assumed.now.keys clause.now result }
+fn left_of(assumed: &Assumed, clause: &[Literal]) -> Left
+    ensures { IsLeft assumed.now clause.now result }
 {
     let mut open = None;
     for literal in clause {
-        if has(assumed, &literal.negated()) {
+        if assumed.has(&literal.negated()) {
             continue;
         }
-        if has(assumed, literal) {
+        if assumed.has(literal) {
             return Left::More;
         }
         match open {

@@ -1,53 +1,80 @@
 //! Lines that are judged one after another, each by the clauses of those before it.
 
-ghost use Rattle.std.specs.Prelude.{◌≡◌, ◌↔◌, ◌+◌, ◌<◌, ◌^◌, [], ◌∷◌, ◌++◌, List, length, IfOk, IsTrue};
+ghost use Rattle.std.specs.Prelude.{◌≡◌, ◌↔◌, ◌+◌, ◌<◌, ◌≤◌, ◌^◌, [], ◌∷◌, ◌++◌, List, length, IfOk, IfSome, IsTrue, MatchOption};
+ghost use Rattle.axiom_rules.specs.declared.literal.Literal.{Literal};
 ghost use Rattle.skew_bounds.specs.RowEdges.{IsEdgeTableOf};
+ghost use Rattle.proof_log.specs.declared.line.Line.{Line};
 ghost use Rattle.proof_log.specs.Derivations.{IsEmptyAt, clause_of_line};
 ghost use Rattle.proof_log.specs.Freshness.{learn_lines};
 ghost use Rattle.proof_log.specs.LinesOf.{IsTextOf};
+ghost use Rattle.proof_log.specs.Parts.{AreWordsOf, IsHeadWords};
 ghost use Rattle.proof_log.specs.Spelled.{IsSpelled};
 ghost use Rattle.proof_check.specs.Answering.{IsAnswer, OfSought};
 ghost use Rattle.proof_check.specs.Judging.{IsNext};
-ghost use Rattle.proof_check.specs.Keeping.{lines_with};
+ghost use Rattle.proof_check.specs.Keeping.{closed_only, lines_with};
 
 use crate::check::{Check, TextCheck};
-use crate::clauses::{ends_empty, keep};
-use crate::judge::{Clause, is_right};
+use crate::clauses::ends_empty;
+use crate::conflict::takes_cycle;
+use crate::judge::{Clause, takes_learn};
 use crate::kept::Clauses;
 use axiom_rules::Rules;
-use proof_log::{Line, has_spelling, next_line};
+use proof_log::{Line, LineWords, has_spelling, next_words, push_line};
 use skew_bounds::EdgeTable;
 use std::alloc::{AllocError, Global};
 
-// Whether a line that has a spelling is good as the one after those whose clauses are kept. If so, its clause is kept
-// too.
+// Whether a line of these words is good as the one after those whose clauses are closed. If so, its clause is closed too.
 fn takes(
     alloc: Global,
     rules: &Rules,
     table: &EdgeTable,
     kept: &mut Clauses,
     clause: &mut Clause,
-    line: &Line,
+    words: LineWords,
 ) -> Result<bool, AllocError>
     requires table { IsEdgeTableOf rules.now.log table.now }
-    requires spelled { IsSpelled line.now }
-    ensures good { IfOk result (λ b. IsTrue b ↔ IsNext rules.now kept.old line.now) }
-    ensures grown { IfOk result (λ b. IsTrue b → kept.new ≡ kept.old ++ clause_of_line line.now ∷ []) }
+    requires open { kept.old.pending ≡ [] }
+    ensures good { IfOk result (λ b. (line : Line) → IsSpelled line → AreWordsOf words.entry line → IsTrue b ↔ IsNext rules.now kept.old.closed line) }
+    ensures grown { IfOk result (λ b. IsTrue b → (clause : List Literal) × (kept.new ≡ closed_only (kept.old.closed ++ clause ∷ []))) }
+    ensures kept { IfOk result (λ b. (line : Line) → IsSpelled line → AreWordsOf words.entry line → IsTrue b → kept.new ≡ closed_only (kept.old.closed ++ clause_of_line line ∷ [])) }
 {
     if ends_empty(kept) {
         return Ok(false);
     }
-    if !is_right(alloc, rules, table, kept, line, clause)? {
-        return Ok(false);
+    match words {
+        LineWords::Cycle(words) => takes_cycle(alloc, rules, table, kept, words),
+        LineWords::Learn(words) => takes_learn(alloc, rules, kept, clause, words),
     }
-    keep(alloc, kept, line)?;
-    Ok(true)
+}
+
+// The same of a line, whose text is written over an earlier one's.
+fn takes_line(
+    alloc: Global,
+    rules: &Rules,
+    table: &EdgeTable,
+    kept: &mut Clauses,
+    clause: &mut Clause,
+    text: &mut Vec<u8>,
+    line: &Line,
+) -> Result<bool, AllocError>
+    requires table { IsEdgeTableOf rules.now.log table.now }
+    requires open { kept.old.pending ≡ [] }
+    requires spelled { IsSpelled line.now }
+    ensures good { IfOk result (λ b. IsTrue b ↔ IsNext rules.now kept.old.closed line.now) }
+    ensures grown { IfOk result (λ b. IsTrue b → kept.new ≡ closed_only (kept.old.closed ++ clause_of_line line.now ∷ [])) }
+{
+    text.clear();
+    push_line(alloc, text, line)?;
+    match next_words(text.as_slice()) {
+        Some((words, _)) => takes(alloc, rules, table, kept, clause, words),
+        None => Ok(false),
+    }
 }
 
 // What good lines with these clauses are.
 fn check_of(kept: &Clauses) -> Check
-    ensures refutes { IsEmptyAt (lines_with kept.now) (length kept.now) → result ≡ Check.Refutes }
-    ensures derives { (IsEmptyAt (lines_with kept.now) (length kept.now) → ⊥) → result ≡ Check.Derives }
+    ensures refutes { IsEmptyAt (lines_with kept.now.closed) (length kept.now.closed) → result ≡ Check.Refutes }
+    ensures derives { (IsEmptyAt (lines_with kept.now.closed) (length kept.now.closed) → ⊥) → result ≡ Check.Derives }
 {
     if ends_empty(kept) {
         Check::Refutes
@@ -56,7 +83,7 @@ fn check_of(kept: &Clauses) -> Check
     }
 }
 
-/// What lines are.
+/// What lines are. Each is judged by its text, as the lines of a text are.
 pub fn check_lines(
     alloc: Global,
     rules: &Rules,
@@ -68,26 +95,39 @@ pub fn check_lines(
 {
     let table = EdgeTable::of(alloc, rules.log())?;
     let mut kept = Clauses::new(alloc);
+    let mut text = Vec::new(alloc);
     for (i, line) in lines.iter().enumerate() {
         let number = i as u32 + 1;
         if !has_spelling(alloc, line)? {
             return Ok(Check::Wrong(number));
         }
-        if !takes(alloc, rules, &table, &mut kept, clause, line)? {
+        if !takes_line(alloc, rules, &table, &mut kept, clause, &mut text, line)? {
             return Ok(Check::Wrong(number));
         }
     }
     Ok(check_of(&kept))
 }
 
-// The number of Learn lines with a line more.
-fn learn_lines_with(count: u32, line: &Line) -> u32
-    requires { count < 2 ^ 31 }
-    ensures { result ≡ count + learn_lines (line.now ∷ []) }
+// The words of the first of the lines whose text this is, and the text of the others, which is shorter.
+fn first_words(text: &[u8]) -> Option<(LineWords, &[u8])>
+    ensures shorter { IfSome result (λ r. length r.1.now < length text.now) }
+    ensures head { (lines : List Line) → IsTextOf text.now lines → MatchOption result (lines ≡ []) (λ r. IsHeadWords lines r.0 r.1.now) }
 {
-    match line {
-        Line::Cycle(_) => count,
-        Line::Learn { .. } => count + 1,
+    match next_words(text) {
+        Some((words, rest)) if rest.len() < text.len() => Some((words, rest)),
+        _ => None,
+    }
+}
+
+// The number of Learn lines with a line more.
+fn learn_lines_with(count: u32, words: LineWords) -> u32
+    requires { count < 2 ^ 31 }
+    ensures learn { (line : Line) → AreWordsOf words.entry line → result ≡ count + learn_lines (line ∷ []) }
+    ensures few { result ≤ count + 1 }
+{
+    match words {
+        LineWords::Cycle(_) => count,
+        LineWords::Learn(_) => count + 1,
     }
 }
 
@@ -106,14 +146,13 @@ pub fn check_lines_of(
     let mut kept = Clauses::new(alloc);
     let mut learn_lines = 0;
     let mut rest = text;
-    while let Some((line, after)) = next_line(alloc, rest)? {
+    while let Some((words, after)) = first_words(rest) {
         let number = kept.len() as u32 + 1;
-        // What was read has a spelling.
-        if !takes(alloc, rules, &table, &mut kept, clause, &line)? {
+        if !takes(alloc, rules, &table, &mut kept, clause, words)? {
             let check = Check::Wrong(number);
             return Ok(TextCheck { check, learn_lines });
         }
-        learn_lines = learn_lines_with(learn_lines, &line);
+        learn_lines = learn_lines_with(learn_lines, words);
         rest = after;
     }
     let check = check_of(&kept);

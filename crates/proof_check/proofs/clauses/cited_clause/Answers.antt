@@ -10,5 +10,5 @@ pub returns : goal.returns
 returns c = λ s.
     let place = c.in_ok-place.field-0 in
     let next : c.args.m ≡ suc place = omega (arith, c.in_ok-place.ensures) in
-    subst (λ k. option_copied c.get.result ≡ clause_of_hint s (lines_with c.args.kept.now) (length c.args.kept.now + 1) (hint.Line k)) (sym next)
-    (c.get.ensures.clause ∙ sym (cites c.args.kept.now s place))
+    subst (λ k. option_copied c.get.result ≡ clause_of_hint s (lines_with c.args.kept.now.closed) (length c.args.kept.now.closed + 1) (hint.Line k)) (sym next)
+    (c.get.ensures.clause ∙ sym (cites c.args.kept.now.closed s place))

@@ -3,4 +3,4 @@ use Rattle.proof_check.proofs.TakeLemmas.{IsOpen}
 use Rattle.proof_check.proofs.refutation.left_of.Given as goal
 
 abbrev pub invariant-loop-literal : goal.invariant-loop-literal
-invariant-loop-literal l = IsOpen l.assumed.keys (take l.literal-index l.clause) l.open
+invariant-loop-literal l = IsOpen l.assumed (take l.literal-index l.clause) l.open

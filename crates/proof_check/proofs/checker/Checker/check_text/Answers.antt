@@ -1,5 +1,4 @@
-use Rattle.std.proofs.Common.{◌≡◌, ◌∙◌, ◌↔◌, ap, subst, ℕ, List}
-use Rattle.std.specs.Prelude.{IfOk, Ok, Err, Result}
+use Rattle.std.proofs.Common.{◌≡◌, ◌∙◌, ◌↔◌, ap, subst, ℕ}
 use Rattle.mt_model.specs.Log.{IsLog}
 use Rattle.mt_model.specs.Truth.{IsValue}
 use Rattle.proof_log.specs.Derivations.{Derives, FirstWrong, Refutes}

@@ -1,0 +1,91 @@
+//! Whether the next line is right by its words, where it is a Cycle line.
+
+ghost use Rattle.std.specs.Prelude.{◌≡◌, ◌↔◌, ◌+◌, ◌<◌, ◌≤◌, ◌^◌, ◌∷◌, [], ◌++◌, List, length, IfOk, IsTrue, MatchOption, OnOk};
+ghost use Rattle.std.specs.Fmt.{decimal};
+ghost use Rattle.std.specs.List.{filter_map, flat_map};
+ghost use Rattle.mt_model.specs.declared.step.Step.{Step};
+ghost use Rattle.mt_model.specs.Walks.{Conflict, edge_of};
+ghost use Rattle.axiom_rules.specs.declared.literal.Literal.{Literal};
+ghost use Rattle.axiom_rules.specs.Parts.{each_once};
+ghost use Rattle.skew_bounds.specs.RowEdges.{IsEdgeTableOf};
+ghost use Rattle.proof_log.specs.Derivations.{negated_step as negated_step_of};
+ghost use Rattle.proof_log.specs.LinesText.{step_words};
+ghost use Rattle.proof_log.specs.Reading.{words_after};
+ghost use Rattle.proof_log.specs.Spelled.{IsSpelledCycle, IsSpelledStep};
+ghost use Rattle.proof_check.specs.Keeping.{closed_only, with_pending};
+ghost use Rattle.proof_check.specs.Walking.{HasCome};
+
+use crate::clauses::negated_step;
+use crate::course::CycleWalk;
+use crate::kept::Clauses;
+use crate::walk::step_edge;
+use axiom_rules::Rules;
+use mt_model::Step;
+use proof_log::{read_count, read_step};
+use skew_bounds::EdgeTable;
+use std::alloc::{AllocError, Global};
+
+// Adds the negation of an order step to the pending clause.
+fn push_negation(kept: &mut Clauses, step: Step) -> Result<(), AllocError>
+    ensures negation { OnOk result (IsSpelledStep step → kept.new ≡ with_pending kept.old (filter_map negated_step_of (step ∷ []))) }
+    ensures closed { OnOk result (kept.new.closed ≡ kept.old.closed) }
+    ensures few { OnOk result (length kept.new.pending ≤ length kept.old.pending + 1) }
+{
+    if let Some(literal) = negated_step(step) {
+        kept.push(literal)?;
+    }
+    Ok(())
+}
+
+// Walks over so many steps, which follow one after another, and adds the negations of order steps to the pending clause.
+fn walked(
+    rules: &Rules,
+    table: &EdgeTable,
+    kept: &mut Clauses,
+    count: u32,
+    words: &[u8],
+) -> Result<Option<CycleWalk>, AllocError>
+    requires table { IsEdgeTableOf rules.now.log table.now }
+    ensures walked { IfOk result (λ found. (steps : List Step) → IsSpelledCycle steps → length steps ≡ count → words_after words.now ≡ flat_map step_words steps → MatchOption found ⊥ (λ walk. HasCome (edge_of rules.now.log) steps walk × (kept.new ≡ with_pending kept.old (filter_map negated_step_of steps)))) }
+    ensures closed { IfOk result (λ _. kept.new.closed ≡ kept.old.closed) }
+    ensures few { IfOk result (λ _. length kept.new.pending < length kept.old.pending + 2 ^ 32) }
+{
+    let mut walk = CycleWalk::new();
+    let mut rest = words;
+    for _i in 0..count {
+        let Some((step, after)) = read_step(rest) else {
+            return Ok(None);
+        };
+        walk = walk.then(step_edge(rules.log(), table, step));
+        push_negation(kept, step)?;
+        rest = after;
+    }
+    Ok(Some(walk))
+}
+
+/// Whether a Cycle line of these words is right. If so, its clause is closed.
+pub fn takes_cycle(
+    alloc: Global,
+    rules: &Rules,
+    table: &EdgeTable,
+    kept: &mut Clauses,
+    words: &[u8],
+) -> Result<bool, AllocError>
+    requires table { IsEdgeTableOf rules.now.log table.now }
+    requires open { kept.old.pending ≡ [] }
+    ensures conflict { IfOk result (λ b. (steps : List Step) → IsSpelledCycle steps → words_after words.now ≡ decimal (length steps) ∷ flat_map step_words steps → IsTrue b ↔ Conflict rules.now.log steps) }
+    ensures grown { IfOk result (λ b. IsTrue b → (clause : List Literal) × (kept.new ≡ closed_only (kept.old.closed ++ clause ∷ []))) }
+    ensures kept { IfOk result (λ b. (steps : List Step) → IsSpelledCycle steps → words_after words.now ≡ decimal (length steps) ∷ flat_map step_words steps → IsTrue b → kept.new ≡ closed_only (kept.old.closed ++ each_once (filter_map negated_step_of steps) ∷ [])) }
+{
+    let (count, steps) = read_count(words);
+    let Some(walk) = walked(rules, table, kept, count, steps)? else {
+        return Ok(false);
+    };
+    if !walk.is_negative_cycle() {
+        return Ok(false);
+    }
+    // So that who cites it doesn't pay for its steps.
+    kept.keep_first(alloc)?;
+    kept.close()?;
+    Ok(true)
+}
