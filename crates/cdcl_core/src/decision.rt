@@ -1,6 +1,6 @@
 //! What is decided where nothing is left to propagate.
 
-ghost use Rattle.std.specs.Prelude.{◌≡◌, ℕ, ◌<◌, length, IfOk, IfSome};
+ghost use Rattle.std.specs.Prelude.{◌≡◌, ℕ, ◌<◌, IfOk, IfSome};
 ghost use Rattle.propagate.specs.Clauses.{AreSettled};
 ghost use Rattle.propagate.specs.Trails.{IsUnassigned};
 ghost use Rattle.cdcl_core.specs.Assignments.{IsSatisfying};

@@ -1,7 +1,5 @@
 //! The literals of a trail that have to be borne out.
 
-ghost use Rattle.std.specs.Prelude.{◌≡◌};
-
 use crate::heads::Heads;
 use crate::sight::Sight;
 use std::alloc::{AllocError, Global};

@@ -1,7 +1,5 @@
 //! What the atoms that are no orders are in a timing, as the clauses of their heads have it.
 
-ghost use Rattle.std.specs.Prelude.{◌≡◌};
-
 use crate::heads::Heads;
 use crate::sight::Sight;
 use clause_db::{ClauseRef, Lit, Var};

@@ -1,6 +1,6 @@
 //! The values of all atoms in the present timing, and whether they meet all clauses.
 
-ghost use Rattle.std.specs.Prelude.{◌≡◌, ◌↔◌, ℕ, ◌<◌, IsTrue, IfOk, IfSome, length, true, All};
+ghost use Rattle.std.specs.Prelude.{◌≡◌, ◌↔◌, ◌<◌, IsTrue, IfOk, IfSome, length, true, All};
 ghost use Rattle.std.specs.List.{list_any};
 ghost use Rattle.neg_cycle.specs.Systems.{Meets};
 ghost use Rattle.clause_db.specs.Literals.{value_of as value_of_literal};

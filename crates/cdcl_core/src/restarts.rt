@@ -1,7 +1,5 @@
 //! When a search begins anew at level 0.
 
-ghost use Rattle.std.specs.Prelude.{◌≡◌};
-
 // How many conflicts come before the first restart, and at most before a later one.
 const FIRST: u32 = 100;
 

@@ -1,8 +1,6 @@
 //! How much each variable had to do with conflicts, the later ones counting for more (Moskewicz, Madigan, Zhao,
 //! Zhang and Malik 2001; Eén and Sörensson 2003).
 
-ghost use Rattle.std.specs.Prelude.{◌≡◌};
-
 use clause_db::Var;
 use std::alloc::{AllocError, Global};
 

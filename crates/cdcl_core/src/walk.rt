@@ -1,8 +1,7 @@
 //! A walk over the edges of bounds and of order literals, as steps and as a clause.
 
 ghost use Rattle.std.specs.Prelude.{◌≡◌, ◌+◌, ◌<◌, length, map, All, IfOk, Some};
-ghost use Rattle.neg_cycle.specs.declared.system.TheConstants.{MAX_NODES};
-ghost use Rattle.cdcl_core.specs.Orders.{IsOrderAmong, read_lit};
+ghost use Rattle.cdcl_core.specs.Orders.{read_lit};
 ghost use Rattle.cdcl_core.specs.Walking.{AreOrders, denied_in, step_in};
 
 use crate::difference::order_step;
