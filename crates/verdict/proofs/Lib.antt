@@ -9,3 +9,4 @@ pub mod NotJudged
 pub mod Checking
 mod Roots
 mod OutlineAudits
+mod BoundWalks

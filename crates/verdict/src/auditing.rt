@@ -193,8 +193,8 @@ fn audit_of_verdicts(
     Ok(Audit::Accepted)
 }
 
-/// What an audit says of a walk of a report on as many events as the log has rows.
-pub fn audit_of_walk(log: &Log, table: &EdgeTable, steps: &[Step]) -> Audit
+// What an audit says of a walk of a report on as many events as the log has rows.
+fn audit_of_walk(log: &Log, table: &EdgeTable, steps: &[Step]) -> Audit
     requires table { IsEdgeTableOf log.now table.now }
     requires few { length steps.now < 2 ^ 32 }
     ensures audit { (f : Form) (budget events : ℕ) → events ≡ length log.now.rows → IsAudit log.now f budget (Report.Inconsistent events steps.now) result }

@@ -4,6 +4,7 @@
 
 mod answer;
 mod auditing;
+mod bounds;
 mod deciding;
 mod fault;
 mod given;

@@ -20,13 +20,14 @@ ghost use Rattle.verdict.specs.Right.{IsRight};
 ghost use Rattle.report_text.specs.declared.report.Section.TheVariants as section;
 ghost use Rattle.report_text.specs.declared.report.Report.TheVariants as report;
 
-use crate::auditing::{audit_of_walk, is_witness};
+use crate::auditing::is_witness;
+use crate::bounds::audit_of_bounds;
 use crate::given::{Given, prepare};
 use crate::laws::{accepted_reports_are_true, audits_are_exact, right_reports_are_accepted};
 use crate::{Audit, Part, VerdictFault};
 use mt_model::{Formula, Log};
 use proof_check::{Check, Checker, TextCheck};
-use report_text::{Kind, Outline, SectionOutline, steps_of, times_of};
+use report_text::{Kind, Outline, SectionOutline, times_of};
 use skew_bounds::EdgeTable;
 use std::alloc::{AllocError, Global};
 
@@ -161,9 +162,8 @@ fn audit_of(
     }
     match outline {
         Outline::Inconsistent { count, text, .. } => {
-            let steps = steps_of(alloc, count, text)?;
             let table = EdgeTable::of(alloc, log)?;
-            Ok(audit_of_walk(log, &table, steps.as_slice()))
+            Ok(audit_of_bounds(log, &table, count, text))
         }
         Outline::Verdicts {
             on_true,
@@ -174,7 +174,7 @@ fn audit_of(
 }
 
 /// What `audit` says of the report of an outline. Beside the outline's text memory is taken for the clauses of one
-/// derivation and for one line.
+/// derivation, and for the places of one line's literals.
 pub fn audit_outline(
     alloc: Global,
     log: &Log,

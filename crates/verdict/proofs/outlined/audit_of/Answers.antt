@@ -1,7 +1,6 @@
-use Rattle.std.proofs.Common.{◌≡◌, ◌∙◌, ap, arith, length, subst}
+use Rattle.std.proofs.Common.{◌≡◌, ◌∙◌, ap, arith, length, subst, sym}
 use Rattle.mt_model.specs.Form.{form_of}
 use Rattle.report_text.specs.ReportText.{events_of}
-use Rattle.report_text.proofs.ReadBack.{found-walk}
 use Rattle.verdict.specs.AuditPlace.{IsAudit}
 use Rattle.verdict.proofs.outlined.audit_of.Goals as goal
 
@@ -10,8 +9,8 @@ returns-in_ok-table-in-Inconsistent c = λ r out spelled.
     let log = c.args.log.now in
     let f = form_of c.args.f.now in
     let o = rw c.in-Inconsistent.is at out in
-    let is = found-walk c.in-Inconsistent.events c.in-Inconsistent.count c.in-Inconsistent.text.now c.in_ok-steps-in-Inconsistent.steps c.in_ok-steps-in-Inconsistent.ensures.steps r o spelled in
+    let bounds = rw o.is at spelled in
     let count : c.events_of.result ≡ c.in-Inconsistent.events = c.events_of.ensures r out ∙ ap events_of o.is in
     let same : c.in-Inconsistent.events ≡ length log.rows = omega (arith, count, ap length c.rows.ensures.same) in
-    let walk = rw c.as_slice.ensures.items at (c.audit_of_walk.ensures.audit f c.args.budget c.in-Inconsistent.events same) in
-    subst (λ x. IsAudit log f c.args.budget x c.audit_of_walk.result) is walk
+    let walk = c.audit_of_bounds.ensures o.steps o.full bounds.walk.each o.are f c.args.budget c.in-Inconsistent.events same in
+    subst (λ x. IsAudit log f c.args.budget x c.audit_of_bounds.result) (sym o.is) walk
