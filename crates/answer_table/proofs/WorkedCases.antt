@@ -2,7 +2,7 @@
 use Rattle.std.proofs.Common.{◌≡◌, refl, List, [], ◌∷◌, ◌++◌, codes, Some, None, Ok}
 use Rattle.mt_model.specs.Form.{Form, Eventually, Prop}
 use Rattle.mtl_parse.specs.Tokens.{F, G, Open, Close, OpenBracket, CloseBracket, Comma, Dot, Arrow, PrefixLetter, Number, Token, Word, tokens_of}
-use Rattle.mtl_parse.specs.Grammar.{Reads, Implication, Disjunction, Unary, Atom, implies, implication, disjunction, conjunction, until_or_since, prefixed, unary, proposition, parentheses, everything, bounded, from_to}
+use Rattle.mtl_parse.specs.Grammar.{Reads, Implication, Disjunction, Unary, implies, implication, disjunction, conjunction, until_or_since, prefixed, unary, proposition, parentheses, everything, bounded, from_to}
 use Rattle.skew_cli.specs.DemoFormula.{answered, demo_formula, within_20}
 
 abbrev p_tokens : List Token

@@ -1,6 +1,6 @@
 //! Sets of literals that unit propagation doesn't leave.
 
-ghost use Rattle.std.specs.Prelude.{◌≢◌, ◌↔◌, Bool, IsTrue, All, Any, Contains};
+ghost use Rattle.std.specs.Prelude.{◌≢◌, ◌↔◌, IsTrue, All, Any, Contains};
 ghost use Rattle.hint_refutation.specs.Propagation.{ClosedUnder, IsConsistent, IsSettled};
 ghost use Rattle.axiom_rules.specs.Literals.{negated};
 

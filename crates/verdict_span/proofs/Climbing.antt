@@ -1,13 +1,12 @@
 -- How the room above a distance gets less.
-use Rattle.std.proofs.Common.{◌≡◌, ◌∙◌, sym, refl, subst, arith, ℕ, ◌+◌, ◌-◌, ◌<◌, ◌≤◌, Bool, List, length, IfOk, Result, ℤ, pos, ◌+ℤ◌, ◌-ℤ◌, ◌≤ℤ◌}
+use Rattle.std.proofs.Common.{◌≡◌, ◌∙◌, sym, refl, subst, arith, ℕ, ◌+◌, ◌-◌, ◌≤◌, Bool, List, length, IfOk, Result, ℤ, pos, ◌+ℤ◌, ◌-ℤ◌, ◌≤ℤ◌}
 use Rattle.std.proofs.lemmas.Int.{ints}
 use Rattle.formula_arena.specs.Nodes.{nodes_of}
 use Rattle.mt_model.specs.Form.{Form}
 use Rattle.mt_model.specs.Log.{IsLog, IsWithin, Logged}
 use Rattle.mt_model.specs.declared.limits.TheConstants.{MAX_EXTRA, MAX_TIME}
-use Rattle.mtl_encode.specs.Size.{IsSize, IsSmall}
+use Rattle.mtl_encode.specs.Size.{IsSmall}
 use Rattle.mtl_encode.specs.SizesFall.{SizesFall}
-use Rattle.mtl_encode.specs.declared.size.TheConstants.{MAX_SIZE}
 use Rattle.skew_bounds.specs.Tight.{IsGreatestDifference, difference}
 use Rattle.proof_check.specs.Laws.{RefutedIsNoValue}
 use Rattle.proof_log.specs.declared.line.Line.{Line}

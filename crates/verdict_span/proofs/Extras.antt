@@ -1,15 +1,14 @@
 -- What an extra bound changes of a log: which timings it admits, and nothing else.
-use Rattle.std.proofs.Common.{◌≡◌, refl, subst, ap, arith, ℕ, zero, suc, ◌<◌, ◌≤◌, Bool, List, [], ◌∷◌, ◌++◌, length, slice_get, Some, inl, inr, ℤ, pos, ◌+ℤ◌, ◌-ℤ◌, ◌≤ℤ◌, neg_ℤ}
+use Rattle.std.proofs.Common.{◌≡◌, refl, subst, ap, arith, ℕ, zero, suc, ◌≤◌, Bool, List, [], ◌∷◌, ◌++◌, length, slice_get, Some, inl, inr, ℤ, ◌-ℤ◌, ◌≤ℤ◌, neg_ℤ}
 use Rattle.std.proofs.lemmas.Int.{ints}
 use Rattle.std.proofs.lemmas.List.Elements.{All-append, All-cons, All-nil}
 use Rattle.std.proofs.Math.ListN.{length-append}
 use Rattle.mt_model.specs.declared.log.Extra.{Extra}
 use Rattle.mt_model.specs.declared.limits.TheConstants.{MAX_EXTRA}
-use Rattle.mt_model.specs.Form.{Form}
 use Rattle.mt_model.specs.Log.{IsExtra, IsLog, IsWithin, Logged, with_extra}
 use Rattle.mt_model.specs.Positions.{positions_of}
 use Rattle.mt_model.specs.Timing.{Admissible, time_of}
-use Rattle.mt_model.specs.Truth.{positions_in, truth}
+use Rattle.mt_model.specs.Truth.{positions_in}
 use Rattle.skew_bounds.specs.Tight.{difference}
 use Rattle.axiom_rules.proofs.ShapeLemmas.{slice-end}
 use Rattle.least_skew.proofs.Sames.{truths}

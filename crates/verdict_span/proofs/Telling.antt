@@ -8,12 +8,12 @@ use Rattle.mt_model.specs.Laws.{ConflictExcludesTimings}
 use Rattle.mt_model.specs.Log.{IsLog, IsWithin, Logged}
 use Rattle.mt_model.specs.Timing.{Admissible, time_of}
 use Rattle.mt_model.specs.Truth.{truth}
-use Rattle.skew_bounds.specs.Tight.{IsConsistent, IsInconsistent, difference}
+use Rattle.skew_bounds.specs.Tight.{difference}
 use Rattle.skew_bounds.proofs.Near.{admissible-near}
 use Rattle.proof_log.specs.declared.line.Line.{Line}
 use Rattle.proof_log.specs.FreshLaws.{RefutedByRulesIsNotSpent, SpentIsBounded}
 use Rattle.proof_check.specs.Laws.{RefutedIsNoValue}
-use Rattle.cdcl_core.specs.Values.{RefutesWithin, SpendsWithin}
+use Rattle.cdcl_core.specs.Values.{RefutesWithin}
 use Rattle.least_skew.proofs.Telling.{could-be-spent}
 use Rattle.verdict_span.specs.declared.greatest.Widest.{Widest}
 use Rattle.verdict_span.specs.declared.greatest.Widest.TheVariants as widest

@@ -1,6 +1,5 @@
 use Rattle.std.proofs.Common.{refl, length}
 use Rattle.axiom_rules.specs.AtomIndex.{AreTaken}
-use Rattle.mtl_encode.specs.declared.problem.Problem.{Problem}
 use Rattle.cdcl_core.proofs.Starts.{fits_within}
 use Rattle.logic_table.specs.AtomOrders.{AreLastFirst}
 use Rattle.logic_table.proofs.ReversedAtoms.{last_first_pairs, last_first_reversed, reversed_posed}

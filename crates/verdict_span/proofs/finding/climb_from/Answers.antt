@@ -1,4 +1,4 @@
-use Rattle.std.proofs.Common.{arith, pos, ◌+ℤ◌}
+use Rattle.std.proofs.Common.{arith}
 use Rattle.std.proofs.lemmas.Int.{ints}
 use Rattle.skew_bounds.proofs.Near.{times-near}
 use Rattle.verdict_span.proofs.Climbing.{refuted-at, refuted-by-one}

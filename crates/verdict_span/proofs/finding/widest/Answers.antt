@@ -5,7 +5,7 @@ use Rattle.mt_model.specs.Form.{form_of}
 use Rattle.least_skew.proofs.Answering.{conflict-small}
 use Rattle.verdict_span.specs.declared.greatest.Widest.TheVariants as widest
 use Rattle.verdict_span.proofs.Climbing.{greatest-at, small-itself, small-spaced}
-use Rattle.verdict_span.proofs.NotAsked.{of-nodes, of-size}
+use Rattle.verdict_span.proofs.NotAsked.{of-nodes}
 use Rattle.verdict_span.proofs.finding.widest.Goals as goal
 
 pub returns-in_err-nodes-clause-fault : goal.returns-in_err-nodes-clause-fault

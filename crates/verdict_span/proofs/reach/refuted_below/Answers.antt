@@ -1,4 +1,4 @@
-use Rattle.std.proofs.Common.{arith, pos, ◌-ℤ◌}
+use Rattle.std.proofs.Common.{arith}
 use Rattle.std.proofs.lemmas.Int.{ints}
 use Rattle.mt_model.specs.Form.{form_of}
 use Rattle.verdict_span.proofs.Climbing.{refutes-at, refutes-here}
