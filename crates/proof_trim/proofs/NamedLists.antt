@@ -80,9 +80,6 @@ module _ (lines : List Line) (numbers ends rest : List ℕ) (so_far : AreNamedTo
 
 module _ (lines : List Line) (numbers ends : List ℕ) (are : AreNamed lines numbers ends) where
   -- where those of a line begin
-  pub first-start : 0 ≡ length (flat_map named_of (take 0 lines))
-  first-start = refl
-
   pub next-start : (i d : ℕ) → 1 ≤ i → i < length ends → get_or ends (i - 1) d ≡ length (flat_map named_of (take i lines))
   next-start i d some within =
       let back : i - 1 + 1 ≡ i = omega (arith, some) in

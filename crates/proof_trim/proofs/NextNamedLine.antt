@@ -4,7 +4,7 @@ use Rattle.std.proofs.Math.Seq.{take-append_seam}
 use Rattle.proof_log.specs.LinesText.{Word, spaced}
 use Rattle.proof_log.specs.Reading.{words_after}
 use Rattle.proof_log.proofs.Spacing.{spaced-append}
-use Rattle.proof_trim.specs.Naming.{IsNextNamed, IsNoneNamed, is_line_word, named_in, number_of, renamed_in}
+use Rattle.proof_trim.specs.Naming.{IsNextNamed, is_line_word, named_in, number_of, renamed_in}
 
 -- words were looked through up to these, and name no line before them
 pub record IsScannedTo (words rest : List ℕ) : Type 0 where
@@ -20,13 +20,6 @@ pub none-scanned : (words : List ℕ) → IsScannedTo words words
 none-scanned words = record { before = []; words_are = refl; named = refl; renamed = λ place. refl; front = λ is. refl; spaced_rest = λ is. is; shorter = omega arith }
 
 module _ (words rest : List ℕ) (so_far : IsScannedTo words rest) where
-  -- nothing is left
-  pub none-named : words_after rest ≡ [] → IsNoneNamed words
-  none-named none = record {
-    named = so_far.named ∙ ap (named_in false) none;
-    renamed = λ place. so_far.renamed place ∙ ap (λ ws. so_far.before ++ renamed_in place false ws) none ∙ ap (λ ws. so_far.before ++ ws) (sym none) ∙ sym so_far.words_are;
-  }
-
   module _ (word after : List ℕ) (next : words_after rest ≡ word ∷ words_after after) (more : rest ≡ spaced (words_after rest) → after ≡ spaced (words_after after)) (less : length after < length rest) where
     abbrev through : List Word
     through = so_far.before ++ word ∷ []
@@ -63,16 +56,6 @@ module _ (words rest : List ℕ) (so_far : IsScannedTo words rest) where
       line-renamed place =
           so_far.renamed place ∙ ap (λ ws. so_far.before ++ renamed_in place false ws) next ∙ ap (λ b. so_far.before ++ word ∷ renamed_in place b (words_after after)) line
           ∙ sym (append_assoc so_far.before (word ∷ []) (renamed_in place true (words_after after)))
-
-      pub within : length after ≤ length words
-      within = omega (arith, less, so_far.shorter)
-
-      -- nothing stands after it
-      pub none-after : words_after after ≡ [] → IsNoneNamed words
-      none-after none = record {
-        named = line-named ∙ ap (named_in true) none;
-        renamed = λ place. line-renamed place ∙ ap (λ ws. through ++ renamed_in place true ws) none ∙ ap (λ ws. through ++ ws) (sym none) ∙ sym through-words;
-      }
 
       -- a number stands after it
       pub next-found : (number last : List ℕ) → words_after after ≡ number ∷ words_after last → (after ≡ spaced (words_after after) → last ≡ spaced (words_after last)) → length last < length after

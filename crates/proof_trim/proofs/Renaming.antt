@@ -6,7 +6,7 @@ use Rattle.std.proofs.lemmas.List.Elements.{All-head, All-tail}
 use Rattle.proof_log.specs.LinesText.{spaced}
 use Rattle.proof_log.specs.Reading.{words_after}
 use Rattle.proof_log.proofs.Spacing.{spaced-append}
-use Rattle.proof_trim.specs.Naming.{IsEarlier, IsNextNamed, IsNoneNamed, named_in, renamed_in}
+use Rattle.proof_trim.specs.Naming.{IsEarlier, IsNextNamed, named_in, renamed_in}
 
 -- what was added to a text is the words up to these with other numbers, and each number that is left is below a number
 pub record AreRenamedTo (place : ℕ → ℕ) (number : ℕ) (words old now rest : List ℕ) : Type 0 where
@@ -37,6 +37,3 @@ module _ (place : ℕ → ℕ) (number : ℕ) (words old now rest : List ℕ) (s
           earlier = All-tail (IsEarlier number) line (named_in false (words_after after)) left-earlier;
           bytes = next.rest so_far.bytes;
         }
-
-  pub all-renamed : IsNoneNamed rest → (new : List ℕ) → new ≡ now ++ rest → new ≡ old ++ spaced (renamed_in place false (words_after words))
-  all-renamed none new added = added ∙ ap (λ t. now ++ t) (so_far.bytes ∙ ap spaced (sym (none.renamed place))) ∙ sym so_far.text

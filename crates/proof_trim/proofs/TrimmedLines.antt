@@ -1,10 +1,8 @@
 -- What is trimmed of a text, from its marks.
-use Rattle.std.proofs.Common.{◌≡◌, sym, ap, refl, ℕ, ◌<◌, ◌≤◌, ◌^◌, Bool, List, [], ◌∷◌, length, Result, Ok, Err, arith}
-use Rattle.std.specs.Prelude.{IfOk, OnOk}
+use Rattle.std.proofs.Common.{◌≡◌, sym, ap, refl, ℕ, ◌<◌, ◌≤◌, ◌^◌, Bool, List, [], ◌∷◌, length, arith}
 use Rattle.proof_log.specs.declared.line.Line.{Line}
 use Rattle.proof_log.specs.LinesOf.{IsTextOf}
 use Rattle.proof_log.specs.LinesText.{lines_text}
-use Rattle.proof_trim.specs.declared.text_trimming.TrimmedText.{TrimmedText}
 use Rattle.proof_trim.specs.Laws.{CanBeTrimmed}
 use Rattle.proof_trim.specs.Needed.{NoneForward}
 use Rattle.proof_trim.specs.Naming.{AreNamed}
@@ -45,14 +43,3 @@ module _ (lines : List Line) (numbers ends : List ℕ) (are : AreNamed lines num
   -- lines of which none names a later one can be trimmed
   pub can-trim : 1 ≤ length ends → NoneForward lines → CanBeTrimmed lines
   can-trim some none = record { some = λ empty. omega (arith, some, are.count, ap length empty); back = λ n first. none-first lines n none first }
-
--- ---- the lines of a text, by the numbers of their hints
-
-module _ (text numbers ends : List ℕ) (are : (lines : List Line) → IsTextOf text lines → AreNamed lines numbers ends) where
-  pub trimmed-by-numbers : {E : Type 0} (r : Result TrimmedText E) → IfOk r (λ t. (lines : List Line) → IsTextOf text lines → AreNamed lines numbers ends → IsTrimmedText lines t.text.items t.count) → IfOk r (λ t. (lines : List Line) → IsTextOf text lines → IsTrimmedText lines t.text.items t.count)
-  trimmed-by-numbers (Ok t) each = λ lines is. each lines is (are lines is)
-  trimmed-by-numbers (Err e) each = tt
-
-  pub can-by-numbers : {E : Type 0} (r : Result TrimmedText E) → OnOk r ((lines : List Line) → AreNamed lines numbers ends → CanBeTrimmed lines) → OnOk r ((lines : List Line) → IsTextOf text lines → CanBeTrimmed lines)
-  can-by-numbers (Ok t) each = λ lines is. each lines (are lines is)
-  can-by-numbers (Err e) each = tt
