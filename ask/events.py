@@ -8,9 +8,10 @@ from dataclasses import dataclass, field
 from typing import Any, Dict, Iterator, List, Optional, Sequence, Tuple
 
 from ask.logs import NAME, ROW_KINDS, is_log_in_json, records_of
+from ask.refusals import log_in_json_words
 from ask.stamps import Stamp, stamp_of
 from ask.texts import BYTE_ORDER_MARK, Source, Trouble
-from ask.words import USAGE, listed, log_in_json_words, shortened
+from ask.words import USAGE, listed, shortened
 
 WRONG = 66  # the status where a file can't be made into a log
 MOST_NAME = 32

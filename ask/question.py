@@ -9,9 +9,10 @@ from typing import List, Optional, Sequence, Tuple
 from ask.formulas import Tree, read_formula
 from ask.logs import Log, read_log
 from ask.program import NOT_THERE, Program, Run
+from ask.refusals import refusal
 from ask.reports import Best, Report, Unreadable, read_best, read_report
 from ask.texts import Source, Trouble, is_existing_file, read_source
-from ask.words import TYPED, counted, refusal, shortened
+from ask.words import TYPED, counted, shortened
 
 UNKNOWN_WORDS = 64  # the status of the program where it doesn't know a command
 VERDICTS = {0: "true", 1: "false", 2: "either", 3: "no timing", 4: "unknown"}

@@ -13,9 +13,10 @@ from ask.program import NOT_THERE, Program, Run, find_program
 from ask.question import (
     Question, accepted_log, answered, formula_source, report_of_run, run_facts, shown_formula,
 )
+from ask.refusals import refusal
 from ask.reports import Report, Step, Unreadable, read_report, steps_of
 from ask.texts import Source, Trouble, read_source
-from ask.words import Answer, refusal, step_words
+from ask.words import Answer, step_words
 
 ANY = Source("true", b"true")  # a formula that every timing has, where only the timing is asked about
 REJECTED = 5  # the status of a report that doesn't hold

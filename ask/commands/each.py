@@ -14,8 +14,9 @@ from ask.program import STOPPED, Program, Stopped, find_program
 from ask.question import (
     VERDICTS, Question, accepted_tree, log_with_rows, run_facts, shown_formula, sources_of, text_of_source,
 )
+from ask.refusals import refusal
 from ask.texts import Source, Trouble
-from ask.words import USAGE, Answer, bold, counted, refusal, table
+from ask.words import USAGE, Answer, bold, counted, table
 
 # Which status the table has: the first of these that a line has.
 ORDER = (3, 1, 2, 4, STOPPED, 0)

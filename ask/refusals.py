@@ -1,0 +1,219 @@
+"""Refusals of the program in words: what is wrong, where, and what may have been meant."""
+
+from __future__ import annotations
+
+import re
+from typing import Optional, Sequence
+
+from ask.logs import HEADERS, KINDS, Record, declared_hosts, is_log_in_json, number as number_of, records_of
+from ask.program import NOT_THERE, Run
+from ask.texts import Source, Trouble, place_of, shown_text
+from ask.words import TYPED, counted, grouped, listed, shortened
+
+
+def refusal(run: Run, formula: Optional[Source], log: Optional[Source]) -> Trouble:
+    """The trouble that a refusal of the program is, in words."""
+    words = run.line().split(" ")
+    kind = words[1] if len(words) > 1 and words[0] == "refused" else ""
+    if kind == "formula" and formula:
+        return Trouble(run.status, formula_refusal(words, formula, log))
+    if kind == "log" and log:
+        return Trouble(run.status, log_refusal(words, log))
+    if kind == "length":
+        return Trouble(run.status, LENGTHS.get(words[-1], run.line()))
+    if kind == "nodes":
+        return Trouble(
+            run.status, "the formula has more than 512 different parts, which is the limit: ask for it in parts",
+        )
+    if kind == "times":
+        too_many = "is where the times end too early or go on too long, since there is one a row"
+        what = {"1": "is no whole number", "2": too_many}
+        return Trouble(run.status, f"the file of times: line {words[-1]} {what.get(words[2], 'is wrong')}")
+    if kind == "size":
+        return Trouble(run.status, size_refusal(int(words[-1]), log))
+    if kind == "event":
+        return Trouble(run.status, f"the log has no row {words[-1]}, at: {run.words}")
+    known = {70: "memory ran out", 74: "the program couldn't read a file", 75: "the program couldn't write"}
+    if run.status in known:
+        return Trouble(run.status, f"{known[run.status]}, at: {run.words}")
+    said = f" and {shown_text(run.output[:80])!r}" if run.output else ""
+    return Trouble(
+        NOT_THERE, f"the program answered with status {run.status}{said}, which ask doesn't know, at: {run.words}",
+    )
+
+
+LENGTHS = {
+    "log": "the log is longer than 1,048,576 bytes, which is the limit: cut a window of it (ask log --help)",
+    "formula": "the formula is longer than 65,536 bytes, which is the limit",
+    "report": "the report is longer than 1,073,741,824 bytes, which is the limit",
+    "times": "the file of times is longer than 65,536 bytes, which is the limit",
+}
+
+
+def size_refusal(size: int, log: Optional[Source]) -> str:
+    """What to do where a formula and a log are too large together."""
+    no_rows = ("kind", "skewlog2", "host", "resync", "latency")
+    rows = sum(1 for record in records_of(log.data) if record.fields[0] not in no_rows) if log else 0
+    return (
+        f"the formula on a log of {counted(rows, 'row')} has the size {grouped(size)}, and the limit is 4,194,304. "
+        f"Each F, G, O, H, U and S counts with the square of the rows: cut a window (ask log --help), leave out "
+        f"rows that the formula and the messages don't need, or ask for the parts of the formula one by one"
+    )
+
+
+FORMULA_FAULTS = {
+    "1": "here begins nothing of the language",
+    "2": "something else is expected here",
+    "3": "a number has no leading zero and is at most 10^18",
+    "4": "the first number of an interval can't be above the second",
+    "5": "the formula is higher than 200 levels, which is the limit",
+    "6": "a whole formula ends before this, and nothing can go on here: is an operator missing?",
+    "7": "the formula is empty",
+}
+
+
+def formula_refusal(words: Sequence[str], formula: Source, log: Optional[Source]) -> str:
+    """What is wrong with a formula, and where."""
+    number, offset = words[2], int(words[-1])
+    place = place_of(formula.data, offset)
+    where = f"{formula.name}, line {place.line}, column {place.column}"
+    rest = formula.data[offset:]
+    if number == "8":
+        host = re.match(rb"[a-z0-9_]*", rest)
+        hosts = declared_hosts(records_of(log.data)) if log else []
+        name = host.group().decode() if host else ""
+        before = formula.data[:offset][-1:].decode("ascii", "replace")
+        hint = f". {before} before it is an operator; names are in small letters" if re.match("[A-Z]", before) else ""
+        return f"{where}: the log has no host {name}. Its hosts: {listed(hosts) or 'none'}{hint}"
+    said = FORMULA_FAULTS.get(number, " ".join(words))
+    if re.match(rb"\W*(kind|skewlog2),host,", formula.data):
+        return f"{formula.name} is a log; the formula stands before the log"
+    if number == "1" and re.match(rb"[a-z][a-z0-9_]{32,}", rest):
+        said = "a name has at most 32 characters"
+    if number == "2" and not rest.strip():
+        said = "the formula ends too early"
+    said += spelling_hint(number, formula.data[:offset], rest)
+    if formula.name == TYPED and not re.search(rb"[\s(\[!]", formula.data):
+        said += ". There is no file of that name, so it was read as a formula"
+    lines = re.split(r"\r\n|\n|\r", formula.data.decode("utf-8", "replace").lstrip("\ufeff"))
+    line = lines[place.line - 1] if place.line <= len(lines) else ""
+    start = max(0, place.column - 60)
+    shown = line[start : start + 100].replace("\t", " ")
+    pointer = " " * (place.column - 1 - start) + "^"
+    return f"{where}: {said}\n  {shown}\n  {pointer}"
+
+
+OTHER_SPELLINGS = {
+    "?": "a ? is found by ask deadline", "=": "an implication is ->", "&": "a conjunction is one &",
+    "|": "a disjunction is one |",
+}
+
+
+def spelling_hint(number: str, before: bytes, rest: bytes) -> str:
+    """What else the words may be meant to be where they are refused."""
+    sign = rest[:1].decode("ascii", "replace")
+    if sign in OTHER_SPELLINGS and (number == "1" or number == "2" and before.endswith(rest[:1])):
+        return f": {OTHER_SPELLINGS[sign]}"
+    word = re.search(rb"(?<![a-z0-9_.])([a-z][a-z0-9_]*)[ \t\r\n]*$", before)
+    if number == "2" and word and word.group(1) not in (b"true", b"false"):
+        return f" after {word.group(1).decode()}: a proposition is HOST.NAME, and the operators are ! & | -> F G O H U S"
+    return ""
+
+
+def log_refusal(words: Sequence[str], log: Source) -> str:
+    """What is wrong with a log, and where."""
+    records = records_of(log.data)
+    number = words[2]
+    if number == "11":
+        return f"{log.name} has no row: only its header and hosts"
+    place = int(words[-1])
+    if place > len(records):
+        return f"{log.name} is empty: the first line has to be kind,host,time,name"
+    if number == "1" and is_log_in_json(log.data):
+        return log_in_json_words(log)
+    record = records[place - 1]
+    said, wrong = log_fault_words(number, record, records)
+    column = place_of(log.data, record.offsets[wrong]).column if wrong < len(record.offsets) else 1
+    return f"{log.name}, line {record.line}, column {column}: {said}"
+
+
+def header_hint(line: str) -> str:
+    """What a first line that is no header may come of."""
+    if "\0" in line:
+        return ". It has NUL bytes, as a file in UTF-16 has: the file has to be in UTF-8 or ASCII"
+    if line.lstrip("\ufeff \t")[:1] in ("{", "["):
+        return ". This is JSON: ask log makes a log of events in JSON"
+    return ". Its fields are to be separated by commas" if re.search("[;\t|]", line) else ""
+
+
+def log_in_json_words(log: Source) -> str:
+    """What is to be done with a log in JSON."""
+    return f"{log.name} is a log in JSON: `./skewcheck json FILE` writes it as a log that can be asked of"
+
+
+def log_fault_words(number: str, record: Record, records: Sequence[Record]) -> "tuple[str, int]":
+    """What is wrong with a record, and with which of its fields."""
+    fields = record.fields + [""] * 4
+    version = HEADERS.get(tuple(records[0].fields), 1)
+    kinds = ", ".join(KINDS[version])
+    if number == "1":
+        line = shown_text(",".join(record.fields).encode())
+        hint = header_hint(",".join(record.fields))
+        wanted = "kind,host,time,name or skewlog2,host,time,name"
+        return f"the first line has to be {wanted}, and is {shortened(line)}{hint}", 0
+    if number == "2":
+        return f"a record has four fields, and this one has {len(record.fields)}", 0
+    if number == "3":
+        if fields[0] in KINDS[version]:
+            return f"the program doesn't know the kind {fields[0]}: it is older than ask (./skewcheck builds one)", 0
+        hint = ". The first line skewlog2,host,time,name allows it" if fields[0] in KINDS[2] else ""
+        return f"there is no kind {shortened(fields[0])!r}. The kinds: {kinds}{hint}", 0
+    if number == "4":
+        return f"{shortened(fields[1])!r} is no host's name: {name_rule()}, and none is named true, false or inf", 1
+    if number == "5":
+        return f"the host {fields[1]} is declared twice", 1
+    if number == "6":
+        hosts = declared_hosts(records)
+        later = " It is declared further down, and has to be before its first row." if fields[1] in hosts else ""
+        known = listed(hosts) or "none"
+        return f"no host {shortened(fields[1])!r} is declared before this.{later} The hosts: {known}", 1
+    if number == "7":
+        return number_fault_words(fields)
+    if number == "8":
+        return f"{shortened(fields[3])!r} is no name: {name_rule()}. `ask log` maps names", 3
+    if number == "9":
+        return f"the message {fields[3]} is sent twice: give each message a name of its own", 3
+    if number == "10":
+        return (
+            f"the message {fields[3]} is received, and no row of the file sends it. Where its `send` was cut away, "
+            f"make this a `note`, as `ask log` does"
+        ), 3
+    if number == "15":
+        return f"the host {fields[1]} has a latency already", 1
+    if number == "16":
+        return f"the greatest latency, {shortened(fields[3])}, is below the least, {shortened(fields[2])}", 3
+    if number == "12":
+        count = len(declared_hosts(records))
+        return f"{counted(count, 'host')}; at most 64: leave out hosts that the formula and the messages don't need", 0
+    if number == "13":
+        rows = sum(1 for other in records[1:] if other.fields[0] not in ("host", "resync", "latency"))
+        return f"{counted(rows, 'row')}; at most 1,024: cut a window (ask log --help, docs/real-logs.md)", 0
+    return f"fault {number}", 0
+
+
+def name_rule() -> str:
+    return "a small letter, then small letters, digits and _, 32 characters at most"
+
+
+def number_fault_words(fields: Sequence[str]) -> "tuple[str, int]":
+    """Which number of a record is none."""
+    if fields[0] in ("host", "resync", "latency"):
+        names = ("least latency", "greatest latency") if fields[0] == "latency" else ("skew", "gap")
+        wrong = 2 if number_of(fields[2], 10**18) is None or (fields[0], fields[2]) == ("latency", "0") else 3
+        ends = "1 to 10^18" if fields[0] == "latency" else "0 to 10^18"
+        what = f"{names[wrong - 2]} {shortened(fields[wrong])!r}"
+        return f"the {what} is no whole number from {ends}, without a sign or a leading zero", wrong
+    hint = ""
+    if re.search(r"\d[.T:]\d|\d-\d", fields[2]):
+        hint = ". `ask log` makes whole units of decimal seconds and ISO 8601 stamps"
+    return f"the stamp {shortened(fields[2])!r} is no whole number up to 4*10^18, with - where it is negative{hint}", 2
