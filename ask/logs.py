@@ -178,11 +178,15 @@ def shown_field(part: bytes) -> str:
 
 
 def is_log_in_json(data: bytes) -> bool:
-    """Whether bytes are an object in JSON with hosts and events, of which the program's `json` makes a log."""
+    """Whether bytes are an object in JSON with hosts and events, of which the program's `json` makes a log.
+
+    One that was cut or is broken otherwise counts too: what is wrong with it is for `json` to say.
+    """
+    text = data.decode("utf-8", "replace")
     try:
-        found = json.loads(data.decode("utf-8", "replace"))
+        found = json.loads(text)
     except (ValueError, RecursionError):
-        return False
+        return bool(re.match(r'\s*\{\s*"(hosts|events)"\s*:\s*\[', text))
     return isinstance(found, dict) and {"hosts", "events"} <= found.keys()
 
 

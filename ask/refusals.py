@@ -84,7 +84,7 @@ def formula_refusal(words: Sequence[str], formula: Source, log: Optional[Source]
         name = host.group().decode() if host else ""
         before = formula.data[:offset][-1:].decode("ascii", "replace")
         hint = f". {before} before it is an operator; names are in small letters" if re.match("[A-Z]", before) else ""
-        return f"{where}: the log has no host {name}. Its hosts: {listed(hosts) or 'none'}{hint}"
+        return f"{where}: the log has no host {name}. Its hosts: {listed(hosts) or 'none'}{hint}{file_hint(formula)}"
     said = FORMULA_FAULTS.get(number, " ".join(words))
     if re.match(rb"\W*(kind|skewlog2),host,", formula.data):
         return f"{formula.name} is a log; the formula stands before the log"
@@ -92,15 +92,38 @@ def formula_refusal(words: Sequence[str], formula: Source, log: Optional[Source]
         said = "a name has at most 32 characters"
     if number == "2" and not rest.strip():
         said = "the formula ends too early"
-    said += spelling_hint(number, formula.data[:offset], rest)
-    if formula.name == TYPED and not re.search(rb"[\s(\[!]", formula.data):
-        said += ". There is no file of that name, so it was read as a formula"
+    said += interval_hint(formula.data, offset) or spelling_hint(number, formula.data[:offset], rest)
+    said += file_hint(formula)
     lines = re.split(r"\r\n|\n|\r", formula.data.decode("utf-8", "replace").lstrip("\ufeff"))
     line = lines[place.line - 1] if place.line <= len(lines) else ""
     start = max(0, place.column - 60)
     shown = line[start : start + 100].replace("\t", " ")
     pointer = " " * (place.column - 1 - start) + "^"
     return f"{where}: {said}\n  {shown}\n  {pointer}"
+
+
+def file_hint(formula: Source) -> str:
+    """That there is no such file, where a formula in the words looks like the name of one."""
+    word = shown_text(formula.data)
+    if formula.name != TYPED or re.search(r"[\s()\[\]!&|<>=]", word):
+        return ""
+    return f". There is no file {shortened(word)}, so this was read as a formula"
+
+
+# An operator with numbers behind it, in any brackets or none, as intervals are written elsewhere.
+INTERVAL = re.compile(
+    rb"[FGOHUS]\s*[\[({\]]?\s*(?:<=?\s*)?(?:([0-9]+|\?)\s*(?:[,;:-]|\.\.|\s)\s*)?([0-9]+|inf|\?)\s*[\])}\[]?"
+)
+RIGHT_INTERVAL = re.compile(rb"[FGOHUS]\s*\[\s*([0-9]+|\?)\s*,\s*([0-9]+|inf|\?)\s*\]")
+
+
+def interval_hint(data: bytes, offset: int) -> str:
+    """How an interval is written, where the place of a fault is in one that is written otherwise."""
+    for found in INTERVAL.finditer(data):
+        if found.start() < offset < found.end() and not RIGHT_INTERVAL.fullmatch(found.group()):
+            low, high = (number or b"0" for number in found.groups())
+            return f": an interval is [{low.decode()},{high.decode()}]"
+    return ""
 
 
 OTHER_SPELLINGS = {
@@ -142,13 +165,13 @@ def header_hint(line: str) -> str:
     if "\0" in line:
         return ". It has NUL bytes, as a file in UTF-16 has: the file has to be in UTF-8 or ASCII"
     if line.lstrip("\ufeff \t")[:1] in ("{", "["):
-        return ". This is JSON: ask log makes a log of events in JSON"
+        return ". This is JSON: ask log makes a log of lines of JSON, an event each"
     return ". Its fields are to be separated by commas" if re.search("[;\t|]", line) else ""
 
 
 def log_in_json_words(log: Source) -> str:
     """What is to be done with a log in JSON."""
-    return f"{log.name} is a log in JSON: `./skewcheck json FILE` writes it as a log that can be asked of"
+    return f"{log.name} is a log in JSON, which `./skewcheck json {log.name}` writes as one that can be asked of"
 
 
 def log_fault_words(number: str, record: Record, records: Sequence[Record]) -> "tuple[str, int]":

@@ -12,6 +12,7 @@ from ask.program import Program, Run, find_program
 from ask.question import (
     Question, accepted_log, answered, run_facts, run_lines, shown_formula, sources_of, text_of_source,
 )
+from ask.refusals import file_hint
 from ask.texts import Source, Trouble
 from ask.words import USAGE, Answer, bold
 
@@ -65,7 +66,8 @@ def tree_of(template: Source) -> Optional[Tree]:
     """The tree of a formula with `?`, or None where it is no formula, which the program then says."""
     text = text_of_source(template)
     if "?" not in text:
-        raise Trouble(USAGE, "the formula has no `?`: write it in place of the number that is asked for, as F[0,?]")
+        wanted = "write it in place of the number that is asked for, as F[0,?]"
+        raise Trouble(USAGE, f"the formula has no `?`: {wanted}{file_hint(template)}")
     return read_formula(text)
 
 

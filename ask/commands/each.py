@@ -14,7 +14,7 @@ from ask.program import STOPPED, Program, Stopped, find_program
 from ask.question import (
     VERDICTS, Question, accepted_tree, log_with_rows, run_facts, shown_formula, sources_of, text_of_source,
 )
-from ask.refusals import refusal
+from ask.refusals import file_hint, refusal
 from ask.texts import Source, Trouble
 from ask.words import USAGE, Answer, bold, counted, table
 
@@ -60,7 +60,8 @@ def do(arguments: argparse.Namespace) -> Answer:
     program = Program(find_program(arguments.program), arguments.seconds)
     template, source = sources_of(arguments.template, arguments.log)
     if not re.search(PLACE, text_of_source(template)):
-        raise Trouble(USAGE, f"{shown_formula(template)} has no {{}} for the names: each of them would have this formula")
+        said = f"{shown_formula(template)} has no {{}} for the names: each of them would have this formula"
+        raise Trouble(USAGE, said + file_hint(template))
     pattern = pattern_of(arguments.over)
     log = log_with_rows(program, source)
     matches = matching(log, pattern)

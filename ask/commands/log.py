@@ -19,7 +19,7 @@ from ask.words import USAGE, Answer, counted, listed
 def add_words(commands: "argparse._SubParsersAction[argparse.ArgumentParser]", common: argparse.ArgumentParser) -> None:
     """Adds the words of the command."""
     words = commands.add_parser(
-        "log", parents=[common], allow_abbrev=False, help="make a log of tables, JSON or access lines, or cut a window",
+        "log", parents=[common], allow_abbrev=False, help="make a log of tables, lines of JSON or access lines, or cut a window",
         description="Writes one log made of files: logs of the program, which are joined; tables of comma-separated "
         "fields with their names in the first line; files with a JSON object a line; and, with --access, the lines of "
         "a web server. Stamps may be whole units, decimal seconds or ISO 8601; names that aren't names are mapped. The "
