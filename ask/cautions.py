@@ -2,14 +2,14 @@
 
 from __future__ import annotations
 
-from typing import Iterator, List, NamedTuple, Optional
+from typing import Iterator, List, NamedTuple, Optional, Sequence, Tuple
 
 from ask.formulas import Tree, beyond_the_end, parts_written, propositions, subtrees, text_of
 from ask.logs import Log
 from ask.program import Run, Stopped
 from ask.question import VERDICTS, Question, text_of_source
-from ask.texts import place_of
-from ask.words import lines_words, listed, shortened
+from ask.texts import Source, place_of
+from ask.words import Answer, lines_words, listed, shortened, yellow
 
 MOST_PARTS = 4000  # of a formula that is made of another one
 KINDS = ("unset", "no-proposition", "never", "end", "unasked")
@@ -23,21 +23,40 @@ class Caution(NamedTuple):
     run: Optional[str] = None
 
 
+def caution_lines(cautions: Sequence[Caution]) -> List[str]:
+    """A line for each warning."""
+    runs = [f" [{caution.run}]" if caution.run else "" for caution in cautions]
+    return [yellow(f"Warning ({c.kind}): {c.sentence}.{run}") for c, run in zip(cautions, runs)]
+
+
+def with_cautions(answer: Answer, cautions: Sequence[Caution]) -> Answer:
+    """An answer with its warnings right below the sentence that it begins with."""
+    answer.lines[1:1] = caution_lines(cautions)
+    answer.facts["warnings"] = [caution._asdict() for caution in cautions]
+    return answer
+
+
 def cautions_of_names(question: Question, log: Log, tree: Tree) -> Iterator[Caution]:
     """The propositions that no row sets or pulses, and that `check` finds to be false throughout."""
+    for host, part in never_set(log, tree):
+        run = run_of(question, f"F {text_of(part)}")
+        if run is None or run.status != 1:
+            yield unasked(f"whether {text_of(part)} is ever true", run)
+        else:
+            yield caution_of_name(question.formula, log, host, part, run.words)
+
+
+def cautions_without_runs(formula: Source, log: Log, tree: Optional[Tree]) -> List[Caution]:
+    """The same by the log alone, of a formula in which `?` may stand for numbers, or of none."""
+    return [caution_of_name(formula, log, host, part) for host, part in never_set(log, tree)] if tree else []
+
+
+def never_set(log: Log, tree: Tree) -> Iterator[Tuple[int, Tree]]:
+    """The propositions that no row sets or pulses, each with the number of its host."""
     for part in propositions(tree):
         host = log.host_numbered(part.host)
-        if host is None or part.name in set_names(log, host):
-            continue
-        shown = f"{part.host}.{part.name}"
-        run = run_of(question, f"F {shown}")
-        if run is None or run.status != 1:
-            yield unasked(f"whether {shown} is ever true", run)
-            continue
-        text = text_of_source(question.formula)
-        place = place_of(question.formula.data, len(text[: part.start].encode()))
-        where = f"{shown} (line {place.line}, column {place.column})"
-        yield caution_of_name(log, host, part.name, where, run.words)
+        if host is not None and part.name not in set_names(log, host):
+            yield host, part
 
 
 def set_names(log: Log, host: int) -> List[str]:
@@ -45,8 +64,10 @@ def set_names(log: Log, host: int) -> List[str]:
     return list(dict.fromkeys(row.name for row in log.rows if row.host == host and row.kind in ("set", "pulse")))
 
 
-def caution_of_name(log: Log, host: int, name: str, where: str, run: str) -> Caution:
+def caution_of_name(formula: Source, log: Log, host: int, part: Tree, run: Optional[str] = None) -> Caution:
     """The warning of a proposition that no row sets or pulses."""
+    name, place = part.name, place_of(formula.data, len(text_of_source(formula)[: part.start].encode()))
+    where = f"{text_of(part)} (line {place.line}, column {place.column})"
     others = [
         event for event, row in enumerate(log.rows) if row.name == name and row.kind in ("note", "send", "recv")
     ]

@@ -6,7 +6,7 @@ import argparse
 from typing import Any, Dict, List, Optional, Sequence, Set, Tuple
 
 from ask import explain
-from ask.cautions import KINDS, Caution, cautions_of
+from ask.cautions import KINDS, Caution, caution_lines, cautions_of
 from ask.grounds import ground_facts, ground_lines
 from ask.nearer import brought_nearer
 from ask.program import STOPPED, Program, Run, Stopped, find_program
@@ -16,7 +16,7 @@ from ask.question import (
 )
 from ask.reports import Report, Section, Step
 from ask.texts import Trouble
-from ask.words import Answer, bold, counted, grouped, signed, step_words, table, walk_facts, walk_words, yellow
+from ask.words import Answer, bold, counted, grouped, signed, step_words, table, walk_facts, walk_words
 
 WARNED = 65  # the status where --strict makes an error of a warning
 FEW_CONFLICTS = 100  # what is tried where a run was stopped
@@ -120,9 +120,7 @@ class Reading:
 
     def say_warnings(self, warnings: Sequence[Caution]) -> None:
         self.facts["warnings"] = [w._asdict() for w in warnings]
-        for warning in warnings:
-            by = f" [{warning.run}]" if warning.run else ""
-            self.lines.append(yellow(f"Warning ({warning.kind}): {warning.sentence}.{by}"))
+        self.lines += caution_lines(warnings)
 
     def say_stamps(self) -> None:
         """The value on the stamps as they are written, or the first bound that they break."""

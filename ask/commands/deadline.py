@@ -5,6 +5,7 @@ from __future__ import annotations
 import argparse
 from typing import Any, Dict, Optional, Tuple
 
+from ask.cautions import cautions_without_runs, with_cautions
 from ask.commands.check import refuse_wrong_conflicts
 from ask.formulas import Tree, grows_truer, read_formula, subtrees
 from ask.logs import Log
@@ -96,7 +97,7 @@ class Search:
     """The bisection of a question whose formula has `?`."""
 
     def __init__(self, question: Question, tree: Optional[Tree]):
-        self.question, self.rises = question, is_rising(tree)
+        self.question, self.tree, self.rises = question, tree, is_rising(tree)
         self.least, self.most = range_of(tree)
         self.template = text_of_source(question.formula)
         self.runs: Dict[int, Run] = {}
@@ -126,8 +127,12 @@ class Search:
             line = f"No timing: {self.question.log_source.name} admits none, so there is nothing to ask."
             return Answer(3, [bold(line)], {"number": None})
         log = accepted_log(self.question.log_source)
+        self.most = max(self.least, min(self.most, greatest_distance(log)))
+        return with_cautions(self.answer_at_edge(), cautions_without_runs(self.question.formula, log, self.tree))
+
+    def answer_at_edge(self) -> Answer:
+        """The answer of a log that admits a timing."""
         try:
-            self.most = max(self.least, min(self.most, greatest_distance(log)))
             number = self.edge()
         except Unknown as unknown:
             line = f"Unknown: with {unknown.number} it wasn't found within the conflicts whether it can be false."

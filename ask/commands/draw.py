@@ -3,15 +3,17 @@
 from __future__ import annotations
 
 import argparse
+import sys
 from typing import List, Optional, Sequence
 
+from ask.cautions import caution_lines, cautions_without_runs
 from ask.logs import Log
 from ask.nearer import brought_nearer
 from ask.page import page_of
 from ask.picture import Panel, picture
 from ask.program import NOT_THERE, Program, Run, find_program
 from ask.question import (
-    Question, accepted_log, answered, formula_source, report_of_run, run_facts, shown_formula,
+    Question, accepted_log, accepted_tree, answered, formula_source, report_of_run, run_facts, shown_formula,
 )
 from ask.refusals import refusal
 from ask.reports import Report, Step, Unreadable, read_report, steps_of
@@ -57,11 +59,17 @@ def do(arguments: argparse.Namespace) -> Answer:
     else:
         panels = drawing.panels_of_stamps()
     log = drawing.log()
+    cautions = cautions_without_runs(formula, log, accepted_tree(formula)) if formula else []
+    if not arguments.json:
+        for line in caution_lines(cautions):
+            print(f"ask: {line}", file=sys.stderr)
     heading = drawing.question.log_source.name + (f": {shown_formula(formula)}" if formula else "")
     svg = picture(log, panels, heading if arguments.svg else "")
     text = svg if arguments.svg else page_of(heading, svg)
     titles = [{"title": panel.title, "times": list(panel.times)} for panel in panels]
-    return Answer(0, [text], {"panels": titles, "picture": text, "runs": run_facts(program.runs)})
+    warnings = [caution._asdict() for caution in cautions]
+    facts = {"panels": titles, "picture": text, "warnings": warnings, "runs": run_facts(program.runs)}
+    return Answer(0, [text], facts)
 
 
 class Drawing:

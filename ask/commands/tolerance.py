@@ -6,13 +6,14 @@ import argparse
 from dataclasses import replace
 from typing import Any, Dict, List, Optional
 
+from ask.cautions import cautions_without_runs, with_cautions
 from ask.commands.check import refuse_wrong_conflicts
 from ask.grounds import ground_facts, ground_lines
 from ask.logs import MOST_SKEW, Log, number, records_of
 from ask.nearer import brought_nearer
 from ask.program import Program, find_program
 from ask.question import (
-    Question, best_of_run, log_with_rows, run_facts, run_lines, shown_formula, sources_of,
+    Question, accepted_tree, best_of_run, log_with_rows, run_facts, run_lines, shown_formula, sources_of,
 )
 from ask.reports import Best
 from ask.texts import Source, Trouble
@@ -56,6 +57,8 @@ def do(arguments: argparse.Namespace) -> Answer:
         more = f"; the size is that with all skews {most_words(most)} greater, and a smaller --up-to may make it smaller"
         raise Trouble(trouble.status, trouble.message + more * run.line().startswith("refused size")) from None
     answer = Tolerance(question, log, arguments.value, most, arguments.all).answer(run.status, best)
+    if run.status != 3:
+        with_cautions(answer, cautions_without_runs(question.formula, log, accepted_tree(question.formula)))
     answer.facts["runs"] = run_facts(program.runs)
     if arguments.runs:
         answer.lines += run_lines(program.runs)
