@@ -2,7 +2,6 @@
 
 from __future__ import annotations
 
-from collections import Counter
 from dataclasses import dataclass, field
 from typing import Dict, List, NamedTuple, Optional, Tuple
 
@@ -16,14 +15,20 @@ class Step(NamedTuple):
     numbers: Tuple[int, ...]
 
 
+class Line(NamedTuple):
+    """A line of a derivation: the steps of a cycle, or the numbers of the lines from 1 that a learned clause needs."""
+
+    steps: List[Step]
+    needs: List[int]
+
+
 @dataclass
 class Section:
     """What a report says of a value: a witness with its times, or a derivation that refutes it or was cut off."""
 
     kind: str  # witness, refuted or unknown
     times: List[int] = field(default_factory=list)
-    cycles: List[List[Step]] = field(default_factory=list)
-    lines: int = 0
+    lines: List[Line] = field(default_factory=list)
 
 
 @dataclass
@@ -79,10 +84,14 @@ def section_at(lines: List[str], place: int, wanted: str, events: int) -> Tuple[
         return Section(kind, times), end
     count = int(rest[0])
     end = place + 1 + count
-    cycles = [
-        steps_of(line.split(" ")[2:]) for line in lines[place + 1 : end] if line.startswith("cycle ")
-    ]
-    return Section(kind, [], cycles, count), end
+    return Section(kind, [], [line_of(line.split(" ")) for line in lines[place + 1 : end]]), end
+
+
+def line_of(words: List[str]) -> Line:
+    """The line of a derivation that words are."""
+    if words[0] == "cycle":
+        return Line(steps_of(words[2:]), [])
+    return Line([], [int(number) for word, number in zip(words, words[1:]) if word == "line"])
 
 
 def number_after(line: str, word: str) -> int:
@@ -153,10 +162,13 @@ def best_of(lines: List[str], events: int, command: str, value: str) -> Best:
     return best
 
 
-def bounds_used(section: Section) -> List[Tuple[Step, int]]:
-    """The bounds of the log that the cycles of a derivation rest on, each with its uses, most used first.
-
-    An extra bound is what the derivation assumes beside the log.
-    """
-    uses = Counter(step for cycle in section.cycles for step in cycle if step.kind not in ("order", "extra"))
-    return sorted(uses.items(), key=lambda item: (-item[1], item[0].numbers, item[0].kind))
+def distances(section: Section) -> Dict[int, int]:
+    """The lines of a derivation that its last one needs, by their numbers, and over how many lines it needs them."""
+    found = {len(section.lines): 0} if section.lines else {}
+    waiting = list(found)
+    for number in waiting:
+        for needed in section.lines[number - 1].needs:
+            if 0 < needed < number and needed not in found:
+                found[needed] = found[number] + 1
+                waiting.append(needed)
+    return found

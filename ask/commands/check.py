@@ -90,6 +90,7 @@ class Reading:
         self.log = accepted_log(question.log_source)
         self.tree = accepted_tree(question.formula)
         self.report = report_of_run(run)
+        self.remarks: List[str] = []  # on the timings
         self.lines: List[str] = []
         self.facts: Dict[str, Any] = {}
 
@@ -143,13 +144,9 @@ class Reading:
         found = {v: s.times for v, s in self.report.sections.items() if s.kind == "witness"}
         if self.arguments.as_found:
             return found
-        nearer = {}
-        for value, times in found.items():
-            try:
-                nearer[value] = brought_nearer(self.question, self.log, times, value)
-            except Stopped:
-                nearer[value] = times
-        return nearer
+        nearer = {value: brought_nearer(self.question, self.log, times, value) for value, times in found.items()}
+        self.remarks += dict.fromkeys(timing.remark for timing in nearer.values() if timing.remark)
+        return {value: timing.times for value, timing in nearer.items()}
 
     def say_timings(self, timings: Dict[bool, List[int]], named: Set[int]) -> None:
         """The timings side by side, a line a row."""
@@ -171,7 +168,9 @@ class Reading:
             self.lines.append(f"  {counted(rest, 'row')} left out; --all shows all")
         if any("both" in row[-1] for row in rows):
             self.lines.append("  both: a row that isn't at its stamp in either timing")
-        self.say_spreads(timings)
+        self.remarks += self.spreads(timings)
+        self.lines += [f"  {remark}" for remark in self.remarks]
+        self.facts["remarks"] = self.remarks
 
     def cells(self, event: int, timings: Dict[bool, List[int]]) -> List[str]:
         """The line of a row in the table of timings."""
@@ -191,17 +190,15 @@ class Reading:
         shifted = [event for event in events if any(times[event] != stamps[event] for times in timings.values())]
         return sorted([*named, *(event for event in shifted if event not in named)][:MOST_ROWS_SHOWN])
 
-    def say_spreads(self, timings: Dict[bool, List[int]]) -> None:
+    def spreads(self, timings: Dict[bool, List[int]]) -> List[str]:
         """That rows of one host are shifted by different amounts, which an offset couldn't do."""
         for times in timings.values():
             for number, host in enumerate(self.log.hosts):
                 shifts = {time - row.stamp for time, row in zip(times, self.log.rows) if row.host == number}
                 if len(shifts) > 1:
                     amounts = f"{signed(min(shifts))} to {signed(max(shifts))}"
-                    remark = f"rows of {host.name} are shifted by different amounts, {amounts}: {SPREAD_NOTE}"
-                    self.facts["remarks"] = [remark]
-                    self.lines.append(f"  {remark}")
-                    return
+                    return [f"rows of {host.name} are shifted by different amounts, {amounts}: {SPREAD_NOTE}"]
+        return []
 
     # Reasons
 
@@ -247,7 +244,7 @@ class Reading:
         if not grounds:
             self.lines += ["", f"It can't be {word} whatever the times: the derivation rests on no bound of the log."]
             return
-        self.lines += ["", f"Why it can't be {word}: the derivation, of {counted(section.lines, 'line')}, rests on"]
+        self.lines += ["", f"Why it can't be {word}: the derivation, of {counted(len(section.lines), 'line')}, rests on"]
         self.lines += grounds
 
     def say_runs(self) -> None:

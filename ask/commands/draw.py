@@ -8,7 +8,7 @@ from typing import List, Optional, Sequence
 
 from ask.cautions import caution_lines, cautions_without_runs
 from ask.logs import Log
-from ask.nearer import brought_nearer
+from ask.nearer import Nearer, brought_nearer
 from ask.page import page_of
 from ask.picture import Panel, picture
 from ask.program import NOT_THERE, Program, Run, find_program
@@ -61,7 +61,7 @@ def do(arguments: argparse.Namespace) -> Answer:
     log = drawing.log()
     cautions = cautions_without_runs(formula, log, accepted_tree(formula)) if formula else []
     if not arguments.json:
-        for line in caution_lines(cautions):
+        for line in [*caution_lines(cautions), *dict.fromkeys(drawing.remarks)]:
             print(f"ask: {line}", file=sys.stderr)
     heading = drawing.question.log_source.name + (f": {shown_formula(formula)}" if formula else "")
     svg = picture(log, panels, heading if arguments.svg else "")
@@ -77,6 +77,7 @@ class Drawing:
 
     def __init__(self, question: Question, formula: Optional[Source]):
         self.question, self.formula = question, formula
+        self.remarks: List[str] = []  # on timings that were brought nearer to the stamps
 
     def log(self) -> Log:
         return accepted_log(self.question.log_source)
@@ -180,8 +181,11 @@ class Drawing:
         panels = []
         for value, section in report.sections.items():
             if section.kind == "witness":
-                times = brought_nearer(nearer, self.log(), section.times, value) if nearer else section.times
-                panels.append(Panel(self.title(report, value), times))
+                timing = Nearer(section.times)
+                if nearer:
+                    timing = brought_nearer(nearer, self.log(), section.times, value)
+                self.remarks += [timing.remark] * bool(timing.remark)
+                panels.append(Panel(self.title(report, value), timing.times))
         return panels or [Panel("By the stamps", self.log().stamps())]
 
     def title(self, report: Report, value: bool) -> str:

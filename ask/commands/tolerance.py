@@ -116,9 +116,11 @@ class Tolerance:
         if least == 0:
             said = f"{can} with the skews that {name} has: no stamp has to be off by more."
         question = replace(self.question, log_source=widened_source(self.question.log_source, least))
-        best.times = brought_nearer(question, self.log, best.times, self.value == "true")
+        nearer = brought_nearer(question, self.log, best.times, self.value == "true")
+        best.times = nearer.times
         by = "found by tolerance, and brought nearer to the stamps by replay"
         lines = [bold(said), "", f"A timing in which it is {self.value} ({by}):", *self.rows(best.times)]
+        lines += [f"  {nearer.remark}"] * bool(nearer.remark)
         self.facts.update(sentence=said, least=least, times=best.times)
         if best.why:
             wide = widened(self.log, least - 1)
