@@ -3,15 +3,17 @@
 from __future__ import annotations
 
 from dataclasses import dataclass
-from typing import Callable, List, Optional, Sequence, Set
+from itertools import islice
+from typing import Callable, Iterator, List, Optional, Sequence, Set, Tuple
 
-from ask.formulas import NO_BOUND, Tree, interval_text, propositions, text_of
+from ask.formulas import NO_BOUND, Tree, chained, enclosed, interval_text, propositions, text_of
 from ask.logs import Log, change_rows, pulse_rows
 from ask.question import Question
 from ask.words import lines_words, shortened
 
-DEEPEST = 5  # parts within parts that are explained
+DEEPEST = 5  # operators of time within one another that are explained
 MOST_SENTENCES = 12
+MOST_OF_ALL = 200  # sentences where all are wanted
 
 
 @dataclass
@@ -54,26 +56,47 @@ class Timing:
         return place + low if is_forward else place - low
 
 
-def explained(timing: Timing, tree: Tree, value: bool) -> List[str]:
+def explained(timing: Timing, tree: Tree, value: bool, is_all: bool) -> List[str]:
     """Sentences on why a formula has its value at the first position of a timing."""
-    return steps(timing, tree, 0, value, 0)[:MOST_SENTENCES]
+    most = MOST_OF_ALL if is_all else MOST_SENTENCES
+    sentences = list(islice(each_once(steps(timing, tree, 0, value, 0)), most + 1))
+    if len(sentences) <= most:
+        return sentences
+    return [*sentences[:most], "More is to be said of further parts" + ("" if is_all else "; --all says it")]
 
 
-def steps(timing: Timing, tree: Tree, place: int, value: bool, depth: int) -> List[str]:
+def each_once(sentences: Iterator[str]) -> Iterator[str]:
+    """Sentences without those that were there before."""
+    said: Set[str] = set()
+    for sentence in sentences:
+        if sentence not in said:
+            said.add(sentence)
+            yield sentence
+
+
+def steps(timing: Timing, tree: Tree, place: int, value: bool, depth: int) -> Iterator[str]:
     """Sentences on why a part has its value at a position."""
     if depth >= DEEPEST:
-        return []
+        return
     if not tree.parts:
-        return state_words(timing, tree, place, value)
-    if tree.form == "!":
-        return steps(timing, tree.parts[0], place, not value, depth + 1)
-    if tree.form in ("&", "|", "->"):
-        return steps_of_connective(timing, tree, place, value, depth)
-    if tree.form in ("F", "O") and value or tree.form in ("G", "H") and not value:
-        return steps_of_some(timing, tree, place, depth)
-    if tree.form in ("F", "O", "G", "H"):
-        return steps_of_all(timing, tree, place, value)
-    return steps_of_until(timing, tree, place, value, depth)
+        yield from state_words(timing, tree, place, value)
+    elif tree.form == "!":
+        yield from steps(timing, tree.parts[0], place, not value, depth)
+    elif tree.form in ("&", "|"):
+        yield from steps_of_chain(timing, tree, place, value, depth)
+    elif tree.form == "->":
+        yield from steps_of_implication(timing, tree, place, value, depth)
+    elif is_some(tree, value):
+        yield from steps_of_some(timing, tree, place, depth)
+    elif tree.form in ("F", "O", "G", "H"):
+        yield from steps_of_all(timing, tree, place, value)
+    else:
+        yield from steps_of_until(timing, tree, place, value, depth)
+
+
+def is_some(tree: Tree, value: bool) -> bool:
+    """Whether one position gives a formula its value: an `F` or `O` that holds, or a `G` or `H` that fails."""
+    return tree.form in ("F", "O") and value or tree.form in ("G", "H") and not value
 
 
 def state_words(timing: Timing, tree: Tree, place: int, value: bool) -> List[str]:
@@ -92,16 +115,67 @@ def state_words(timing: Timing, tree: Tree, place: int, value: bool) -> List[str
     return [f"{tree.host}.{tree.name} is {str(value).lower()} {timing.place_words(place)}, {since}"]
 
 
-def steps_of_connective(timing: Timing, tree: Tree, place: int, value: bool, depth: int) -> List[str]:
-    """Sentences on a connective: on the parts that give it its value."""
+def steps_of_chain(timing: Timing, tree: Tree, place: int, value: bool, depth: int) -> Iterator[str]:
+    """Sentences on a chain of `&` or `|`: on the part that alone gives it its value, or on all of them."""
+    part, part_value = counting_part(timing, tree, place, value)
+    if part is tree:
+        for joined in chained(tree):
+            yield from steps(timing, joined, place, value, depth)
+        return
+    names_itself = place and is_some(part, part_value)
+    if not is_literal(part) and not names_itself:
+        yield f"{shown(part)} {verb(part_value)} {timing.place_words(place)}"
+    yield from steps(timing, part, place, part_value, depth)
+
+
+def counting_part(timing: Timing, tree: Tree, place: int, value: bool) -> Tuple[Tree, bool]:
+    """The first part that makes a chain of `&` fail or one of `|` hold, and its value; else the formula as it is."""
+    if tree.form == "!":
+        part, part_value = counting_part(timing, tree.parts[0], place, not value)
+        return (tree, value) if part is tree.parts[0] else (part, part_value)
+    if tree.form not in ("&", "|") or value != (tree.form == "|"):
+        return tree, value
+    parts = chained(tree)
+    low, high = 0, len(parts) - 1
+    while low < high:
+        middle = (low + high) // 2
+        beginning = f" {tree.form} ".join(enclosed(part) for part in parts[: middle + 1])
+        if timing.holds(beginning, place) == value:
+            high = middle
+        else:
+            low = middle + 1
+    return counting_part(timing, parts[low], place, value)
+
+
+def is_literal(tree: Tree) -> bool:
+    """Whether a formula is a proposition or a constant, or the negation of one."""
+    return not tree.parts or tree.form == "!" and is_literal(tree.parts[0])
+
+
+def verb(value: bool) -> str:
+    return "holds" if value else "fails"
+
+
+def at_place(timing: Timing, tree: Tree, place: int, value: bool) -> Tuple[str, Tree, bool]:
+    """That a formula has a value at a position, and the part to go on with, with its value.
+
+    It is said of the part that alone makes it so. A proposition isn't named yet: that is for its own sentence.
+    """
+    part, part_value = counting_part(timing, tree, place, value)
+    named, its_value = (tree, value) if is_literal(part) else (part, part_value)
+    return f"{shown(named)} {verb(its_value)} {timing.place_words(place)}", part, part_value
+
+
+def steps_of_implication(timing: Timing, tree: Tree, place: int, value: bool, depth: int) -> Iterator[str]:
+    """Sentences on an implication: on both sides where it fails, and on the one that lets it hold."""
     left, right = tree.parts
-    needs_left = {"&": True, "|": False, "->": True}[tree.form]
-    if tree.form == "->" and not value or tree.form == "&" and value or tree.form == "|" and not value:
-        right_value = value if tree.form != "->" else False
-        return steps(timing, left, place, needs_left, depth + 1) + steps(timing, right, place, right_value, depth + 1)
-    if timing.holds(text_of(left), place) != needs_left:
-        return steps(timing, left, place, not needs_left, depth + 1)
-    return steps(timing, right, place, value, depth + 1)
+    if not value:
+        yield from steps(timing, left, place, True, depth)
+        yield from steps(timing, right, place, False, depth)
+    elif timing.holds(text_of(left), place):
+        yield from steps(timing, right, place, True, depth)
+    else:
+        yield from steps(timing, left, place, False, depth)
 
 
 def shown(tree: Tree) -> str:
@@ -114,21 +188,21 @@ def is_forward(tree: Tree) -> bool:
     return tree.form in ("F", "G", "U")
 
 
-def steps_of_some(timing: Timing, tree: Tree, place: int, depth: int) -> List[str]:
+def steps_of_some(timing: Timing, tree: Tree, place: int, depth: int) -> Iterator[str]:
     """Sentences on the nearest position at which an `F` or `O` has its witness, or a `G` or `H` fails."""
     child = tree.parts[0]
-    is_negated = tree.form in ("G", "H")
+    value = tree.form in ("F", "O")
     sign = "F" if is_forward(tree) else "O"
-    wanted = f"!({text_of(child)})" if is_negated else text_of(child)
+    wanted = text_of(child) if value else f"!({text_of(child)})"
     found = nearest(timing, sign, tree.interval[0], wanted, place)
     if found is None:
-        return []
-    verb = "fails" if is_negated else "holds"
-    line = f"{shown(child)} {verb} {timing.place_words(found)}"
+        return
+    line, part, part_value = at_place(timing, child, found, value)
     if place:
         away = f", {distance_words(timing, place, found)}" if found != place else ""
-        line = f"{shown(tree)} {verb} {timing.place_words(place)}, as {line}{away}"
-    return [line] + steps(timing, child, found, not is_negated, depth + 1)
+        line = f"{shown(tree)} {verb(value)} {timing.place_words(place)}, as {line}{away}"
+    yield line
+    yield from steps(timing, part, found, part_value, depth + 1)
 
 
 def nearest(timing: Timing, sign: str, low: str, wanted: str, place: int) -> Optional[int]:
@@ -189,11 +263,10 @@ def interval_words(tree: Tree) -> str:
     return f"{low} or more {way}" if high == "inf" else f"{low} to {high} {way}"
 
 
-def steps_of_until(timing: Timing, tree: Tree, place: int, value: bool, depth: int) -> List[str]:
+def steps_of_until(timing: Timing, tree: Tree, place: int, value: bool, depth: int) -> Iterator[str]:
     """Sentences on an until or a since."""
     left, right = tree.parts
     sign = "F" if is_forward(tree) else "O"
-    found = nearest(timing, sign, tree.interval[0], text_of(right), place)
     if value:
         here = timing.positions[place]
 
@@ -205,18 +278,19 @@ def steps_of_until(timing: Timing, tree: Tree, place: int, value: bool, depth: i
 
         found = timing.least_place(place, is_there, is_forward(tree))
         way = "before" if sign == "F" else "after"
-        return [f"{shown(right)} holds {timing.place_words(found)}, and {shown(left)} at each position {way} that"]
-    lines = []
+        yield f"{shown(right)} holds {timing.place_words(found)}, and {shown(left)} at each position {way} that"
+        return
     failing = nearest(timing, sign, "0", f"!({text_of(left)})", place)
     if failing is not None:
-        lines.append(f"{shown(left)} fails {timing.place_words(failing)}")
-        lines += steps(timing, left, failing, False, depth + 1)
-    if found is None:
-        lines.append(f"{shown(right)} holds at no position {interval_words(tree)} {timing.positions[place]}")
+        line, part, part_value = at_place(timing, left, failing, False)
+        yield line
+        yield from steps(timing, part, failing, part_value, depth + 1)
+    found_right = nearest(timing, sign, tree.interval[0], text_of(right), place)
+    if found_right is None:
+        yield f"{shown(right)} holds at no position {interval_words(tree)} {timing.positions[place]}"
     else:
-        away = distance_words(timing, place, found)
-        lines.append(f"{shown(right)} first holds {timing.place_words(found)}, {away}")
-    return lines
+        away = distance_words(timing, place, found_right)
+        yield f"{shown(right)} first holds {timing.place_words(found_right)}, {away}"
 
 
 def vanished_words(timing: Timing, tree: Tree) -> List[str]:

@@ -214,7 +214,14 @@ def text_of(tree: Tree) -> str:
     sign = tree.form + interval_text(tree.interval) if tree.form in TIMED else tree.form
     if len(tree.parts) == 1:
         return ("!" if tree.form == "!" else sign + " ") + enclosed(tree.parts[0])
-    return f"{enclosed(tree.parts[0])} {sign} {enclosed(tree.parts[1])}"
+    is_chain = tree.form in ("&", "|") and tree.parts[0].form == tree.form  # which is read from the left
+    left = text_of(tree.parts[0]) if is_chain else enclosed(tree.parts[0])
+    return f"{left} {sign} {enclosed(tree.parts[1])}"
+
+
+def chained(tree: Tree) -> List[Tree]:
+    """The parts that a chain of `&`, or one of `|`, joins, from left to right."""
+    return [inner for part in tree.parts for inner in (chained(part) if part.form == tree.form else [part])]
 
 
 def parts_written(tree: Tree) -> int:

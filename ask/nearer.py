@@ -8,7 +8,7 @@ from ask.logs import Log
 from ask.program import Stopped
 from ask.question import Question, text_of_source
 
-MOST_RUNS = 400  # of replay for one timing
+MOST_RUNS = 300  # of replay for one timing
 LEFT = "shifts may be left that nothing needs"
 
 

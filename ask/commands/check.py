@@ -209,9 +209,8 @@ class Reading:
         for value, times in timings.items():
             timing = explain.Timing(self.question, self.log, times)
             try:
-                reasons[str(value).lower()] = explain.explained(timing, self.tree, value) + explain.vanished_words(
-                    timing, self.tree,
-                )
+                why = explain.explained(timing, self.tree, value, self.arguments.all)
+                reasons[str(value).lower()] = why + explain.vanished_words(timing, self.tree)
             except (Trouble, Stopped):
                 continue  # a part of the formula was refused, or took too long: the table stands without it
             named |= timing.named
