@@ -171,7 +171,10 @@ def header_hint(line: str) -> str:
 
 def log_in_json_words(log: Source) -> str:
     """What is to be done with a log in JSON."""
-    return f"{log.name} is a log in JSON, which `./skewcheck json {log.name}` writes as one that can be asked of"
+    return (
+        f"{log.name} is a log in JSON, which the program's command json reads: `./skewcheck json FILE` writes it as "
+        f"a log that can be asked of"
+    )
 
 
 def log_fault_words(number: str, record: Record, records: Sequence[Record]) -> "tuple[str, int]":

@@ -53,10 +53,14 @@ class AgainstProgramAndReference(unittest.TestCase):
         """Asserts that timings are admissible and give their values, and that the stamps have the one that is told."""
         expected = {0: {"true"}, 1: {"false"}, 2: {"true", "false"}}[status]
         self.assertEqual(set(facts["timings"]), expected)
+        stamps = [row.local for row in log.rows]
         for word, times in facts["timings"].items():
             self.assertTrue(reference.admissible(log, times))
             self.assertEqual(reference.truth(log, times, tree), word == "true")
-        stamps = [row.local for row in log.rows]
+            for event, stamp in enumerate(stamps):
+                back = [*times[:event], stamp, *times[event + 1 :]]
+                is_free = reference.admissible(log, back) and reference.truth(log, back, tree) == (word == "true")
+                self.assertFalse(back != times and is_free, f"row {event} could be at its stamp")
         told = facts["as_stamped"]["value"]
         if told is None:
             broken = reference.first_broken(log, stamps)

@@ -49,8 +49,8 @@ class SecondVersion(Making):
         self.assertEqual(self.made(SECOND + "host,a,5,1\nset,a,1,p\nresync,a,5,1\nnote,a,2,n\n"), HEAD + "host,a,5,1\nset,a,1,p\nnote,a,2,n\n")
 
     def test_logs_in_json(self):
-        for text in ('{"hosts": [], "events": []}\n', '{\n "events": [],\n "hosts": []\n}'):
-            self.refused(text, ["--skew", "1"], 66, "a log in JSON", "skewcheck json")
+        for text in ('{"hosts": [], "events": []}\n', '{\n "events": [],\n "hosts": []\n}', '{"hosts": [{"name": "a"}], "ev'):
+            self.refused(text, ["--skew", "1"], 66, "a log in JSON", "skewcheck json FILE")
 
     def test_latencies(self):
         text = '{"time": 0.5, "host": "a", "name": "m", "kind": "send"}\n{"time": 0.6, "host": "b", "name": "m", "kind": "recv"}\n'

@@ -11,6 +11,10 @@ from common import PULSED, ROOT, asked, asked_apart, reads_pulses
 
 HEAD = "kind,host,time,name\nhost,a,2,1\n"
 EXAMPLES = ROOT / "examples"
+INTERVALS = (
+    "[0;60]", "[0..60]", "[0,60)", "(0,60]", "{0,60}", "[0:60]", "[0-60]", "[0 60]", "[0,60[", "]0,60]", "[60]", "[<=60]", "<=60",
+    " [0 , 60)", " 60",
+)
 
 
 class Words(unittest.TestCase):
@@ -42,6 +46,12 @@ class Words(unittest.TestCase):
         self.told(["check", "a.p", "missing.csv"], 74, "missing.csv", "No such file")
         self.told(["check", "a.p", "."], 74, "Is a directory")
         self.told(["check", "missing.formula", "set.csv"], 74, "missing.formula")
+        for name in ("missing.f", "missing.ltl2", "missing-1.f", "F.f", "a.p.f", "missing", "b.p"):
+            self.told(["check", name, "set.csv"], 65, f"There is no file {name}, so this was read as a formula")
+        self.told(["deadline", "missing.f", "set.csv"], 64, "There is no file missing.f, so this was read as a formula")
+        self.told(["each", "missing.f", "set.csv", "--over", ".*"], 64, "There is no file missing.f")
+        for formula in ("F b.p", "!b.p", "a.p&b.p", "(b.p)", "a.p|b.p"):
+            self.assertNotIn("There is no file", asked(["check", formula, "set.csv"], EXAMPLES)[2])
         self.told(["draw", "set.csv", "--report", "missing.report"], 74, "missing.report")
         self.told(["log", "set.csv", "--notes", "missing/notes"], 75, "missing/notes")
 
@@ -132,6 +142,8 @@ class Refusals(unittest.TestCase):
             ("F[0,?] a.p", ["column 5", "ask deadline"]), ("a.p => a.p", ["column 5", "->"]), ("a.p && a.p", ["one &"]),
             ("a.p || a.p", ["one |"]), ("G (Fa.p & Fab.p)", ["no host ab", "F before it is an operator"]),
             ("always (a.p)", ["after always", "HOST.NAME"]), ("F (p)", ["column 5", "after p", "HOST.NAME"]),
+            ("F(0,60) a.p", ["column 3", "an interval is [0,60]"]), ("a.p U(2,inf) a.p", ["an interval is [2,inf]"]),
+            *((f"F{interval} a.p", ["an interval is [0,60]"]) for interval in INTERVALS),
         ):
             self.refused(formula, log, 65, *parts)
 
@@ -148,7 +160,7 @@ class Refusals(unittest.TestCase):
             (HEAD + "pulse,a,1,p\n", ["line 3", "no kind 'pulse'", "skewlog2,host,time,name allows it"]), (HEAD + "resync,a,1,1\n", ["skewlog2"]),
             ("skewlog2,host,time,name\nhost,a,1,1\nlatency,a,5,3\n", ["greatest latency", "column 13"]),
             (HEAD + "set,b,1,p\nhost,b,1,0\n", ["line 3", "declared further down"]),
-            ('{"hosts": [], "events": []}', ["a log in JSON", "skewcheck json"]), ('{"kind": "set"}\n', ["This is JSON", "ask log"]),
+            ('{"hosts": [], "events": []}', ["a log in JSON", "skewcheck json"]), ('{"hosts": [], "ev', ["a log in JSON"]), ('{"kind": "set"}\n', ["This is JSON", "ask log"]),
             ("kind,host,time,name\n".encode("utf-16"), ["UTF-16"]), ("kind;host;time;name\n", ["commas"]),
             ("\ufeff\r\nkind,host,time,name\r\n\r\nhost,a,2,1\r\nset,a,1o,p\r\n", ["line 5, column 7", "'1o'"]),
         ):
