@@ -678,14 +678,24 @@ def read_file(name):
 def read_inputs(formula_name, log_name):
     """The formula and the log of two files; without them there is nothing to judge."""
     formula = formats.read_formula(read_file(formula_name))
-    if isinstance(formula, formats.FormulaFault):
-        sys.exit(f"the formula has {formula}")
     log = logs.read_log(read_file(log_name))
-    if isinstance(log, logs.LogFault):
-        sys.exit(f"the log has {log}")
-    if formats.unknown_host(formula, log) is not None:
-        sys.exit("a host of the formula isn't in the log")
+    wrong = what_is_wrong(formula, log)
+    if wrong:
+        sys.exit(wrong)
     return formula, log
+
+
+def what_is_wrong(formula, log):
+    """The fault of a formula or a log, each as it was read, or None."""
+    if isinstance(formula, formats.FormulaFault):
+        return f"formula fault {formula.number} at byte {formula.byte}"
+    if isinstance(log, logs.LogFault):
+        return f"log fault {log.number}" + ("" if log.record is None else f" at record {log.record}")
+    byte = formats.unknown_host(formula, log)
+    for leaf in formats.propositions(formula):
+        if leaf.byte == byte:
+            return f"the host {leaf.host.decode()} of the formula, at byte {byte}, isn't in the log"
+    return None
 
 
 def read_arguments():

@@ -14,10 +14,12 @@ sys.dont_write_bytecode = True  # leaves no compiled files beside the sources
 
 import check_cases
 import derivations
+import formats
 import generate_logs
 import invent
 import invent_reports
 import judge
+import logs
 import meanings
 import program
 import pulse_cases
@@ -69,6 +71,26 @@ def own_outputs(draw, case):
     output = reports.report_text(report)
     check(re.fullmatch(case.pattern, output), case, output)
     return [output]
+
+
+# Faulty formulas and logs
+
+
+def check_faults():
+    """What is said of faulty formulas and logs, which there is no report on."""
+    host = b"kind,host,time,name\nhost,a,1,0\n"
+    row = host + b"set,a,1,p\n"
+    for formula, log, wanted in (
+        (b"a.p", row, None),
+        (b"true", row, None),
+        (b"a.p &", row, "formula fault 2 at byte 5"),
+        (b"a.p &", host, "formula fault 2 at byte 5"),
+        (b"b.p", host, "log fault 11"),
+        (b"b.p", row + b"set,a,1.5,p\n", "log fault 7 at record 4"),
+        (b"F a.p & b.q & c.r", row, "the host b of the formula, at byte 8, isn't in the log"),
+    ):
+        found = derivations.what_is_wrong(formats.read_formula(formula), logs.read_log(log))
+        check(found == wanted, formula, log, found, wanted)
 
 
 # Words
@@ -370,6 +392,7 @@ def main():
     draw = random.Random(parser.parse_args().seed)
     generate_logs.second_share = 0.4
     check_fixed_cases(draw)
+    check_faults()
     check_words()
     check_places()
     check_walks(draw)
