@@ -40,7 +40,9 @@ def add_words(commands: "argparse._SubParsersAction[argparse.ArgumentParser]", c
     words.add_argument(
         "--as-found", action="store_true", help="show the program's own timings, not brought nearer to the stamps",
     )
-    words.add_argument("--all", action="store_true", help="show all rows, and all bounds that a refutation rests on")
+    words.add_argument(
+        "--all", action="store_true", help="show all rows, all reasons, and all bounds that a refutation rests on",
+    )
     words.add_argument("--runs", action="store_true", help="name all runs of the program")
     words.set_defaults(do=do)
 
