@@ -17,13 +17,16 @@ class Blank(NamedTuple):
 class Case(NamedTuple):
     """Words with their files, and what has to come of them."""
 
-    kind: str  # what is hostile: words, log, formula, times, report or size
+    kind: str  # what is hostile: words, log, json, formula, times, report, best or size
     title: str
     words: list
     files: dict  # bytes or a Blank by name; the file that is hostile stands last
     statuses: tuple  # each of them is right
     line: Optional[bytes]  # the first line, or None where several may be right
     most: Optional[int] = None  # the most memory that it may take, in lengths of the hostile file
+    text: Optional[bytes] = None  # all that has to be written, or None where the first line is enough
+    judged: bool = False  # whether tests/reference judges all that is written
+    is_search: bool = False  # whether it may take long, and be stopped
 
     def size(self):
         """The bytes of the hostile file, or None where no file is hostile or it is none of these."""

@@ -2,7 +2,7 @@
 
 Which line of a cut report is the first faulty one follows from the cut alone: all whole lines before it
 begin a report, and the next one is missing or has no newline. What a replaced byte makes faulty is its own
-line. What is to be answered to cut logs, formulas and times is told by the reading of the formats in
+line. What is to be answered to cut logs, logs in JSON, formulas and times is told by the reading of the formats in
 tests/reference.
 """
 
@@ -48,14 +48,14 @@ def by_reference(kind, title, words, files):
     """A case whose answer the reference tells."""
     answer = program.answer(words, files)
     line = answer.output.partition(b"\n")[0] if answer.output else None
-    return Case(kind, title, words, files, (answer.status,), line)
+    return Case(kind, title, words, files, (answer.status,), line, text=answer.output)
 
 
-def broken_copies(text):
-    """A file cut at every byte, with each byte replaced, and with each byte twice; each with a title."""
+def broken_copies(text, others=(b"\0", b"\xff", b"\r", b'"', b" ", b"0")):
+    """A file cut at every byte, with each byte replaced by others, and with each byte twice; each with a title."""
     for place in range(len(text)):
         yield "cut at each byte", text[:place]
-    for byte in (b"\0", b"\xff", b"\r", b'"', b" ", b"0"):
+    for byte in others:
         for place in range(len(text)):
             yield f"with {byte!r} at each byte", text[:place] + byte + text[place + 1 :]
     for place in range(len(text)):
@@ -67,6 +67,13 @@ def of_logs():
     for name in ("relay.csv", "checkout.csv", "timeout.csv"):
         for title, log in broken_copies(example(name)):
             yield by_reference("log", f"{name} {title}", ["order", "l"], {"l": log})
+
+
+def of_json():
+    """Broken copies of logs in JSON."""
+    for name in ("answered.json", "delayed.json"):
+        for title, log in broken_copies(example(name), (b"\0", b"\xff", b'"', b"{", b"]", b"7", b" ")):
+            yield by_reference("json", f"{name} {title}", ["json", "j"], {"j": log})
 
 
 def of_formulas():
@@ -86,5 +93,5 @@ def of_times():
 
 def cases():
     """All broken copies."""
-    for some in (of_reports, of_logs, of_formulas, of_times):
+    for some in (of_reports, of_logs, of_json, of_formulas, of_times):
         yield from some()

@@ -2,9 +2,10 @@
 
 Run as: python3 hostile.py PROGRAM [--only KIND] [--longest]
 
-KIND is words, log, formula, times, report or size. With --longest the two reports of a gibibyte are run too, which
-ask for some gibibytes of memory. Each case has a status and a first line that the formats ask for, or for
-`check` some statuses of which each may be right; what `check` writes is audited too. A run that has taken
+KIND is words, log, json, formula, times, report, best or size. With --longest the two reports of a gibibyte are run too,
+which ask for some gibibytes of memory. Each case has a status and a first line that the formats ask for, or for a
+search some statuses of which each may be right. What `check` writes is audited too, what `json` writes is compared as
+a whole, and what `tolerance` and `span` write of few rows is judged by tests/reference. A run that has taken
 20 seconds of processor time is stopped, which only a search may. A row of the table is
 a case, or all copies of one file that are broken alike, with the most that one of them took. What took
 more than 2 seconds or 500 MB is marked with a `!`. Every difference is printed, and the end is 1 then.
@@ -26,8 +27,13 @@ sys.dont_write_bytecode = True  # leaves no compiled files beside the sources
 HERE = Path(__file__).resolve().parent
 sys.path.insert(0, str(HERE.parent / "reference"))
 
+import best_limits
 import cuts
 import formula_limits
+import json_limits
+import json_shapes
+import json_strings
+import judge
 import log_limits
 import report_limits
 import second_limits
@@ -93,7 +99,7 @@ class Runner:
 
 def complaint(case, outcome):
     """What is wrong with the outcome of a case, or nothing. How long a search takes isn't promised."""
-    if case.kind == "size" and outcome.status == STOPPED:
+    if case.is_search and outcome.status == STOPPED:
         return ""
     wanted = " or ".join(str(status) for status in case.statuses)
     if outcome.status not in case.statuses:
@@ -105,6 +111,17 @@ def complaint(case, outcome):
     return ""
 
 
+def written_complaint(runner, case, status):
+    """What is wrong with all that was written, or nothing. What is written of the greatest sizes is a report."""
+    if case.kind == "size":
+        return audit_complaint(runner, case) if 0 <= status < 64 else ""
+    if case.judged:
+        return judge.complaint(case.words, case.files, runner.output.read_bytes(), status)
+    if case.text is not None and runner.output.read_bytes() != case.text:
+        return "it writes something else than it should"
+    return ""
+
+
 def audit_complaint(runner, case):
     """What is wrong with the audit of what `check` has written, or nothing."""
     report = runner.output.read_bytes()
@@ -112,6 +129,12 @@ def audit_complaint(runner, case):
     outcome = runner.outcome(words, {**case.files, "r": report})
     is_right = (outcome.status, outcome.line) == (0, b"accepted")
     return "" if is_right else f"its audit ends with {outcome.status} and {outcome.line!r}"
+
+
+def shown_file(case):
+    """How the hostile file of a case begins, as complaints tell it."""
+    data = list(case.files.values())[-1] if case.size() is not None else b""
+    return f", of a file {data[:400]!r}" if data and not isinstance(data, Blank) else ""
 
 
 def row_of(group, outcomes):
@@ -136,7 +159,9 @@ def print_row(row):
 
 def all_cases(with_longest):
     """All cases, kind by kind."""
-    for some in (word_limits, cuts, log_limits, second_limits, formula_limits, report_limits, sizes):
+    modules = (word_limits, cuts, log_limits, second_limits, json_limits, json_shapes, json_strings, formula_limits, report_limits,
+               best_limits, sizes)
+    for some in modules:
         yield from some.cases()
     if with_longest:
         yield from report_limits.longest()
@@ -149,11 +174,9 @@ def run_all(runner, cases):
         group, outcomes = list(group), []
         for case in group:
             outcome = runner.outcome(case.words, case.files)
-            wrong = complaint(case, outcome)
-            if not wrong and case.kind == "size" and 0 <= outcome.status < 64:
-                wrong = audit_complaint(runner, case)
+            wrong = complaint(case, outcome) or written_complaint(runner, case, outcome.status)
             if wrong:
-                found.append(f"{case.kind}: {case.title}: {wrong}")
+                found.append(f"{case.kind}: {case.title}: {wrong}{shown_file(case)}")
             outcomes.append(outcome)
         count += len(group)
         print_row(row_of(group, outcomes))
@@ -164,7 +187,7 @@ def main():
     """Prints the table and what differs, and ends with 0 where nothing does and with 1 else."""
     parser = argparse.ArgumentParser(description="run skewcheck on hostile files")
     parser.add_argument("program")
-    parser.add_argument("--only", metavar="KIND", help="words, log, formula, times, report or size")
+    parser.add_argument("--only", metavar="KIND", help="words, log, json, formula, times, report, best or size")
     parser.add_argument("--longest", action="store_true", help="run the reports of a gibibyte too")
     arguments = parser.parse_args()
     cases = [case for case in all_cases(arguments.longest) if arguments.only in (None, case.kind)]

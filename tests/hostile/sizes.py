@@ -38,7 +38,7 @@ def many(count, form=b"F[%d,%d]a.p"):
 def case(title, formula, log, statuses=ANSWERED, line=b"skewcheck 1"):
     """A formula and a log that `check` is asked about, with one conflict for each value."""
     words = ["check", "--conflicts", "1", "f", "l"]
-    return Case("size", title, words, {"l": log, "f": formula}, statuses, line)
+    return Case("size", title, words, {"l": log, "f": formula}, statuses, line, is_search=True)
 
 
 def cases():
