@@ -51,17 +51,21 @@ def far_widenings():
             log = pair(first, first + distance)
             yield case(most, f"rows {distance} apart, from {first}", BOTH, log, FOUND, b"tolerance %d" % found)
     for first in (-LOCAL, -2 * MOST, LOCAL - 4 * MOST - 1):
-        yield case(most, f"rows 4 * 10^18 + 1 apart, from {first}", BOTH, pair(first, first + 4 * MOST + 1), NONE, b"tolerance none")
+        yield case(most, f"rows 4 * 10^18 + 1 apart, from {first}", BOTH, pair(first, first + 4 * MOST + 1), NONE,
+                   b"tolerance none")
     yield case(most, "rows at both ends", BOTH, pair(-LOCAL, LOCAL), NONE, b"tolerance none")
     yield case(f"tolerance true {MOST - 1}", "rows 4 * 10^18 apart", BOTH, pair(-LOCAL, 0), NONE, b"tolerance none")
     yield case("tolerance true 0", "rows 2 * 10^18 apart", BOTH, pair(0, 2 * MOST), FOUND, b"tolerance 0")
     for distance, status, line in (
-        (5 * MOST, FOUND, b"tolerance %d" % MOST), (5 * MOST - 1, FOUND, b"tolerance %d" % MOST), (5 * MOST + 1, NONE, b"tolerance none"),
+        (5 * MOST, FOUND, b"tolerance %d" % MOST), (5 * MOST - 1, FOUND, b"tolerance %d" % MOST),
+        (5 * MOST + 1, NONE, b"tolerance none"),
         (4 * MOST, FOUND, b"tolerance %d" % (MOST // 2)), (3 * MOST, FOUND, b"tolerance 0"), (-3 * MOST, FOUND, b"tolerance 0"),
-        (-3 * MOST - 1, FOUND, b"tolerance 1"), (-5 * MOST, FOUND, b"tolerance %d" % MOST), (-5 * MOST - 1, NONE, b"tolerance none"),
+        (-3 * MOST - 1, FOUND, b"tolerance 1"), (-5 * MOST, FOUND, b"tolerance %d" % MOST),
+        (-5 * MOST - 1, NONE, b"tolerance none"),
     ):
         first = -distance // 2
-        yield case(most, f"rows {distance} apart of which one has to be 10^18 after the other", LATER, pair(first, first + distance), status, line)
+        yield case(most, f"rows {distance} apart of which one has to be 10^18 after the other", LATER,
+                   pair(first, first + distance), status, line)
     zero = log_of(b"host,a,0,0", b"host,b,0,0", b"set,a,0,p", b"set,b,0,p")
     yield case(f"tolerance false {MOST}", "a value that no widening gives", b"true", zero, NONE, b"tolerance none")
     yield case(most, "rows of one instant that have to be 10^18 apart", LATER, zero, FOUND, b"tolerance %d" % (MOST // 2))
@@ -71,17 +75,21 @@ def far_bounds():
     """Widenings against the greatest gaps and latencies, up to logs that none makes admissible."""
     most = f"tolerance true {MOST}"
     for rows, status, line in (
-        (3, FOUND, b"tolerance 0"), (4, FOUND, b"tolerance %d" % (MOST // 2)), (5, FOUND, b"tolerance %d" % MOST), (6, SHUT, b"inconsistent 7"),
+        (3, FOUND, b"tolerance 0"), (4, FOUND, b"tolerance %d" % (MOST // 2)), (5, FOUND, b"tolerance %d" % MOST),
+        (6, SHUT, b"inconsistent 7"),
     ):
         for local in (-LOCAL, 0, LOCAL):
             log = log_of(b"host,a,%d,%d" % (MOST, MOST), *[b"note,a,%d,n" % local] * rows)
             yield case(most, f"{rows} rows at {local} with the greatest gap", TRUE, log, status, line)
     zero = log_of(b"host,a,0,%d" % MOST, *[b"note,a,0,n"] * 2)
-    yield case(f"tolerance true {MOST // 2}", "two rows at once with the greatest gap", TRUE, zero, FOUND, b"tolerance %d" % (MOST // 2))
+    yield case(f"tolerance true {MOST // 2}", "two rows at once with the greatest gap", TRUE, zero, FOUND,
+               b"tolerance %d" % (MOST // 2))
     yield case(f"tolerance true {MOST // 2 - 1}", "the same, and one less", TRUE, zero, SHUT, b"inconsistent 3")
     for least, distance, status, line in (
-        (MOST, 3 * MOST, FOUND, b"tolerance %d" % MOST), (MOST, 3 * MOST + 1, SHUT, b"inconsistent 3"), (MOST, MOST, FOUND, b"tolerance 0"),
-        (1, 4 * MOST - 1, FOUND, b"tolerance %d" % MOST), (1, 4 * MOST, SHUT, b"inconsistent 3"), (MOST, 2 * LOCAL, SHUT, b"inconsistent 3"),
+        (MOST, 3 * MOST, FOUND, b"tolerance %d" % MOST), (MOST, 3 * MOST + 1, SHUT, b"inconsistent 3"),
+        (MOST, MOST, FOUND, b"tolerance 0"),
+        (1, 4 * MOST - 1, FOUND, b"tolerance %d" % MOST), (1, 4 * MOST, SHUT, b"inconsistent 3"),
+        (MOST, 2 * LOCAL, SHUT, b"inconsistent 3"),
     ):
         first = distance // 2
         hosts = (b"host,a,%d,0" % MOST, b"host,b,%d,0" % MOST, b"latency,b,%d,inf" % least)
@@ -89,7 +97,8 @@ def far_bounds():
         yield case(most, f"a receive {distance} before its send, which took {least} or more", TRUE, log, status, line)
     for greatest, distance, status, line in (
         (1, 4 * MOST + 1, FOUND, b"tolerance %d" % MOST), (1, 4 * MOST + 2, SHUT, b"inconsistent 3"),
-        (MOST, 5 * MOST, FOUND, b"tolerance %d" % MOST), (MOST, 5 * MOST + 1, SHUT, b"inconsistent 3"), (MOST, 3 * MOST, FOUND, b"tolerance 0"),
+        (MOST, 5 * MOST, FOUND, b"tolerance %d" % MOST), (MOST, 5 * MOST + 1, SHUT, b"inconsistent 3"),
+        (MOST, 3 * MOST, FOUND, b"tolerance 0"),
     ):
         hosts = (b"host,a,%d,0" % MOST, b"host,b,%d,0" % MOST, b"latency,b,1,%d" % greatest)
         log = second_log_of(*hosts, b"send,a,%d,m" % -LOCAL, b"recv,b,%d,m" % (distance - LOCAL))
@@ -118,7 +127,8 @@ def far_distances():
         ("false", 0, -MOST, FOUND, b"span 999999999999999999"), ("true", 0, -MOST, FOUND, b"span 1000000000000000000"),
         ("false", 0, 3 * MOST, FOUND, b"span 5000000000000000000"), ("true", 0, 3 * MOST, FOUND, b"span 1000000000000000000"),
     ):
-        yield case(f"span {value} 0 1", f"rows at {first} and {second}, 10^18 apart or not", LATER, pair(first, second), status, line)
+        yield case(f"span {value} 0 1", f"rows at {first} and {second}, 10^18 apart or not", LATER, pair(first, second), status,
+                   line)
     late = second_log_of(b"host,a,%d,0" % MOST, b"host,b,%d,0" % MOST, b"latency,b,%d,%d" % (MOST, MOST),
                          b"send,a,%d,m" % -LOCAL, b"recv,b,%d,m" % (2 * MOST - LOCAL))
     yield case("span true 0 1", "a message that took 10^18", TRUE, late, FOUND, b"span 1000000000000000000")
@@ -154,7 +164,8 @@ def few_rows():
         parts = joined([b"a.p%d" % number for number in range(256)])
         yield case(words, "513 distinct parts", b"!!" + parts, TWO_ROWS, 67, b"refused nodes above 512")
         yield case(words, "a formula one byte too long", TRUE + b" " * 65_533, TWO_ROWS, 67, b"refused length formula")
-        yield case(words, "a log one byte too long", TRUE, TWO_ROWS + b"\n" * (LOG_LENGTH + 1 - len(TWO_ROWS)), 67, b"refused length log")
+        yield case(words, "a log one byte too long", TRUE, TWO_ROWS + b"\n" * (LOG_LENGTH + 1 - len(TWO_ROWS)), 67,
+                   b"refused length log")
         best = b"tolerance 0" if words.startswith("tolerance") else b"span 9"
         yield case(words, "height 200", b"F" * (HEIGHT - 1) + b" true", TWO_ROWS, FOUND, best, judged=False)
         yield case(words, "512 distinct parts", b"!" + parts, TWO_ROWS, FOUND, best, judged=False)
@@ -167,16 +178,13 @@ def few_rows():
 
 def greatest_sizes():
     """Logs and formulas of the greatest size, and of the next greater one, which is counted with the widening."""
-    for rows, count in ((ROWS, 4), (512, 16)):
-        untils = many(count)
-        never = EITHER + b" | (a.z & " + untils + b")"
-        log = turns(rows, 1000)
-        title = f"{rows:,} rows, {count} untils"
-        yield cut_off("tolerance false 0", f"{title}, never false", never, log, (UNKNOWN,), b"tolerance unknown 0")
-        yield cut_off(f"tolerance false {MOST}", f"{title}, never false", never, log, (UNKNOWN,))
-        yield cut_off(f"span false 0 {rows - 1}", f"{title}, never false", never, log, (UNKNOWN,), b"span unknown")
-        yield cut_off(f"tolerance true {MOST}", title, untils, log, ANSWERED)
-        yield cut_off(f"span true {rows - 1} 0", title, untils, log, ANSWERED)
+    for words, rows, count, line in (
+        ("tolerance false 0", ROWS, 4, b"tolerance unknown 0"), ("span false 0 1023", ROWS, 4, b"span unknown"),
+        (f"tolerance false {MOST}", 512, 16, None), ("span false 511 0", 512, 16, b"span unknown"),
+    ):
+        never = EITHER + b" | (a.z & " + many(count) + b")"
+        yield cut_off(words, f"{rows:,} rows, {count} untils, never false", never, turns(rows, 1000), (UNKNOWN,), line)
+    yield cut_off(f"tolerance true {MOST}", "1,024 rows, 4 untils", many(4), turns(ROWS, 1000), ANSWERED)
     for words in (f"tolerance true {MOST}", "span true 0 1"):
         yield cut_off(words, "1,024 rows, 5 untils", many(5), turns(ROWS, 1000), (67,), b"refused size 5242880")
     until = b"!a.p U b.p"

@@ -159,7 +159,8 @@ def print_row(row):
 
 def all_cases(with_longest):
     """All cases, kind by kind."""
-    modules = (word_limits, cuts, log_limits, second_limits, json_limits, json_shapes, json_strings, formula_limits, report_limits,
+    modules = (word_limits, cuts, log_limits, second_limits, json_limits, json_shapes, json_strings, formula_limits,
+               report_limits,
                best_limits, sizes)
     for some in modules:
         yield from some.cases()

@@ -49,7 +49,8 @@ PLACES = (
 WHOLE = (-(2**63), -LOCAL - 1, -1, 0, 1, MOST, MOST + 1, LOCAL, LOCAL + 1, 2**63 - 1, 2**63, 2**64 - 1)
 FLOATS = (
     *(b"%d" % number for number in (2**64, 2**64 + 1, -(2**63) - 1, 2**128, 2**128 + 2, -(2**128), 10**30)),
-    b"9" * 308, b"1" + b"0" * 308, b"-0", b"-0.0", b"0.0", b"2.0", b"0.5", b"2e0", b"2E0", b"20e-1", b"1e18", b"1E+18", b"1e308",
+    b"9" * 308, b"1" + b"0" * 308, b"-0", b"-0.0", b"0.0", b"2.0", b"0.5", b"2e0", b"2E0", b"20e-1", b"1e18", b"1E+18",
+    b"1e308",
     b"1e-400", b"0e999", b"0e9999999999999999999999", b"1e-9999999999999999999999", b"2." + b"0" * 1_000_000,
 )
 OTHERS = (b'"2"', b'""', b"true", b"false", b"[]", b"[2]", b"{}", b'{"2":2}')
@@ -85,7 +86,8 @@ def latencies():
     for text in (b"[]", b"[5]", b"[5,60,60]", b"[5,60,null]", b"[[5,60]]", b"[null,60]", b"[null,null]",
                  b'{"least":5,"greatest":60}', b"5", b"null", b'"5,60"', b'[5,"inf"]', b"[5,60.0]"):
         yield refused("a latency of another shape", with_entry(HOST, changed(HOST, b"latency", text)), SHAPE)
-    for text, line in ((b"[60,5]", fault(16, 3)), (b"[0,0]", fault(7, 3)), (b"[-1,null]", fault(7, 3)), (b"[5,-1]", fault(7, 3))):
+    for text, line in ((b"[60,5]", fault(16, 3)), (b"[0,0]", fault(7, 3)), (b"[-1,null]", fault(7, 3)),
+                       (b"[5,-1]", fault(7, 3))):
         yield refused(f"a latency {text.decode()}", with_entry(HOST, changed(HOST, b"latency", text)), line)
     for text, record in ((b"[5,5]", b"latency,a,5,5"), (b"[5,null]", b"latency,a,5,inf"), (b"[ 5 , 60 ]", b"latency,a,5,60")):
         log = with_entry(HOST, changed(HOST, b"latency", text))
@@ -140,7 +142,8 @@ def counts():
     both = b"resync,a,3,4\nnote,a,10,n\n"
     yield written("1,024 rows", log_of([HOST], [NOTE] * ROWS), TEXT.replace(both, b"note,a,10,n\n" * ROWS))
     yield refused("1,025 rows", log_of([HOST], [NOTE] * (ROWS + 1)), fault(13, ROWS + 4))
-    yield written("1,024 rows with a resync before each", log_of([HOST], [RESYNC, NOTE] * ROWS), TEXT.replace(both, both * ROWS))
+    yield written("1,024 rows with a resync before each", log_of([HOST], [RESYNC, NOTE] * ROWS),
+                  TEXT.replace(both, both * ROWS))
     yield refused("1,025 rows with a resync before each", log_of([HOST], [RESYNC, NOTE] * (ROWS + 1)), fault(13, 2 * ROWS + 5))
     yield refused("85,000 rows", log_of([HOST], [NOTE] * 85_000), fault(13, ROWS + 4))
     yield refused("1,025 rows, the last without its shape", log_of([HOST], [NOTE] * ROWS + [()]), SHAPE)
@@ -154,17 +157,21 @@ def lengths():
     too_long = b"refused length json"
     yield written("blanks up to the longest file", RIGHT + b" " * blanks, TEXT)
     yield written("newlines before it up to the longest file", b"\n" * blanks + RIGHT, TEXT)
-    for title, data in (("blanks", RIGHT + b" " * (blanks + 1)), ("digits", b"1" * (LENGTH + 1)), ("arrays", b"[" * (LENGTH + 1))):
+    for title, data in (("blanks", RIGHT + b" " * (blanks + 1)), ("digits", b"1" * (LENGTH + 1)),
+                        ("arrays", b"[" * (LENGTH + 1))):
         yield Case("json", f"{title}, one byte more than may be", ["json", "j"], {"j": data}, (67,), too_long)
     yield Case("json", "a file without an end", ["json", "/dev/zero"], {}, (67,), too_long)
     for title, data, line in (
         ("digits", b"1" * LENGTH, SYNTAX), ("zeros", b"0" * LENGTH, SYNTAX), ("a fraction", b"0." + b"1" * (LENGTH - 2), SHAPE),
         ("an exponent", b"1e" + b"0" * (LENGTH - 3) + b"1", SHAPE), ("minus signs", b"-" * LENGTH, SYNTAX),
-        ("a string", b'"' + b"a" * (LENGTH - 2) + b'"', SHAPE), ("a string that isn't closed", b'"' + b"a" * (LENGTH - 1), SYNTAX),
+        ("a string", b'"' + b"a" * (LENGTH - 2) + b'"', SHAPE),
+        ("a string that isn't closed", b'"' + b"a" * (LENGTH - 1), SYNTAX),
         ("escapes", b'"' + b"\\u0061" * ((LENGTH - 2) // 6) + b'"', SHAPE), ("quotes", b'"' * LENGTH, SYNTAX),
-        ("backslashes", b'"' + b"\\" * (LENGTH - 2) + b'"', SHAPE), ("commas", b"," * LENGTH, SYNTAX), ("colons", b":" * LENGTH, SYNTAX),
+        ("backslashes", b'"' + b"\\" * (LENGTH - 2) + b'"', SHAPE), ("commas", b"," * LENGTH, SYNTAX),
+        ("colons", b":" * LENGTH, SYNTAX),
         ("pairs of halves", b'"' + b"\\ud83d\\ude00" * ((LENGTH - 2) // 12) + b'"', SHAPE), ("blanks", b" " * LENGTH, SYNTAX),
-        ("NUL bytes", b"\0" * LENGTH, SYNTAX), ("bytes 255", b"\xff" * LENGTH, SYNTAX), ("nulls", b"null" * (LENGTH // 4), SYNTAX),
+        ("NUL bytes", b"\0" * LENGTH, SYNTAX), ("bytes 255", b"\xff" * LENGTH, SYNTAX),
+        ("nulls", b"null" * (LENGTH // 4), SYNTAX),
         ("slashes", b"/" * LENGTH, SYNTAX),
     ):
         yield refused(f"4 MiB of {title}", data, line)

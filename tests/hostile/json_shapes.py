@@ -87,11 +87,15 @@ def keys_of_logs():
     hosts, events = (b"hosts", array_of([HOST])), (b"events", array_of([RESYNC, NOTE]))
     no_hosts, no_events = (b"hosts", b"[]"), (b"events", b"[]")
     for members, line in (
-        ([hosts], SHAPE), ([events], SHAPE), ([], SHAPE), ([hosts, (b"Events", events[1])], SHAPE), ([hosts, events, (b"", b"0")], SHAPE),
-        ([(b"version", b"2"), hosts, events], SHAPE), ([(b"hosts", b"{}"), events], SHAPE), ([(b"hosts", b"null"), events], SHAPE),
-        ([hosts, (b"events", b"null")], SHAPE), ([hosts, (b"events", object_of(NOTE))], SHAPE), ([hosts, (b"events", b'"[]"')], SHAPE),
+        ([hosts], SHAPE), ([events], SHAPE), ([], SHAPE), ([hosts, (b"Events", events[1])], SHAPE),
+        ([hosts, events, (b"", b"0")], SHAPE),
+        ([(b"version", b"2"), hosts, events], SHAPE), ([(b"hosts", b"{}"), events], SHAPE),
+        ([(b"hosts", b"null"), events], SHAPE),
+        ([hosts, (b"events", b"null")], SHAPE), ([hosts, (b"events", object_of(NOTE))], SHAPE),
+        ([hosts, (b"events", b'"[]"')], SHAPE),
         ([no_hosts, no_events], NO_ROW), ([hosts, no_events], NO_ROW), ([no_hosts, events], fault(6, 2)),
-        ([hosts, events, no_events], NO_ROW), ([hosts, events, no_hosts], fault(6, 2)), ([hosts, events, (b"hosts", b"0")], SHAPE),
+        ([hosts, events, no_events], NO_ROW), ([hosts, events, no_hosts], fault(6, 2)),
+        ([hosts, events, (b"hosts", b"0")], SHAPE),
         ([(b"hosts", array_of([HOST, HOST])), events], fault(5, 4)), ([hosts, (b"events", array_of([RESYNC]))], NO_ROW),
     ):
         yield refused(f"a log with the keys {' '.join(key.decode() for key, _ in members)}", object_of(members), line)
@@ -122,13 +126,18 @@ def orders_of_faults():
     yield refused("a faulty host, and a row without its shape", log_of([odd_host], [late]), SHAPE)
     yield refused("a row without its shape, and no end", log_of([HOST], [late])[:-1], SYNTAX)
     yield refused("no shape at all, and no end", b"[", SYNTAX)
-    yield refused("a faulty host, and a faulty row", log_of([odd_host], [changed(NOTE, b"time", b"-9223372036854775808")]), fault(4, 2))
-    yield refused("a faulty row, and a row of no host", log_of([HOST], [changed(NOTE, b"name", b'""'), changed(NOTE, b"host", b'""')]),
+    yield refused("a faulty host, and a faulty row", log_of([odd_host], [changed(NOTE, b"time", b"-9223372036854775808")]),
+                  fault(4, 2))
+    yield refused("a faulty row, and a row of no host",
+                  log_of([HOST], [changed(NOTE, b"name", b'""'), changed(NOTE, b"host", b'""')]),
                   fault(8, 4))
     receive = changed(NOTE, b"kind", b'"recv"')
-    yield refused("a receive without a send, and a faulty row", log_of([HOST], [receive, changed(NOTE, b"name", b'""')]), fault(8, 5))
-    yield refused("a host twice, the second with a faulty skew", log_of([HOST, changed(HOST, b"skew", b"-1")], [NOTE]), fault(5, 4))
-    yield refused("two faulty skews", log_of([changed(HOST, b"skew", b"-1"), changed(HOST, b"name", b'"B"')], [NOTE]), fault(7, 2))
+    yield refused("a receive without a send, and a faulty row", log_of([HOST], [receive, changed(NOTE, b"name", b'""')]),
+                  fault(8, 5))
+    yield refused("a host twice, the second with a faulty skew", log_of([HOST, changed(HOST, b"skew", b"-1")], [NOTE]),
+                  fault(5, 4))
+    yield refused("two faulty skews", log_of([changed(HOST, b"skew", b"-1"), changed(HOST, b"name", b'"B"')], [NOTE]),
+                  fault(7, 2))
 
 
 def cases():

@@ -23,7 +23,8 @@ def names():
         name = b"a" * length
         host, row = f"a host's name of {length} letters", f"a row's name of {length} letters"
         if length in (1, 32):
-            yield written(host, named_host(name), SECOND_HEADER + b"host,%s,2,1\nlatency,%s,5,60\nnote,%s,10,n\n" % (name, name, name))
+            yield written(host, named_host(name),
+                          SECOND_HEADER + b"host,%s,2,1\nlatency,%s,5,60\nnote,%s,10,n\n" % (name, name, name))
             yield written(row, named_row(name), TEXT.replace(b",n\n", b",%s\n" % name))
         else:
             yield refused(host, named_host(name), fault(4, 2))
@@ -31,7 +32,8 @@ def names():
     for name in (b"true", b"false", b"inf"):
         yield refused(f"a host named {name.decode()}", named_host(name), fault(4, 2))
         yield written(f"a row named {name.decode()}", named_row(name), TEXT.replace(b",n\n", b",%s\n" % name))
-    for name in (b"A", b"1a", b"_a", b"a-b", b"a b", b" a", b"a ", b"a,b", b"a;b", b"a.b", b"a/b", b"a'b", b"\x7f", b"\xc3\xa9", b"a\xc2\x85",
+    for name in (b"A", b"1a", b"_a", b"a-b", b"a b", b" a", b"a ", b"a,b", b"a;b", b"a.b", b"a/b", b"a'b", b"\x7f", b"\xc3\xa9",
+                 b"a\xc2\x85",
                  b"\xe2\x80\xa8", b"\xef\xbb\xbfa", b"\xf0\x9f\x98\x80", b"a\xcc\x81"):
         yield refused("a host with another sign in its name", named_host(name), fault(4, 2))
         yield refused("a row with another sign in its name", named_row(name), fault(8, 5))
@@ -42,12 +44,15 @@ def names():
 
 
 # Escapes of signs that no name has, and what is no escape.
-SIGNS = (b'\\"', b"\\\\", b"\\/", b"\\b", b"\\f", b"\\n", b"\\r", b"\\t", b"\\u0000", b"\\u000a", b"\\u0022", b"\\u005c", b"\\u007f",
+SIGNS = (b'\\"', b"\\\\", b"\\/", b"\\b", b"\\f", b"\\n", b"\\r", b"\\t", b"\\u0000", b"\\u000a", b"\\u0022", b"\\u005c",
+         b"\\u007f",
          b"\\u0080", b"\\u00e9", b"\\u2028", b"\\ud7ff", b"\\ue000", b"\\uffff", b"\\ufeff", b"\\ufffd", b"\\ud800\\udc00",
          b"\\ud83d\\ude00", b"\\uD83D\\uDE00", b"\\udbff\\udfff", b"n\\nnote,a,11,m", b"n\\r\\nset,a,11,n", b'n\\",\\"')
-NO_ESCAPES = (b"\\", b"\\u", b"\\u0", b"\\u006", b"\\u00g1", b"\\u 061", b"\\u+061", b"\\U0061", b"\\x61", b"\\a", b"\\v", b"\\0", b"\\'",
+NO_ESCAPES = (b"\\", b"\\u", b"\\u0", b"\\u006", b"\\u00g1", b"\\u 061", b"\\u+061", b"\\U0061", b"\\x61", b"\\a", b"\\v",
+              b"\\0", b"\\'",
               b"\\N", b"\\u{61}", b"\\ ", b"\\\n")
-HALVES = (b"\\ud83d", b"\\ude00", b"\\ud800", b"\\udbff", b"\\udc00", b"\\udfff", b"\\ud83d\\ud83d", b"\\ude00\\ud83d", b"\\ud83dn",
+HALVES = (b"\\ud83d", b"\\ude00", b"\\ud800", b"\\udbff", b"\\udc00", b"\\udfff", b"\\ud83d\\ud83d", b"\\ude00\\ud83d",
+          b"\\ud83dn",
           b"\\ud83d\\n", b"\\ud83d\\u", b"\\ud83d\\u0061", b"\\ud83d\\ude0", b"\\ud83d \\ude00", b"\\ud83d\xf0\x9f\x98\x80")
 
 
@@ -55,7 +60,8 @@ def escapes():
     """Escapes in a row's name, in a host's, in a key, and in a value that another one hides."""
     for escape in (b"\\u006e", b"\\u006E"):
         yield written(f"a name with the escape {escape.decode()}", named_row(escape), TEXT)
-    yield written("all letters in escapes", named_host(b"\\u0061\\u0062"), SECOND_HEADER + b"host,ab,2,1\nlatency,ab,5,60\nnote,ab,10,n\n")
+    yield written("all letters in escapes", named_host(b"\\u0061\\u0062"),
+                  SECOND_HEADER + b"host,ab,2,1\nlatency,ab,5,60\nnote,ab,10,n\n")
     for title, signs, line in (
         ("signs in escapes", SIGNS, None), ("what is no escape", NO_ESCAPES, SYNTAX), ("half of a pair", HALVES, SYNTAX),
     ):
@@ -71,8 +77,10 @@ def escapes():
 
 
 # Bytes that aren't UTF-8: no beginning, too few, a longer form than there need be, half of a pair, beyond the last letter.
-NO_TEXT = (b"\xff", b"\xfe", b"\x80", b"\xbf", b"\xc3", b"\xe2\x82", b"\xf0\x9f\x98", b"\xc3n", b"\xc0\x80", b"\xc1\xaf", b"\xe0\x80\xaf",
-           b"\xf0\x80\x80\xaf", b"\xed\xa0\x80", b"\xed\xbf\xbf", b"\xed\xa0\xbd\xed\xb8\x80", b"\xf4\x90\x80\x80", b"\xf5\x80\x80\x80",
+NO_TEXT = (b"\xff", b"\xfe", b"\x80", b"\xbf", b"\xc3", b"\xe2\x82", b"\xf0\x9f\x98", b"\xc3n", b"\xc0\x80", b"\xc1\xaf",
+           b"\xe0\x80\xaf",
+           b"\xf0\x80\x80\xaf", b"\xed\xa0\x80", b"\xed\xbf\xbf", b"\xed\xa0\xbd\xed\xb8\x80", b"\xf4\x90\x80\x80",
+           b"\xf5\x80\x80\x80",
            b"\xf8\x88\x80\x80\x80", b"\xfc\x84\x80\x80\x80\x80")
 
 
@@ -108,18 +116,23 @@ def around():
         yield refused("something behind the value", RIGHT + b"\n" + text, SYNTAX)
         yield refused("something before the value", text + b"\n" + RIGHT, SYNTAX)
     for data in (
-        b"", b" ", b"\n", b"\0", b"{", b"[", b'"', b"-", b"n", b"nul", b"nulll", b"tru", b"True", b"a", b"{]", b"[}", b"{:}", b"{,}", b"[,]",
-        b"[1,]", b"[1 2]", b"[1;2]", b'{"a"}', b'{"a":}', b'{"a":1,}', b'{"a" 1}', b'{"a":1 "b":2}', b"{a:1}", b"{1:1}", b"{null:1}",
-        b"{'a':1}", b'{"a":1,,"b":2}', b"/* */ {}", b"// a\n{}", b"undefined", b"(0)", b"1 2", b"[] []", b"{}{}", b"0x1", b"1,2",
+        b"", b" ", b"\n", b"\0", b"{", b"[", b'"', b"-", b"n", b"nul", b"nulll", b"tru", b"True", b"a", b"{]", b"[}", b"{:}",
+        b"{,}", b"[,]",
+        b"[1,]", b"[1 2]", b"[1;2]", b'{"a"}', b'{"a":}', b'{"a":1,}', b'{"a" 1}', b'{"a":1 "b":2}', b"{a:1}", b"{1:1}",
+        b"{null:1}",
+        b"{'a':1}", b'{"a":1,,"b":2}', b"/* */ {}", b"// a\n{}", b"undefined", b"(0)", b"1 2", b"[] []", b"{}{}", b"0x1",
+        b"1,2",
     ):
         yield refused("what is no JSON", data, SYNTAX)
-    for data in (b"{}", b"[]", b"null", b"true", b"false", b"0", b"-1", b"1e3", b'""', b'"hosts"', b"[[],[]]", b'[{"hosts":[],"events":[]}]',
+    for data in (b"{}", b"[]", b"null", b"true", b"false", b"0", b"-1", b"1e3", b'""', b'"hosts"', b"[[],[]]",
+                 b'[{"hosts":[],"events":[]}]',
                  b"[" + RIGHT + b"]", b'{"log":' + RIGHT + b"}", b'"' + RIGHT.replace(b'"', b'\\"') + b'"'):
         yield refused("another value", data, SHAPE)
     for title, data in (
         ("a log file", TWO_ROWS), ("its header alone", HEADER), ("a file of times", b"10\n15\n"), ("a report", REPORT),
         ("a log file of version 2", TEXT), ("a line of JSON for each entry", b'{"hosts":[]}\n{"events":[]}\n'),
-        ("single quotes", RIGHT.replace(b'"', b"'")), ("no quotes", RIGHT.replace(b'"', b"")), ("a comma behind the last entry", last_comma()),
+        ("single quotes", RIGHT.replace(b'"', b"'")), ("no quotes", RIGHT.replace(b'"', b"")),
+        ("a comma behind the last entry", last_comma()),
         ("commas left out", RIGHT.replace(b",", b" ")), ("equal signs for colons", RIGHT.replace(b":", b"=")),
         ("4 MiB of a log file", (HEADER + b"host,a,0,0\n" * 400_000)[:LENGTH]),
     ):

@@ -3,9 +3,11 @@
 Run as: python3 limits.py PROGRAM [--only KIND]
 
 KIND is stack, memory or edge. With a limit on the stack, which falls in steps of 4 KiB from 512 down to the first
-answer that is wrong, each answer down to 96 has to be the one without a limit. With a limit on the address space, which
-rises in such steps from less than a program needs to start, it has to be the one without a limit, or a status that says
-that memory was lacking, with nothing written. What doesn't start is told by a run with a word that is refused at once.
+answer that is wrong, each answer down to 96, or to 192 where JSON nests deep, has to be the one without a limit. With a
+limit on the address space, which rises in such steps from less than a program needs to start, it has to be the one
+without a limit, or a status that says that memory was lacking, with nothing written. Where JSON nests deep a signal may
+end the program too, with nothing written, since the stack has to grow then: the table tells how often. What doesn't
+start is told by a run with a word that is refused at once.
 A row of the table is a command with its files, with the least limit at which the answer was right and the number of
 runs. Every difference is printed, and the end is 1 then.
 """
@@ -23,19 +25,19 @@ from typing import NamedTuple
 
 sys.dont_write_bytecode = True  # leaves no compiled files beside the sources
 
-from case import TWO_ROWS
-from report_limits import report_of
+from case import TRUE, TWO_ROWS
+from json_texts import RIGHT as LOG_IN_JSON
+from limit_commands import LEAST_STACK, commands, filled_memory
+from report_limits import RIGHT as REPORT
 
 KIBIBYTE = 1024
 STEP = 4  # KiB, a page
-MOST_STACK, LEAST_STACK = 512, 96  # KiB of stack, at each of which the answer has to be right
+MOST_STACK = 512  # KiB of stack
 LEAST_MEMORY = 3000  # KiB of address space, less than it takes to start
 BEYOND = 256  # KiB that are tried beyond the first right answer
 NO_MEMORY = (70, 71)  # what the program says where memory is lacking, 71 for its words
 WRONG_WORDS = 64
 READ_FAILED, WRITE_FAILED = 74, 75
-HEIGHT = 200  # the greatest of a formula
-SHORT_LINES = 20_000
 
 
 class Outcome(NamedTuple):
@@ -43,51 +45,6 @@ class Outcome(NamedTuple):
 
     status: int  # negative where a signal ended it
     output: bytes
-
-
-class Command(NamedTuple):
-    """Words that the program is run with, and the files that they name."""
-
-    title: str
-    words: list
-    files: dict
-
-
-def chain(sign):
-    """A formula of the greatest height: 199 signs one inside the other."""
-    return sign * (HEIGHT - 1) + b"a.req"
-
-
-def nested(sign):
-    """The same of a sign with two sides, the left one growing."""
-    formula = b"a.req"
-    for _ in range(HEIGHT - 1):
-        formula = b"(" + formula + sign + b"b.ack)"
-    return formula
-
-
-FORMULAS = {"!": chain(b"!"), "F": chain(b"F "), "G": chain(b"G "), "U": nested(b" U "), "->": nested(b" -> ")}
-
-
-def commands(with_report):
-    """The commands on files of two rows and formulas of the greatest height; reports are those of `check`."""
-    for sign, formula in FORMULAS.items():
-        files = {"f": formula, "l": TWO_ROWS, "t": b"10\n15\n"}
-        search = ["check", "--conflicts", "50", "f", "l"]
-        yield Command(f"check, height 200 of {sign}", search, files)
-        yield Command(f"replay, height 200 of {sign}", ["replay", "f", "l", "t"], files)
-        files["r"] = with_report(search, files)
-        yield Command(f"audit, height 200 of {sign}", ["audit", "f", "l", "r"], files)
-    yield Command("order", ["order", "l"], {"l": TWO_ROWS})
-    yield Command("times", ["times", "l"], {"l": TWO_ROWS})
-    yield Command("demo", ["demo", "7"], {})
-
-
-def short_lines():
-    """A report of many short lines, which fills the memory before the formula is taken up."""
-    report = report_of(*[b"learn 0 0"] * SHORT_LINES, events=b"2", time=b"10\n15")
-    files = {"f": chain(b"F "), "l": TWO_ROWS, "r": report}
-    return Command(f"audit of {SHORT_LINES} short lines, height 200 of F", ["audit", "f", "l", "r"], files)
 
 
 class Runner:
@@ -128,8 +85,8 @@ def complaint(command, outcome, limit):
     return f"{command.title}: status {outcome.status} and {len(outcome.output)} bytes with {limit}"
 
 
-def print_row(title, least, count):
-    print(f"{title:46}{least:>14}{count:>8}", flush=True)
+def print_row(title, least, count, note=""):
+    print(f"{title:54}{least:>14}{count:>8}  {note}".rstrip(), flush=True)
 
 
 def stack_differences(runner):
@@ -140,11 +97,11 @@ def stack_differences(runner):
         right = runner.outcome(command.words)
         kibibytes = MOST_STACK
         outcome = right
-        while kibibytes >= LEAST_STACK or outcome == right:
+        while kibibytes >= command.least_stack or outcome == right:
             outcome = runner.limited(command.words, resource.RLIMIT_STACK, kibibytes)
             if outcome == right:
                 least = kibibytes
-            elif kibibytes >= LEAST_STACK:
+            elif kibibytes >= command.least_stack:
                 found.append(complaint(command, outcome, f"{kibibytes} KiB of stack"))
             kibibytes -= STEP
         count += (MOST_STACK - kibibytes) // STEP
@@ -155,20 +112,29 @@ def stack_differences(runner):
 def memory_differences(runner):
     """Answers that are wrong with a limit on the address space, and the number of runs."""
     count, found = 0, []
-    for command in (*commands(runner.report), short_lines()):
+    for command in (*commands(runner.report), *filled_memory()):
         runner.write(command.files)
         right = runner.outcome(command.words)
-        kibibytes, first_right = LEAST_MEMORY, None
+        kibibytes, first_right, signals = LEAST_MEMORY, None, 0
         while first_right is None or kibibytes < first_right + BEYOND:
             outcome = runner.limited(command.words, resource.RLIMIT_AS, kibibytes)
             count += 1
             if outcome == right:
                 first_right = first_right or kibibytes
             elif not lacks_memory(runner, outcome, kibibytes):
-                found.append(complaint(command, outcome, f"{kibibytes} KiB of memory"))
+                if lacks_stack(command, outcome):
+                    signals += 1
+                else:
+                    found.append(complaint(command, outcome, f"{kibibytes} KiB of memory"))
             kibibytes += STEP
-        print_row(command.title, f"{first_right} KiB", (kibibytes - LEAST_MEMORY) // STEP)
+        note = f"{signals} by a signal" if signals else ""
+        print_row(command.title, f"{first_right} KiB", (kibibytes - LEAST_MEMORY) // STEP, note)
     return count, found
+
+
+def lacks_stack(command, outcome):
+    """Whether a signal ended a program whose stack may have had no room to grow, and nothing was written."""
+    return command.least_stack > LEAST_STACK and outcome == Outcome(-signal.SIGSEGV, b"")
 
 
 def lacks_memory(runner, outcome, kibibytes):
@@ -229,45 +195,59 @@ def silent_socket():
     return reader.detach(), writer.detach()
 
 
+# Commands whose inputs and outputs fail, with what they are asked of; the file that is the input comes last.
+EDGES = (
+    ["times", "l"], ["tolerance", "true", "5", "f", "l"], ["span", "true", "0", "1", "f", "l"], ["trim", "r"], ["json", "j"],
+)
+
+
 def edge_differences(runner):
     """Answers that differ where an input or an output fails, and the number of runs."""
-    runner.write({"l": TWO_ROWS})
-    outcomes = [
-        ("a pipe that nobody reads", WRITE_FAILED, status_to(runner, closed_pipe)),
-        ("a device without room", WRITE_FAILED, status_to(runner, full_device)),
-        ("a full pipe that doesn't wait", WRITE_FAILED, status_to(runner, filled_pipe)),
-        ("a full socket that doesn't wait", WRITE_FAILED, status_to(runner, filled_socket)),
-        ("an empty pipe that doesn't wait", READ_FAILED, status_from(runner, silent_pipe)),
-        ("an empty socket that doesn't wait", READ_FAILED, status_from(runner, silent_socket)),
-        ("a file that may not grow", -signal.SIGXFSZ, status_at_file_limit(runner, limit_files)),
-        ("the same, SIGXFSZ ignored", WRITE_FAILED, status_at_file_limit(runner, limit_files_unheard)),
-    ]
-    for title, _, status in outcomes:
-        print_row(title, f"status {status}", 1)
-    found = [f"{title}: status {status}, not {wanted}" for title, wanted, status in outcomes if status != wanted]
-    return len(outcomes), found
+    runner.write({"f": TRUE, "l": TWO_ROWS, "r": REPORT, "j": LOG_IN_JSON})
+    count, found = 0, []
+    for words in EDGES:
+        for title, wanted, status in edge_outcomes(runner, words):
+            count += 1
+            print_row(f"{words[0]}, {title}", f"status {status}", 1)
+            if status != wanted:
+                found.append(f"{words[0]}, {title}: status {status}, not {wanted}")
+    return count, found
 
 
-def status_to(runner, made):
+def edge_outcomes(runner, words):
+    """What fails, the status that is right then, and the status of a command."""
+    return (
+        ("a pipe that nobody reads", WRITE_FAILED, status_to(runner, words, closed_pipe)),
+        ("a device without room", WRITE_FAILED, status_to(runner, words, full_device)),
+        ("a full pipe that doesn't wait", WRITE_FAILED, status_to(runner, words, filled_pipe)),
+        ("a full socket that doesn't wait", WRITE_FAILED, status_to(runner, words, filled_socket)),
+        ("an empty pipe that doesn't wait", READ_FAILED, status_from(runner, words, silent_pipe)),
+        ("an empty socket that doesn't wait", READ_FAILED, status_from(runner, words, silent_socket)),
+        ("a file that may not grow", -signal.SIGXFSZ, status_at_file_limit(runner, words, limit_files)),
+        ("the same, SIGXFSZ ignored", WRITE_FAILED, status_at_file_limit(runner, words, limit_files_unheard)),
+    )
+
+
+def status_to(runner, words, made):
     """The status where the output is the second of two ends."""
     reader, writer = made()
-    status = runner.outcome(["times", "l"], output=writer).status
+    status = runner.outcome(words, output=writer).status
     close(reader, writer)
     return status
 
 
-def status_from(runner, made):
-    """The status where the log is the standard input, and that the first of two ends."""
+def status_from(runner, words, made):
+    """The status where the last file is the standard input, and that the first of two ends."""
     reader, writer = made()
-    status = runner.outcome(["times", "-"], source=reader).status
+    status = runner.outcome([*words[:-1], "-"], source=reader).status
     close(reader, writer)
     return status
 
 
-def status_at_file_limit(runner, before):
+def status_at_file_limit(runner, words, before):
     """The status where the output is a file that may not grow."""
     with open(runner.folder / "written", "wb") as output:
-        return runner.outcome(["times", "l"], before, output=output).status
+        return runner.outcome(words, before, output=output).status
 
 
 def limit_files():

@@ -70,7 +70,8 @@ def files():
 
 # Words that are no whole numbers, whatever the limit.
 NO_NUMBERS = ("01", "00", "+1", "+0", "-1", "-0", "", "1.0", "1e3", " 1", "1 ", "0x1", "1_0", "x", "inf", "-", "\u0661", DIGITS)
-NO_VALUES = ("True", "TRUE", "False", "1", "0", "", "t", "yes", "either", "true ", " true", "true\n", "truefalse", "-true", "-", "true" * 25_000)
+NO_VALUES = ("True", "TRUE", "False", "1", "0", "", "t", "yes", "either", "true ", " true", "true\n", "truefalse", "-true", "-",
+             "true" * 25_000)
 MOST = 10**18  # of a widening
 EVENTS = 2**32  # the least number that no row may have
 
@@ -124,8 +125,10 @@ def options(words, line):
     name = words[0]
     for place in range(1, len(words) + 1):
         for option in (["--conflicts=5"], ["--conflicts", "5"]):
-            yield case(f"{name} with {' '.join(option)} before word {place}", [*words[:place], *option, *words[place:]], 0, line)
-        for option in (["--conflicts"], ["--conflicts="], ["--conflicts=0"], ["--conflicts=05"], ["--conflicts=5"] * 2, ["-v"], ["--help"],
+            yield case(f"{name} with {' '.join(option)} before word {place}", [*words[:place], *option, *words[place:]], 0,
+                       line)
+        for option in (["--conflicts"], ["--conflicts="], ["--conflicts=0"], ["--conflicts=05"], ["--conflicts=5"] * 2, ["-v"],
+                       ["--help"],
                        ["--most=5"], ["--Conflicts=5"], ["--conflict=5"], ["--conflicts", "--", "5"], ["--conflicts", "-5"]):
             title = f"{name} with {' '.join(option)} before word {place}"
             yield case(title, [*words[:place], *option, *words[place:]], 64, REFUSED)
@@ -148,8 +151,10 @@ def readers_of_one_file():
         for words in ([file], ["--", file], [file, "--"]):
             yield case(f"{name} {' '.join(words)}", [name, *words], 0, line)
         for words in (
-            [], ["--"], [""], [file, file], [file, "l"], ["-", "-"], ["--", file, "--"], ["--conflicts=5", file], ["--conflicts", "5", file],
-            [file, "--conflicts=5"], [file, "--conflicts"], ["-v", file], ["--help"], ["--version"], ["--", "-v", file], [file] * 10_000,
+            [], ["--"], [""], [file, file], [file, "l"], ["-", "-"], ["--", file, "--"], ["--conflicts=5", file],
+            ["--conflicts", "5", file],
+            [file, "--conflicts=5"], [file, "--conflicts"], ["-v", file], ["--help"], ["--version"], ["--", "-v", file],
+            [file] * 10_000,
         ):
             yield case(f"{name} {' '.join(words)[:40]}", [name, *words], 64, REFUSED)
         yield case(f"{name} with a capital", [name.capitalize(), file], 64, REFUSED)
