@@ -6,7 +6,7 @@ time of the row, of false by a derivation.
 
 from itertools import combinations
 
-from case import TWO_ROWS, Blank, Case, audit, log_of, trim
+from case import TWO_ROWS, Blank, audit, log_of, trim
 
 LENGTH = 1_073_741_824
 MEBIBYTE = 1_048_576
