@@ -189,6 +189,40 @@ def many_lines_to_trim():
     yield trim("a refuted section without a line", report_of(), 5, at(b"false", 0))
 
 
+def one_line_lists():
+    """What one line of 16 MiB may list, whether the line is right, and the line."""
+    size = 16 * MEBIBYTE
+    pairs = size // 25
+    yield "steps low 0", False, b"cycle %d" % (size // 6) + b" low 0" * (size // 6)
+    yield "two order steps in turn", True, b"cycle %d" % (2 * pairs) + b" order 0 1 0 order 1 0 -1" * pairs
+    orders = b"".join(b" order 0 1 %d order 1 0 %d" % (number, -number - 1) for number in range(pairs // 2))
+    yield "distinct order steps", True, b"cycle %d" % (2 * (pairs // 2)) + orders
+    atoms = b"".join(b" +first %d" % event for event in range(size // 15))
+    yield "literals of events that there aren't", False, b"learn %d" % (size // 15) + atoms + b" 1 rule 11"
+    atoms = b"".join(b" order 0 1 %d" % number for number in range(size // 17))
+    right = b"learn %d +first 0 +first 1" % (size // 17 + 2) + atoms
+    yield "literals", True, right + b" 1 rule 11"
+    yield "the same, and a hint that isn't", False, right + b" 1 line 1"
+    yield "hints of a rule", False, b"learn 0 %d" % (size // 8) + b" rule 11" * (size // 8)
+    yield "hints of a line", False, b"learn 0 %d" % (size // 7) + b" line 1" * (size // 7)
+
+
+def one_line():
+    """Reports that are one line of 16 MiB, or one walk, for each of which at most six times its length is asked."""
+    most = 6
+    head = TITLE + b"events 2\ntrue witness\n10\n15\nfalse refuted 1\n"
+    for what, right, line in one_line_lists():
+        report = head + line + b"\nend\n"
+        place = at(b"false", 0 if right else 1)
+        yield audit(f"16 MiB of one line, {what}", report, 5, place, b"a.req", TWO_ROWS, most=most)
+        trimmed = (5, at(b"false", 1)) if b" line 1" in line else (0, TITLE[:-1])
+        yield trim(f"one line, {what}, to trim", report, *trimmed, most)
+    count = 16 * MEBIBYTE // 6
+    walk = TITLE + b"events 2\ninconsistent %d\n" % count + b"low 0\n" * count + b"end\n"
+    yield audit("16 MiB of bounds low 0", walk, 5, at(b"inconsistent", 2), b"a.req", TWO_ROWS, most=most)
+    yield trim("16 MiB of bounds low 0, to trim", walk, 0, TITLE[:-1], most)
+
+
 def distinct_lists():
     """A walk of distinct steps, and lines of distinct literals that would share a hash."""
     pairs = 33_000
@@ -260,5 +294,5 @@ def longest():
 def cases():
     """All cases of reports but those of a gibibyte."""
     for some in (numbers_of_lists, numbers_in_lines, times_of_witnesses, long_lists, many_lines, many_lines_to_trim,
-                 distinct_lists, odd_bytes):
+                 one_line, distinct_lists, odd_bytes):
         yield from some()

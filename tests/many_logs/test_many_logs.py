@@ -118,7 +118,10 @@ class GoingOn(WithRoom):
         slow.write_text(f'#!/bin/sh\nsleep 0.3\nexec "{PROGRAM}" "$@"\n')
         slow.chmod(0o755)
         words = [LOGS, FORMULAS[0], "--to", self.to, "--program", slow, "--bundle", "1", "--jobs", "1"]
-        run = subprocess.Popen([sys.executable, "-B", SCRIPT, *words], stderr=subprocess.PIPE, text=True, start_new_session=True)
+        run = subprocess.Popen(
+            [sys.executable, "-B", SCRIPT, *words], stderr=subprocess.PIPE, text=True, start_new_session=True,
+            preexec_fn=lambda: signal.signal(signal.SIGINT, signal.SIG_DFL),  # which a shell's background job ignores
+        )
         ends = time.monotonic() + PATIENCE
         while time.monotonic() < ends and not ((self.to / "jobs").exists() and len((self.to / "jobs").read_text().splitlines()) > 1):
             time.sleep(0.05)
