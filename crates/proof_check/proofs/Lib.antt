@@ -1,5 +1,6 @@
 mod Standing
 mod TakeLemmas
+mod GivenLemmas
 pub mod StepLemmas
 mod Pieces
 mod PlaceLemmas

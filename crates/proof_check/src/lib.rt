@@ -7,6 +7,7 @@ mod clauses;
 mod conflict;
 mod course;
 mod cycle;
+mod given;
 mod judge;
 mod kept;
 mod laws;

@@ -1,14 +1,14 @@
 //! Clauses that are taken one after another under literals that are assumed.
 
-ghost use Rattle.std.specs.Prelude.{◌≡◌, ◌↔◌, ◌<◌, ◌^◌, ◌∷◌, length, map, Contains, IsTrue, IfOk, OnOk};
+ghost use Rattle.std.specs.Prelude.{◌≡◌, ◌↔◌, ◌<◌, ◌^◌, length, map, Contains, IsTrue, IfOk};
 ghost use Rattle.axiom_rules.specs.Literals.{negated};
 ghost use Rattle.proof_check.specs.Places.{AreSortedPlaces};
-ghost use Rattle.proof_check.specs.Refutation.{AreThose, IsLeft, IsTaken};
+ghost use Rattle.proof_check.specs.Refutation.{IsLeft, IsTaken};
 
+use crate::given::Given;
 use crate::places::{first_place, sorted_places};
 use axiom_rules::Literal;
 use std::alloc::{AllocError, Global};
-use std::collections::BTreeSet;
 use std::marker::Model;
 
 /// What the literals that are assumed make of a clause.
@@ -40,7 +40,7 @@ enum Left {
 pub struct Assumed<'a> {
     denied: &'a [Literal],
     places: Vec<u32>,
-    given: BTreeSet<Literal>,
+    given: Given,
 }
 
 impl<'a> Model for Assumed<'a> {
@@ -51,7 +51,7 @@ impl<'a> Model for Assumed<'a> {
 
     ghost Value = { List Literal };
 
-    ghost view = { λ a. map negated a.denied.now ++ a.given.keys };
+    ghost view = { λ a. map negated a.denied.now ++ a.given };
 
     ghost invariant = { λ a. AreSortedPlaces a.denied.now a.places.items };
 }
@@ -66,7 +66,7 @@ impl<'a> Assumed<'a> {
         Ok(Assumed {
             denied: lits,
             places,
-            given: BTreeSet::new(alloc),
+            given: Given::new(alloc),
         })
     }
 
@@ -77,7 +77,7 @@ impl<'a> Assumed<'a> {
         if is_denied(self.denied, &self.places, literal) {
             return true;
         }
-        is_given(&self.given, literal)
+        self.given.has(literal)
     }
 
     /// Takes the next clause, and assumes the literal that it gives. After want of memory nothing is known of what is
@@ -88,7 +88,7 @@ impl<'a> Assumed<'a> {
         match left_of(self, clause) {
             Left::Nothing => Ok(Taken::False),
             Left::Only(literal) => {
-                assume(&mut self.given, literal)?;
+                self.given.add(literal)?;
                 Ok(Taken::Gives)
             }
             Left::More => Ok(Taken::Stuck),
@@ -105,21 +105,6 @@ fn is_denied(denied: &[Literal], places: &[u32], literal: &Literal) -> bool
         Some(_) => true,
         None => false,
     }
-}
-
-// Whether a literal was given.
-fn is_given(given: &BTreeSet<Literal>, literal: &Literal) -> bool
-    ensures { IsTrue result ↔ Contains given.now.keys literal.now }
-{
-    given.contains(literal)
-}
-
-// Assumes a literal, which may be assumed already.
-fn assume(literals: &mut BTreeSet<Literal>, literal: Literal) -> Result<(), AllocError>
-    ensures { OnOk result (AreThose (literal ∷ literals.old.keys) literals.new.keys) }
-{
-    literals.insert(literal)?;
-    Ok(())
 }
 
 // What is left of a clause.

@@ -2,9 +2,9 @@ use Rattle.std.proofs.Common.{◌∙◌, sym}
 use Rattle.axiom_rules.specs.contracts.literal.LiteralOrd.TheImpl.Laws.{total-law}
 use Rattle.proof_log.proofs.OrderedSets.{has as has_key}
 use Rattle.proof_check.proofs.TakeLemmas.{literals_told}
-use Rattle.proof_check.proofs.refutation.is_given.Goals as goal
+use Rattle.proof_check.proofs.given.is_recent.Goals as goal
 
 pub returns : goal.returns
 returns c =
-    let at = has_key total-law literals_told c.args.given.now c.args.literal.now in
+    let at = has_key total-law literals_told c.args.recent.now c.args.literal.now in
     (λ is. at.0 (sym c.contains.ensures ∙ is), λ stands. c.contains.ensures ∙ at.1 stands)
