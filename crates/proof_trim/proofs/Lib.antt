@@ -15,3 +15,4 @@ mod Forward
 mod TextCopying
 mod Renumbering
 mod TrimmedLines
+mod WholeTexts

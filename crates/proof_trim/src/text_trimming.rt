@@ -1,4 +1,4 @@
-ghost use Rattle.std.specs.Prelude.{◌≡◌, ◌<◌, ◌≤◌, ◌^◌, ℕ, [], List, Err, IfOk, OnOk, length};
+ghost use Rattle.std.specs.Prelude.{◌≡◌, ◌↔◌, ◌<◌, ◌≤◌, ◌^◌, ℕ, [], List, All, Err, IfOk, IsTrue, OnOk, length};
 ghost use Rattle.proof_log.specs.declared.line.Line.{Line};
 ghost use Rattle.proof_log.specs.LinesOf.{IsTextOf};
 ghost use Rattle.proof_trim.specs.Laws.{CanBeTrimmed};
@@ -19,7 +19,22 @@ pub struct TrimmedText {
     pub count: u32,
 }
 
-// What is left of the lines of a text whose hints name these, each an earlier line.
+fn are_all_marked(marks: &[bool]) -> bool
+    ensures { IsTrue result ↔ All IsTrue marks.now }
+{
+    marks.iter().all(|mark| *mark)
+}
+
+fn copy_of(alloc: Global, text: &[u8]) -> Result<Vec<u8>, AllocError>
+    ensures { IfOk result (λ copy. copy.items ≡ text.now) }
+{
+    let mut copy = Vec::with_capacity(alloc, text.len())?;
+    copy.extend_from_slice(text)?;
+    Ok(copy)
+}
+
+// What is left of the lines of a text whose hints name these, each an earlier line. Where all are needed each keeps its
+// number, and the text is copied as it stands.
 fn left_text(
     alloc: Global,
     text: &[u8],
@@ -32,6 +47,12 @@ fn left_text(
     ensures trimmed { IfOk result (λ t. (lines : List Line) → IsTextOf text.now lines → AreNamed lines numbers.now ends.now → NoneForward lines → IsTrimmedText lines t.text.items t.count) }
 {
     let marks = needed_in(alloc, numbers, ends)?;
+    if are_all_marked(&marks) {
+        return Ok(TrimmedText {
+            text: copy_of(alloc, text)?,
+            count: ends.len() as u32,
+        });
+    }
     let (text, count) = marked_text(alloc, text, &marks)?;
     Ok(TrimmedText { text, count })
 }
