@@ -3,6 +3,7 @@ pub mod Stops
 pub mod Tests
 pub mod Reads
 pub mod Possible
+pub mod Openings
 pub mod Untold
 pub mod TimesOutcome
 pub mod ReplayOutcome

@@ -3,10 +3,11 @@ ghost use Rattle.formula_arena.specs.Cores.{core_of};
 ghost use Rattle.mt_model.specs.Form.{Form, form_of};
 ghost use Rattle.mt_model.specs.Log.{IsWithin};
 ghost use Rattle.mt_model.specs.declared.limits.TheConstants.{MAX_TIME};
-ghost use Rattle.mt_port.specs.Port.{Rose, file_of};
+ghost use Rattle.mt_port.specs.Port.{IsOneMore, Rose, file_of};
 ghost use Rattle.mtl_parse.specs.FormulaOf.{FormulaOf};
 ghost use Rattle.skew_answers.specs.Statuses.{IsVerdict};
 ghost use Rattle.skew_answers.specs.Texts.{line};
+ghost use Rattle.skew_commands.specs.Openings.{OpensAtMost};
 ghost use Rattle.skew_commands.specs.Possible.{OfSomeThird};
 ghost use Rattle.skew_commands.specs.Reads.{HoldsQuestion, HoldsThird};
 ghost use Rattle.skew_commands.specs.ReplayOutcome.{ReplayOfLog, ReplayOfTimes, ReplayOutcome, value_status, value_text};
@@ -96,6 +97,7 @@ fn replay_of_file<S: Shelf>(
     ensures failed { IsErrOf result Stop.ReadFailed → Rose (S.faults shelf.old) (S.faults shelf.new) }
     ensures never { S.steady shelf.old → S.tells shelf.old ≡ true → IsSome (file_of (S.files shelf.old) times.now) → IsErrOf result Stop.ReadFailed → ⊥ }
     ensures later { S.faults shelf.old ≤ S.faults shelf.new }
+    ensures once { IsOneMore (S.openings shelf.old) (S.openings shelf.new) }
 {
     let file = files::file(alloc, shelf, times, TIMES_LIMIT, Named::Times)?;
     replay_of_bytes(alloc, replayer, log, &file)
@@ -116,6 +118,7 @@ fn replay_of_question<S: Shelf>(
     ensures failed { IsErrOf result Stop.ReadFailed → Rose (S.faults shelf.old) (S.faults shelf.new) }
     ensures never { S.steady shelf.old → S.tells shelf.old ≡ true → HoldsThird (S.files shelf.old) times.now (form_of question.now.formula) question.now.log → IsErrOf result Stop.ReadFailed → ⊥ }
     ensures later { S.faults shelf.old ≤ S.faults shelf.new }
+    ensures openings { OpensAtMost 1 (S.openings shelf.old) (S.openings shelf.new) }
 {
     files::known_hosts(&question.text, &question.formula, &question.log)?;
     let mut replayer = files::replayer(alloc, &question.log, &question.formula)?;
@@ -136,6 +139,7 @@ pub fn replay<S: Shelf>(
     ensures failed { IsErrOf result Stop.ReadFailed → Rose (S.faults shelf.old) (S.faults shelf.new) }
     ensures never { S.steady shelf.old → S.tells shelf.old ≡ true → HoldsQuestion (S.files shelf.old) formula.now log.now (HoldsThird (S.files shelf.old) times.now) → IsErrOf result Stop.ReadFailed → ⊥ }
     ensures later { S.faults shelf.old ≤ S.faults shelf.new }
+    ensures openings { OpensAtMost 3 (S.openings shelf.old) (S.openings shelf.new) }
 {
     let question = read_question(alloc, shelf, formula, log)?;
     replay_of_question(alloc, shelf, &question, times)

@@ -1,5 +1,5 @@
 ghost use Rattle.std.specs.Prelude.{◌≡◌, ◌<◌, ◌≤◌, true, IfOk, IsErrOf, IsSome};
-ghost use Rattle.mt_port.specs.Port.{Rose, file_of};
+ghost use Rattle.mt_port.specs.Port.{IsOneMore, Rose, file_of};
 ghost use Rattle.skew_answers.specs.Statuses.{IsVerdict};
 ghost use Rattle.skew_commands.specs.Possible.{OfSomeLog};
 ghost use Rattle.skew_commands.specs.Stops.{Gives};
@@ -47,6 +47,7 @@ pub fn times<S: Shelf>(alloc: Global, shelf: &mut S, log: &str) -> Result<Reply,
     ensures failed { IsErrOf result Stop.ReadFailed → Rose (S.faults shelf.old) (S.faults shelf.new) }
     ensures never { S.steady shelf.old → S.tells shelf.old ≡ true → IsSome (file_of (S.files shelf.old) log.now) → IsErrOf result Stop.ReadFailed → ⊥ }
     ensures later { S.faults shelf.old ≤ S.faults shelf.new }
+    ensures once { IsOneMore (S.openings shelf.old) (S.openings shelf.new) }
 {
     let file = files::file(alloc, shelf, log, LOG_LIMIT, Named::Log)?;
     let log = files::log(alloc, &file)?;
