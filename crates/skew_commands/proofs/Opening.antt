@@ -1,13 +1,6 @@
 -- How many files are opened, call by call.
-use Rattle.std.proofs.Common.{◌≤◌, ◌+◌, ℕ, Option, Some, None, arith}
-use Rattle.mt_port.specs.Port.{IsOneMore}
+use Rattle.std.proofs.Common.{◌+◌, ℕ, Option, Some, None, arith}
 use Rattle.skew_commands.specs.Openings.{OpensAtMost}
-
--- one is opened
-pub one-opened : (a b : Option ℕ) → IsOneMore a b → OpensAtMost 1 a b
-one-opened None b h = tt
-one-opened (Some x) None h = cc
-one-opened (Some x) (Some y) h = grind arith
 
 -- some are opened, and then others
 pub more-opened : (m n : ℕ) (a b c : Option ℕ) → OpensAtMost m a b → OpensAtMost n b c → OpensAtMost (m + n) a c
