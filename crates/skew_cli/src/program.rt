@@ -5,7 +5,8 @@ ghost use Rattle.skew_answers.specs.Statuses.{IsAnswer, IsRefusal, IsVerdict};
 ghost use Rattle.skew_answers.specs.Texts.{line};
 ghost use Rattle.skew_words.specs.Words.{command_of};
 ghost use Rattle.skew_commands.specs.Reads.{Agree};
-ghost use Rattle.skew_cli.specs.Outcome.{CommandOutcome, Ends, HasOutcome, HasPossible, HoldsFiles, HoldsNamed, IsPossible, IsPossibleOf, Outcome};
+ghost use Rattle.skew_commands.specs.Openings.{OpensAtMost};
+ghost use Rattle.skew_cli.specs.Outcome.{CommandOutcome, Ends, HasOutcome, HasPossible, HoldsFiles, HoldsNamed, IsPossible, IsPossibleOf, OpensNamed, Outcome, files_named};
 ghost use Rattle.skew_commands.specs.Refusals.{IsRefusalOf};
 ghost use Rattle.skew_commands.specs.Stops.{Gives, HasReason};
 
@@ -46,6 +47,7 @@ fn work<S: Shelf>(alloc: Global, shelf: &mut S, call: Call<'_>) -> Result<Reply,
     ensures failed { IsErrOf result Stop.ReadFailed → Rose (S.faults shelf.old) (S.faults shelf.new) }
     ensures never { S.steady shelf.old → S.tells shelf.old ≡ true → HoldsFiles (S.files shelf.old) (command_in call.entry) → IsErrOf result Stop.ReadFailed → ⊥ }
     ensures later { S.faults shelf.old ≤ S.faults shelf.new }
+    ensures openings { OpensAtMost (files_named (command_in call.entry)) (S.openings shelf.old) (S.openings shelf.new) }
 {
     match call {
         Call::Times { log } => times(alloc, shelf, log),
@@ -101,6 +103,7 @@ fn reply<S: Shelf>(alloc: Global, shelf: &mut S, call: Call<'_>) -> Result<Reply
     ensures failed { IsErrOf result Stop.ReadFailed → Rose (S.faults shelf.old) (S.faults shelf.new) }
     ensures never { S.steady shelf.old → S.tells shelf.old ≡ true → HoldsFiles (S.files shelf.old) (command_in call.entry) → IsErrOf result Stop.ReadFailed → ⊥ }
     ensures later { S.faults shelf.old ≤ S.faults shelf.new }
+    ensures openings { OpensAtMost (files_named (command_in call.entry)) (S.openings shelf.old) (S.openings shelf.new) }
 {
     match work(alloc, shelf, call) {
         Err(Stop::Refused(refusal)) => Ok(refusal.reply(alloc)?),
@@ -144,6 +147,9 @@ pub fn run<S: Shelf, K: Sink>(
     ensures read { result ≡ Status.ReadFailed → Rose (S.faults shelf.old) (S.faults shelf.new) }
     ensures never { S.steady shelf.old → S.tells shelf.old ≡ true → HoldsNamed (map string_bytes words.now.items) (S.files shelf.old) → result ≡ Status.ReadFailed → ⊥ }
     ensures write { result ≡ Status.WriteFailed → Rose (K.faults out.old) (K.faults out.new) }
+
+    // On a shelf that counts its openings no more files are opened than the words name.
+    ensures openings { OpensNamed (map string_bytes words.now.items) (S.openings shelf.old) (S.openings shelf.new) }
 
     // Where no device failed, the answer is there, or memory ran out.
     ensures complete { S.tells shelf.old ≡ true → HoldsNamed (map string_bytes words.now.items) (S.files shelf.old)

@@ -4,6 +4,7 @@ use Rattle.mt_model.specs.Form.{form_of}
 use Rattle.skew_cli.specs.AuditOutcome.{AuditOfLog}
 use Rattle.skew_commands.specs.Reads.{HoldsThird}
 use Rattle.skew_commands.proofs.Holding.{next-held, question-held}
+use Rattle.skew_commands.proofs.Opening.{more-opened}
 use Rattle.skew_commands.proofs.Possible.{some-third-given, third-refused}
 use Rattle.skew_commands.proofs.Questions.{question-given, question-stopped}
 use Rattle.skew_cli.proofs.audit.audit.Goals as goal
@@ -44,3 +45,6 @@ pub returns-clause-possible : goal.returns-clause-possible
 returns-clause-possible g c =
     let q = c.in_ok-question.question in
     some-third-given q.text.items (form_of q.formula) q.log c.in_ok-question.ensures.some_read c.audit_of_question.result (λ files. AuditOfLog files c.args.conflicts) c.audit_of_question.ensures.possible
+
+pub returns-clause-openings : goal.returns-clause-openings
+returns-clause-openings g c = more-opened 2 1 _ _ _ c.in_ok-question.ensures.openings c.audit_of_question.ensures.openings

@@ -1,3 +1,4 @@
+use Rattle.skew_cli.proofs.NoneOpened.{none-opened}
 use Rattle.skew_cli.proofs.program.work.Goals as goal
 
 pub returns-in-Replay-clause-outcome : goal.returns-in-Replay-clause-outcome
@@ -38,3 +39,6 @@ returns-in-Span-clause-outcome g c = rw c.in-Span.is c.span.ensures.outcome
 
 pub returns-in-Span-clause-possible : goal.returns-in-Span-clause-possible
 returns-in-Span-clause-possible g c = rw c.in-Span.is c.span.ensures.possible
+
+pub returns-in-Demo-clause-openings : goal.returns-in-Demo-clause-openings
+returns-in-Demo-clause-openings g c = rw c.in-Demo.is (none-opened _)
