@@ -11,7 +11,8 @@ use Rattle.propagate.specs.Clauses.{IsFalsified}
 use Rattle.analyze.specs.Asserting.{HasHere}
 use Rattle.analyze.specs.Marks.{HasMarkHere, IsMarkedBy}
 use Rattle.analyze.specs.Resolving.{denied, IsLeft, IsWork}
-use Rattle.analyze.proofs.Order.{undone, distinct, false_at, since_at}
+use Rattle.analyze.proofs.Order.{distinct, false_at, since_at}
+use Rattle.propagate.proofs.PlaceLemmas.{undone}
 
 module _ (t : Assigned) (db : List (List Lit)) (trail : IsTrail t) (conflict : ℕ) (held : conflict < length db) (falsified : IsFalsified t.entries (clause_at db conflict))
     (here : 0 < length t.levels → HasHere t (clause_at db conflict)) (marked : List ℕ) (by : IsMarkedBy t.entries (length t.entries) (clause_at db conflict) [] marked) where
@@ -57,6 +58,7 @@ module _ (t : Assigned) (db : List (List Lit)) (trail : IsTrail t) (conflict : �
           subst (λ (a : Lit). Contains assumed a) f.2 (all f.0 (inl is_marked))),
     );
     spent = tt;
-    stands = λ k left. any_from (λ clause. Contains clause (denied t.entries k)) (clauses_at db (conflict ∷ [])) (clause_at db conflict) (contains_first (clause_at db conflict) []) (from_conflict k left);
+    stands =
+        λ k left. any_from (λ clause. Contains clause (denied t.entries k)) (clauses_at db (conflict ∷ [])) (clause_at db conflict) (contains_first (clause_at db conflict) []) (from_conflict k left);
     two = inr (λ k left pos. from_conflict k left);
   }

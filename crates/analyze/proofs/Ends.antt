@@ -1,13 +1,12 @@
 -- What the walk has set aside when it has come to the trail's start.
-use Rattle.std.proofs.Common.{◌≡◌, ◌≢◌, ◌∙◌, ap, sym, subst, refl, ℕ, zero, suc, ◌-◌, ◌<◌, ◌≤◌, inl, inr, List, [], ◌∷◌, length, arith, get_or, cond, Bool, true, false}
-use Rattle.std.specs.Prelude.{map, filter, nat_le}
+use Rattle.std.proofs.Common.{◌≡◌, ◌≢◌, ◌∙◌, ap, sym, subst, refl, ℕ, suc, ◌-◌, ◌<◌, ◌≤◌, inl, inr, List, [], ◌∷◌, length, arith, get_or, Bool, true}
+use Rattle.std.specs.Prelude.{map, nat_le}
 use Rattle.std.specs.List.{All, Contains}
-use Rattle.std.proofs.lemmas.Bool.{cases_eq, cases_lt}
-use Rattle.std.proofs.lemmas.Bool.Decides.{nat_tests}
+use Rattle.std.proofs.lemmas.Bool.{cases_eq, cases_lt, le-leb, leb-true}
 use Rattle.std.proofs.lemmas.List.{get_or_default, get_or-map, length-map}
 use Rattle.std.proofs.lemmas.List.Elements.{All-contains, All-contains_itself, All-filter, All-get_or, Contains-get_or, filter_passes}
 use Rattle.hint_refutation.specs.Hints.{StandsIn, RefutesGiving}
-use Rattle.hint_refutation.proofs.Lists.{all_from, any_from, contains_none, contains_first, contains_later, contains_map, contains_unmap}
+use Rattle.hint_refutation.proofs.Lists.{all_from, any_from, contains_first, contains_later, contains_map, contains_unmap, contains_filter}
 use Rattle.hint_refutation.proofs.Hinted.{givers_refute}
 use Rattle.clause_db.specs.declared.lit.Lit.{Lit}
 use Rattle.clause_db.specs.Literals.{negation, HasVarsOnce}
@@ -16,24 +15,11 @@ use Rattle.clause_db.specs.Hinted.{HintsRefute, HintsAreUsed}
 use Rattle.propagate.specs.declared.entry.Entry.{Entry}
 use Rattle.propagate.specs.Trails.{Assigned, no_entry, entry_at, literals, up_to, IsTrail}
 use Rattle.propagate.specs.Clauses.{IsFalsified}
-use Rattle.propagate.proofs.ClauseLemmas.{literal_held}
+use Rattle.propagate.proofs.ClauseLemmas.{literal_held, read_entry}
 use Rattle.analyze.specs.Asserting.{IsFalseSince, IsAsserting, IsJump, IsUnitBelow, HasTwoAbove}
 use Rattle.analyze.specs.Resolving.{denied, level_of, IsLeft, AreAside, IsWork}
-use Rattle.analyze.proofs.Order.{undone, distinct, rising, read_entry, since_from}
-
-le_true : (a b : ℕ) → a ≤ b → nat_le a b ≡ true
-le_true a b le = grind (arith, nat_tests)
-
-le_from : (a b : ℕ) → nat_le a b ≡ true → a ≤ b
-le_from a b is = grind (arith, nat_tests)
-
-contains_filter : {X : Type 0} (p : X → Bool) (xs : List X) (x : X) → Contains xs x → p x ≡ true → Contains (filter p xs) x
-contains_filter p [] x has holds = absurd (contains_none x has)
-contains_filter p (y ∷ ys) x (zero, below, is) holds = rw (is, holds) (contains_first x (filter p ys))
-contains_filter p (y ∷ ys) x (suc k, below, is) holds = later (p y) (contains_filter p ys x (k, omega (arith, below), is) holds) where
-  later : (b : Bool) → Contains (filter p ys) x → Contains (cond b (y ∷ filter p ys) (filter p ys)) x
-  later true has = contains_later y x (filter p ys) has
-  later false has = has
+use Rattle.analyze.proofs.Order.{distinct, rising, since_from}
+use Rattle.propagate.proofs.PlaceLemmas.{undone}
 
 -- places that are set aside at the trail's start
 module _ (t : Assigned) (trail : IsTrail t) (aside : List ℕ) (a : AreAside t 0 aside) where
@@ -123,7 +109,7 @@ module _ (t : Assigned) (trail : IsTrail t) where
   unit_below (p ∷ rest) a some = (
     all_from (λ (e : Entry). e.lit.var ≢ (denied t.entries p).var) (up_to (length t.levels - 1) t.entries) (λ e has same.
         let old = All-contains (Contains t.entries) (up_to (length t.levels - 1) t.entries) e (All-filter low (Contains t.entries) t.entries (All-contains_itself t.entries)) has in
-        let passes = le_from e.level (length t.levels - 1) (All-contains (λ (x : Entry). low x ≡ true) (up_to (length t.levels - 1) t.entries) e (filter_passes low t.entries) has) in
+        let passes = leb-true e.level (length t.levels - 1) (All-contains (λ (x : Entry). low x ≡ true) (up_to (length t.levels - 1) t.entries) e (filter_passes low t.entries) has) in
         let here = read_entry t.entries old.0 e old.1 old.2 in
         let p_in = in_range t trail (p ∷ rest) a p (contains_first p rest) in
         let at = distinct t trail old.0 p old.1 p_in (ap (λ (x : Entry). x.lit.var) here ∙ same) in
@@ -135,7 +121,8 @@ module _ (t : Assigned) (trail : IsTrail t) where
         let j = after_first p rest k.0 k.1 in
         let k_in = in_range t trail (p ∷ rest) a k.0 (contains_later p k.0 rest k.1) in
         let level : level_of t.entries k.0 < length t.levels = subst (λ (i : ℕ). level_of t.entries i < length t.levels) j.3 (a.lower j.0 j.1 j.2).1 in
-        let kept = contains_filter low t.entries (entry_at t.entries k.0) (Contains-get_or t.entries k.0 no_entry k_in) (le_true (level_of t.entries k.0) (length t.levels - 1) (omega (arith, level))) in
+        let kept =
+        contains_filter low t.entries (entry_at t.entries k.0) (Contains-get_or t.entries k.0 no_entry k_in) (le-leb (level_of t.entries k.0) (length t.levels - 1) (omega (arith, level))) in
         let held = contains_map (λ (e : Entry). e.lit) (up_to (length t.levels - 1) t.entries) (entry_at t.entries k.0) kept in
         subst (λ (y : Lit). Contains (literals (up_to (length t.levels - 1) t.entries)) y) (sym (undone (entry_at t.entries k.0).lit) ∙ ap negation k.2) held),
   ) where

@@ -50,7 +50,8 @@ last_has [] n p is = absurd cc
 last_has (x ∷ xs) zero p is = let same : x ≡ p = cc in rw same (contains_first p xs)
 last_has (x ∷ xs) (suc n) p is = contains_later x p xs (last_has xs n p is)
 
-pub greatest_here : (t : Assigned) → IsTrail t → (marked : List ℕ) (p : ℕ) → AreBelow (length t.entries) marked → Contains marked p → All (λ q. is_lt (nat_cmp p q) ≡ false) marked → HasMarkHere t marked → level_of t.entries p ≡ length t.levels
+pub greatest_here : (t : Assigned) → IsTrail t → (marked : List ℕ) (p : ℕ) → AreBelow (length t.entries) marked → Contains marked p
+    → All (λ q. is_lt (nat_cmp p q) ≡ false) marked → HasMarkHere t marked → level_of t.entries p ≡ length t.levels
 greatest_here t trail marked p within has all (k, at, level) =
     let le = not_less_is p k (All-contains (λ (q : ℕ). is_lt (nat_cmp p q) ≡ false) marked k all at) in
     let p_in = within p has in
@@ -81,7 +82,8 @@ insert_kept (x ∷ xs) k q has = by (insert_kept xs k q) (nat_cmp k x) where
 pub insert_only : (xs : List ℕ) (k q : ℕ) → Contains (insert_key nat_cmp xs k) q → Contains xs q ⊎ (k ≡ q)
 insert_only [] k q has = elim (contains_cases k q [] has) [ inl is ↦ inr is | inr none ↦ inl none ]
 insert_only (x ∷ xs) k q has = by (insert_only xs k q) (nat_cmp k x) has where
-  by : (Contains (insert_key nat_cmp xs k) q → Contains xs q ⊎ (k ≡ q)) → (r : Ordering) → Contains (match_ordering r (k ∷ x ∷ xs) (x ∷ xs) (x ∷ insert_key nat_cmp xs k)) q → Contains (x ∷ xs) q ⊎ (k ≡ q)
+  by : (Contains (insert_key nat_cmp xs k) q → Contains xs q ⊎ (k ≡ q)) → (r : Ordering)
+      → Contains (match_ordering r (k ∷ x ∷ xs) (x ∷ xs) (x ∷ insert_key nat_cmp xs k)) q → Contains (x ∷ xs) q ⊎ (k ≡ q)
   by rest Less has = elim (contains_cases k q (x ∷ xs) has) [ inl is ↦ inr is | inr old ↦ inl old ]
   by rest Equal has = inl has
   by rest Greater has = elim (contains_cases x q (insert_key nat_cmp xs k) has) [
@@ -109,7 +111,8 @@ module _ (t : Assigned) (trail : IsTrail t) (before v place : ℕ) (within : pla
 pub marked_none : (t : Assigned) (before : ℕ) (old : List ℕ) → IsMarkedBy t.entries before [] old old
 marked_none t before old = record { kept = λ k marked. marked; added = λ k l front within has same. absurd (omega (arith, has.1)); only = λ k marked. inl marked }
 
-pub marked_more : (t : Assigned) (before : ℕ) (front : List Lit) (x : Lit) (old new newer : List ℕ) → IsMarkedBy t.entries before front old new → IsPut t.entries before x.var new newer → IsMarkedBy t.entries before (front ++ x ∷ []) old newer
+pub marked_more : (t : Assigned) (before : ℕ) (front : List Lit) (x : Lit) (old new newer : List ℕ) → IsMarkedBy t.entries before front old new
+    → IsPut t.entries before x.var new newer → IsMarkedBy t.entries before (front ++ x ∷ []) old newer
 marked_more t before front x old new newer by put = record {
   kept = λ k has. put.kept k (by.kept k has);
   added = λ k l less within has same. elim (Contains-push_cases front x l has) [

@@ -1,9 +1,9 @@
 -- How the literals of a trail lie by place, by variable and by level.
-use Rattle.std.proofs.Common.{◌≡◌, ◌∙◌, ap, sym, subst, ℕ, ◌+◌, ◌<◌, ◌≤◌, ◌⊎◌, inl, inr, List, length, take, get_or, arith, Some}
+use Rattle.std.proofs.Common.{◌≡◌, ◌∙◌, ap, sym, subst, ℕ, ◌+◌, ◌<◌, ◌≤◌, ◌⊎◌, inl, inr, List, length, take, arith, Some}
 use Rattle.std.specs.Prelude.{IsNone}
 use Rattle.std.specs.List.{Contains}
 use Rattle.std.proofs.lemmas.Bool.{cases_eq, cases_lt}
-use Rattle.std.proofs.lemmas.List.{get_or-take, get_or_default, get_or_read, length-take}
+use Rattle.std.proofs.lemmas.List.{get_or-take, get_or_default, length-take}
 use Rattle.std.proofs.lemmas.List.Elements.{All-contains}
 use Rattle.hint_refutation.proofs.Lists.{all_from}
 use Rattle.clause_db.specs.declared.lit.Lit.{Lit}
@@ -13,20 +13,13 @@ use Rattle.clause_db.proofs.LawLemmas.{negation_other}
 use Rattle.propagate.specs.declared.entry.Entry.{Entry}
 use Rattle.propagate.specs.Trails.{Assigned, no_entry, entry_at, literals, AreLevels, HasEntry, IsAssigned, IsTrail}
 use Rattle.propagate.specs.Clauses.{HasReasons, IsFalsified}
-use Rattle.propagate.proofs.ClauseLemmas.{literal_at}
+use Rattle.propagate.proofs.ClauseLemmas.{literal_at, read_entry}
 use Rattle.analyze.specs.Asserting.{IsFalseSince}
 use Rattle.analyze.specs.Marks.{AreAssigned}
 use Rattle.analyze.specs.Resolving.{level_of}
 
-pub undone : (l : Lit) → negation (negation l) ≡ l
-undone = negation_other.undone
-
 pub apart_from_negation : (l : Lit) → l ≡ negation l → ⊥
 apart_from_negation l same = negation_other.other l (sym same)
-
--- the entry that was found at a place
-pub read_entry : (xs : List Entry) (k : ℕ) (e : Entry) → k < length xs → get_or xs k e ≡ e → entry_at xs k ≡ e
-read_entry xs k e within at = sym (get_or_read xs k e within (sym at) no_entry)
 
 module _ (t : Assigned) (trail : IsTrail t) where
   levels : AreLevels t.entries t.levels

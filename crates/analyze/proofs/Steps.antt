@@ -15,10 +15,12 @@ use Rattle.propagate.specs.Clauses.{HasReasons, IsReason}
 use Rattle.propagate.proofs.TrailLemmas.{cases_push}
 use Rattle.analyze.specs.Marks.{AreBelow, HasMarkHere, IsMarkedBy}
 use Rattle.analyze.specs.Resolving.{denied, level_of, IsAway, IsAside, IsLeft, IsAssumed, CanRefute, HasTwoHere, AreAside, IsWork}
-use Rattle.analyze.proofs.Order.{undone, apart_from_negation, distinct, rising, front_at}
+use Rattle.analyze.proofs.Order.{apart_from_negation, distinct, rising, front_at}
+use Rattle.propagate.proofs.PlaceLemmas.{undone}
 
 -- the same places may be marked in another order, and the walk may come down to any place above them
-pub same_marks : (t : Assigned) (db : List (List Lit)) (conflict place lower : ℕ) (marked others aside hints : List ℕ) → ((k : ℕ) → Contains marked k → Contains others k) → ((k : ℕ) → Contains others k → Contains marked k)
+pub same_marks : (t : Assigned) (db : List (List Lit)) (conflict place lower : ℕ) (marked others aside hints : List ℕ)
+    → ((k : ℕ) → Contains marked k → Contains others k) → ((k : ℕ) → Contains others k → Contains marked k)
     → AreBelow lower others → lower ≤ place → IsWork t db conflict place marked aside hints → IsWork t db conflict lower others aside hints
 same_marks t db conflict place lower marked others aside hints to from below le w = record {
   below = below;
@@ -56,23 +58,28 @@ pub popped_was : (p : ℕ) (old new : List ℕ) → old ≡ new ++ p ∷ [] → 
 popped_was p old new is = rw is (Contains-push new p)
 
 -- where no place is marked, the walk is at the trail's start
-pub bottom : (t : Assigned) (db : List (List Lit)) (conflict place : ℕ) (marked aside hints : List ℕ) → length marked ≡ 0 → IsWork t db conflict place marked aside hints → IsWork t db conflict 0 marked aside hints
-bottom t db conflict place marked aside hints none w = same_marks t db conflict place 0 marked marked aside hints (λ k has. has) (λ k has. has) (λ k has. let within = has.1 in absurd (omega (arith, within, none))) (omega arith) w
+pub bottom : (t : Assigned) (db : List (List Lit)) (conflict place : ℕ) (marked aside hints : List ℕ) → length marked ≡ 0
+    → IsWork t db conflict place marked aside hints → IsWork t db conflict 0 marked aside hints
+bottom t db conflict place marked aside hints none w =
+    same_marks t db conflict place 0 marked marked aside hints (λ k has. has) (λ k has. has) (λ k has. let within = has.1 in absurd (omega (arith, within, none))) (omega arith) w
 
 -- the greatest marked place is taken off
-pub popped : (t : Assigned) (db : List (List Lit)) (conflict place p : ℕ) (old new aside hints : List ℕ) → old ≡ new ++ p ∷ [] → AreBelow p new → IsWork t db conflict place old aside hints → IsWork t db conflict (p + 1) (p ∷ new) aside hints
-popped t db conflict place p old new aside hints is below w = same_marks t db conflict place (p + 1) old (p ∷ new) aside hints to from under (let least = w.below p (from p (contains_first p new)) in omega (arith, least)) w where
-  to : (k : ℕ) → Contains old k → Contains (p ∷ new) k
-  to k has = elim (Contains-push_cases new p k (rw is at has)) [ inl b ↦ contains_later p k new b | inr at ↦ rw at (contains_first k new) ]
+pub popped : (t : Assigned) (db : List (List Lit)) (conflict place p : ℕ) (old new aside hints : List ℕ) → old ≡ new ++ p ∷ [] → AreBelow p new
+    → IsWork t db conflict place old aside hints → IsWork t db conflict (p + 1) (p ∷ new) aside hints
+popped t db conflict place p old new aside hints is below w =
+    same_marks t db conflict place (p + 1) old (p ∷ new) aside hints to from under (let least = w.below p (from p (contains_first p new)) in omega (arith, least)) w where
+      to : (k : ℕ) → Contains old k → Contains (p ∷ new) k
+      to k has = elim (Contains-push_cases new p k (rw is at has)) [ inl b ↦ contains_later p k new b | inr at ↦ rw at (contains_first k new) ]
 
-  from : (k : ℕ) → Contains (p ∷ new) k → Contains old k
-  from k has = elim (contains_cases p k new has) [ inl at ↦ rw (is, at) (Contains-push new k) | inr b ↦ rw is (Contains-append_left new (p ∷ []) k b) ]
+      from : (k : ℕ) → Contains (p ∷ new) k → Contains old k
+      from k has = elim (contains_cases p k new has) [ inl at ↦ rw (is, at) (Contains-push new k) | inr b ↦ rw is (Contains-append_left new (p ∷ []) k b) ]
 
-  under : AreBelow (p + 1) (p ∷ new)
-  under k has = elim (contains_cases p k new has) [ inl at ↦ omega (arith, at) | inr b ↦ let less = below k b in omega (arith, less) ]
+      under : AreBelow (p + 1) (p ∷ new)
+      under k has = elim (contains_cases p k new has) [ inl at ↦ omega (arith, at) | inr b ↦ let less = below k b in omega (arith, less) ]
 
 -- the walk where the greatest marked place was taken off
-module _ (t : Assigned) (db : List (List Lit)) (trail : IsTrail t) (reasons : HasReasons t db) (conflict p : ℕ) (within : p < length t.entries) (marked aside hints : List ℕ) (below : AreBelow p marked)
+module _ (t : Assigned) (db : List (List Lit)) (trail : IsTrail t) (reasons : HasReasons t db) (conflict p : ℕ) (within : p < length t.entries)
+    (marked aside hints : List ℕ) (below : AreBelow p marked)
     (w : IsWork t db conflict (p + 1) (p ∷ marked) aside hints) where
   abbrev es : List Entry
   es = t.entries

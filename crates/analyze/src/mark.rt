@@ -1,6 +1,6 @@
 //! Marks of places of a trail, and what they are of.
 
-ghost use Rattle.std.specs.Prelude.{◌≡◌, ◌↔◌, ◌<◌, length, IsTrue, OnOk};
+ghost use Rattle.std.specs.Prelude.{◌↔◌, ◌<◌, length, IsTrue, OnOk};
 ghost use Rattle.propagate.specs.Trails.{IsAssigned, IsTrail};
 ghost use Rattle.analyze.specs.Marks.{AreAssigned, AreBelow, HasMarkHere, IsMarkedBy, IsPut};
 

@@ -1,6 +1,6 @@
 //! The walk down the trail that resolves a false clause with the reasons of its literals.
 
-ghost use Rattle.std.specs.Prelude.{◌≡◌, ℕ, ◌+◌, ◌<◌, ◌∷◌, length, reverse, IfNone, IfOk, IfSome, OnOk};
+ghost use Rattle.std.specs.Prelude.{ℕ, ◌+◌, ◌<◌, ◌∷◌, length, reverse, IfNone, IfOk, IfSome, OnOk};
 ghost use Rattle.clause_db.specs.Clauses.{clause_at};
 ghost use Rattle.propagate.specs.Trails.{IsTrail};
 ghost use Rattle.propagate.specs.Clauses.{HasReasons, IsFalsified};

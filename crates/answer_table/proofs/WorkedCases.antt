@@ -42,4 +42,5 @@ inner_is_read : Reads Implication inner answered
 inner_is_read = implies p_tokens soon_tokens inner _ _ refl (as_disjunction _ _ p_is_read) (implication _ _ (as_disjunction _ _ soon_is_read))
 
 whole_is_read : Reads Implication whole demo_formula
-whole_is_read = implication _ _ (as_disjunction _ _ (prefixed G [] (Open ∷ inner ++ Close ∷ []) whole (from_to 0 None) answered refl everything (unary _ _ (parentheses inner _ answered refl inner_is_read))))
+whole_is_read =
+    implication _ _ (as_disjunction _ _ (prefixed G [] (Open ∷ inner ++ Close ∷ []) whole (from_to 0 None) answered refl everything (unary _ _ (parentheses inner _ answered refl inner_is_read))))

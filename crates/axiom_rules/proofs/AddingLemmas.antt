@@ -5,7 +5,7 @@ use Rattle.std.specs.List.{list_any}
 use Rattle.std.proofs.lemmas.Bool.{cases_Bool, and_from, eq-eqb, or_cases, or_left, or_right}
 use Rattle.std.proofs.lemmas.Bool.Decides.{Decides-int_eq}
 use Rattle.std.proofs.lemmas.List.{append-nil, append_assoc}
-use Rattle.mt_model.proofs.Members.{Among, any_some, same_bool, some_any}
+use Rattle.mt_model.proofs.Members.{Among, any_some, some_any}
 use Rattle.axiom_rules.specs.declared.fault.RuleFault.{RuleFault}
 use Rattle.axiom_rules.specs.declared.fault.RuleFault.TheVariants.{Trivial}
 use Rattle.axiom_rules.specs.declared.literal.Atom.{Atom}
@@ -18,6 +18,7 @@ use Rattle.axiom_rules.specs.Literals.{has_literal, negated, same_atom, same_lit
 use Rattle.axiom_rules.specs.Parts.{clause_of_parts, each_once, is_true, literals_in, opposes_itself}
 use Rattle.axiom_rules.proofs.BoolLemmas.{apart, from_3}
 use Rattle.axiom_rules.proofs.PartLemmas.{literals_same}
+use Rattle.std.specs.Cmp.{both_ways}
 
 pub atom-itself : (a : Atom) → same_atom a a ≡ true
 atom-itself (Order e f c) = from_3 _ _ _ (eq-eqb e e refl) (eq-eqb f f refl) ((Decides-int_eq c c).1 refl)
@@ -89,7 +90,7 @@ among-once (l ∷ ls) m (inl here) = inl here
 among-once (l ∷ ls) m (inr there) = filter-among l (each_once ls) m (among-once ls m there)
 
 has-once : (ls : List Literal) (l : Literal) → has_literal (each_once ls) l ≡ has_literal ls l
-has-once ls l = same_bool _ _ (λ h. stands-has ls l (once-among ls l (stands (each_once ls) l h))) (λ h. stands-has (each_once ls) l (among-once ls l (stands ls l h)))
+has-once ls l = both_ways _ _ (λ h. stands-has ls l (once-among ls l (stands (each_once ls) l h))) (λ h. stands-has (each_once ls) l (among-once ls l (stands ls l h)))
 
 filter-append : (p : Literal → Bool) (xs ys : List Literal) → filter p (xs ++ ys) ≡ filter p xs ++ filter p ys
 filter-append p [] ys = refl
@@ -113,7 +114,8 @@ once-old (m ∷ ls) l there = elim (cases_Bool (has_literal ls l)) [
   | inl is ↦ ap (λ zs. m ∷ filter (λ x. not (same_literal x m)) zs) (once-old ls l is)
   | inr absent ↦
       let same : same_literal l m ≡ true = elim (or_cases (same_literal l m) (has_literal ls l) there) [ inl is ↦ is | inr is ↦ absurd (apart _ is absent) ] in
-      ap (λ zs. m ∷ filter (λ x. not (same_literal x m)) zs) (once-new ls l absent) ∙ ap (λ zs. m ∷ zs) (filter-append (λ x. not (same_literal x m)) (each_once ls) (l ∷ []) ∙ rw (same, append-nil) refl)
+      ap (λ zs. m ∷ filter (λ x. not (same_literal x m)) zs) (once-new ls l absent)
+      ∙ ap (λ zs. m ∷ zs) (filter-append (λ x. not (same_literal x m)) (each_once ls) (l ∷ []) ∙ rw (same, append-nil) refl)
 ]
 
 -- a list opposes itself where a literal and its negation stand in it
@@ -165,7 +167,8 @@ parts-after (Says l ∷ parts) ls none = step (cases_Bool (has_literal ls (negat
         → (has_literal ls (negated l) ≡ false → with_parts (each_once (ls ++ l ∷ [])) parts ≡ after_literals (ls ++ l ∷ []) parts)
         → with_parts (each_once ls) (Says l ∷ parts) ≡ after_literals ls (Says l ∷ parts)
     step (inl meets) other ih =
-        let opposes = opposes-from (ls ++ l ∷ literals_in parts) l (among-right ls (l ∷ literals_in parts) l (inl refl)) (among-left ls (l ∷ literals_in parts) (negated l) (stands ls (negated l) meets)) in
+        let opposes =
+        opposes-from (ls ++ l ∷ literals_in parts) l (among-right ls (l ∷ literals_in parts) l (inl refl)) (among-left ls (l ∷ literals_in parts) (negated l) (stands ls (negated l) meets)) in
         rw (has-once ls (negated l), meets) (sym (trivial-or (list_any is_true parts) _ _ _ opposes))
     step (inr fine) (inl old) ih = rw (has-once ls (negated l), fine, has-once ls l, old) (rw (rest, ← once-old ls l old) (ih fine))
     step (inr fine) (inr new) ih = rw (has-once ls (negated l), fine, has-once ls l, new) (rw (rest, ← once-new ls l new) (ih fine))

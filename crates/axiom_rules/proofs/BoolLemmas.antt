@@ -1,8 +1,7 @@
 -- Clauses of two to five parts: the last part is true where the others are false.
-use Rattle.std.proofs.Common.{◌≡◌, refl, Bool, true, false, not, ◌&&◌, ◌||◌, List, [], ◌∷◌}
+use Rattle.std.proofs.Common.{◌≡◌, refl, Bool, true, false, ◌&&◌, ◌||◌, List, [], ◌∷◌}
 use Rattle.std.specs.List.{list_all}
 use Rattle.std.proofs.lemmas.Bool.{cases_Bool}
-use Rattle.mt_model.specs.Frame.{implies}
 use Rattle.mt_model.proofs.Members.{Among}
 use Rattle.std.proofs.Common.{inl, inr}
 
@@ -24,34 +23,6 @@ any_4 a b c d h = any_rest a _ (λ x. any_3 b c d (h x))
 
 pub any_5 : (a b c d e : Bool) → (a ≡ false → b ≡ false → c ≡ false → d ≡ false → e ≡ true) → (a || (b || (c || (d || (e || false))))) ≡ true
 any_5 a b c d e h = any_rest a _ (λ x. any_4 b c d e (h x))
-
-pub was_true : (a : Bool) → not a ≡ false → a ≡ true
-was_true true h = refl
-was_true false h = absurd (cc)
-
-pub was_false : (a : Bool) → not a ≡ true → a ≡ false
-was_false true h = absurd (cc)
-was_false false h = refl
-
-pub not_false : (a : Bool) → a ≡ false → not a ≡ true
-not_false a h = rw h refl
-
-pub not_true : (a : Bool) → a ≡ true → not a ≡ false
-not_true a h = rw h refl
-
-pub implies_at : (a b : Bool) → implies a b ≡ true → a ≡ true → b ≡ true
-implies_at true b h is = h
-implies_at false b h is = absurd (cc)
-
-pub implies_from : (a b : Bool) → (a ≡ true → b ≡ true) → implies a b ≡ true
-implies_from true b h = h refl
-implies_from false b h = refl
-
-pub and_3 : (a b c : Bool) → (a && b && c) ≡ true → (a ≡ true) × (b ≡ true) × (c ≡ true)
-and_3 true true true h = (refl, refl, refl)
-and_3 true true false h = absurd (cc)
-and_3 true false c h = absurd (cc)
-and_3 false b c h = absurd (cc)
 
 pub from_3 : (a b c : Bool) → a ≡ true → b ≡ true → c ≡ true → (a && b && c) ≡ true
 from_3 a b c p q r = rw (p, q, r) refl

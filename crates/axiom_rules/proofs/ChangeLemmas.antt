@@ -60,7 +60,8 @@ module _ (log : Logged) (host : ℕ) (name : List ℕ) where
   change-row : (e : ℕ) → IfSome (change_at log host name e) (λ c. (c.row ≡ e) × (host_of log e ≡ host))
   change-row e = go (host_of log e == host) refl (option_and_then (λ r. effect_of name r.act) (slice_get log.rows e))
     where
-      go : (own : Bool) → (host_of log e == host) ≡ own → (made : Option Bool) → IfSome (cond own (option_map (λ sets. record { row = e; sets = sets }) made) None) (λ (c : Change). (c.row ≡ e) × (host_of log e ≡ host))
+      go : (own : Bool) → (host_of log e == host) ≡ own → (made : Option Bool)
+          → IfSome (cond own (option_map (λ sets. record { row = e; sets = sets }) made) None) (λ (c : Change). (c.row ≡ e) × (host_of log e ≡ host))
       go true is None = tt
       go true is (Some sets) = (refl, eqb-true (host_of log e) host is)
       go false is made = tt
@@ -82,7 +83,8 @@ module _ (log : Logged) (host : ℕ) (name : List ℕ) where
       later None h = tt
       later (Some c) h = record { low = omega (arith, h.low); high = omega (arith, h.high); own = h.own }
 
-      go : (o : Option Change) → IfSome o (λ c. (c.row ≡ a) × (host_of log a ≡ host)) → (q : Option Change) → IfSome q (IsFirstChange (a + 1) n) → slice_get (changes_from (a + 1) n) 0 ≡ q → IfSome (slice_get (cons_option o (changes_from (a + 1) n)) 0) (IsFirstChange a (suc n))
+      go : (o : Option Change) → IfSome o (λ c. (c.row ≡ a) × (host_of log a ≡ host)) → (q : Option Change) → IfSome q (IsFirstChange (a + 1) n)
+          → slice_get (changes_from (a + 1) n) 0 ≡ q → IfSome (slice_get (cons_option o (changes_from (a + 1) n)) 0) (IsFirstChange a (suc n))
       go (Some c) row q h is = record { low = omega (arith, row.0); high = omega (arith, row.0); own = rw row.0 row.1 }
       go None row q h is = rw is (later q h)
 
@@ -94,7 +96,8 @@ module _ (log : Logged) (host : ℕ) (name : List ℕ) where
     changes-fall a zero within = tt
     changes-fall a (suc n) within = go (change_at log host name a) (change-row a) (changes-fall (a + 1) n (omega arith)) (slice_get (changes_from (a + 1) n) 0) refl (first-change (a + 1) n)
       where
-        first : (c : Change) → (c.row ≡ a) × (host_of log a ≡ host) → (q : Option Change) → IfSome q (IsFirstChange (a + 1) n) → option_map_or (is_by t instant) q false ≡ true → (is_by t instant) c ≡ true
+        first : (c : Change) → (c.row ≡ a) × (host_of log a ≡ host) → (q : Option Change) → IfSome q (IsFirstChange (a + 1) n)
+            → option_map_or (is_by t instant) q false ≡ true → (is_by t instant) c ≡ true
         first c row None h by = absurd (cc)
         first c row (Some d) h by =
             let less : c.row < d.row = omega (arith, row.0, h.low) in
@@ -102,6 +105,7 @@ module _ (log : Logged) (host : ℕ) (name : List ℕ) where
             let own : host_of log c.row ≡ host_of log d.row = rw row.0 (row.1 ∙ sym h.own) in
             by-earlier c.row d.row (rise c.row d.row low less own) by
 
-        go : (o : Option Change) → IfSome o (λ c. (c.row ≡ a) × (host_of log a ≡ host)) → Falls (is_by t instant) (changes_from (a + 1) n) → (q : Option Change) → slice_get (changes_from (a + 1) n) 0 ≡ q → IfSome q (IsFirstChange (a + 1) n) → Falls (is_by t instant) (cons_option o (changes_from (a + 1) n))
+        go : (o : Option Change) → IfSome o (λ c. (c.row ≡ a) × (host_of log a ≡ host)) → Falls (is_by t instant) (changes_from (a + 1) n) → (q : Option Change)
+            → slice_get (changes_from (a + 1) n) 0 ≡ q → IfSome q (IsFirstChange (a + 1) n) → Falls (is_by t instant) (cons_option o (changes_from (a + 1) n))
         go None row falls q is h = falls
         go (Some c) row falls q is h = ((λ by. first c row q h (rw is at by)), falls)

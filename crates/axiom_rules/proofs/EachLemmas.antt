@@ -53,7 +53,9 @@ after-event e x l is = go (x == e) (nat_lt x e) refl is
     c : ℤ
     c = neg_ℤ (pos 0) -ℤ pos 1
 
-    go : (same less : Bool) → x == e ≡ same → (let p : Part = (if same then Known (int_le (pos 0) c) else Says (if less then yes (Order x e c) else no (Order e x (neg_ℤ c -ℤ pos 1)))) in p) ≡ Says l → event_in (each.After e) l.atom ≡ Some x
+    go : (same less : Bool) → x == e ≡ same
+        → (let p : Part = (if same then Known (int_le (pos 0) c) else Says (if less then yes (Order x e c) else no (Order e x (neg_ℤ c -ℤ pos 1)))) in p) ≡ Says l
+        → event_in (each.After e) l.atom ≡ Some x
     go true less apart is = absurd (cc)
     go false true apart is = let same : yes (Order x e c) ≡ l = cc in rw (← same) (rw apart refl)
     go false false apart is = let same : no (Order e x (neg_ℤ c -ℤ pos 1)) ≡ l = cc in rw (← same) (rw (eq-eqb e e refl) refl)
@@ -132,7 +134,8 @@ pub before-rest : (each : Each) (events : List ℕ) (c : List Literal) → AreBe
 before-rest each events c before j from low = before-more each 0 (slice_index events j) c (omega arith) before
 
 -- with the part of the event at a place added, of those after it
-pub rest-added : (each : Each) (events : List ℕ) (i : ℕ) (c d : List Literal) (p : Part) → AllPairs (λ x y. x < y) events → i < length events → p ≡ part_at each (slice_index events i) → with_part c p ≡ Ok d
+pub rest-added : (each : Each) (events : List ℕ) (i : ℕ) (c d : List Literal) (p : Part) → AllPairs (λ x y. x < y) events → i < length events
+    → p ≡ part_at each (slice_index events i) → with_part c p ≡ Ok d
     → AreBeforeRest each events i c → AreBeforeRest each events (i + 1) d
 rest-added each events i c d p rising here is added before j from low =
     let x = slice_index events i in
@@ -145,7 +148,8 @@ rest-added each events i c d p rising here is added before j from low =
 pub order-other : (e f x : ℕ) (c : ℤ) → is_other (each.Same e) (order f x c) ≡ true
 order-other e f x c = go (f == x) (nat_lt f x)
   where
-    go : (equal less : Bool) → is_other (each.Same e) (let p : Part = (if equal then Known (int_le (pos 0) c) else Says (if less then yes (Order f x c) else no (Order x f (neg_ℤ c -ℤ pos 1)))) in p) ≡ true
+    go : (equal less : Bool)
+        → is_other (each.Same e) (let p : Part = (if equal then Known (int_le (pos 0) c) else Says (if less then yes (Order f x c) else no (Order x f (neg_ℤ c -ℤ pos 1)))) in p) ≡ true
     go true less = refl
     go false true = refl
     go false false = refl

@@ -1,24 +1,25 @@
 -- What witness, span and gap have to do with each other, over any points in order.
 use Rattle.std.proofs.Common.{◌≡◌, Bool, true, false, not, ◌&&◌, inl, inr}
 use Rattle.std.specs.List.{list_any}
-use Rattle.std.proofs.lemmas.Bool.{cases_Bool, and_from, and_parts, false_from_ne_true}
+use Rattle.std.proofs.lemmas.Bool.{cases_Bool, and_from, and_parts, false_from_ne_true, not-true, not_from_false}
 use Rattle.mt_model.specs.Frame.{Frame, reaches, span, witness}
 use Rattle.mt_model.proofs.Members.{Among, all_each, any_some, each_all, some_any}
 use Rattle.axiom_rules.specs.Holds.{gap}
-use Rattle.axiom_rules.proofs.BoolLemmas.{and_3, from_3, implies_at, implies_from, not_false, was_false}
+use Rattle.axiom_rules.proofs.BoolLemmas.{from_3}
 use Rattle.axiom_rules.proofs.Orders.{IsFirst, IsOrder, first_of}
+use Rattle.mt_model.proofs.TruthLemmas.{implies-then, implies-from, and_3}
 
 module _ {X : Type 0} (F : Frame X) (l : X → Bool) where
   -- over a span the left side holds
   pub span_at : (x y z : X) → span F l x y ≡ true → Among F.points z → F.not_after x z ≡ true → F.not_after y z ≡ false → l z ≡ true
-  span_at x y z h in_ from up = implies_at _ _ (all_each _ F.points z h in_) (and_from _ _ from (not_false _ up))
+  span_at x y z h in_ from up = implies-then _ _ (all_each _ F.points z h in_) (and_from _ _ from (not_from_false _ up))
 
   pub span_from : (x y : X) → ((z : X) → Among F.points z → F.not_after x z ≡ true → F.not_after y z ≡ false → l z ≡ true) → span F l x y ≡ true
-  span_from x y h = each_all _ F.points (λ z in_. implies_from _ _ (λ both. let parts = and_parts (F.not_after x z) (not (F.not_after y z)) both in h z in_ parts.0 (was_false _ parts.1)))
+  span_from x y h = each_all _ F.points (λ z in_. implies-from _ _ (λ both. let parts = and_parts (F.not_after x z) (not (F.not_after y z)) both in h z in_ parts.0 (not-true _ parts.1)))
 
   -- what a gap is
   pub gap_parts : (x z : X) → gap F l x z ≡ true → (F.not_after x z ≡ true) × (l z ≡ false) × (span F l x z ≡ true)
-  gap_parts x z g = let parts = and_3 (F.not_after x z) (not (l z)) (span F l x z) g in (parts.0, was_false _ parts.1, parts.2)
+  gap_parts x z g = let parts = and_3 (F.not_after x z) (not (l z)) (span F l x z) g in (parts.0, not-true _ parts.1, parts.2)
 
   module _ (o : IsOrder F) where
     -- up to what is not after a gap there is a span
@@ -33,7 +34,7 @@ module _ {X : Type 0} (F : Frame X) (l : X → Bool) where
     first-gap x z first =
         let parts = and_parts (F.not_after x z) (not (l z)) first.passing in
         from_3 (F.not_after x z) (not (l z)) (span F l x z) parts.0 parts.1
-        (span_from x z (λ w in_ from up. elim (cases_Bool (l w)) [ inl is ↦ is | inr fails ↦ absurd (cc (first.first w in_ (and_from _ _ from (not_false _ fails)))) ]))
+        (span_from x z (λ w in_ from up. elim (cases_Bool (l w)) [ inl is ↦ is | inr fails ↦ absurd (cc (first.first w in_ (and_from _ _ from (not_from_false _ fails)))) ]))
 
     -- where there is no span there is a gap
     pub gap_without_span : (x y : X) → span F l x y ≡ false → list_any (λ z. gap F l x z) F.points ≡ true
@@ -45,7 +46,7 @@ module _ {X : Type 0} (F : Frame X) (l : X → Bool) where
       | inr none ↦
           let whole : span F l x y ≡ true = span_from x y (λ z in_ from up. elim (cases_Bool (l z)) [
             | inl is ↦ is
-            | inr fails ↦ absurd (cc (some_any (fails_from x) F.points z in_ (and_from _ _ from (not_false _ fails))))
+            | inr fails ↦ absurd (cc (some_any (fails_from x) F.points z in_ (and_from _ _ from (not_from_false _ fails))))
           ]) in
           absurd (cc)
     ]

@@ -33,11 +33,14 @@ pub chains-more : (atoms : List Atom) (x : Atom) (heads links : List ℕ) → Ar
 chains-more atoms x heads links are = record {
   few = omega (arith, are.few, length_push atoms x);
   of_heads = λ b low. last-more atoms x (length heads) b (length links) (slice_index heads b) are.few (are.of_heads b low);
-  of_links = λ v a low there. last-more atoms x (length heads) (bucket_of (length heads) a) v (slice_index links v) (omega (arith, low, are.few)) (are.of_links v a low (var-before atoms x v a (omega (arith, low, are.few)) there));
+  of_links =
+      λ v a low there. last-more atoms x (length heads) (bucket_of (length heads) a) v (slice_index links v) (omega (arith, low, are.few))
+      (are.of_links v a low (var-before atoms x v a (omega (arith, low, are.few)) there));
 }
 
 -- the last atom of a bucket stays so where the next one is of another
-last-other : (atoms : List Atom) (x : Atom) (buckets bucket n link : ℕ) → IsVar atoms n x → (bucket ≡ bucket_of buckets x → ⊥) → IsLast atoms buckets bucket n link → IsLast atoms buckets bucket (n + 1) link
+last-other : (atoms : List Atom) (x : Atom) (buckets bucket n link : ℕ) → IsVar atoms n x → (bucket ≡ bucket_of buckets x → ⊥)
+    → IsLast atoms buckets bucket n link → IsLast atoms buckets bucket (n + 1) link
 last-other atoms x buckets bucket n link at other is = record {
   before = omega (arith, is.before);
   in_bucket = is.in_bucket;
@@ -68,7 +71,8 @@ module _ (atoms : List Atom) (heads links : List ℕ) (x : Atom) (b : ℕ) (are 
   head-added : (c : ℕ) → c < length heads → IsLast atoms (length heads) c (length links + 1) (slice_index (set heads b (length links + 1)) c)
   head-added c below = elim (cases_eq c b) [
     | inl here ↦ rw (here, get_or-set_same heads b (length links + 1) 0 low, of) (last-here atoms x (length heads) (length links) at)
-    | inr other ↦ rw (get_or-set_other heads b c (length links + 1) 0 other) (last-other atoms x (length heads) c (length links) (slice_index heads c) at (λ same. other (same ∙ sym of)) (are.of_heads c below))
+    | inr other ↦ rw (get_or-set_other heads b c (length links + 1) 0 other)
+        (last-other atoms x (length heads) c (length links) (slice_index heads c) at (λ same. other (same ∙ sym of)) (are.of_heads c below))
   ]
 
   link-added : (v : ℕ) (a : Atom) → v < length links + 1 → IsVar atoms v a → IsLast atoms (length heads) (bucket_of (length heads) a) v (slice_index (links ++ slice_index heads b ∷ []) v)
@@ -111,7 +115,8 @@ module _ (atoms : List Atom) (heads links : List ℕ) (x d : Atom) (are : AreCha
       }
 
   -- and of the link of another atom where it holds of the link to that atom
-  pub before-link : (link : ℕ) → 0 < link → IsBefore atoms (length heads) x link → same_atom (slice_index_or atoms (link - 1) d) x ≡ false → IsBefore atoms (length heads) x (slice_index links (link - 1))
+  pub before-link : (link : ℕ) → 0 < link → IsBefore atoms (length heads) x link → same_atom (slice_index_or atoms (link - 1) d) x ≡ false
+      → IsBefore atoms (length heads) x (slice_index links (link - 1))
   before-link link some is other =
       let place = link - 1 in
       let a = slice_index_or atoms place d in
@@ -161,7 +166,8 @@ table-added atoms a index room absent once indexed = record {
 }
 
 -- atoms that are taken from others by variables that differ
-pub taken-once : (atoms : List Atom) (vars : List ℕ) (table : List Atom) → length vars < 2 ^ 32 → AllPairs (λ v w. v ≢ w) vars → All (λ v. v < length atoms) vars → AreOnce atoms → AreTaken atoms vars table → AreOnce table
+pub taken-once : (atoms : List Atom) (vars : List ℕ) (table : List Atom) → length vars < 2 ^ 32 → AllPairs (λ v w. v ≢ w) vars
+    → All (λ v. v < length atoms) vars → AreOnce atoms → AreTaken atoms vars table → AreOnce table
 taken-once atoms vars table few apart below once taken = record {
   few = omega (arith, few, taken.count);
   once = λ n m a at-n at-m.

@@ -61,9 +61,12 @@ module _ (log : Logged) (t : List ℤ) (trees : List Form) where
   told-place direction f e in_ = truth_of-place t log f e (row_at direction e in_)
 
   spans-same : (direction : Direction) (f : Form) (i j : ℕ) → i < length t → j < length t → span (F direction) (told f) i j ≡ span (G direction) (λ p. truth log t p f) (place_of t i) (place_of t j)
-  spans-same direction f i j a b = span_same (F direction) (G direction) (place_of t) (carries direction) (λ x y. true) (λ x y. true) (λ x y c d. refl) (told f) (λ p. truth log t p f) (told-place direction f) i j (at_row direction i a) (at_row direction j b)
+  spans-same direction f i j a b =
+      span_same (F direction) (G direction) (place_of t) (carries direction) (λ x y. true) (λ x y. true) (λ x y c d. refl) (told f) (λ p. truth log t p f)
+      (told-place direction f) i j (at_row direction i a) (at_row direction j b)
 
-  near-same : (direction : Direction) (I : Interval) (i j : ℕ) → i < length t → j < length t → is_near direction (rows_in t) I i j ≡ is_near direction (positions_in (positions_of t)) I (place_of t i) (place_of t j)
+  near-same : (direction : Direction) (I : Interval) (i j : ℕ) → i < length t → j < length t
+      → is_near direction (rows_in t) I i j ≡ is_near direction (positions_in (positions_of t)) I (place_of t i) (place_of t j)
   near-same Ahead I i j a b = is_ahead_same (rows_in t) (positions_in (positions_of t)) (place_of t) (rows_to_places t) I i j (within_has (length t) i a) (within_has (length t) j b)
   near-same Behind I i j a b = is_behind_same (rows_in t) (positions_in (positions_of t)) (place_of t) (rows_to_places t) I i j (within_has (length t) i a) (within_has (length t) j b)
 
@@ -83,7 +86,8 @@ module _ (log : Logged) (t : List ℤ) (trees : List Form) where
 
     pub means-wit : (i j : ℕ) → i < length t → j < length t → means log t trees (Wit k i j) ≡ witness (F direction) (is_near direction (rows_in t) I) (told f) (told g) i j
     means-wit i j a b =
-        let test : Direction → Interval → Form → Form → Bool = λ direction I f g. witness (G direction) (is_near direction (positions_in (positions_of t)) I) (λ p. truth log t p f) (λ p. truth log t p g) (place_of t i) (place_of t j) in
+        let test : Direction → Interval → Form → Form → Bool =
+        λ direction I f g. witness (G direction) (is_near direction (positions_in (positions_of t)) I) (λ p. truth log t p f) (λ p. truth log t p g) (place_of t i) (place_of t j) in
         let there = truth_of-place t log g j b in
         ap (passes test) is ∙ passes-tree test direction I f g ∙ rw (near-same direction I i j a b, there, spans-same direction f i j a b) refl
 

@@ -2,7 +2,7 @@
 use Rattle.std.proofs.Common.{◌≡◌, ◌∙◌, sym, ap, refl, subst, ℕ, zero, suc, ◌<◌, Bool, true, false, not, ◌||◌, if◌then◌else◌, List, [], ◌∷◌, length, Ok, Err, ◌⊎◌, inl, inr, arith}
 use Rattle.std.specs.Prelude.{◌≢◌, Result, filter, slice_index_or}
 use Rattle.std.specs.List.{list_any}
-use Rattle.std.proofs.lemmas.Bool.{and_from, cases_Bool}
+use Rattle.std.proofs.lemmas.Bool.{and_from, cases_Bool, not-true}
 use Rattle.mt_model.proofs.Members.{Among, any_some}
 use Rattle.axiom_rules.specs.declared.fault.RuleFault.{RuleFault}
 use Rattle.axiom_rules.specs.declared.fault.RuleFault.TheVariants.{Trivial}
@@ -12,7 +12,7 @@ use Rattle.axiom_rules.specs.Laws.{ClausesHaveAtomsOnce, HasAtomsOnce}
 use Rattle.axiom_rules.specs.Literals.{has_literal, negated, same_literal}
 use Rattle.axiom_rules.specs.Parts.{clause_of_parts, each_once, is_true, literals_in, opposes_itself}
 use Rattle.axiom_rules.proofs.AddingLemmas.{atom-itself, once-among, opposes-from, stands}
-use Rattle.axiom_rules.proofs.BoolLemmas.{apart, was_false}
+use Rattle.axiom_rules.proofs.BoolLemmas.{apart}
 use Rattle.axiom_rules.proofs.RowCases.{written-by}
 
 -- the atom of each literal is that of no later one
@@ -52,7 +52,9 @@ senses false false = inl refl
 same-or-negated : (l m : Literal) → l.atom ≡ m.atom → (same_literal m l ≡ true) ⊎ (m ≡ negated l)
 same-or-negated l m same = elim (senses m.positive l.positive) [
   | inl equal ↦ inl (and_from _ _ (rw same (atom-itself m.atom)) equal)
-  | inr other ↦ inr (ap (λ a. let x : Literal = record { atom = a; positive = m.positive } in x) (sym same) ∙ ap (λ b. let x : Literal = record { atom = l.atom; positive = b } in x) (sym (ap not other ∙ twice m.positive)))
+  | inr other ↦ inr
+      (ap (λ a. let x : Literal = record { atom = a; positive = m.positive } in x) (sym same)
+      ∙ ap (λ b. let x : Literal = record { atom = l.atom; positive = b } in x) (sym (ap not other ∙ twice m.positive)))
 ]
   where
     twice : (b : Bool) → not (not b) ≡ b
@@ -71,7 +73,7 @@ once-apart : (ls : List Literal) → opposes_itself ls ≡ false → Apart (each
 once-apart [] none = tt
 once-apart (l ∷ ls) none = (
   (λ m in_ same. elim (same-or-negated l m same) [
-    | inl equal ↦ apart _ equal (was_false _ (passes-kept (λ x. not (same_literal x l)) (each_once ls) m in_))
+    | inl equal ↦ apart _ equal (not-true _ (passes-kept (λ x. not (same_literal x l)) (each_once ls) m in_))
     | inr other ↦ apart _ (opposes-from (l ∷ ls) l (inl refl) (inr (subst (Among ls) other (once-among ls m (among-kept (λ x. not (same_literal x l)) (each_once ls) m in_))))) none
   ]),
   apart-filter (λ x. not (same_literal x l)) (each_once ls) (once-apart ls (opposes-later l ls none)),
@@ -91,7 +93,9 @@ atoms-once (l ∷ ls) is (suc i) (suc j) d less low = atoms-once ls is.1 i j d (
 parts-once : (parts : List Part) (c : List Literal) → clause_of_parts parts ≡ Ok c → HasAtomsOnce c
 parts-once parts c is = go (list_any is_true parts) (opposes_itself (literals_in parts)) refl is
   where
-    go : (known opposes : Bool) → opposes_itself (literals_in parts) ≡ opposes → (let r : Result (List Literal) RuleFault = (if known || opposes then Err Trivial else Ok (each_once (literals_in parts))) in r ≡ Ok c) → HasAtomsOnce c
+    go : (known opposes : Bool) → opposes_itself (literals_in parts) ≡ opposes
+        → (let r : Result (List Literal) RuleFault = (if known || opposes then Err Trivial else Ok (each_once (literals_in parts))) in r ≡ Ok c)
+        → HasAtomsOnce c
     go true opposes none is = absurd (cc)
     go false true none is = absurd (cc)
     go false false none is = let same : each_once (literals_in parts) ≡ c = cc in subst HasAtomsOnce same (atoms-once (each_once (literals_in parts)) (once-apart (literals_in parts) none))

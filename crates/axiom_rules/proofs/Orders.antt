@@ -48,7 +48,9 @@ module _ {X : Type 0} (F : Frame X) (o : IsOrder F) (p : X → Bool) where
         | inr after ↦ inr (y, record { among = inr l.among; passing = l.passing; first = λ z in_ ok. elim in_ [ inl same ↦ rw (← same) (o.total x y after) | inr later ↦ l.first z later ok ] })
       ]
       step (inr fails) (inl none) = inl (λ z in_. elim in_ [ inl same ↦ rw (← same) fails | inr later ↦ none z later ])
-      step (inr fails) (inr (y, l)) = inr (y, record { among = inr l.among; passing = l.passing; first = λ z in_ ok. elim in_ [ inl same ↦ let no : p z ≡ false = rw (← same) fails in absurd (cc) | inr later ↦ l.first z later ok ] })
+      step (inr fails) (inr (y, l)) =
+          inr
+          (y, record { among = inr l.among; passing = l.passing; first = λ z in_ ok. elim in_ [ inl same ↦ let no : p z ≡ false = rw (← same) fails in absurd (cc) | inr later ↦ l.first z later ok ] })
 
   pub first_of : (xs : List X) (x : X) → Among xs x → p x ≡ true → (y : X) × IsFirst xs y
   first_of xs x in_ ok = elim (none_or_first xs) [

@@ -6,7 +6,6 @@ use Rattle.std.specs.List.{list_any}
 use Rattle.std.proofs.lemmas.Int.{ints}
 use Rattle.std.proofs.lemmas.Bool.{cases_Bool, cases_order, and_parts, or_cases, or_left, or_right, eqb-true, eq-eqb, ne_eqb, lt-ltb, le-ltb}
 use Rattle.std.proofs.lemmas.Bool.Decides.{Decides-int_eq}
-use Rattle.mt_model.proofs.Members.{same_bool}
 use Rattle.axiom_rules.specs.declared.fault.RuleFault.{RuleFault}
 use Rattle.axiom_rules.specs.declared.fault.RuleFault.TheVariants.{Trivial}
 use Rattle.axiom_rules.specs.declared.literal.Atom.{Atom}
@@ -16,7 +15,8 @@ use Rattle.axiom_rules.specs.declared.part.Part.{Part}
 use Rattle.axiom_rules.specs.declared.part.Part.TheVariants.{Says, Known}
 use Rattle.axiom_rules.specs.Literals.{same_atom, same_literal}
 use Rattle.axiom_rules.specs.Parts.{clause_of_parts, each_once, is_true, literals_in, not_order, not_same, opposes_itself, order, same}
-use Rattle.axiom_rules.proofs.BoolLemmas.{and_3}
+use Rattle.std.specs.Cmp.{both_ways}
+use Rattle.mt_model.proofs.TruthLemmas.{and_3}
 
 pub atoms_same : (a b : Atom) → same_atom a b ≡ true → a ≡ b
 atoms_same (Order e f c) (Order g h d) is = let p = and_3 (e == g) (f == h) (int_eq c d) is in cc (eqb-true e g p.0, eqb-true f h p.1, (Decides-int_eq c d).0 p.2)
@@ -37,7 +37,8 @@ senses_same false false is = refl
 pub literals_same : (l m : Literal) → same_literal l m ≡ true → l ≡ m
 literals_same l m is =
     let p = and_parts (same_atom l.atom m.atom) (if l.positive then m.positive else not m.positive) is in
-    ap (λ a. let x : Literal = record { atom = a; positive = l.positive } in x) (atoms_same l.atom m.atom p.0) ∙ ap (λ b. let x : Literal = record { atom = m.atom; positive = b } in x) (senses_same l.positive m.positive p.1)
+    ap (λ a. let x : Literal = record { atom = a; positive = l.positive } in x) (atoms_same l.atom m.atom p.0)
+    ∙ ap (λ b. let x : Literal = record { atom = m.atom; positive = b } in x) (senses_same l.positive m.positive p.1)
 
 module _ (v : Atom → Bool) where
   abbrev pub valued : Literal → Bool
@@ -86,7 +87,9 @@ module _ (v : Atom → Bool) where
   pub clause_from_parts : (parts : List Part) (c : List Literal) → clause_of_parts parts ≡ Ok c → list_any part_holds parts ≡ true → list_any valued c ≡ true
   clause_from_parts parts c is h = go (list_any is_true parts) (opposes_itself (literals_in parts)) refl is
     where
-      go : (known opposes : Bool) → list_any is_true parts ≡ known → (let r : Result (List Literal) RuleFault = (if known || opposes then Err Trivial else Ok (each_once (literals_in parts))) in r ≡ Ok c) → list_any valued c ≡ true
+      go : (known opposes : Bool) → list_any is_true parts ≡ known
+          → (let r : Result (List Literal) RuleFault = (if known || opposes then Err Trivial else Ok (each_once (literals_in parts))) in r ≡ Ok c)
+          → list_any valued c ≡ true
       go true opposes known is = absurd (cc)
       go false true known is = absurd (cc)
       go false false known is = let same : each_once (literals_in parts) ≡ c = cc in rw (← same) (once_holds (literals_in parts) (literals_hold parts known h))
@@ -98,7 +101,7 @@ any-map p h (x ∷ xs) = ap (λ r. p (h x) || r) (any-map p h xs)
 
 -- two tests that say the same
 pub le_same : (a b c d : ℤ) → (a ≤ℤ b → c ≤ℤ d) → (c ≤ℤ d → a ≤ℤ b) → int_le a b ≡ int_le c d
-le_same a b c d f g = same_bool _ _ (λ h. let x = f (omega (arith, ints)) in grind (arith, ints)) (λ h. let x = g (omega (arith, ints)) in grind (arith, ints))
+le_same a b c d f g = both_ways _ _ (λ h. let x = f (omega (arith, ints)) in grind (arith, ints)) (λ h. let x = g (omega (arith, ints)) in grind (arith, ints))
 
 -- a distance is at most 0 where the one time is not after the other
 pub not_after_is : (x y : ℤ) → int_le (x -ℤ y) (pos 0) ≡ int_le x y
@@ -110,7 +113,7 @@ from_is x y a = le_same (x -ℤ y) (neg_ℤ (pos a)) (pos a) (y -ℤ x) (λ h. o
 
 -- the negation of a bound on a difference is one the other way
 pub negated_is : (x y c : ℤ) → int_le (y -ℤ x) (neg_ℤ c -ℤ pos 1) ≡ not (int_le (x -ℤ y) c)
-negated_is x y c = same_bool _ _ to from
+negated_is x y c = both_ways _ _ to from
   where
     to : int_le (y -ℤ x) (neg_ℤ c -ℤ pos 1) ≡ true → not (int_le (x -ℤ y) c) ≡ true
     to h = elim (cases_Bool (int_le (x -ℤ y) c)) [ inl is ↦ absurd (omega (arith, ints)) | inr fails ↦ rw fails refl ]
@@ -128,7 +131,8 @@ module _ (v : Atom → Bool) (time : ℕ → ℤ) (agrees : (e f : ℕ) (c : ℤ
   order-says e f c = elim (cases_order e f) [
     | inl equal ↦ let q = eq-eqb e f equal in rw (q, equal) (constant (time f) c)
     | inr (inl less) ↦ let q = ne_eqb e f (λ s. absurd (omega arith)) in let p = lt-ltb e f less in rw (q, p) (agrees e f c)
-    | inr (inr more) ↦ let q = ne_eqb e f (λ s. absurd (omega arith)) in let p = le-ltb e f (omega arith) in rw (q, p) (ap not (agrees f e (neg_ℤ c -ℤ pos 1)) ∙ (ap not (negated_is (time e) (time f) c) ∙ twice (int_le (time e -ℤ time f) c)))
+    | inr (inr more) ↦ let q = ne_eqb e f (λ s. absurd (omega arith)) in let p = le-ltb e f (omega arith) in
+        rw (q, p) (ap not (agrees f e (neg_ℤ c -ℤ pos 1)) ∙ (ap not (negated_is (time e) (time f) c) ∙ twice (int_le (time e -ℤ time f) c)))
   ]
     where
       constant : (x c : ℤ) → int_le (pos 0) c ≡ int_le (x -ℤ x) c
@@ -139,7 +143,7 @@ module _ (v : Atom → Bool) (time : ℕ → ℤ) (agrees : (e f : ℕ) (c : ℤ
 
 -- two times are equal the one way where they are the other way
 pub equal_turned : (x y : ℤ) → int_eq x y ≡ int_eq y x
-equal_turned x y = same_bool _ _ (λ h. (Decides-int_eq y x).1 (sym ((Decides-int_eq x y).0 h))) (λ h. (Decides-int_eq x y).1 (sym ((Decides-int_eq y x).0 h)))
+equal_turned x y = both_ways _ _ (λ h. (Decides-int_eq y x).1 (sym ((Decides-int_eq x y).0 h))) (λ h. (Decides-int_eq x y).1 (sym ((Decides-int_eq y x).0 h)))
 
 module _ (v : Atom → Bool) (time : ℕ → ℤ) (agrees : (e x : ℕ) → v (Same e x) ≡ int_eq (time e) (time x)) where
   -- what is written of two events at one instant says that they are

@@ -16,7 +16,7 @@ use Rattle.mt_model.specs.Log.{Logged, is_pulse}
 use Rattle.mt_model.specs.State.{is_pulse_at, is_pulse_of, pulses_of}
 use Rattle.mt_model.specs.Timing.{host_of}
 use Rattle.axiom_rules.specs.Rules.{is_pulse_row}
-use Rattle.axiom_rules.proofs.ShapeLemmas.{range-more}
+use Rattle.mt_list.proofs.Lists.{range_more}
 
 -- numbers that follow one another rise, ..
 rising-range : (a n : ℕ) → AllPairs (λ x y. x < y) (range_with_len a n)
@@ -74,7 +74,7 @@ pulses-few log host name = omega (arith, filter-short (is_pulse_at log host name
 filter-more : (p : ℕ → Bool) (k : ℕ) → filter p (range_with_len 0 (k + 1)) ≡ filter p (range_with_len 0 k) ++ filter p (k ∷ [])
 filter-more p k =
     let e : 0 + k ≡ k = omega arith in
-    ap (filter p) (range-more 0 k) ∙ filter-append p (range_with_len 0 k) ((0 + k) ∷ []) ∙ rw e refl
+    ap (filter p) (range_more 0 k) ∙ filter-append p (range_with_len 0 k) ((0 + k) ∷ []) ∙ rw e refl
 
 pub pulses-some : (p : ℕ → Bool) (k : ℕ) (old new : List ℕ) → old ≡ filter p (range_with_len 0 k) → p k ≡ true → new ≡ old ++ k ∷ [] → new ≡ filter p (range_with_len 0 (k + 1))
 pulses-some p k old new is passes more =

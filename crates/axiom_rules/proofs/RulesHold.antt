@@ -4,7 +4,7 @@ use Rattle.std.specs.Prelude.{◌↔◌, int_le, nat_lt, option_and_then, slice_
 use Rattle.std.specs.List.{list_any, range_with_len}
 use Rattle.std.specs.Option.{option_map_or}
 use Rattle.std.proofs.lemmas.Int.{ints}
-use Rattle.std.proofs.lemmas.Bool.{and_parts, cases_Bool, or_left, or_right}
+use Rattle.std.proofs.lemmas.Bool.{and_parts, cases_Bool, or_left, or_right, not-false, not_from_false}
 use Rattle.std.proofs.lemmas.Bool.Decides.{Decides-int_eq, nat_tests}
 use Rattle.std.specs.Ordering.{int_eq}
 use Rattle.std.proofs.lemmas.Option.{get_or_from_slice_get, slice_get_read}
@@ -42,7 +42,7 @@ use Rattle.axiom_rules.specs.Shapes.{reach_over}
 use Rattle.axiom_rules.specs.Sought.{Sought}
 use Rattle.axiom_rules.specs.NodeShapes.{is_constant, operand_in, proposition_in, reach_in, sides_in, number_of, shape_of, shape_at}
 use Rattle.axiom_rules.specs.Rules.{at_pulses, of_kind, of_pulse, for_each_event, has_come, is, is_not, is_not_up_to, is_pulse_row}
-use Rattle.axiom_rules.proofs.BoolLemmas.{any_1, any_2, any_3, any_4, any_5, any_rest, apart, failing, not_false, was_true}
+use Rattle.axiom_rules.proofs.BoolLemmas.{any_1, any_2, any_3, any_4, any_5, any_rest, apart, failing}
 use Rattle.axiom_rules.proofs.ChangeLemmas.{Falls, changes-fall, first-none, first_passes, is_by, last-at}
 use Rattle.axiom_rules.proofs.FrameRules.{gap_parts, gap_without_span, reached, reaches_from, span_at, span_from, span_to_gap, witness_from, witness_parts}
 use Rattle.axiom_rules.proofs.MeaningLemmas.{F, at_row, from, is_from-says, is_not_from-says, is_not_up_to-says, is_up_to-says, means-gap, means-node, means-reaches, means-span, means-wit, met_after-says, near-ahead, near-parts, not_met_after-says, row_at, told, up_to}
@@ -78,7 +78,7 @@ and-both x true false is = any_3 x false true (λ a b. refl)
 and-both x false z is = any_3 x true (not z) (λ a b. absurd (cc))
 
 -- a literal of a sense holds where its atom has that value
-of-sense : (sense value : Bool) → value ≡ sense → (if sense then value else not value) ≡ true
+pub of-sense : (sense value : Bool) → value ≡ sense → (if sense then value else not value) ≡ true
 of-sense true value is = is
 of-sense false value is = rw is refl
 
@@ -207,12 +207,12 @@ module _ (log : Logged) (t : List ℤ) (trees : List Form) (root : ℕ) (value :
     first-at e x first low = all_each (λ x. int_le (time_of t e) (time_of t x)) (range_with_len 0 (length t)) x first (within_has (length t) x low)
 
     right_9 : (e x : ℕ) → e < length t → x < length t → Right (rule.rule_9 s e x)
-    right_9 e x in_ low = any_2 _ _ (λ no. not_after-says e x ∙ first-at e x (was_true _ no) low)
+    right_9 e x in_ low = any_2 _ _ (λ no. not_after-says e x ∙ first-at e x (not-false _ no) low)
 
     right_10 : (e : ℕ) → e < length t → Right (rule.rule_10 s e)
     right_10 e in_ = any_rest _ _ (λ no.
         let (x, there, fails) = failing (λ x. int_le (time_of t e) (time_of t x)) (range_with_len 0 (length t)) no in
-        some-event (λ x. after e x) x (below (length t) x there) (after-says e x ∙ not_false _ fails))
+        some-event (λ x. after e x) x (below (length t) x there) (after-says e x ∙ not_from_false _ fails))
 
     right_11 : 0 < length t → Right (rule.rule_11 s)
     right_11 some =
@@ -251,35 +251,35 @@ module _ (log : Logged) (t : List ℤ) (trees : List Form) (root : ℕ) (value :
 
         parts_12 : (i j : ℕ) → i < length t → j < length t → list_any (part_holds M) (is_not (Wit k i j) ∷ rule.is_from direction I i j ∷ []) ≡ true
         parts_12 i j a b = any_2 _ _ (λ no.
-            let near_it = sym (near-parts log t trees direction I i j) ∙ (wit-parts i j a b (was_true _ no)).0 in
+            let near_it = sym (near-parts log t trees direction I i j) ∙ (wit-parts i j a b (not-false _ no)).0 in
             is_from-says log t trees direction I i j ∙ (and_parts (from log t trees direction I i j) (up_to log t trees direction I.high i j) near_it).0)
 
         parts_13 : (i j : ℕ) → i < length t → j < length t → (high : Option ℕ) → I.high ≡ high → Right (option_map_or (λ b. Ok (is_not (Wit k i j) ∷ rule.is_up_to direction b i j ∷ [])) high (Err NoRule))
         parts_13 i j a b None none = tt
         parts_13 i j a b (Some bound) some = any_2 _ _ (λ no.
-            let near_it = sym (near-parts log t trees direction I i j) ∙ (wit-parts i j a b (was_true _ no)).0 in
+            let near_it = sym (near-parts log t trees direction I i j) ∙ (wit-parts i j a b (not-false _ no)).0 in
             let far : up_to log t trees direction I.high i j ≡ true = (and_parts (from log t trees direction I i j) (up_to log t trees direction I.high i j) near_it).1 in
             is_up_to-says log t trees direction bound i j ∙ (rw some at far))
 
         parts_14 : (i j : ℕ) → i < length t → j < length t → list_any (part_holds M) (is_not (Wit k i j) ∷ is (Node r j) ∷ []) ≡ true
-        parts_14 i j a b = any_2 _ _ (λ no. node-is r j g b right ∙ (wit-parts i j a b (was_true _ no)).1)
+        parts_14 i j a b = any_2 _ _ (λ no. node-is r j g b right ∙ (wit-parts i j a b (not-false _ no)).1)
 
         parts_15 : (i j : ℕ) → i < length t → j < length t → list_any (part_holds M) (is_not (Wit k i j) ∷ is (Span k i j) ∷ []) ≡ true
-        parts_15 i j a b = any_2 _ _ (λ no. is-span i j a b ∙ (wit-parts i j a b (was_true _ no)).2)
+        parts_15 i j a b = any_2 _ _ (λ no. is-span i j a b ∙ (wit-parts i j a b (not-false _ no)).2)
 
         far_part : (i j : ℕ) (high : Option ℕ) → part_holds M (option_map_or (λ b. is_not_up_to direction b i j) high (Known false)) ≡ false → up_to log t trees direction high i j ≡ true
         far_part i j None fails = refl
-        far_part i j (Some bound) fails = was_true _ (sym (is_not_up_to-says log t trees direction bound i j) ∙ fails)
+        far_part i j (Some bound) fails = not-false _ (sym (is_not_up_to-says log t trees direction bound i j) ∙ fails)
 
         parts_16 : (i j : ℕ) → i < length t → j < length t
             → list_any (part_holds M) (is (Wit k i j) ∷ rule.is_not_from direction I i j ∷ option_map_or (λ b. is_not_up_to direction b i j) I.high (Known false) ∷ is_not (Node r j) ∷ is_not (Span k i j) ∷ []) ≡ true
         parts_16 i j a b = any_5 _ _ _ _ _ (λ none low_ok high_ok right_ok. elim (cases_Bool (M (Span k i j))) [
-          | inr fails ↦ not_false _ fails
+          | inr fails ↦ not_from_false _ fails
           | inl spans ↦
-              let from_it : from log t trees direction I i j ≡ true = was_true _ (sym (is_not_from-says log t trees direction I i j) ∙ low_ok) in
+              let from_it : from log t trees direction I i j ≡ true = not-false _ (sym (is_not_from-says log t trees direction I i j) ∙ low_ok) in
               let far_it = far_part i j I.high high_ok in
               let near_it : near i j ≡ true = near-parts log t trees direction I i j ∙ (rw (from_it, far_it) refl) in
-              let there : R j ≡ true = sym (node-is r j g b right) ∙ was_true _ right_ok in
+              let there : R j ≡ true = sym (node-is r j g b right) ∙ not-false _ right_ok in
               let wit = is-wit i j a b ∙ witness_from O near L R i j near_it there (sym (is-span i j a b) ∙ spans) in
               absurd (apart (M (Wit k i j)) wit none)
         ])
@@ -288,9 +288,9 @@ module _ (log : Logged) (t : List ℤ) (trees : List Form) (root : ℕ) (value :
             → Right (if constant then Ok (is (Wit k i j) ∷ rule.is_not_from direction I i j ∷ option_map_or (λ b. is_not_up_to direction b i j) I.high (Known false) ∷ is_not (Node r j) ∷ []) else Err Kind)
         parts_28 i j a b false is = tt
         parts_28 i j a b true is = any_4 _ _ _ _ (λ none low_ok high_ok. elim (cases_Bool (M (Node r j))) [
-          | inr fails ↦ not_false _ fails
+          | inr fails ↦ not_from_false _ fails
           | inl holds ↦
-              let from_it : from log t trees direction I i j ≡ true = was_true _ (sym (is_not_from-says log t trees direction I i j) ∙ low_ok) in
+              let from_it : from log t trees direction I i j ≡ true = not-false _ (sym (is_not_from-says log t trees direction I i j) ∙ low_ok) in
               let far_it = far_part i j I.high high_ok in
               let near_it : near i j ≡ true = near-parts log t trees direction I i j ∙ (rw (from_it, far_it) refl) in
               let there : R j ≡ true = sym (node-is r j g b right) ∙ holds in
@@ -302,14 +302,14 @@ module _ (log : Logged) (t : List ℤ) (trees : List Form) (root : ℕ) (value :
 
         parts_17 : (i : ℕ) → i < length t → list_any (part_holds M) (is_not (Node k i) ∷ for_each_event s (λ j. is (Wit k i j))) ≡ true
         parts_17 i a = any_rest _ _ (λ no.
-            let reaching = sym (means-reaches log t trees k direction I f g at i a) ∙ was_true _ no in
+            let reaching = sym (means-reaches log t trees k direction I f g at i a) ∙ not-false _ no in
             let (j, there, wit) = any_some (λ y. witness O near L R i y) O.points (reached O near L R i reaching) in
             let b = row_at log t trees direction j there in
             some-event (λ j. is (Wit k i j)) j b (is-wit i j a b ∙ wit))
 
         parts_18 : (i j : ℕ) → i < length t → j < length t → list_any (part_holds M) (is (Node k i) ∷ is_not (Wit k i j) ∷ []) ≡ true
         parts_18 i j a b = any_2 _ _ (λ no. elim (cases_Bool (M (Wit k i j))) [
-          | inr none ↦ not_false _ none
+          | inr none ↦ not_from_false _ none
           | inl wit ↦
               let ahead = near-ahead log t trees direction I i j (wit-parts i j a b wit).0 in
               let reaching = means-reaches log t trees k direction I f g at i a ∙ reaches_from O near L R i j (at_row log t trees direction j b) ahead (sym (is-wit i j a b) ∙ wit) in
@@ -318,8 +318,8 @@ module _ (log : Logged) (t : List ℤ) (trees : List Form) (root : ℕ) (value :
 
         parts_19 : (i j m : ℕ) → i < length t → j < length t → m < length t → list_any (part_holds M) (is_not (Span k i j) ∷ rule.met_after direction i m ∷ rule.not_met_after direction j m ∷ is (Node l m) ∷ []) ≡ true
         parts_19 i j m a b c = any_4 _ _ _ _ (λ no early late.
-            let spans = sym (is-span i j a b) ∙ was_true _ no in
-            let begun : O.not_after i m ≡ true = was_true _ (sym (met_after-says log t trees direction i m) ∙ early) in
+            let spans = sym (is-span i j a b) ∙ not-false _ no in
+            let begun : O.not_after i m ≡ true = not-false _ (sym (met_after-says log t trees direction i m) ∙ early) in
             let before : O.not_after j m ≡ false = sym (not_met_after-says log t trees direction j m) ∙ late in
             node-is l m f c left ∙ span_at O L i j m spans (at_row log t trees direction m c) begun before)
 
@@ -331,14 +331,14 @@ module _ (log : Logged) (t : List ℤ) (trees : List Form) (root : ℕ) (value :
 
         parts_21 : (i j m : ℕ) → i < length t → j < length t → m < length t → list_any (part_holds M) (is_not (Gap k i m) ∷ rule.met_after direction j m ∷ is (Span k i j) ∷ []) ≡ true
         parts_21 i j m a b c = any_3 _ _ _ (λ no early.
-            let up : O.not_after j m ≡ true = was_true _ (sym (met_after-says log t trees direction j m) ∙ early) in
-            is-span i j a b ∙ span_to_gap O L (order-met direction t) i j m (the-gap i m a c (was_true _ no)) up)
+            let up : O.not_after j m ≡ true = not-false _ (sym (met_after-says log t trees direction j m) ∙ early) in
+            is-span i j a b ∙ span_to_gap O L (order-met direction t) i j m (the-gap i m a c (not-false _ no)) up)
 
         parts_22 : (i m : ℕ) → i < length t → m < length t → list_any (part_holds M) (is_not (Gap k i m) ∷ rule.not_met_after direction i m ∷ []) ≡ true
-        parts_22 i m a c = any_2 _ _ (λ no. not_met_after-says log t trees direction i m ∙ (gap_parts O L i m (the-gap i m a c (was_true _ no))).0)
+        parts_22 i m a c = any_2 _ _ (λ no. not_met_after-says log t trees direction i m ∙ (gap_parts O L i m (the-gap i m a c (not-false _ no))).0)
 
         parts_23 : (i m : ℕ) → i < length t → m < length t → list_any (part_holds M) (is_not (Gap k i m) ∷ is_not (Node l m) ∷ []) ≡ true
-        parts_23 i m a c = any_2 _ _ (λ no. not_false _ (node-is l m f c left ∙ (gap_parts O L i m (the-gap i m a c (was_true _ no))).1))
+        parts_23 i m a c = any_2 _ _ (λ no. not_from_false _ (node-is l m f c left ∙ (gap_parts O L i m (the-gap i m a c (not-false _ no))).1))
 
     right_12 : (k i j : ℕ) → k < length trees → i < length t → j < length t → Right (rule.rule_12 s k i j)
     right_12 k i j low a b = by_reach k (λ u. Ok (is_not (Wit k i j) ∷ rule.is_from u.direction u.interval i j ∷ [])) low (λ direction I f g l r at left right. parts_12 k low direction I f g l r at left right i j a b)
@@ -392,14 +392,14 @@ module _ (log : Logged) (t : List ℤ) (trees : List Form) (root : ℕ) (value :
 
     right_25 : (e x : ℕ) → e < length t → x < length t → Right (rule.rule_25 s e x)
     right_25 e x a b = of_pulse-right (is_pulse_row log e || is_pulse_row log x) (part.not_same e x ∷ not_after e x ∷ [])
-        (any_2 _ _ (λ no. not_after-says e x ∙ equal-le (time_of t e) (time_of t x) (was_true _ (sym (not_same-at e x) ∙ no))))
+        (any_2 _ _ (λ no. not_after-says e x ∙ equal-le (time_of t e) (time_of t x) (not-false _ (sym (not_same-at e x) ∙ no))))
 
     right_26 : (e x : ℕ) → e < length t → x < length t → Right (rule.rule_26 s e x)
     right_26 e x a b = go (nat_lt e x)
       where
         go : (less : Bool) → Right (if less then of_pulse log e x (Ok (part.same e x ∷ after e x ∷ after x e ∷ [])) else Err Kind)
         go true = of_pulse-right (is_pulse_row log e || is_pulse_row log x) (part.same e x ∷ after e x ∷ after x e ∷ [])
-            (any_3 _ _ _ (λ differ early. after-says x e ∙ not_false _ (apart-times (time_of t e) (time_of t x) (sym (same-at e x) ∙ differ) (was_true _ (sym (after-says e x) ∙ early)))))
+            (any_3 _ _ _ (λ differ early. after-says x e ∙ not_from_false _ (apart-times (time_of t e) (time_of t x) (sym (same-at e x) ∙ differ) (not-false _ (sym (after-says e x) ∙ early)))))
         go false = tt
 
     -- what tells the state of a proposition at a row
@@ -421,7 +421,7 @@ module _ (log : Logged) (t : List ℤ) (trees : List Form) (root : ℕ) (value :
         at_pulse : (h : ℕ) (name : List ℕ) → M (Node k e) ≡ (pulsed e h name || changed e h name) → (o : Option ℕ) → slice_get (pulses_of log h name) place ≡ o → Right (option_map_or (λ u. Ok (part.not_same u e ∷ is (Node k e) ∷ [])) o (Err Range))
         at_pulse h name state None there = tt
         at_pulse h name state (Some u) there = any_2 _ _ (λ no.
-            let here : int_eq (time_of t u) (time_of t e) ≡ true = was_true _ (sym (not_same-at u e) ∙ no) in
+            let here : int_eq (time_of t u) (time_of t e) ≡ true = not-false _ (sym (not_same-at u e) ∙ no) in
             state ∙ or_left (pulsed e h name) (changed e h name) (passes-at (λ u. int_eq (time_of t u) (time_of t e)) (pulses_of log h name) place u there here))
 
         named : (name : List ℕ) (h : Option ℕ) → M (Node k e) ≡ stated e name h → Right (option_map_or (λ u. Ok (part.not_same u e ∷ is (Node k e) ∷ [])) (slice_get (option_map_or (λ h. pulses_of log h name) h []) place) (Err Range))
@@ -447,11 +447,11 @@ module _ (log : Logged) (t : List ℤ) (trees : List Form) (root : ℕ) (value :
       right_1 k e low in_ = subst (λ o. Right (of_kind (proposition_in o) (λ rows. Ok (is_not (Node k e) ∷ has_come rows.changes 0 e ∷ at_pulses rows.pulses e)))) (shape-there k low) (go (tree_at trees k) refl)
         where
           named : (name : List ℕ) (h : Option ℕ) → M (Node k e) ≡ stated e name h → list_any (part_holds M) (is_not (Node k e) ∷ has_come (option_map_or (λ h. changes_of log h name) h []) 0 e ∷ at_pulses (option_map_or (λ h. pulses_of log h name) h []) e) ≡ true
-          named name None state = any_rest (not (M (Node k e))) _ (λ no. absurd (apart (M (Node k e)) (was_true _ no) state))
+          named name None state = any_rest (not (M (Node k e))) _ (λ no. absurd (apart (M (Node k e)) (not-false _ no) state))
           named name (Some h) state = any_rest (not (M (Node k e))) _ (λ no. any_rest (part_holds M (has_come (changes_of log h name) 0 e)) _ (λ none.
               let first : first_passes (is_by t (time_of t e)) (changes_of log h name) ≡ false = sym (has_come-says (changes_of log h name) 0 e) ∙ none in
               let nothing = first-none (is_by t (time_of t e)) (changes_of log h name) (falls h name (time_of t e)) first in
-              pulses-say (pulses_of log h name) e ∙ only-pulsed (M (Node k e)) (pulsed e h name) (changed e h name) (was_true _ no) state (ap (λ o. option_map_or (λ (c : Change). c.sets) o false) nothing)))
+              pulses-say (pulses_of log h name) e ∙ only-pulsed (M (Node k e)) (pulsed e h name) (changed e h name) (not-false _ no) state (ap (λ o. option_map_or (λ (c : Change). c.sets) o false) nothing)))
 
           go : (tree : Form) → tree_at trees k ≡ tree → Right (of_kind (proposition_in (shape_of log trees tree)) (λ rows. Ok (is_not (Node k e) ∷ has_come rows.changes 0 e ∷ at_pulses rows.pulses e)))
           go (Prop host name) at = named name (host_named log host) (node-is k e (Prop host name) in_ at)
@@ -463,13 +463,13 @@ module _ (log : Logged) (t : List ℤ) (trees : List Form) (root : ℕ) (value :
           -- what the change makes of the proposition, or a pulse where it clears it
           made : (h : ℕ) (name : List ℕ) (sets : Bool) → M (Node k e) ≡ (pulsed e h name || changed e h name) → changed e h name ≡ sets → list_any (part_holds M) (Says (record { atom = Node k e; positive = sets }) ∷ at_pulses (if sets then [] else pulses_of log h name) e) ≡ true
           made h name true state is = any_1 (M (Node k e)) (state ∙ or_right (pulsed e h name) (changed e h name) is)
-          made h name false state is = any_rest (not (M (Node k e))) _ (λ no. pulses-say (pulses_of log h name) e ∙ only-pulsed (M (Node k e)) (pulsed e h name) (changed e h name) (was_true _ no) state is)
+          made h name false state is = any_rest (not (M (Node k e))) _ (λ no. pulses-say (pulses_of log h name) e ∙ only-pulsed (M (Node k e)) (pulsed e h name) (changed e h name) (not-false _ no) state is)
 
           at_change : (h : ℕ) (name : List ℕ) → M (Node k e) ≡ (pulsed e h name || changed e h name) → (o : Option Change) → slice_get (changes_of log h name) place ≡ o
               → Right (option_map_or (λ c. Ok (after c.row e ∷ has_come (changes_of log h name) (place + 1) e ∷ Says (record { atom = Node k e; positive = c.sets }) ∷ at_pulses (if c.sets then [] else pulses_of log h name) e)) o (Err Range))
           at_change h name state None there = tt
           at_change h name state (Some c) there = any_rest (part_holds M (after c.row e)) _ (λ begun. any_rest (part_holds M (has_come (changes_of log h name) (place + 1) e)) _ (λ next.
-              let by : int_le (time_of t c.row) (time_of t e) ≡ true = was_true _ (sym (after-says c.row e) ∙ begun) in
+              let by : int_le (time_of t c.row) (time_of t e) ≡ true = not-false _ (sym (after-says c.row e) ∙ begun) in
               let last = last-at (is_by t (time_of t e)) (changes_of log h name) (falls h name (time_of t e)) place c there by (sym (has_come-says (changes_of log h name) (place + 1) e) ∙ next) in
               made h name c.sets state (ap (λ o. option_map_or (λ (c : Change). c.sets) o false) last)))
 
@@ -484,7 +484,7 @@ module _ (log : Logged) (t : List ℤ) (trees : List Form) (root : ℕ) (value :
 
       right_24 : (e : ℕ) → e < length t → truth log t 0 (tree_at trees root) ≡ value → Right (rule.rule_24 s e)
       right_24 e in_ gives = any_2 _ _ (λ no.
-          let place = place-of_first t e in_ (λ x low. let h = first-at e x (was_true _ no) low in omega (arith, ints)) in
+          let place = place-of_first t e in_ (λ x low. let h = first-at e x (not-false _ no) low in omega (arith, ints)) in
           of-sense value (M (Node root e)) (ap (λ i. truth log t i (tree_at trees root)) place ∙ gives))
 
       in-timing : (e : ℕ) → e < length log.rows → e < length t

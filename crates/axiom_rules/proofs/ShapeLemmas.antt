@@ -3,7 +3,6 @@ use Rattle.std.proofs.Common.{◌≡◌, ◌∙◌, sym, ap, refl, subst, ℕ, z
 use Rattle.std.specs.Prelude.{◌↔◌, option_and_then, slice_get, slice_index_or}
 use Rattle.std.specs.List.{cons_option, filter_map, range_with_len}
 use Rattle.std.proofs.lemmas.List.{append-nil, append_assoc, length-append}
-use Rattle.std.proofs.lemmas.List.Elements.{filter_map-append}
 use Rattle.mt_model.specs.Form.{Form, True, Not, And, Until, Since}
 use Rattle.mt_model.specs.Log.{Logged}
 use Rattle.formula_arena.specs.declared.direction.Direction.TheVariants.{Ahead, Behind}
@@ -19,6 +18,8 @@ use Rattle.mt_model.specs.declared.tree.Interval.{Interval}
 use Rattle.mt_model.specs.State.{Change, change_at}
 use Rattle.axiom_rules.specs.Sought.{sought_of}
 use Rattle.axiom_rules.specs.Shapes.{AreShapes, IsOver, IsShape, tree_over, trees_after, trees_of}
+use Rattle.mt_list.proofs.Lists.{given_more}
+use Rattle.formula_arena.proofs.TreeLists.{at-old}
 
 get-absent : {X : Type 0} (xs : List X) (k : ℕ) → slice_get xs k ≡ None → length xs ≤ k
 get-absent [] k h = omega arith
@@ -30,20 +31,6 @@ pub index_or-there : (xs : List Form) (k : ℕ) (d : Form) → k < length xs →
 index_or-there [] k d low = absurd (omega arith)
 index_or-there (x ∷ xs) zero d low = refl
 index_or-there (x ∷ xs) (suc k) d low = index_or-there xs k d (omega arith)
-
--- the numbers below k + 1 are those below k, and k
-pub range-more : (a k : ℕ) → range_with_len a (k + 1) ≡ range_with_len a k ++ (a + k) ∷ []
-range-more a zero = let e : a + 0 ≡ a = omega arith in rw e refl
-range-more a (suc k) =
-    let ih = range-more (a + 1) k in
-    let e : a + 1 + k ≡ a + suc k = omega arith in
-    let n : suc k + 1 ≡ suc (k + 1) = omega arith in
-    rw (n, ih, e) refl
-
-pub changes-more : {X : Type 0} (h : ℕ → Option X) (k : ℕ) → filter_map h (range_with_len 0 (k + 1)) ≡ filter_map h (range_with_len 0 k) ++ cons_option (h k) []
-changes-more h k =
-    let e : 0 + k ≡ k = omega arith in
-    ap (filter_map h) (range-more 0 k) ∙ filter_map-append h (range_with_len 0 k) ((0 + k) ∷ []) ∙ rw e refl
 
 -- the shapes of the first trees, so many of them
 pub record AreFirstShapes (log : Logged) (trees : List Form) (shapes : List Shape) (k : ℕ) : Type 0 where
@@ -57,7 +44,8 @@ slice-end (z ∷ xs) x y zero is = inl is
 slice-end (z ∷ xs) x y (suc j) is = elim (slice-end xs x y j is) [ inl old ↦ inl old | inr new ↦ let n : suc j ≡ length (z ∷ xs) = omega (arith, new.0) in inr (n, new.1) ]
 
 -- one shape more
-pub shapes-push : (log : Logged) (trees : List Form) (shapes : List Shape) (k : ℕ) (shape : Shape) → AreFirstShapes log trees shapes k → IsShape log trees k shape → AreFirstShapes log trees (shapes ++ shape ∷ []) (k + 1)
+pub shapes-push : (log : Logged) (trees : List Form) (shapes : List Shape) (k : ℕ) (shape : Shape) → AreFirstShapes log trees shapes k
+    → IsShape log trees k shape → AreFirstShapes log trees (shapes ++ shape ∷ []) (k + 1)
 shapes-push log trees shapes k shape first is = record {
   count = length-append shapes (shape ∷ []) ∙ ap (λ n. n + 1) first.count;
   each = λ j other there. elim (slice-end shapes shape other j there) [
@@ -65,12 +53,6 @@ shapes-push log trees shapes k shape first is = record {
     | inr new ↦ subst (IsShape log trees j) new.1 (rw (new.0, first.count) is)
   ];
 }
-
--- a list by its elements
-tree-left : (xs ys : List Form) (j : ℕ) → j < length xs → tree_at (xs ++ ys) j ≡ tree_at xs j
-tree-left [] ys j less = absurd (omega arith)
-tree-left (x ∷ xs) ys zero less = refl
-tree-left (x ∷ xs) ys (suc j) less = tree-left xs ys j (omega arith)
 
 tree-end : (xs : List Form) (y : Form) (ys : List Form) → tree_at (xs ++ y ∷ ys) (length xs) ≡ y
 tree-end [] y ys = refl
@@ -80,12 +62,13 @@ tree-end (x ∷ xs) y ys = tree-end xs y ys
 over-left : (xs ys : List Form) (s : Shape) → IsOver (length xs) s → tree_over (xs ++ ys) s ≡ tree_over xs s
 over-left xs ys shape.True over = refl
 over-left xs ys (shape.Prop host name changes) over = refl
-over-left xs ys (shape.Not a) over = ap Not (tree-left xs ys a over)
-over-left xs ys (shape.And a b) over = rw (tree-left xs ys a over.0, tree-left xs ys b over.1) refl
-over-left xs ys (shape.Reach r) over = rw (tree-left xs ys r.left over.0, tree-left xs ys r.right over.1) refl
+over-left xs ys (shape.Not a) over = ap Not (at-old xs ys a over)
+over-left xs ys (shape.And a b) over = rw (at-old xs ys a over.0, at-old xs ys b over.1) refl
+over-left xs ys (shape.Reach r) over = rw (at-old xs ys r.left over.0, at-old xs ys r.right over.1) refl
 
 -- the shapes of further trees tell them
-trees-after : (log : Logged) (xs ys : List Form) (shapes : List Shape) → length shapes ≡ length ys → ((j : ℕ) (s : Shape) → slice_get shapes j ≡ Some s → IsShape log (xs ++ ys) (length xs + j) s) → trees_after xs shapes ≡ xs ++ ys
+trees-after : (log : Logged) (xs ys : List Form) (shapes : List Shape) → length shapes ≡ length ys
+    → ((j : ℕ) (s : Shape) → slice_get shapes j ≡ Some s → IsShape log (xs ++ ys) (length xs + j) s) → trees_after xs shapes ≡ xs ++ ys
 trees-after log xs [] [] count each = sym (append-nil xs)
 trees-after log xs (y ∷ ys) [] count each = absurd (omega (arith, count))
 trees-after log xs [] (s ∷ shapes) count each = absurd (omega (arith, count))
@@ -106,13 +89,16 @@ unfolding trees_of
 trees-told log trees shapes are = trees-after log [] trees shapes are.count (λ j s there. let n : 0 + j ≡ j = omega arith in rw n (are.each j s there))
 
 -- one row more
-pub changes-some : (log : Logged) (host : ℕ) (name : List ℕ) (e : ℕ) (c : Change) (old new : List Change) → old ≡ filter_map (change_at log host name) (range_with_len 0 e) → Some c ≡ change_at log host name e → new ≡ old ++ c ∷ []
+pub changes-some : (log : Logged) (host : ℕ) (name : List ℕ) (e : ℕ) (c : Change) (old new : List Change)
+    → old ≡ filter_map (change_at log host name) (range_with_len 0 e) → Some c ≡ change_at log host name e → new ≡ old ++ c ∷ []
     → new ≡ filter_map (change_at log host name) (range_with_len 0 (e + 1))
-changes-some log host name e c old new is found more = more ∙ ap (λ cs. cs ++ c ∷ []) is ∙ ap (λ o. filter_map (change_at log host name) (range_with_len 0 e) ++ cons_option o []) found ∙ sym (changes-more (change_at log host name) e)
+changes-some log host name e c old new is found more =
+    more ∙ ap (λ cs. cs ++ c ∷ []) is ∙ ap (λ o. filter_map (change_at log host name) (range_with_len 0 e) ++ cons_option o []) found ∙ sym (given_more (change_at log host name) e)
 
 pub changes-none : (log : Logged) (host : ℕ) (name : List ℕ) (e : ℕ) (old : List Change) → old ≡ filter_map (change_at log host name) (range_with_len 0 e) → None ≡ change_at log host name e
     → old ≡ filter_map (change_at log host name) (range_with_len 0 (e + 1))
-changes-none log host name e old is found = is ∙ sym (append-nil _) ∙ ap (λ o. filter_map (change_at log host name) (range_with_len 0 e) ++ cons_option o []) found ∙ sym (changes-more (change_at log host name) e)
+changes-none log host name e old is found =
+    is ∙ sym (append-nil _) ∙ ap (λ o. filter_map (change_at log host name) (range_with_len 0 e) ++ cons_option o []) found ∙ sym (given_more (change_at log host name) e)
 
 -- shapes of nodes of an arena
 module _ (same : (f g : Form) → (same_form f g ≡ true) ↔ (f ≡ g)) (log : Logged) (trees : List Form) (arena : IsArena trees) (k : ℕ) (low : k < length trees) where
@@ -125,10 +111,12 @@ module _ (same : (f g : Form) → (same_form f g ≡ true) ↔ (f ≡ g)) (log :
   pub shape-and : (a b : ℕ) → a < k → b < k → tree_at trees k ≡ And (tree_at trees a) (tree_at trees b) → IsShape log trees k (shape.And a b)
   shape-and a b less_a less_b is = record { known = rw (is, at a less_a, at b less_b) refl; over = (less_a, less_b); tree = is }
 
-  pub shape-until : (I : Interval) (a b : ℕ) → a < k → b < k → tree_at trees k ≡ Until I (tree_at trees a) (tree_at trees b) → IsShape log trees k (shape.Reach (record { direction = Ahead; interval = I; left = a; right = b }))
+  pub shape-until : (I : Interval) (a b : ℕ) → a < k → b < k → tree_at trees k ≡ Until I (tree_at trees a) (tree_at trees b)
+      → IsShape log trees k (shape.Reach (record { direction = Ahead; interval = I; left = a; right = b }))
   shape-until I a b less_a less_b is = record { known = rw (is, at a less_a, at b less_b) refl; over = (less_a, less_b); tree = is }
 
-  pub shape-since : (I : Interval) (a b : ℕ) → a < k → b < k → tree_at trees k ≡ Since I (tree_at trees a) (tree_at trees b) → IsShape log trees k (shape.Reach (record { direction = Behind; interval = I; left = a; right = b }))
+  pub shape-since : (I : Interval) (a b : ℕ) → a < k → b < k → tree_at trees k ≡ Since I (tree_at trees a) (tree_at trees b)
+      → IsShape log trees k (shape.Reach (record { direction = Behind; interval = I; left = a; right = b }))
   shape-since I a b less_a less_b is = record { known = rw (is, at a less_a, at b less_b) refl; over = (less_a, less_b); tree = is }
 
 -- the shape of a node's place, where there is one

@@ -27,12 +27,14 @@ module _ (same : (f g : Form) → (same_form f g ≡ true) ↔ (f ≡ g)) where
   ]
 
   -- a tree that stands once has the number of its place
-  pub number-at : (trees : List Form) → ((j k : ℕ) → j < length trees → k < length trees → tree_at trees j ≡ tree_at trees k → j ≡ k) → (a : ℕ) → a < length trees → number_of trees (tree_at trees a) ≡ a
+  pub number-at : (trees : List Form) → ((j k : ℕ) → j < length trees → k < length trees → tree_at trees j ≡ tree_at trees k → j ≡ k) → (a : ℕ)
+      → a < length trees → number_of trees (tree_at trees a) ≡ a
   number-at trees once a low = once (number_of trees (tree_at trees a)) a (number-below trees (tree_at trees a) a low refl) low (tree-number trees (tree_at trees a) a low refl)
 
   module _ (trees : List Form) (children_first : (k : ℕ) → k < length trees → All (StandsBefore trees k) (children_of (tree_at trees k))) where
     -- a child by its place
-    pub child-number : (k place : ℕ) (g h : Form) → k < length trees → tree_at trees k ≡ g → place < length (children_of g) → slice_index_or (children_of g) place h ≡ h → tree_at trees (number_of trees h) ≡ h
+    pub child-number : (k place : ℕ) (g h : Form) → k < length trees → tree_at trees k ≡ g → place < length (children_of g)
+        → slice_index_or (children_of g) place h ≡ h → tree_at trees (number_of trees h) ≡ h
     child-number k place g h low is within at =
         let (j, less, there) = children_first k low place h (rw is within) in
         tree-number trees h j (omega arith) (there ∙ (rw is at))

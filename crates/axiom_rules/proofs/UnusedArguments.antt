@@ -82,7 +82,8 @@ module _ (s : Sought) where
   pub unused-zero : (rule : Rule) (c : List Literal) → clause_of s rule ≡ Ok c → All IsZero (drop (argument_count rule.number) rule.args)
   unused-zero rule c is =
       let w = written-by s rule c is in
-      let filled = shape-case IsFilled nothing-filled event-filled events-filled node-filled two-filled three-filled (change-filled rule_2) (pulse-filled rule_27) rule.number w.row w.at rule.args w.there in
+      let filled =
+      shape-case IsFilled nothing-filled event-filled events-filled node-filled two-filled three-filled (change-filled rule_2) (pulse-filled rule_27) rule.number w.row w.at rule.args w.there in
       rw w.at filled
 
 -- a number that has a row is at most that of the last one
@@ -96,4 +97,6 @@ at-most-four number = go (row_of number) refl
   where
     go : (o : Option Row) → row_of number ≡ o → option_map_or (λ row. count_by is_used row.arguments) o 0 ≤ 4
     go None at = omega arith
-    go (Some row) at = shape-case (λ row. count_by is_used row.arguments ≤ 4) (λ w. omega arith) (λ w. omega arith) (λ w. omega arith) (λ w. omega arith) (λ w. omega arith) (λ w. omega arith) (omega arith) (omega arith) number row at
+    go (Some row) at =
+        shape-case (λ row. count_by is_used row.arguments ≤ 4) (λ w. omega arith) (λ w. omega arith) (λ w. omega arith) (λ w. omega arith) (λ w. omega arith)
+        (λ w. omega arith) (omega arith) (omega arith) number row at

@@ -1,6 +1,6 @@
 //! An index of a list of atoms.
 
-ghost use Rattle.std.specs.Prelude.{◌≡◌, ◌≤◌, ◌<◌, ◌+◌, ◌^◌, [], false, length, OnOk, IfSome, None};
+ghost use Rattle.std.specs.Prelude.{◌≡◌, ◌<◌, ◌+◌, ◌^◌, [], false, length, OnOk, IfSome, None};
 ghost use Rattle.axiom_rules.specs.AtomIndex.{IsIndex, bucket_of, number_of as number_of_atom};
 ghost use Rattle.axiom_rules.specs.Atoms.{IsVar, has_atom};
 ghost use Rattle.axiom_rules.specs.Literals.{same_atom};

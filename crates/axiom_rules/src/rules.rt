@@ -1,4 +1,4 @@
-ghost use Rattle.std.specs.Prelude.{◌≡◌, ◌<◌, ◌+◌, ◌++◌, ◌⊎◌, if◌then◌else◌, true, ℕ, List, [], length, Some, None, AllPairs, IfOk, IfErr, OnOk, OnErr, Ok, Err, is_some, option_copied};
+ghost use Rattle.std.specs.Prelude.{◌≡◌, ◌<◌, ◌+◌, ◌++◌, ◌⊎◌, if◌then◌else◌, true, [], length, Some, None, AllPairs, IfOk, IfErr, OnOk, OnErr, Ok, Err, is_some, option_copied};
 ghost use Rattle.std.specs.List.{list_all};
 ghost use Rattle.std.specs.Option.{option_map_or};
 ghost use Rattle.mt_model.specs.Form.{Form};
@@ -20,7 +20,7 @@ use crate::reach::Reach;
 use crate::rule::{Argument, Rule, arguments_of};
 use crate::shape::{Shape, shapes};
 use formula_arena::Arena;
-use mt_model::{Act, Log, NodeId};
+use mt_model::{Act, Log, NodeId, log_is_valid};
 use std::alloc::{AllocError, Global};
 use std::marker::Model;
 
@@ -153,8 +153,7 @@ impl Rules {
     pub fn change_count(&self, k: u32) -> u32
         ensures count { result ≡ option_map_or (λ changes. length changes) (changes_in (shape_at self.now k)) 0 }
     {
-        // What a log is, how many rows it has is known with.
-        let _ = self.log.rows();
+        log_is_valid(&self.log);
         match self.shape(k) {
             Some(Shape::Prop { rows, .. }) => rows.changes.len() as u32,
             _ => 0,
@@ -165,8 +164,7 @@ impl Rules {
     pub fn pulse_count(&self, k: u32) -> u32
         ensures count { result ≡ option_map_or (λ pulses. length pulses) (pulses_in (shape_at self.now k)) 0 }
     {
-        // What a log is, how many rows it has is known with.
-        let _ = self.log.rows();
+        log_is_valid(&self.log);
         match self.shape(k) {
             Some(Shape::Prop { rows, .. }) => rows.pulses.len() as u32,
             _ => 0,

@@ -1,7 +1,6 @@
 //! What the nodes of a formula are.
 
-ghost use Rattle.std.specs.Prelude.{◌≡◌, ◌<◌, ◌≤◌, length, IfOk};
-ghost use Rattle.formula_arena.specs.Nodes.{IsArena};
+ghost use Rattle.std.specs.Prelude.{◌<◌, length, IfOk};
 ghost use Rattle.axiom_rules.specs.Shapes.{AreShapes, IsShape};
 
 use crate::proposition::{PropositionRows, rows_named};

@@ -1,10 +1,10 @@
 -- What a conflict leaves of the lower levels, and that it has a literal of the present one.
-use Rattle.std.proofs.Common.{◌≡◌, ◌∙◌, sym, ap, subst, ℕ, ◌-◌, ◌<◌, ◌≤◌, inl, inr, Bool, true, false, cond, List, [], ◌∷◌, ◌++◌, length, Option, arith}
-use Rattle.std.specs.Prelude.{filter, nat_le}
+use Rattle.std.proofs.Common.{◌≡◌, ◌∙◌, sym, ap, subst, ℕ, ◌-◌, ◌<◌, ◌≤◌, inl, inr, Bool, true, List, [], ◌∷◌, ◌++◌, length, Option, arith}
+use Rattle.std.specs.Prelude.{nat_le}
 use Rattle.std.specs.List.{Contains}
 use Rattle.std.proofs.lemmas.Bool.{cases_lt, le-leb, leb-true}
 use Rattle.std.proofs.lemmas.List.Elements.{All-nil, All-cons, All-append, All-contains, All-contains_itself, All-filter, Contains-get_or, filter_passes}
-use Rattle.hint_refutation.proofs.Lists.{any_found, any_from, contains_cases, contains_first, contains_later, contains_map, contains_none, contains_unmap}
+use Rattle.hint_refutation.proofs.Lists.{any_found, any_from, contains_first, contains_later, contains_map, contains_unmap, contains_filter}
 use Rattle.hint_refutation.specs.Propagation.{IsSettled}
 use Rattle.neg_cycle.specs.declared.system.Edge.{Edge}
 use Rattle.difference_graph.specs.Graphs.{Constraints}
@@ -18,8 +18,9 @@ use Rattle.propagate.specs.Closed.{ClosedAt}
 use Rattle.propagate.specs.Reach.{IsConflict}
 use Rattle.analyze.specs.Asserting.{HasHere, HasTwoAbove, IsAsserting, IsFalseSince, IsJump}
 use Rattle.analyze.specs.Resolving.{level_of}
-use Rattle.analyze.proofs.Order.{apart_from_negation, distinct, false_at, read_entry, since_at, since_from}
+use Rattle.analyze.proofs.Order.{apart_from_negation, distinct, false_at, since_at, since_from}
 use Rattle.cdcl_core.specs.Running.{IsConflicted, IsRun}
+use Rattle.propagate.proofs.ClauseLemmas.{read_entry}
 
 -- a literal of levels up to m is at a place of such a level
 pub low_at : (xs : List Entry) (m : ℕ) (l : Lit) → Contains (literals (up_to m xs)) l → (k : ℕ) × (k < length xs) × ((entry_at xs k).lit ≡ l) × (level_of xs k ≤ m)
@@ -31,20 +32,10 @@ low_at xs m l has =
     let here = read_entry xs old.0 e old.1 old.2 in
     (old.0, old.1, ap (λ (x : Entry). x.lit) here ∙ is, subst (λ (x : Entry). x.level ≤ m) (sym here) passes)
 
-contains_passed : {X : Type 0} (p : X → Bool) (xs : List X) (x : X) → Contains xs x → p x ≡ true → Contains (filter p xs) x
-contains_passed p [] x has holds = absurd (contains_none x has)
-contains_passed p (y ∷ ys) x has holds = elim (contains_cases y x ys has) [
-  | inl here ↦ let first : p y ≡ true = rw here holds in rw first (subst (λ z. Contains (y ∷ filter p ys) z) here (contains_first y (filter p ys)))
-  | inr there ↦ later (p y) (contains_passed p ys x there holds)
-] where
-  later : (b : Bool) → Contains (filter p ys) x → Contains (cond b (y ∷ filter p ys) (filter p ys)) x
-  later true has = contains_later y x (filter p ys) has
-  later false has = has
-
 -- a literal at a place of a level up to m is one of these
 low_held : (xs : List Entry) (m k : ℕ) (l : Lit) → k < length xs → (entry_at xs k).lit ≡ l → level_of xs k ≤ m → Contains (literals (up_to m xs)) l
 low_held xs m k l within is low =
-    let kept = contains_passed (λ (e : Entry). nat_le e.level m) xs (entry_at xs k) (Contains-get_or xs k no_entry within) (le-leb (level_of xs k) m low) in
+    let kept = contains_filter (λ (e : Entry). nat_le e.level m) xs (entry_at xs k) (Contains-get_or xs k no_entry within) (le-leb (level_of xs k) m low) in
     subst (λ (x : Lit). Contains (literals (up_to m xs)) x) is (contains_map (λ (e : Entry). e.lit) (up_to m xs) (entry_at xs k) kept)
 
 module _ (t : Assigned) (trail : IsTrail t) where
@@ -84,7 +75,10 @@ module _ (t : Assigned) (trail : IsTrail t) where
       absurd (not_true_at (length t.levels - 1) l (one_false l has) held)
     where
       one_false : (l : Lit) → Contains clause l → IsFalsified t.entries (l ∷ [])
-      one_false l has = All-cons (λ (x : Lit). Contains (literals t.entries) (negation x)) l [] (All-contains (λ (x : Lit). Contains (literals t.entries) (negation x)) clause l false_ has) (All-nil (λ (x : Lit). Contains (literals t.entries) (negation x)))
+      one_false l has =
+          All-cons (λ (x : Lit). Contains (literals t.entries) (negation x)) l []
+          (All-contains (λ (x : Lit). Contains (literals t.entries) (negation x)) clause l false_ has)
+          (All-nil (λ (x : Lit). Contains (literals t.entries) (negation x)))
   here_of_settled clause some false_ (inr two) =
       let (k, within, at) = false_at t.entries clause false_ two.one two.has_one in
       elim (cases_lt (level_of t.entries k) (length t.levels)) [

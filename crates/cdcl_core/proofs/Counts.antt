@@ -1,12 +1,11 @@
 -- How many literals, hints and steps there can be.
-use Rattle.std.proofs.Common.{◌≡◌, ◌≢◌, ◌∙◌, sym, subst, ℕ, ◌+◌, ◌<◌, ◌≤◌, inl, inr, true, eqb, List, [], ◌∷◌, length, get_or, map, arith}
+use Rattle.std.proofs.Common.{◌≡◌, ◌≢◌, ◌∙◌, sym, subst, ℕ, ◌+◌, ◌<◌, ◌≤◌, inl, inr, true, List, [], ◌∷◌, length, get_or, map, arith}
 use Rattle.std.specs.Prelude.{All, AllPairs}
-use Rattle.std.specs.List.{Contains, list_any}
-use Rattle.std.proofs.lemmas.Bool.Decides.{Decides-eqb, nat_tests}
+use Rattle.std.specs.List.{Contains}
+use Rattle.std.proofs.lemmas.Bool.Decides.{Decides-eqb}
 use Rattle.std.proofs.lemmas.List.{get_or-map, length-map}
 use Rattle.std.proofs.lemmas.List.Elements.{All-cons, All-contains, All-head, All-map, All-tail}
 use Rattle.std.proofs.lemmas.List.Kept.{AllPairs-cons}
-use Rattle.std.proofs.lemmas.List.Folds.{Any-from_list_any}
 use Rattle.std.proofs.lemmas.Map.Made.{IsDistinct-from_AllPairs}
 use Rattle.std.proofs.lemmas.Map.Steps.{length-le_from_distinct_below}
 use Rattle.hint_refutation.specs.Hints.{RefutesGiving}
@@ -19,13 +18,7 @@ use Rattle.clause_db.specs.Literals.{HasVarsOnce, negation}
 use Rattle.clause_db.specs.Clauses.{clause_at, clauses_at}
 use Rattle.clause_db.specs.Hinted.{HintsRefute}
 use Rattle.clause_db.proofs.LawLemmas.{negation_other}
-
-stands_below : (n : ℕ) (xs : List ℕ) → All (λ x. x < n) xs → (q : ℕ) → list_any (eqb q) xs ≡ true → q < n
-stands_below n xs low q found =
-    let (k, x, within, is, same) = Any-from_list_any (eqb q) xs found in
-    let at : get_or xs k x < n = low k x within in
-    let below : x < n = rw is at at in
-    grind (arith, nat_tests)
+use Rattle.mt_list.proofs.Lists.{stands_below}
 
 -- what has different numbers below n is at most n times there
 pub few_below : {X : Type 0} (f : X → ℕ) (e : X) (n : ℕ) (xs : List X) → AllPairs (λ x y. f x ≢ f y) xs → All (λ x. f x < n) xs → length xs ≤ n
@@ -59,7 +52,8 @@ given_once assumed (hint ∷ later) (u ∷ us) (gives, rest) =
   where
     other_var : (l : Lit) → Contains us l → u.var ≡ l.var → ⊥
     other_var l has same =
-        let free = All-contains (λ (k : Lit). (Contains (u ∷ assumed) k → ⊥) × (Contains (u ∷ assumed) (negation k) → ⊥)) us l ((assumed-may_grow Lit).undecided negation (u ∷ assumed) later us rest) has in
+        let free =
+        All-contains (λ (k : Lit). (Contains (u ∷ assumed) k → ⊥) × (Contains (u ∷ assumed) (negation k) → ⊥)) us l ((assumed-may_grow Lit).undecided negation (u ∷ assumed) later us rest) has in
         elim (negation_other.only u l same) [
           | inl is ↦ free.0 (subst (λ (k : Lit). Contains (u ∷ assumed) k) is (contains_first u assumed))
           | inr is ↦ free.1 (subst (λ (k : Lit). Contains (u ∷ assumed) k) is (contains_first u assumed))
@@ -76,7 +70,8 @@ given_low n assumed (hint ∷ later) (u ∷ us) low (gives, rest) =
 pub few_hints : (n : ℕ) (db : List (List Lit)) (assumed : List Lit) (refs : List ℕ) → All (All (λ l. l.var < n)) db → HintsRefute db assumed refs → length refs ≤ n + 1
 few_hints n db assumed refs low hints =
     let (given, refutes) = (refuters-give Lit negation assumed (clauses_at db refs)).0 hints.refutes in
-    let clauses_low : All (All (λ (l : Lit). l.var < n)) (clauses_at db refs) = All-map (All (λ (l : Lit). l.var < n)) (clause_at db) refs (λ k d below. low (get_or refs k d) _ (hints.held k d below)) in
+    let clauses_low : All (All (λ (l : Lit). l.var < n)) (clauses_at db refs) =
+    All-map (All (λ (l : Lit). l.var < n)) (clause_at db) refs (λ k d below. low (get_or refs k d) _ (hints.held k d below)) in
     let few = few_literals n given (given_once assumed (clauses_at db refs) given refutes) (given_low n assumed (clauses_at db refs) given clauses_low refutes) in
     let count = (given-determined Lit).count negation assumed (clauses_at db refs) given refutes in
     let size = length-map refs (clause_at db) in

@@ -13,7 +13,7 @@ use Rattle.neg_cycle.specs.Systems.{IsEdge, IsNegativeCycle, VisitsOnce}
 use Rattle.neg_cycle.proofs.LawLemmas.{excludes_cycles}
 use Rattle.difference_graph.specs.Graphs.{Constraints, IsSolved}
 use Rattle.skew_bounds.specs.Edges.{AreEdges}
-use Rattle.skew_bounds.proofs.Settled.{places-of-cycle}
+use Rattle.skew_bounds.proofs.Settled.{places-of-cycle, count-edges}
 use Rattle.clause_db.specs.declared.lit.Lit.{Lit}
 use Rattle.propagate.specs.declared.entry.Entry.{Entry}
 use Rattle.propagate.specs.Links.{edges_at, edges_of}
@@ -32,7 +32,7 @@ use Rattle.cdcl_core.specs.Recording.{IsRecord, read_clause}
 use Rattle.cdcl_core.specs.Running.{IsStuck}
 use Rattle.cdcl_core.specs.Walking.{denied_in, step_in}
 use Rattle.cdcl_core.proofs.Counts.{few_steps}
-use Rattle.cdcl_core.proofs.Cycles.{bound_count, walk_conflict}
+use Rattle.cdcl_core.proofs.Cycles.{walk_conflict}
 use Rattle.cdcl_core.proofs.Denied.{walk_denied}
 use Rattle.cdcl_core.proofs.Learning.{atoms_apart}
 use Rattle.cdcl_core.proofs.Records.{record_more}
@@ -74,7 +74,7 @@ module _ (log : Logged) (f : Form) (v : Bool) (atoms : List Atom) (db : List (Li
   within = places-of-cycle edges g.cycle cycle.closed
 
   count : length base ≡ length bounds
-  count = bound_count log bounds base are
+  count = count-edges log bounds base are
 
   refused_edge : IsEdge g.nodes stuck.refused.edge
   refused_edge = rw stuck.refused.of_literal at (stuck.step.step.linked.edges l)

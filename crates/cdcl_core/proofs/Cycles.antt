@@ -22,10 +22,11 @@ use Rattle.clause_db.specs.declared.lit.Lit.{Lit}
 use Rattle.propagate.specs.Links.{edge_in as sensed_edge, edge_of as edge_of_lit, edges_at, edges_of}
 use Rattle.axiom_rules.specs.declared.literal.Atom.{Atom}
 use Rattle.axiom_rules.specs.declared.literal.Atom.TheVariants.{Order, Node, First, Same, Wit, Span, Gap}
-use Rattle.skew_bounds.proofs.Settled.{closed-same, edge-at, edges_at as walked, places-of-cycle, sum-same}
+use Rattle.skew_bounds.proofs.Settled.{closed-same, edge-at, edges_at as walked, places-of-cycle, sum-same, count-edges}
 use Rattle.cdcl_core.specs.Orders.{AreLinks, IsOrderAmong, atom_at, linked, order_edges, order_step, read_lit, sensed_step}
 use Rattle.cdcl_core.specs.Walking.{lit_at, step_in}
-use Rattle.cdcl_core.proofs.Pairs.{atom_there, paired, parts_same}
+use Rattle.cdcl_core.proofs.Pairs.{atom_there, paired}
+use Rattle.mt_list.proofs.Lists.{parts_same}
 
 -- the edges of literals are those of the ones that have one
 sensed_some : (both : SystemEdge × SystemEdge) (b : Bool) → (x : SystemEdge) × (sensed_edge (Some both) b ≡ Some x)
@@ -35,7 +36,8 @@ sensed_some both false = (both.1, refl)
 pub linked_edges : (links : List (Option (SystemEdge × SystemEdge))) (lits : List Lit) → map (edge_of_lit links) (linked links lits) ≡ map Some (edges_of links lits)
 linked_edges links [] = refl
 linked_edges links (l ∷ ls) = go (edges_at links l.var) refl (linked_edges links ls) where
-  go : (o : Option (SystemEdge × SystemEdge)) → edges_at links l.var ≡ o → map (edge_of_lit links) (linked links ls) ≡ map Some (edges_of links ls) → map (edge_of_lit links) (linked links (l ∷ ls)) ≡ map Some (edges_of links (l ∷ ls))
+  go : (o : Option (SystemEdge × SystemEdge)) → edges_at links l.var ≡ o → map (edge_of_lit links) (linked links ls) ≡ map Some (edges_of links ls)
+      → map (edge_of_lit links) (linked links (l ∷ ls)) ≡ map Some (edges_of links (l ∷ ls))
   go None is rest = rw is rest
   go (Some both) is rest =
       let one = sensed_some both l.positive in
@@ -121,10 +123,6 @@ module _ (held : List SystemEdge) (e : SystemEdge) where
         | inl low ↦ absurd (solved places (record { closed = closed_before places low cycle.closed; negative = rw (sum_before places low) at cycle.negative }))
       ]
 
--- as many edges as bounds, and as literals that have one
-pub bound_count : (log : Logged) (bounds : List Bound) (base : List SystemEdge) → AreEdges log bounds base → length base ≡ length bounds
-bound_count log bounds base are = sym (sym (length-map bounds (λ b. edge_of log (step_of b))) ∙ ap length are ∙ length-map base (λ e. Some (edge_in e)))
-
 pub order_count : (links : List (Option (SystemEdge × SystemEdge))) (lits : List Lit) → length (linked links lits) ≡ length (edges_of links lits)
 order_count links lits = sym (length-map (linked links lits) (edge_of_lit links)) ∙ ap length (linked_edges links lits) ∙ length-map (edges_of links lits) Some
 
@@ -138,14 +136,16 @@ module _ (log : Logged) (bounds : List Bound) (base : List SystemEdge) (atoms : 
   edges = base ++ edges_of links lits
 
   base_size : length base ≡ length bounds
-  base_size = bound_count log bounds base are
+  base_size = count-edges log bounds base are
 
   order_size : length orders ≡ length (edges_of links lits)
   order_size = order_count links lits
 
   -- what the literal at a place after the bounds says
   pub order_at : (k : ℕ) → k < length orders → edge_of_lit links (lit_at orders k) ≡ Some (system.edge_at (edges_of links lits) k)
-  order_at k within = paired (edge_of_lit links) Some orders (edges_of links lits) (record { var = 0; positive = false }) (record { from = 0; to = 0; bound = pos 0 }) k (linked_edges links lits) (omega (arith, within, order_size))
+  order_at k within =
+      paired (edge_of_lit links) Some orders (edges_of links lits) (record { var = 0; positive = false }) (record { from = 0; to = 0; bound = pos 0 }) k
+      (linked_edges links lits) (omega (arith, within, order_size))
 
   order_edge : (k : ℕ) → k < length orders → sensed_edge (order_edges (atom_at atoms (lit_at orders k).var)) (lit_at orders k).positive ≡ Some (system.edge_at (edges_of links lits) k)
   order_edge k within =

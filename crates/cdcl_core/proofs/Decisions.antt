@@ -34,7 +34,8 @@ orders_by_links atoms links numbers values linked are v e f c is =
     le_value (value_at values v) (number_of numbers (e + 1) -ℤ number_of numbers (f + 1)) c here
 
 -- where each variable is assigned and nothing is left to propagate, the values of the variables satisfy all clauses
-pub whole_satisfies : (atoms : List Atom) (vars : ℕ) (db : List (List Lit)) (links : List (Option (Edge × Edge))) (t : Assigned) (g : Constraints) (values : List Bool) → IsRunning vars db links t g → AreLinks atoms links
+pub whole_satisfies : (atoms : List Atom) (vars : ℕ) (db : List (List Lit)) (links : List (Option (Edge × Edge))) (t : Assigned) (g : Constraints) (values : List Bool)
+    → IsRunning vars db links t g → AreLinks atoms links
     → AreSettled t.entries db → ((v : ℕ) → v < vars → IsUnassigned t.entries v → ⊥) → IsSolved g → AreValues t values → IsSatisfying atoms db g.numbers values
 whole_satisfies atoms vars db links t g values running linked settled whole solved are =
     let same : t.vars ≡ length atoms = let assigned = running.vars in let count = running.linked in let atoms_count = linked.count in omega (arith, assigned, count, atoms_count) in
@@ -46,7 +47,8 @@ whole_satisfies atoms vars db links t g values running linked settled whole solv
     }
 
 -- the first of a variable's edges is that of its positive literal
-pub first_edge : (links : List (Option (Edge × Edge))) (v nodes : ℕ) (first second : Edge) → Some (first, second) ≡ edges_at links v → ((l : Lit) → IfSome (edge_of links l) (IsEdge nodes)) → IsEdge nodes first
+pub first_edge : (links : List (Option (Edge × Edge))) (v nodes : ℕ) (first second : Edge) → Some (first, second) ≡ edges_at links v
+    → ((l : Lit) → IfSome (edge_of links l) (IsEdge nodes)) → IsEdge nodes first
 first_edge links v nodes first second is all = let l : Lit = record { var = v; positive = true } in rw (← is) at (all l)
 
 -- one more value of a variable
@@ -59,7 +61,8 @@ order_values_next links numbers values v b count old here w low = elim (below_or
 ]
 
 -- beyond the last value there are no edges
-pub order_values_all : (links : List (Option (Edge × Edge))) (numbers : List ℤ) (values : List Bool) (vars : ℕ) → length links ≡ vars → ((w : ℕ) → w < vars → IfSome (edges_at links w) (λ both. IsTrue (value_at values w) ↔ Meets numbers both.0))
+pub order_values_all : (links : List (Option (Edge × Edge))) (numbers : List ℤ) (values : List Bool) (vars : ℕ) → length links ≡ vars
+    → ((w : ℕ) → w < vars → IfSome (edges_at links w) (λ both. IsTrue (value_at values w) ↔ Meets numbers both.0))
     → AreOrderValues links numbers values
 order_values_all links numbers values vars count below w = elim (cases_lt w vars) [
   | inl less ↦ below w less

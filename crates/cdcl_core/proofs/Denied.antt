@@ -14,6 +14,7 @@ use Rattle.mt_model.specs.Bounds.{step_of}
 use Rattle.mt_model.specs.Log.{Logged}
 use Rattle.neg_cycle.specs.declared.system.Edge.{Edge as SystemEdge}
 use Rattle.skew_bounds.specs.Edges.{AreEdges, bound_at}
+use Rattle.skew_bounds.proofs.Settled.{count-edges}
 use Rattle.clause_db.specs.declared.lit.Lit.{Lit}
 use Rattle.propagate.specs.Links.{edges_of}
 use Rattle.axiom_rules.specs.declared.literal.Atom.{Atom}
@@ -22,8 +23,8 @@ use Rattle.axiom_rules.specs.declared.literal.Literal.{Literal}
 use Rattle.proof_log.specs.Derivations.{negated_step}
 use Rattle.cdcl_core.specs.Orders.{IsOrderAmong, atom_at, linked, order_step, read_lit, sensed_step}
 use Rattle.cdcl_core.specs.Walking.{denied_at, denied_in, lit_at, step_in}
-use Rattle.cdcl_core.proofs.Pairs.{parts_same}
 use Rattle.cdcl_core.proofs.Cycles as cycles
+use Rattle.mt_list.proofs.Lists.{parts_same}
 
 -- the negation of the step of an order literal is that of the literal
 back : (c : ℤ) → neg_ℤ (neg_ℤ c -ℤ pos 1) -ℤ pos 1 ≡ c
@@ -60,7 +61,7 @@ module _ (log : Logged) (bounds : List Bound) (base : List SystemEdge) (atoms : 
   edges = base ++ edges_of links lits
 
   bound_count : length base ≡ length bounds
-  bound_count = cycles.bound_count log bounds base are
+  bound_count = count-edges log bounds base are
 
   order_count : length orders ≡ length (edges_of links lits)
   order_count = cycles.order_count links lits
@@ -82,7 +83,8 @@ module _ (log : Logged) (bounds : List Bound) (base : List SystemEdge) (atoms : 
         (among (lit_at orders (p - length bounds)).var _ (low (p - length bounds) _ k_in)) ordered_)
   ]
 
-  given : (o : Option Literal) (q : Option Lit) (ls : List Literal) (ms : List Lit) → o ≡ option_map (read_lit atoms) q → ls ≡ map (read_lit atoms) ms → cons_option o ls ≡ map (read_lit atoms) (cons_option q ms)
+  given : (o : Option Literal) (q : Option Lit) (ls : List Literal) (ms : List Lit) → o ≡ option_map (read_lit atoms) q → ls ≡ map (read_lit atoms) ms
+      → cons_option o ls ≡ map (read_lit atoms) (cons_option q ms)
   given o None ls ms same rest = rw (same, rest) refl
   given o (Some m) ls ms same rest = rw (same, rest) refl
 

@@ -43,7 +43,8 @@ last_decided t lit mark =
     record { place = length t.entries; is_last = length_push t.entries e; is = ap (λ (x : Entry). x.lit) (get_or_push t.entries e no_entry (length t.entries) refl) }
 
 -- a decision leaves fewer variables unassigned
-pub decided_fewer : (t : Assigned) (lit : Lit) (mark : ℕ) → IsTrail t → lit.var < t.vars → IsUnassigned t.entries lit.var → (length (decided t lit mark).entries ≡ length t.entries + 1) × (length t.entries < t.vars)
+pub decided_fewer : (t : Assigned) (lit : Lit) (mark : ℕ) → IsTrail t → lit.var < t.vars → IsUnassigned t.entries lit.var
+    → (length (decided t lit mark).entries ≡ length t.entries + 1) × (length t.entries < t.vars)
 decided_fewer t lit mark trail low free =
     let few = few_literals (decided t lit mark) (trail_decided t lit mark trail low free) in
     let longer = length_push t.entries (record { lit = lit; level = length t.levels + 1; reason = None }) in

@@ -45,13 +45,15 @@ refuted_found p n budget lines less refutation log f v valid fits = (
 
 module _ (p : Problem) (s : SearchState) (n : ℕ) where
   -- what satisfies the problem and all that was derived is a model
-  pub model_found : (values : List Bool) (numbers : List ℤ) → IsSearch p s n → IsSatisfying p.atoms s.derived.db s.graph.numbers values → IsSolved s.graph → numbers ≡ s.graph.numbers → IsModel p values numbers
+  pub model_found : (values : List Bool) (numbers : List ℤ) → IsSearch p s n → IsSatisfying p.atoms s.derived.db s.graph.numbers values → IsSolved s.graph
+      → numbers ≡ s.graph.numbers → IsModel p values numbers
   model_found values numbers search satisfying solved is =
       let clauses = search.search_for.clauses in
       rw is (record {
         values_count = satisfying.count;
         numbers_count = solved.potential.count ∙ search.search_for.nodes;
-        clauses = all_front (λ lits. list_any (value_of (value_at values)) lits ≡ true) p.db clauses.0 (subst (All (λ lits. list_any (value_of (value_at values)) lits ≡ true)) clauses.1 satisfying.clauses);
+        clauses =
+            all_front (λ lits. list_any (value_of (value_at values)) lits ≡ true) p.db clauses.0 (subst (All (λ lits. list_any (value_of (value_at values)) lits ≡ true)) clauses.1 satisfying.clauses);
         edges = all_front (Meets s.graph.numbers) p.edges (edges_of s.theory.links (literals s.trail.entries)) (subst (All (Meets s.graph.numbers)) search.run.step.edges solved.potential.meets);
         orders = satisfying.orders;
       })
@@ -77,7 +79,10 @@ module _ (p : Problem) (s : SearchState) (n : ℕ) where
         count = sym (lessons_learn s.derived.lines derives.none_empty) ∙ search.spent.lesson_count ∙ all;
         fresh = spending.fresh;
         used = spending.used;
-        occur = All-weaker (All own) (All occurs) (All-weaker own occurs (λ l has. All-contains (OccursInRules (sought_of log f v)) p.atoms l.atom spending.occur has)) (learnt s.derived.lines) spending.own;
+        occur =
+            All-weaker (All own) (All occurs)
+            (All-weaker own occurs (λ l has. All-contains (OccursInRules (sought_of log f v)) p.atoms l.atom spending.occur has))
+            (learnt s.derived.lines) spending.own;
       }
 
   pub spent_found : (budget : ℕ) → n ≡ budget → IsSearch p s n → (log : Logged) (f : Form) (v : Bool) → IsLog log → Fits (sought_of log f v) p

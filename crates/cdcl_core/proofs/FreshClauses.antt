@@ -27,7 +27,8 @@ module _ (t : Assigned) (trail : IsTrail t) where
       apart_from_negation l (sym at_j ∙ ap (λ (i : ℕ). (entry_at t.entries i).lit) same ∙ at_k))
 
   -- where the levels below leave nothing to propagate, propagation from the negations of the other literals doesn't reach the first
-  pub misses_below : (known : List (List Lit)) (first : Lit) (others : List Lit) → ClosedAt t known (length t.levels - 1) → IsUnitBelow t (first ∷ others) → Misses negation known (map negation others) first
+  pub misses_below : (known : List (List Lit)) (first : Lit) (others : List Lit) → ClosedAt t known (length t.levels - 1) → IsUnitBelow t (first ∷ others)
+      → Misses negation known (map negation others) first
   misses_below known first others closed unit = record {
     set = low (length t.levels - 1);
     closed = settled-closed Lit negation known (low (length t.levels - 1)) (consistent (length t.levels - 1)) closed;

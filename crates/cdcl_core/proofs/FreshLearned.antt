@@ -72,7 +72,8 @@ module _ (log : Logged) (f : Form) (v : Bool) (rules : List Rule) (atoms : List 
     read_new [] ls_low ls_unit = ls_unit
     read_new (first ∷ others) ls_low ls_unit =
         let missed = misses_read atoms once known first others known_within ls_low (misses_below t trail known first others (quiet.closed some) ls_unit) in
-        (closed-by_clauses Literal).missed negated (map (read_clause atoms) known) (known_before s rules (lines ++ d ∷ []) (length lines + 1)) (map negated (read_clause atoms others)) (read_lit atoms first) known_all missed
+        (closed-by_clauses Literal).missed negated (map (read_clause atoms) known) (known_before s rules (lines ++ d ∷ []) (length lines + 1))
+        (map negated (read_clause atoms others)) (read_lit atoms first) known_all missed
 
     fresh_learned : Fresh log f v rules (lines ++ d ∷ []) (length lines + 1)
     fresh_learned = record {
@@ -96,7 +97,9 @@ module _ (log : Logged) (f : Form) (v : Bool) (rules : List Rule) (atoms : List 
         let clauses = map (read_clause atoms) (db ++ lits ∷ []) in
         spending_more log f v rules atoms known (db ++ lits ∷ []) cites lines d (length lines + 1) (extends lits) old named
         (All-cons (Contains clauses) own [] (subst (Contains clauses) (sym own_is) (contains_map (read_clause atoms) (db ++ lits ∷ []) lits (Contains-push db lits))) (All-nil (Contains clauses)))
-        (All-cons (All (λ (l : Literal). Contains atoms l.atom)) own [] (subst (All (λ (l : Literal). Contains atoms l.atom)) (sym own_is) (read_own atoms lits low)) (All-nil (All (λ (l : Literal). Contains atoms l.atom))))
+        (All-cons (All (λ (l : Literal). Contains atoms l.atom)) own []
+        (subst (All (λ (l : Literal). Contains atoms l.atom)) (sym own_is) (read_own atoms lits low))
+        (All-nil (All (λ (l : Literal). Contains atoms l.atom))))
         (λ learn. fresh_learned) (λ learn. used_learned)
 
   -- so is what a line of its literals and its hints is spent on

@@ -80,7 +80,8 @@ extremes-same : (log : Logged) (x y : Extremes) → AreExtremes log x → AreExt
 extremes-same log x y a b = λ i. record { greatest = λ e f. (greatest-same log x y a b e f) i; least = λ e f. (least-same log x y a b e f) i }
 
 -- rules that are kept for a log, a formula and a value
-pub kept_refuted : (log : Logged) (f : Form) (v : Bool) (rules others : List Rule) → Kept log f v rules → Kept log f v others → IsRefutedByRules (sought_of log f v) rules → IsRefutedByRules (sought_of log f v) others
+pub kept_refuted : (log : Logged) (f : Form) (v : Bool) (rules others : List Rule) → Kept log f v rules → Kept log f v others
+    → IsRefutedByRules (sought_of log f v) rules → IsRefutedByRules (sought_of log f v) others
 kept_refuted log f v rules others (inl kept) (inl same) refuted =
     let s = sought_of log f v in
     let one = extremes-same log kept.extremes same.extremes kept.are same.are in

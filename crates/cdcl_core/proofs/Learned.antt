@@ -27,7 +27,8 @@ module _ (db : List (List Lit)) (t : Assigned) (g : Constraints) (c : ℕ) where
   asserting_some (l ∷ ls) asserting = omega arith
 
   -- with the learned clause the trail that went back, to the jump or further, is a run
-  pub back_run : (lits : List Lit) (jump level : ℕ) (u : Assigned) (h : Constraints) → 0 < length t.levels → level ≤ jump → IsAsserting t lits → IsJump t.entries lits jump → All (λ l. l.var < t.vars) lits
+  pub back_run : (lits : List Lit) (jump level : ℕ) (u : Assigned) (h : Constraints) → 0 < length t.levels → level ≤ jump → IsAsserting t lits
+      → IsJump t.entries lits jump → All (λ l. l.var < t.vars) lits
       → ((m : ℕ) → m < jump → HasTwoAbove t.entries m (clause_at db c)) → IsTrail u
       → ((d : List (List Lit)) (links : List (Option (Edge × Edge))) (base : List Edge) → InStep t d links base g → InStep u d links base h)
       → (level < length t.levels → (d : List (List Lit)) (links : List (Option (Edge × Edge))) (base : List Edge) → LacksLast t d links base g → InStep u d links base h)

@@ -62,7 +62,8 @@ module _ (log : Logged) (f : Form) (v : Bool) (atoms : List Atom) (db : List (Li
   learn_right lits refs (line.Learn own cited) low vars hints (own_is, cited_is, numbers) = record {
     spelled = record {
       lit_count = let many = few_literals (length atoms) lits vars low in let size = length-map lits (read_lit atoms) in let same = ap length own_is in omega (arith, many, size, same, few);
-      hint_count = let many = few_hints (length atoms) db (map negation lits) refs within hints in let size = length-map refs (cite_at cites) in let same = ap length cited_is in omega (arith, many, size, same, few);
+      hint_count = let many = few_hints (length atoms) db (map negation lits) refs within hints in let size = length-map refs (cite_at cites) in
+          let same = ap length cited_is in omega (arith, many, size, same, few);
       each_lit = λ k d below. literal_spelled (length log.rows + 1) (get_or own k d) (own_among k d below) (numbers k d below);
       each_hint = subst (All IsSpelledHint) (sym cited_is) (All-map IsSpelledHint (cite_at cites) refs (λ k d below. old.cited.spelled (get_or refs k d) (hint.Line 0) (hint_there k d below)));
       once = λ i j d less below same. own_apart i j d less below (sym same);
@@ -73,7 +74,9 @@ module _ (log : Logged) (f : Form) (v : Bool) (atoms : List Atom) (db : List (Li
     clause_is = own_is;
   } where
     own_among : All (λ (l : Literal). IsOrderAmong (length log.rows + 1) l.atom) own
-    own_among = subst (All (λ (l : Literal). IsOrderAmong (length log.rows + 1) l.atom)) (sym own_is) (All-map (λ (l : Literal). IsOrderAmong (length log.rows + 1) l.atom) (read_lit atoms) lits (λ k d below. old.of_log.orders (get_or lits k d).var _ (low k d below)))
+    own_among =
+        subst (All (λ (l : Literal). IsOrderAmong (length log.rows + 1) l.atom)) (sym own_is)
+        (All-map (λ (l : Literal). IsOrderAmong (length log.rows + 1) l.atom) (read_lit atoms) lits (λ k d below. old.of_log.orders (get_or lits k d).var _ (low k d below)))
 
     own_apart : AllPairs (λ (l m : Literal). l.atom ≢ m.atom) own
     own_apart = subst (AllPairs (λ (l m : Literal). l.atom ≢ m.atom)) (sym own_is) (atoms_apart atoms lits once low vars)

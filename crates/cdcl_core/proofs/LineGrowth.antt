@@ -4,7 +4,7 @@ use Rattle.std.specs.Prelude.{if◌then◌else◌, nat_lt, option_map, slice_get
 use Rattle.std.proofs.lemmas.Bool.{cases_lt, lt-ltb, ltb-true}
 use Rattle.std.proofs.lemmas.List.{length_push}
 use Rattle.std.proofs.lemmas.List.Sums.{sum_by_push}
-use Rattle.std.proofs.lemmas.Option.{slice_get_past, slice_get_within}
+use Rattle.std.proofs.lemmas.Option.{slice_get_past}
 use Rattle.mt_model.specs.Form.{Form}
 use Rattle.mt_model.specs.Log.{Logged}
 use Rattle.axiom_rules.specs.declared.literal.Literal.{Literal}
@@ -16,19 +16,12 @@ use Rattle.proof_log.specs.declared.line.Line.TheVariants as line
 use Rattle.proof_log.specs.Derivations.{Derives, HasClauses, IsEmptyAt, IsShown, NoneWrong, Refutes, RightLine, clause_of_hint, clause_of_line, line_at}
 use Rattle.proof_log.specs.Spelled.{IsSpelled}
 use Rattle.cdcl_core.specs.Founds.{is_lesson, lessons}
-use Rattle.cdcl_core.proofs.Pairs.{parts_same}
+use Rattle.mt_list.proofs.Lists.{got_last, got_kept, parts_same}
 
 got_same : {X : Type 0} (xs ys : List X) (n : ℕ) → n < length xs → slice_get (xs ++ ys) n ≡ slice_get xs n
 got_same [] ys n low = absurd (omega arith)
 got_same (y ∷ xs) ys zero low = refl
 got_same (y ∷ xs) ys (suc n) low = got_same xs ys n (omega arith)
-
-got_kept : {X : Type 0} (xs ys : List X) (n : ℕ) (x : X) → slice_get xs n ≡ Some x → slice_get (xs ++ ys) n ≡ Some x
-got_kept xs ys n x at = got_same xs ys n (slice_get_within xs n x at) ∙ at
-
-got_last : {X : Type 0} (xs : List X) (x : X) → slice_get (xs ++ x ∷ []) (length xs) ≡ Some x
-got_last [] x = refl
-got_last (y ∷ xs) x = got_last xs x
 
 -- a line stays where it is
 pub line_kept : (lines more : List Line) (n : ℕ) (d : Line) → line_at lines n ≡ Some d → line_at (lines ++ more) n ≡ Some d

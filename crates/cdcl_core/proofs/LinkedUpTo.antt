@@ -79,7 +79,8 @@ module _ (links : List (Option (Edge × Edge))) (xs : List Entry) (o : LinkedLit
   ]
 
 -- as many literals have an edge as edges are held after those of the base
-pub held_count : (links : List (Option (Edge × Edge))) (base edges : List Edge) (lits : List Lit) (held many : ℕ) → edges ≡ base ++ edges_of links lits → length base ≡ many → held ≡ length edges - many → held ≡ length (linked links lits)
+pub held_count : (links : List (Option (Edge × Edge))) (base edges : List Edge) (lits : List Lit) (held many : ℕ) → edges ≡ base ++ edges_of links lits
+    → length base ≡ many → held ≡ length edges - many → held ≡ length (linked links lits)
 held_count links base edges lits held many is count held_is =
     let all : length edges ≡ length (base ++ edges_of links lits) = ap length is in
     omega (arith, all, length-append base (edges_of links lits), order_count links lits, count, held_is)

@@ -1,11 +1,11 @@
 -- A whole assignment under which nothing is left to propagate is a model.
-use Rattle.std.proofs.Common.{◌≡◌, ◌≢◌, ◌⊎◌, ◌∙◌, sym, ap, refl, subst, ℕ, suc, ◌+◌, ◌<◌, inl, inr, Bool, true, false, List, [], ◌∷◌, ◌++◌, length, Option, Some, None, arith, ℤ, pos, ◌-ℤ◌, ◌≤ℤ◌, neg_ℤ}
-use Rattle.std.specs.Prelude.{not, if◌then◌else◌, int_le, All}
-use Rattle.std.specs.List.{Contains, cons_option, filter_map, list_any}
-use Rattle.std.proofs.lemmas.Bool.{cases_eq, or_left, or_right}
+use Rattle.std.proofs.Common.{◌≡◌, ◌≢◌, ◌⊎◌, ◌∙◌, sym, ap, refl, subst, ℕ, suc, ◌+◌, ◌<◌, inl, inr, Bool, true, false, List, [], ◌∷◌, ◌++◌, length, Option, Some, arith, ℤ, pos, ◌-ℤ◌, ◌≤ℤ◌, neg_ℤ}
+use Rattle.std.specs.Prelude.{int_le, All}
+use Rattle.std.specs.List.{Contains, list_any}
+use Rattle.std.proofs.lemmas.Bool.{cases_eq}
 use Rattle.std.proofs.lemmas.Int.{ints}
 use Rattle.std.proofs.lemmas.List.Elements.{All-nil, All-cons, All-contains, All-get_or}
-use Rattle.hint_refutation.proofs.Lists.{any_found, contains_cases, contains_first, contains_later, contains_none}
+use Rattle.hint_refutation.proofs.Lists.{any_found, contains_later, any_true, given_stands}
 use Rattle.std.proofs.lemmas.Option.{slice_get_within}
 use Rattle.hint_refutation.specs.Propagation.{IsSettled}
 use Rattle.neg_cycle.specs.declared.system.Edge.{Edge}
@@ -26,23 +26,7 @@ use Rattle.axiom_rules.specs.Atoms.{IsVar}
 use Rattle.mtl_encode.specs.Models.{value_at}
 use Rattle.cdcl_core.specs.Assignments.{AreValues}
 use Rattle.cdcl_core.specs.Orders.{AreLinks, order_edges}
-
-any_true : {X : Type 0} (p : X → Bool) (xs : List X) (x : X) → Contains xs x → p x ≡ true → list_any p xs ≡ true
-any_true p [] x has is = absurd (contains_none x has)
-any_true p (y ∷ ys) x has is = elim (contains_cases y x ys has) [
-  | inl here ↦ or_left (p y) (list_any p ys) (rw here is)
-  | inr there ↦ or_right (p y) (list_any p ys) (any_true p ys x there is)
-]
-
-given_stands : {X Y : Type 0} (h : X → Option Y) (xs : List X) (x : X) (y : Y) → Contains xs x → h x ≡ Some y → Contains (filter_map h xs) y
-given_stands {Y = Y} h [] x y has is = absurd (contains_none x has)
-given_stands {Y = Y} h (z ∷ zs) x y has is = elim (contains_cases z x zs has) [
-  | inl here ↦ rw (here, is) (contains_first y (filter_map h zs))
-  | inr there ↦ later (h z) (given_stands h zs x y there is)
-] where
-  later : (o : Option Y) → Contains (filter_map h zs) y → Contains (cons_option o (filter_map h zs)) y
-  later None has = has
-  later (Some w) has = contains_later w y (filter_map h zs) has
+use Rattle.axiom_rules.proofs.RulesHold.{of-sense}
 
 contains_right : {X : Type 0} (xs ys : List X) (y : X) → Contains ys y → Contains (xs ++ ys) y
 contains_right [] ys y has = has
@@ -54,17 +38,13 @@ le_is a b c le = grind (arith, ints)
 le_is_not : (a b c : ℤ) → (b -ℤ a) ≤ℤ (neg_ℤ c -ℤ pos 1) → int_le (a -ℤ b) c ≡ false
 le_is_not a b c le = grind (arith, ints)
 
-true_where : (b value : Bool) → value ≡ b → (if b then value else not value) ≡ true
-true_where true value is = is
-true_where false value is = ap not is
-
 module _ (t : Assigned) (values : List Bool) (are : AreValues t values) where
   -- a literal of the trail is true
   held_true : (l : Lit) → Contains (literals t.entries) l → value_of (value_at values) l ≡ true
   held_true l has =
       let at = literal_at t.entries l has in
       let sense = All-get_or (λ (e : Entry). value_at values e.lit.var ≡ e.lit.positive) t.entries has.0 no_entry at.0 are.sense in
-      true_where l.positive (value_at values l.var) (subst (λ (x : Lit). value_at values x.var ≡ x.positive) at.1 sense)
+      of-sense l.positive (value_at values l.var) (subst (λ (x : Lit). value_at values x.var ≡ x.positive) at.1 sense)
 
   module _ (whole : (v : ℕ) → v < t.vars → IsUnassigned t.entries v → ⊥) where
     -- a variable has a literal on the trail

@@ -42,8 +42,10 @@ module _ (p : Interval → Bool) where
   core-passes (And f g) all = let two = parts (intervals_of f) (intervals_of g) all in both (intervals_of (core_of f)) (intervals_of (core_of g)) (core-passes f two.0) (core-passes g two.1)
   core-passes (Or f g) all = let two = parts (intervals_of f) (intervals_of g) all in both (intervals_of (core_of f)) (intervals_of (core_of g)) (core-passes f two.0) (core-passes g two.1)
   core-passes (Implies f g) all = let two = parts (intervals_of f) (intervals_of g) all in both (intervals_of (core_of f)) (intervals_of (core_of g)) (core-passes f two.0) (core-passes g two.1)
-  core-passes (Until I f g) all = let three = around I (intervals_of f) (intervals_of g) all in with_one I (intervals_of (core_of f)) (intervals_of (core_of g)) (core-passes f three.0) three.1 (core-passes g three.2)
-  core-passes (Since I f g) all = let three = around I (intervals_of f) (intervals_of g) all in with_one I (intervals_of (core_of f)) (intervals_of (core_of g)) (core-passes f three.0) three.1 (core-passes g three.2)
+  core-passes (Until I f g) all = let three = around I (intervals_of f) (intervals_of g) all in
+      with_one I (intervals_of (core_of f)) (intervals_of (core_of g)) (core-passes f three.0) three.1 (core-passes g three.2)
+  core-passes (Since I f g) all = let three = around I (intervals_of f) (intervals_of g) all in
+      with_one I (intervals_of (core_of f)) (intervals_of (core_of g)) (core-passes f three.0) three.1 (core-passes g three.2)
   core-passes (Eventually I f) all = let two = and_parts (p I) (list_all p (intervals_of f)) all in and_from (p I) (list_all p (intervals_of (core_of f))) two.0 (core-passes f two.1)
   core-passes (Always I f) all = let two = and_parts (p I) (list_all p (intervals_of f)) all in and_from (p I) (list_all p (intervals_of (core_of f))) two.0 (core-passes f two.1)
   core-passes (Once I f) all = let two = and_parts (p I) (list_all p (intervals_of f)) all in and_from (p I) (list_all p (intervals_of (core_of f))) two.0 (core-passes f two.1)

@@ -4,10 +4,7 @@ use Rattle.std.proofs.lemmas.Option.{slice_get-get_or}
 use Rattle.axiom_rules.specs.declared.literal.Atom.{Atom}
 use Rattle.axiom_rules.specs.Atoms.{IsVar}
 use Rattle.cdcl_core.specs.Orders.{atom_at}
-
--- the first elements of equal lists, and the others
-pub parts_same : {X : Type 0} (x y : X) (xs ys : List X) → x ∷ xs ≡ y ∷ ys → (x ≡ y) × (xs ≡ ys)
-parts_same x y xs ys same = (cc, cc)
+use Rattle.mt_list.proofs.Lists.{parts_same}
 
 pub paired : {A B C : Type 0} (f : A → C) (g : B → C) (xs : List A) (ys : List B) (a : A) (b : B) (k : ℕ) → map f xs ≡ map g ys → k < length ys → f (get_or xs k a) ≡ g (get_or ys k b)
 paired f g [] [] a b k same within = absurd (omega arith)

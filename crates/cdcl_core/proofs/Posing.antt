@@ -22,7 +22,8 @@ node_number : (t : List ℤ) (n : ℕ) → number_of (pos 0 ∷ t) n ≡ node_ti
 node_number t zero = refl
 node_number t (suc e) = refl
 
-edges_met : (log : Logged) (t : List ℤ) (bounds : List Bound) (edges : List Edge) → AreEdges log bounds edges → All (λ b. IfSome (edge_of log (step_of b)) (MeetsEdge t)) bounds → All (Meets (pos 0 ∷ t)) edges
+edges_met : (log : Logged) (t : List ℤ) (bounds : List Bound) (edges : List Edge) → AreEdges log bounds edges
+    → All (λ b. IfSome (edge_of log (step_of b)) (MeetsEdge t)) bounds → All (Meets (pos 0 ∷ t)) edges
 edges_met log t [] [] are met = All-nil (Meets (pos 0 ∷ t))
 edges_met log t [] (e ∷ es) are met = absurd (cc)
 edges_met log t (b ∷ bs) [] are met = absurd (cc)

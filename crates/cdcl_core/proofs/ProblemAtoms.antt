@@ -62,17 +62,20 @@ fits-atoms P s p fits each k d low =
     subst P is (each rule stands.clause l stands.of_rule in_)
 
 three-in-range : (s : Sought) (k i j : ℕ) → IsReach s k × (i < length s.log.rows) × (j < length s.log.rows) → (is_reach s k && is_event s i && is_event s j) ≡ true
-three-in-range s k i j known = and_from (is_reach s k && is_event s i) (is_event s j) (and_from (is_reach s k) (is_event s i) known.0 (lt-ltb i (length s.log.rows) known.1)) (lt-ltb j (length s.log.rows) known.2)
+three-in-range s k i j known =
+    and_from (is_reach s k && is_event s i) (is_event s j) (and_from (is_reach s k) (is_event s i) known.0 (lt-ltb i (length s.log.rows) known.1)) (lt-ltb j (length s.log.rows) known.2)
 
 -- below the number of the nodes
 abbrev IsNode : Sought → ℕ → Type 0
 IsNode s k = k < length s.trees
 
 in-range-made : (s : Sought) (B : ℤ → Type 0) (a : Atom) → IsMadeOf s (IsNode s) B a → IsTrue (is_in_range s a)
-in-range-made s B (Order e f c) made = and_from (nat_lt e (length s.log.rows)) (nat_lt f (length s.log.rows)) (lt-ltb e (length s.log.rows) (omega (arith, made.0, made.1))) (lt-ltb f (length s.log.rows) made.1)
+in-range-made s B (Order e f c) made =
+    and_from (nat_lt e (length s.log.rows)) (nat_lt f (length s.log.rows)) (lt-ltb e (length s.log.rows) (omega (arith, made.0, made.1))) (lt-ltb f (length s.log.rows) made.1)
 in-range-made s B (Node k e) made = and_from (nat_lt k (length s.trees)) (nat_lt e (length s.log.rows)) (lt-ltb k (length s.trees) made.0) (lt-ltb e (length s.log.rows) made.1)
 in-range-made s B (First e) made = lt-ltb e (length s.log.rows) made
-in-range-made s B (Same e x) made = and_from (nat_lt e (length s.log.rows)) (nat_lt x (length s.log.rows)) (lt-ltb e (length s.log.rows) (omega (arith, made.0, made.1))) (lt-ltb x (length s.log.rows) made.1)
+in-range-made s B (Same e x) made =
+    and_from (nat_lt e (length s.log.rows)) (nat_lt x (length s.log.rows)) (lt-ltb e (length s.log.rows) (omega (arith, made.0, made.1))) (lt-ltb x (length s.log.rows) made.1)
 in-range-made s B (Wit k i j) made = three-in-range s k i j made
 in-range-made s B (Span k i j) made = three-in-range s k i j made
 in-range-made s B (Gap k i m) made = three-in-range s k i m made

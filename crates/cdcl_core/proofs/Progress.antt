@@ -68,7 +68,8 @@ module _ (p : Problem) (s : SearchState) where
     pub cites_count : length s.derived.cites ≡ length s.derived.db
     cites_count = let posed = own.theory_of.posed in (own.derives posed.log posed.form posed.value posed.valid posed.fits).cited.count
 
-    for_moved : (u : Assigned) (h : Constraints) (y : Strategy) → u.vars ≡ s.trail.vars → HasSameLimits s.graph h → take (length s.trail.entries) u.entries ≡ s.trail.entries → length s.trail.entries ≤ length u.entries
+    for_moved : (u : Assigned) (h : Constraints) (y : Strategy) → u.vars ≡ s.trail.vars → HasSameLimits s.graph h
+        → take (length s.trail.entries) u.entries ≡ s.trail.entries → length s.trail.entries ≤ length u.entries
         → IsSearchFor p (moved s u h y)
     for_moved u h y same limits kept longer = record {
       theory_of = own.theory_of;
@@ -109,16 +110,19 @@ module _ (p : Problem) (s : SearchState) where
       search_stopped x stopped = record { search_for = for_moved search.search_for u h y same limits kept longer; spent = spent_moved n 0 s.derived.db u h y search.spent; stopped = stopped }
 
       -- so after propagation, ..
-      pub search_grown : IsTrail u → (Closed s.trail s.derived.db → Closed u s.derived.db) → ((b : List Edge) → InStep s.trail s.derived.db s.theory.links b s.graph → InStep u s.derived.db s.theory.links b h) → IsSearch p (moved s u h y) n
+      pub search_grown : IsTrail u → (Closed s.trail s.derived.db → Closed u s.derived.db)
+          → ((b : List Edge) → InStep s.trail s.derived.db s.theory.links b s.graph → InStep u s.derived.db s.theory.links b h) → IsSearch p (moved s u h y) n
       search_grown trail closed step = search_on (run_grown s.derived.db s.theory.links p.edges s.trail u s.graph h trail closed step search.run)
 
-      pub search_false : (c : ℕ) → IsTrail u → (Closed s.trail s.derived.db → Closed u s.derived.db) → ((b : List Edge) → InStep s.trail s.derived.db s.theory.links b s.graph → InStep u s.derived.db s.theory.links b h)
+      pub search_false : (c : ℕ) → IsTrail u → (Closed s.trail s.derived.db → Closed u s.derived.db)
+          → ((b : List Edge) → InStep s.trail s.derived.db s.theory.links b s.graph → InStep u s.derived.db s.theory.links b h)
           → IsConflict u s.derived.db c → IsStopped p (moved s u h y) n (conflict.False c)
       search_false c trail closed step falsified = search_stopped (conflict.False c) (run_grown s.derived.db s.theory.links p.edges s.trail u s.graph h trail closed step search.run, falsified)
 
       pub search_refused : (l : Lit) → IsTrail u → (Closed s.trail s.derived.db → Closed u s.derived.db) → IsLast u l → IsRefused s.theory.links l h
           → ((b : List Edge) → InStep s.trail s.derived.db s.theory.links b s.graph → LacksLast u s.derived.db s.theory.links b h) → IsStopped p (moved s u h y) n (conflict.Refused l)
-      search_refused l trail closed last refused lacks = search_stopped (conflict.Refused l) (record { trail = trail; last = last; refused = refused; step = lacks p.edges search.run.step; closed = closed search.run.closed })
+      search_refused l trail closed last refused lacks =
+          search_stopped (conflict.Refused l) (record { trail = trail; last = last; refused = refused; step = lacks p.edges search.run.step; closed = closed search.run.closed })
 
       -- .. and after a decision where nothing was left to propagate
       pub search_decided : IsTrail u → ((d : List (List Lit)) → Closed s.trail d → ClosedAt s.trail d (length s.trail.levels) → Closed u d) → ClosedAt s.trail s.derived.db (length s.trail.levels)
@@ -154,12 +158,15 @@ module _ (p : Problem) (s : SearchState) where
   stuck_over n l stopped = record { base = p.edges; literal = l; count = edges_count stopped.search_for; stuck = stopped.stopped }
 
   -- the clause of its walk is in conflict
-  pub midway_cycle : (n c : ℕ) (l : Lit) (o : LinkedLits) (k : Derived) → IsStopped p s n (conflict.Refused l) → o.seen ≡ length s.trail.entries → o.lits.items ≡ linked s.theory.links (literals s.trail.entries) → length k.db ≡ length s.derived.db + 1 → Extends s.derived.db k.db → length k.lines ≡ length s.derived.lines + 1
+  pub midway_cycle : (n c : ℕ) (l : Lit) (o : LinkedLits) (k : Derived) → IsStopped p s n (conflict.Refused l) → o.seen ≡ length s.trail.entries
+      → o.lits.items ≡ linked s.theory.links (literals s.trail.entries) → length k.db ≡ length s.derived.db + 1 → Extends s.derived.db k.db
+      → length k.lines ≡ length s.derived.lines + 1
       → lessons k.lines ≡ lessons s.derived.lines
       → ((base : List Edge) (m : Lit) → length base ≡ length s.theory.bounds → IsStuck s.derived.db s.theory.links base s.trail s.graph m → IsConflicted k.db s.theory.links base s.trail s.graph c)
       → ((log : Logged) (f : Form) (v : Bool) (base : List Edge) (m : Lit) → AreEdges log s.theory.bounds base → IsStuck s.derived.db s.theory.links base s.trail s.graph m
       → IsRecord log f v s.theory.atoms s.derived.db s.derived.cites s.derived.lines → IsRecord log f v s.theory.atoms k.db k.cites k.lines)
-      → ((log : Logged) (f : Form) (v : Bool) (rules : List Rule) (table : List Atom) (known : List (List Lit)) → IsSpending log f v rules table known s.derived.cites s.derived.lines → IsSpending log f v rules table known k.cites k.lines)
+      → ((log : Logged) (f : Form) (v : Bool) (rules : List Rule) (table : List Atom) (known : List (List Lit))
+      → IsSpending log f v rules table known s.derived.cites s.derived.lines → IsSpending log f v rules table known k.cites k.lines)
       → IsMidway p (record { theory = s.theory; trail = s.trail; graph = s.graph; linked = o; derived = k; strategy = s.strategy }) n c
   midway_cycle n c l o k stopped seen lits clauses more lines same conflicted derives spends =
       let own = stopped.search_for in
@@ -189,10 +196,12 @@ module _ (p : Problem) (s : SearchState) where
       }
 
   -- after a learned clause the search has one conflict more
-  pub learned : (n c : ℕ) (u : Assigned) (h : Constraints) (o : LinkedLits) (k : Derived) (y : Strategy) → IsMidway p s n c → u.vars ≡ s.trail.vars → HasSameLimits s.graph h → AreLinkedUpTo s.theory.links u.entries o → IsRun k.db s.theory.links p.edges u h → Extends s.derived.db k.db
+  pub learned : (n c : ℕ) (u : Assigned) (h : Constraints) (o : LinkedLits) (k : Derived) (y : Strategy) → IsMidway p s n c → u.vars ≡ s.trail.vars
+      → HasSameLimits s.graph h → AreLinkedUpTo s.theory.links u.entries o → IsRun k.db s.theory.links p.edges u h → Extends s.derived.db k.db
       → length k.db ≡ length s.derived.db + 1 → length k.lines ≡ length s.derived.lines + 1 → lessons k.lines ≡ lessons s.derived.lines + 1
       → ((log : Logged) (f : Form) (v : Bool) → IsRecord log f v s.theory.atoms s.derived.db s.derived.cites s.derived.lines → IsRecord log f v s.theory.atoms k.db k.cites k.lines)
-      → ((log : Logged) (f : Form) (v : Bool) (rules : List Rule) (known : List (List Lit)) → IsQuietBelow known s.derived.db s.trail → IsRecord log f v s.theory.atoms s.derived.db s.derived.cites s.derived.lines
+      → ((log : Logged) (f : Form) (v : Bool) (rules : List Rule) (known : List (List Lit)) → IsQuietBelow known s.derived.db s.trail
+      → IsRecord log f v s.theory.atoms s.derived.db s.derived.cites s.derived.lines
       → IsSpending log f v rules s.theory.atoms known s.derived.cites s.derived.lines → IsSpending log f v rules s.theory.atoms k.db k.cites k.lines)
       → IsSearch p (record { theory = s.theory; trail = u; graph = h; linked = o; derived = k; strategy = y }) (n + 1)
   learned n c u h o k y mid same limits are run more clauses lines count derives spending =

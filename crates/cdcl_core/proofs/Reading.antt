@@ -1,5 +1,5 @@
 -- Clauses of variables read as clauses of atoms.
-use Rattle.std.proofs.Common.{◌≡◌, ◌∙◌, ap, refl, subst, ℕ, ◌+◌, ◌<◌, Bool, List, [], ◌∷◌, length, map}
+use Rattle.std.proofs.Common.{◌≡◌, ap, refl, subst, ℕ, ◌+◌, ◌<◌, List, [], ◌∷◌, length, map}
 use Rattle.std.specs.Prelude.{IsTrue, nat_lt, All}
 use Rattle.std.proofs.lemmas.Bool.{lt-ltb, ltb-true}
 use Rattle.std.proofs.lemmas.List.Elements.{All-nil, All-cons, All-head, All-tail, All-weaker}
@@ -22,11 +22,7 @@ use Rattle.proof_log.specs.Derivations.{HasClauses, IsLearnt, is_in_range}
 use Rattle.cdcl_core.specs.Orders.{atom_at, read_lit}
 use Rattle.cdcl_core.specs.Recording.{AreCited, cite_at, read_clause}
 use Rattle.cdcl_core.proofs.Pairs.{atom_there}
-
-lit_same : (k l : Lit) → k.var ≡ l.var → k.positive ≡ l.positive → k ≡ l
-lit_same k l var sense =
-    let lit : ℕ → Bool → Lit = λ v b. record { var = v; positive = b } in
-    ap (λ v. lit v k.positive) var ∙ ap (λ b. lit l.var b) sense
+use Rattle.clause_db.proofs.LawLemmas.{lit_same}
 
 module _ (atoms : List Atom) (once : AreOnce atoms) where
   apart : (k l : Lit) → k.var < length atoms → l.var < length atoms → read_lit atoms k ≡ read_lit atoms l → k ≡ l
@@ -69,7 +65,9 @@ module _ (atoms : List Atom) (once : AreOnce atoms) where
   pub refutes_read : (db : List (List Lit)) (lits : List Lit) (refs : List ℕ) → All (All (λ l. l.var < length atoms)) db → All (λ l. l.var < length atoms) lits
       → HintsRefute db (map negation lits) refs → Refutes negated (map negated (read_clause atoms lits)) (map (read_clause atoms) (clauses_at db refs))
   refutes_read db lits refs within low hints =
-      let carried = ((words-carried Lit Literal).refutes reader (map negation lits) (clauses_at db refs) (among_of (map negation lits) (negated_within lits low)) (held_among db refs within hints.held)).0 hints.refutes in
+      let carried =
+      ((words-carried Lit Literal).refutes reader (map negation lits) (clauses_at db refs) (among_of (map negation lits) (negated_within lits low)) (held_among db refs within hints.held)).0
+      hints.refutes in
       subst (λ ms. Refutes negated ms (map (read_clause atoms) (clauses_at db refs))) (negated_read lits) carried
 
   -- what is their resolvent is so too
@@ -95,7 +93,8 @@ cites_have s atoms db cites lines (c ∷ cs) are held =
     rw (are.each c (All-head (λ (k : ℕ). k < length db) c cs held), cites_have s atoms db cites lines cs are (All-tail (λ (k : ℕ). k < length db) c cs held)) refl
 
 -- a clause that clauses refute the negation of is learnt
-pub learnt_read : (s : Sought) (atoms : List Atom) (db : List (List Lit)) (cites : List Hint) (lines : List Line) (lits : List Lit) (refs : List ℕ) → AreOnce atoms → All (λ a. IsTrue (is_in_range s a)) atoms
+pub learnt_read : (s : Sought) (atoms : List Atom) (db : List (List Lit)) (cites : List Hint) (lines : List Line) (lits : List Lit) (refs : List ℕ)
+    → AreOnce atoms → All (λ a. IsTrue (is_in_range s a)) atoms
     → All (All (λ l. l.var < length atoms)) db → All (λ l. l.var < length atoms) lits → AreCited s atoms db cites lines → HintsRefute db (map negation lits) refs
     → IsLearnt s lines (length lines + 1) (read_clause atoms lits) (map (cite_at cites) refs)
 learnt_read s atoms db cites lines lits refs once ranged within low are hints = record {

@@ -23,8 +23,8 @@ use Rattle.mtl_encode.specs.Problems.{Fits, ReadsAs, read_literal}
 use Rattle.cdcl_core.specs.Orders.{read_lit}
 use Rattle.cdcl_core.specs.Recording.{AreOfLog, IsRecord, IsRuleInRange, cite_at, read_clause}
 use Rattle.cdcl_core.proofs.LineGrowth.{derives_more, derives_none, hint_kept, line_last}
-use Rattle.cdcl_core.proofs.Pairs.{parts_same}
 use Rattle.cdcl_core.proofs.RuleSpelling.{rule-spelled}
+use Rattle.mt_list.proofs.Lists.{parts_same}
 
 module _ (log : Logged) (f : Form) (v : Bool) (atoms : List Atom) (db : List (List Lit)) (cites : List Hint) (lines : List Line) where
   abbrev s : Sought
@@ -41,7 +41,9 @@ module _ (log : Logged) (f : Form) (v : Bool) (atoms : List Atom) (db : List (Li
         | inl early ↦
             let left = get_or_append_left db (lits ∷ []) [] c early in
             let cite = get_or_append_left cites (hint.Line (length lines + 1) ∷ []) (hint.Line 0) c (omega (arith, early, old.cited.count)) in
-            rw (left, cite) (hint_kept s lines (d ∷ []) (length lines + 1) (length (lines ++ d ∷ []) + 1) (cite_at cites c) (read_clause atoms (clause_at db c)) (omega (arith, length_push lines d)) (old.cited.each c early))
+            rw (left, cite)
+            (hint_kept s lines (d ∷ []) (length lines + 1) (length (lines ++ d ∷ []) + 1) (cite_at cites c) (read_clause atoms (clause_at db c))
+            (omega (arith, length_push lines d)) (old.cited.each c early))
         | inr late ↦
             let is : c ≡ length db = omega (arith, late, below, length_push db lits) in
             rw (is, last_clause, last_cite) (rw (lt-ltb (length lines + 1) (length (lines ++ d ∷ []) + 1) (omega (arith, length_push lines d)), line_last lines d) (ap Some clause))

@@ -77,7 +77,9 @@ module _ (atoms : List Atom) (db : List (List Lit)) (links : List (Option (Edge 
   clause_vars : AreLinks atoms links → All (IsOrderAmong MAX_NODES) atoms → t.vars ≡ length atoms → All (λ m. m.var < t.vars) clause
   clause_vars are among vars = denied_all many orders (λ (m : Lit). m.var < t.vars) g.cycle (λ k d below ge.
       let q_in = walk_within k d below in
-      let held = All-get_or (IsHeldOrder atoms) orders (slice_index_or g.cycle k d - many) (record { var = 0; positive = false }) (omega (arith, q_in, ge)) (are_orders atoms links (literals t.entries) are among) in
+      let held =
+      All-get_or (IsHeldOrder atoms) orders (slice_index_or g.cycle k d - many) (record { var = 0; positive = false }) (omega (arith, q_in, ge))
+      (are_orders atoms links (literals t.entries) are among) in
       let low = held.within in
       omega (arith, low, vars))
 

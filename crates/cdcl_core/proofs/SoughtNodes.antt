@@ -49,7 +49,8 @@ module _ (cores : CoresAreCores) (law : NodesAreSubtrees) (log : Logged) (f : Fo
   abbrev trees : List Form
   trees = nodes_of f
 
-  child-below : (k : ℕ) (g h : Form) (place : ℕ) → k < length trees → tree_at trees k ≡ g → place < length (children_of g) → slice_index_or (children_of g) place h ≡ h → number_of trees h < length trees
+  child-below : (k : ℕ) (g h : Form) (place : ℕ) → k < length trees → tree_at trees k ≡ g → place < length (children_of g)
+      → slice_index_or (children_of g) place h ≡ h → number_of trees h < length trees
   child-below k g h place low is within at =
       let (j, less, there) = law.children_first f k low place h (rw is within) in
       let same : tree_at trees j ≡ h = there ∙ (rw is at) in

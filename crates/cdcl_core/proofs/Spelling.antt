@@ -19,7 +19,7 @@ use Rattle.axiom_rules.specs.declared.literal.Literal.{Literal}
 use Rattle.proof_log.specs.Spelled.{IsNumber, IsOrder, IsSpelledAtom, IsSpelledLiteral, IsSpelledStep}
 use Rattle.cdcl_core.specs.Orders.{IsOrderAmong}
 use Rattle.cdcl_core.specs.Recording.{HasNumbers}
-use Rattle.cdcl_core.proofs.Pairs.{parts_same}
+use Rattle.mt_list.proofs.Lists.{parts_same}
 
 -- so has a literal whose numbers are in range
 atom_spelled : (nodes : ℕ) (b : Bool) (a : Atom) → IsOrderAmong nodes a → HasNumbers a → IsSpelledAtom b a

@@ -46,7 +46,8 @@ hints_name rules hints names = all_from (Contains rules) (filter_map rule_of_hin
     let there : Contains hints h = (k, slice_get_within hints k h at, get_or_from_slice_get hints k h h at) in
     name_one rules h r (All-contains (NamesOneOf rules) hints h names there) gives)
 
-pub named_more : (rules : List Rule) (lines : List Line) (d : Line) → All (Contains rules) (named_rules lines) → All (Contains rules) (rules_of_line d) → All (Contains rules) (named_rules (lines ++ d ∷ []))
+pub named_more : (rules : List Rule) (lines : List Line) (d : Line) → All (Contains rules) (named_rules lines) → All (Contains rules) (rules_of_line d)
+    → All (Contains rules) (named_rules (lines ++ d ∷ []))
 named_more rules lines d old new =
     let split : named_rules (lines ++ d ∷ []) ≡ named_rules lines ++ named_rules (d ∷ []) = flat_map-append rules_of_line lines (d ∷ []) in
     let one : named_rules (d ∷ []) ≡ rules_of_line d = flat_map-cons rules_of_line d [] ∙ append-nil (rules_of_line d) in
@@ -65,7 +66,8 @@ clauses_within s rules more P within all =
     All-contains P (clauses_of s rules) c all (given_has of rules r c (All-contains (Contains rules) more r within there) gives))
 
 -- what is known before one more line
-pub known_last : (s : Sought) (rules : List Rule) (lines : List Line) (d : Line) (P : List Literal → Type 0) → All (Contains rules) (named_rules (lines ++ d ∷ [])) → All P (clauses_of s rules) → All P (learnt lines)
+pub known_last : (s : Sought) (rules : List Rule) (lines : List Line) (d : Line) (P : List Literal → Type 0)
+    → All (Contains rules) (named_rules (lines ++ d ∷ [])) → All P (clauses_of s rules) → All P (learnt lines)
     → All P (known_before s rules (lines ++ d ∷ []) (length lines + 1))
 known_last s rules lines d P named own earlier =
     let more = lines ++ d ∷ [] in
@@ -132,7 +134,8 @@ module _ (log : Logged) (f : Form) (v : Bool) (rules : List Rule) (atoms : List 
   }
 
   -- one more line and its clause
-  pub spending_more : (known db : List (List Lit)) (cites : List Hint) (lines : List Line) (d : Line) (m : ℕ) → Extends known db → IsSpending log f v rules atoms known cites lines → All (Contains rules) (rules_of_line d)
+  pub spending_more : (known db : List (List Lit)) (cites : List Hint) (lines : List Line) (d : Line) (m : ℕ) → Extends known db
+      → IsSpending log f v rules atoms known cites lines → All (Contains rules) (rules_of_line d)
       → All (Contains (map (read_clause atoms) db)) (learnt (d ∷ [])) → All (All (λ l. Contains atoms l.atom)) (learnt (d ∷ []))
       → (IsLearnAt (lines ++ d ∷ []) (length lines + 1) → Fresh log f v rules (lines ++ d ∷ []) (length lines + 1))
       → (IsLearnAt (lines ++ d ∷ []) (length lines + 1) → Used log f v (lines ++ d ∷ []) (length lines + 1))
@@ -161,7 +164,8 @@ module _ (log : Logged) (f : Form) (v : Bool) (rules : List Rule) (atoms : List 
 
   -- the same of lists that are equal to these
   pub cycle_spent : (known : List (List Lit)) (cites : List Hint) (lines : List Line) (steps : List Step) (m : ℕ) (cites_after : List Hint) (lines_after : List Line)
-      → cites_after ≡ cites ++ hint.Line m ∷ [] → lines_after ≡ lines ++ line.Cycle steps ∷ [] → IsSpending log f v rules atoms known cites lines → IsSpending log f v rules atoms known cites_after lines_after
+      → cites_after ≡ cites ++ hint.Line m ∷ [] → lines_after ≡ lines ++ line.Cycle steps ∷ [] → IsSpending log f v rules atoms known cites lines
+      → IsSpending log f v rules atoms known cites_after lines_after
   cycle_spent known cites lines steps m cites_after lines_after cites_is lines_is old = rw (cites_is, lines_is) (spending_cycle known cites lines steps m old)
 
 no_line : (n : ℕ) → IsLearnAt [] n → ⊥

@@ -1,11 +1,11 @@
 -- What a search has at its start.
 use Rattle.std.proofs.Common.{◌≡◌, ◌∙◌, sym, ap, refl, subst, inl, inr, ℕ, ◌+◌, ◌<◌, Bool, true, false, List, [], length, map, get_or, Option, None, arith, ℤ, pos, ◌-ℤ◌, neg_ℤ, append-nil}
-use Rattle.std.specs.Prelude.{All, IfSome, slice_index_or}
+use Rattle.std.specs.Prelude.{All, IfSome}
 use Rattle.std.proofs.lemmas.Bool.{cases_lt}
 use Rattle.std.proofs.lemmas.Int.{ints}
 use Rattle.std.proofs.lemmas.List.{get_or_past}
 use Rattle.std.proofs.lemmas.List.Elements.{All-from_get_or}
-use Rattle.std.proofs.lemmas.Option.{slice_get-get_or, slice_get_within}
+use Rattle.std.proofs.lemmas.Option.{slice_get-get_or}
 use Rattle.mt_model.specs.Form.{Form}
 use Rattle.mt_model.specs.Log.{IsLog, Logged}
 use Rattle.neg_cycle.specs.declared.system.Edge.{Edge}
@@ -21,14 +21,11 @@ use Rattle.propagate.specs.Steps.{IsLinked}
 use Rattle.propagate.specs.Trails.{Assigned, IsTrail}
 use Rattle.axiom_rules.specs.declared.literal.Atom.{Atom}
 use Rattle.axiom_rules.specs.declared.literal.Atom.TheVariants.{Order, Node, First, Same, Wit, Span, Gap}
-use Rattle.axiom_rules.specs.declared.literal.Literal.{Literal}
 use Rattle.axiom_rules.specs.declared.rule.Rule.{Rule}
-use Rattle.axiom_rules.specs.Literals.{yes}
 use Rattle.axiom_rules.specs.Sought.{Sought, sought_of}
 use Rattle.proof_log.specs.declared.line.Hint.TheVariants as hint
 use Rattle.mtl_encode.specs.declared.problem.Problem.{Problem}
-use Rattle.mtl_encode.specs.Problems.{Fits, ReadsAs}
-use Rattle.mtl_encode.proofs.AtomGrowth.{read-at, read-atom}
+use Rattle.mtl_encode.specs.Problems.{Fits}
 use Rattle.cdcl_core.specs.declared.derived.Derived.{Derived}
 use Rattle.cdcl_core.specs.declared.state.SearchState.{SearchState}
 use Rattle.cdcl_core.specs.Founds.{IsPosed}
@@ -40,19 +37,14 @@ use Rattle.cdcl_core.proofs.Pairs.{atom_there}
 use Rattle.cdcl_core.proofs.ProblemAtoms.{atoms-in-range, orders-among, orders-more}
 use Rattle.cdcl_core.proofs.Records.{begun, rules_spelled}
 use Rattle.cdcl_core.proofs.Spending.{spending_begun}
-
--- the variables of a clause that is read through atoms are in range
-read_within : (atoms : List Atom) (lits : List Lit) (clause : List Literal) → ReadsAs atoms lits clause → All (λ l. l.var < length atoms) lits
-read_within atoms lits clause reads k d below =
-    let there = (read-atom atoms (slice_index_or lits k d) (slice_index_or clause k (yes (First 0))) (read-at atoms lits clause k d (yes (First 0)) reads below)).0 in
-    slice_get_within atoms (slice_index_or lits k d).var _ there
+use Rattle.mtl_encode.proofs.VariableLemmas.{lits-below}
 
 -- so are those of all clauses of a problem that fits
 pub fits_within : (s : Sought) (p : Problem) → Fits s p → All (All (λ l. l.var < length p.atoms)) p.db
 fits_within s p fits = All-from_get_or (All (λ (l : Lit). l.var < length p.atoms)) p.db [] (λ c below.
     let d : Rule = record { number = 0; args = [] } in
     let own = fits.clauses c (get_or p.rules c d) (slice_get-get_or p.rules c d (omega (arith, below, fits.count))) in
-    read_within p.atoms (clause_at p.db c) own.clause own.read)
+    lits-below p.atoms (clause_at p.db c) own.clause own.read)
 
 -- the edges of an order are within the limits of a system
 yes_edge : (nodes e f : ℕ) (c : ℤ) → IsOrderAmong nodes (Order e f c) → system.IsEdge nodes (record { from = e + 1; to = f + 1; bound = c })
@@ -80,7 +72,8 @@ edges_fit nodes (Span k i j) b order = tt
 edges_fit nodes (Gap k i m) b order = tt
 
 -- so the links of order atoms fit a trail and a graph
-pub links_fit : (t : Assigned) (g : Constraints) (atoms : List Atom) (links : List (Option (Edge × Edge))) → t.vars ≡ length atoms → All (IsOrderAmong g.nodes) atoms → AreLinks atoms links → IsLinked t links g
+pub links_fit : (t : Assigned) (g : Constraints) (atoms : List Atom) (links : List (Option (Edge × Edge))) → t.vars ≡ length atoms
+    → All (IsOrderAmong g.nodes) atoms → AreLinks atoms links → IsLinked t links g
 links_fit t g atoms links vars orders linked = record {
   variables = let count = linked.count in omega (arith, count, vars);
   edges = λ l. elim (cases_lt l.var (length atoms)) [
@@ -108,8 +101,10 @@ module _ (cores : CoresAreCores) (nodes_law : NodesAreSubtrees) (p : Problem) (p
   recorded ranges log f v valid fits = begun log f v p (of_log log f v valid fits) fits (rules_spelled (sought_of log f v) p fits ranges)
 
   -- the search before the first conflict
-  pub started : NewTrailIsInStep → (s : SearchState) → IsTheoryOf p s.theory → s.linked.lits.items ≡ [] → s.linked.seen ≡ 0 → s.trail.vars ≡ length p.atoms → s.trail.entries ≡ [] → s.trail.levels ≡ [] → s.trail.watching.watches ≡ [] → IsTrail s.trail
-      → s.graph.nodes ≡ p.nodes → s.graph.capacity ≡ length p.edges + length p.atoms → s.graph.edges ≡ p.edges → s.derived.db ≡ p.db → s.derived.cites ≡ map hint.Rule p.rules → s.derived.lines ≡ [] → All IsRuleInRange p.rules
+  pub started : NewTrailIsInStep → (s : SearchState) → IsTheoryOf p s.theory → s.linked.lits.items ≡ [] → s.linked.seen ≡ 0 → s.trail.vars ≡ length p.atoms
+      → s.trail.entries ≡ [] → s.trail.levels ≡ [] → s.trail.watching.watches ≡ [] → IsTrail s.trail
+      → s.graph.nodes ≡ p.nodes → s.graph.capacity ≡ length p.edges + length p.atoms → s.graph.edges ≡ p.edges → s.derived.db ≡ p.db
+      → s.derived.cites ≡ map hint.Rule p.rules → s.derived.lines ≡ [] → All IsRuleInRange p.rules
       → IsSearch p s 0
   started law s theory_of unlinked unseen assigned none flat unwatched trail same room held own cites lines ranges =
       let linked : AreLinks p.atoms s.theory.links = rw theory_of.atoms at theory_of.links_are in
@@ -139,7 +134,8 @@ module _ (cores : CoresAreCores) (nodes_law : NodesAreSubtrees) (p : Problem) (p
       }
 
 -- a posed problem is ready
-pub problem_ready : CoresAreCores → NodesAreSubtrees → (p : Problem) → IsPosed p → (links : List (Option (Edge × Edge))) (edges : List Edge) (d : Derived) → AreLinks p.atoms links → edges ≡ p.edges → d.db ≡ p.db → d.cites ≡ map hint.Rule p.rules
+pub problem_ready : CoresAreCores → NodesAreSubtrees → (p : Problem) → IsPosed p → (links : List (Option (Edge × Edge))) (edges : List Edge) (d : Derived)
+    → AreLinks p.atoms links → edges ≡ p.edges → d.db ≡ p.db → d.cites ≡ map hint.Rule p.rules
     → d.lines ≡ [] → All IsRuleInRange p.rules → IsReady p (record { bounds = p.bounds; atoms = p.atoms; links = links; nodes = p.nodes }) edges d
 problem_ready cores nodes_law p posed links edges d linked same own cites lines ranges = record {
   theory_of = record {
@@ -158,9 +154,12 @@ problem_ready cores nodes_law p posed links edges d linked same own cites lines 
 }
 
 -- the search before the first conflict, for what is ready
-pub started_ready : (cores : CoresAreCores) (nodes_law : NodesAreSubtrees) (p : Problem) (edges : List Edge) (s : SearchState) → IsReady p s.theory edges s.derived → NewTrailIsInStep → s.linked.lits.items ≡ [] → s.linked.seen ≡ 0 → (vars : ℕ) → vars ≡ length s.theory.atoms
-    → s.trail.vars ≡ vars → s.trail.entries ≡ [] → s.trail.levels ≡ [] → s.trail.watching.watches ≡ [] → IsTrail s.trail → s.graph.nodes ≡ s.theory.nodes → s.graph.capacity ≡ length edges + vars → s.graph.edges ≡ edges → IsSearch p s 0
+pub started_ready : (cores : CoresAreCores) (nodes_law : NodesAreSubtrees) (p : Problem) (edges : List Edge) (s : SearchState)
+    → IsReady p s.theory edges s.derived → NewTrailIsInStep → s.linked.lits.items ≡ [] → s.linked.seen ≡ 0 → (vars : ℕ) → vars ≡ length s.theory.atoms
+    → s.trail.vars ≡ vars → s.trail.entries ≡ [] → s.trail.levels ≡ [] → s.trail.watching.watches ≡ [] → IsTrail s.trail → s.graph.nodes ≡ s.theory.nodes
+    → s.graph.capacity ≡ length edges + vars → s.graph.edges ≡ edges → IsSearch p s 0
 started_ready cores nodes_law p edges s ready law unlinked unseen vars count assigned none flat unwatched trail same room held =
     let atoms = count ∙ ap length ready.theory_of.atoms in
-    started cores nodes_law p ready.theory_of.posed law s ready.theory_of unlinked unseen (assigned ∙ atoms) none flat unwatched trail (same ∙ ready.theory_of.nodes) (rw (ready.edges_are, atoms) at room) (held ∙ ready.edges_are)
+    started cores nodes_law p ready.theory_of.posed law s ready.theory_of unlinked unseen (assigned ∙ atoms) none flat unwatched trail
+    (same ∙ ready.theory_of.nodes) (rw (ready.edges_are, atoms) at room) (held ∙ ready.edges_are)
     ready.clauses ready.cites ready.none ready.in_range

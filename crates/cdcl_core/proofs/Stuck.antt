@@ -1,6 +1,6 @@
 -- What a refused edge teaches: the clause of the walk that it closes is false, and has a literal of the present level.
 use Rattle.std.proofs.Common.{◌≡◌, ◌≢◌, ◌∙◌, sym, ap, refl, subst, ℕ, zero, suc, ◌+◌, ◌-◌, ◌<◌, ◌≤◌, inl, inr, Bool, true, false, List, [], ◌∷◌, ◌++◌, length, take, drop, Option, Some, None, arith}
-use Rattle.std.specs.Prelude.{filter, is_some, nat_lt, not, option_to_list, slice_index_or, All, AllPairs}
+use Rattle.std.specs.Prelude.{is_some, nat_lt, not, option_to_list, slice_index_or, All, AllPairs}
 use Rattle.std.specs.List.{cons_option, Contains}
 use Rattle.std.proofs.lemmas.Bool.{cases_lt, le-ltb, ltb-false}
 use Rattle.std.proofs.lemmas.List.{append_assoc, get_or-append_right, length-append, length-map, length_push, map-append, take-append-drop, get_or-map}
@@ -23,7 +23,7 @@ use Rattle.propagate.proofs.LawLemmas.{added_clause_keeps}
 use Rattle.propagate.proofs.StepLemmas.{edges_push}
 use Rattle.analyze.specs.Asserting.{HasHere, IsFalseSince}
 use Rattle.analyze.specs.Resolving.{level_of}
-use Rattle.analyze.proofs.Order.{since_from, undone}
+use Rattle.analyze.proofs.Order.{since_from}
 use Rattle.axiom_rules.specs.declared.literal.Literal.{Literal}
 use Rattle.axiom_rules.specs.Literals.{same_atom, same_literal}
 use Rattle.axiom_rules.specs.Parts.{each_once}
@@ -33,6 +33,8 @@ use Rattle.cdcl_core.specs.Running.{IsConflicted, IsStuck}
 use Rattle.cdcl_core.specs.Walking.{denied_at, denied_in, lit_at}
 use Rattle.cdcl_core.proofs.Conflicts.{settled_above}
 use Rattle.cdcl_core.proofs.Cycles.{linked_edges, uses_last}
+use Rattle.mt_list.proofs.Lists.{filter_whole}
+use Rattle.propagate.proofs.PlaceLemmas.{undone}
 
 pairs_head : {X : Type 0} (R : X → X → Type 0) (x : X) (xs : List X) → AllPairs R (x ∷ xs) → All (R x) xs
 pairs_head R x xs pairs = λ k d below. pairs 0 (suc k) d (omega arith) (omega (arith, below))
@@ -60,7 +62,8 @@ module _ (base : ℕ) (orders : List Lit) where
   denied_all P (p ∷ ps) each = go (nat_lt p base) refl (denied_all P ps (All-tail (λ q. base ≤ q → P (negation (lit_at orders (q - base)))) p ps each)) where
     go : (b : Bool) → nat_lt p base ≡ b → All P (denied_in base orders ps) → All P (denied_in base orders (p ∷ ps))
     go true is rest = rw is rest
-    go false is rest = rw is (All-cons P (negation (lit_at orders (p - base))) (denied_in base orders ps) (All-head (λ q. base ≤ q → P (negation (lit_at orders (q - base)))) p ps each (ltb-false p base is)) rest)
+    go false is rest =
+        rw is (All-cons P (negation (lit_at orders (p - base))) (denied_in base orders ps) (All-head (λ q. base ≤ q → P (negation (lit_at orders (q - base)))) p ps each (ltb-false p base is)) rest)
 
   denied_has : (walk : List ℕ) (p : ℕ) → Contains walk p → base ≤ p → Contains (denied_in base orders walk) (negation (lit_at orders (p - base)))
   denied_has [] p has le = absurd (contains_none p has)
@@ -99,10 +102,6 @@ apart_not_same l m differ = go (same_atom m.atom l.atom) refl where
   go : (b : Bool) → same_atom m.atom l.atom ≡ b → not (same_literal m l) ≡ true
   go true is = absurd (differ (sym (atoms_same m.atom l.atom is)))
   go false is = rw is refl
-
-filter_whole : {X : Type 0} (p : X → Bool) (xs : List X) → All (λ x. p x ≡ true) xs → filter p xs ≡ xs
-filter_whole p [] passes = refl
-filter_whole p (x ∷ xs) passes = rw (All-head (λ y. p y ≡ true) x xs passes) (ap (λ ys. x ∷ ys) (filter_whole p xs (All-tail (λ y. p y ≡ true) x xs passes)))
 
 pub once_whole : (ls : List Literal) → AllPairs (λ l m. l.atom ≢ m.atom) ls → each_once ls ≡ ls
 once_whole [] apart = refl
@@ -159,7 +158,8 @@ module _ (db : List (List Lit)) (links : List (Option (Edge × Edge))) (base : L
   last_at =
       let k : length g.edges - length base ≡ length (linked links (literals front)) = omega (arith, front_count) in
       ap (λ i. lit_at orders i) k ∙ ap (λ ls. lit_at ls (length (linked links (literals front)))) last_order
-      ∙ get_or-append_right (linked links (literals front)) (l ∷ []) (length (linked links (literals front))) (length (linked links (literals front))) (record { var = 0; positive = false }) refl (omega arith)
+      ∙ get_or-append_right (linked links (literals front)) (l ∷ []) (length (linked links (literals front))) (length (linked links (literals front)))
+      (record { var = 0; positive = false }) refl (omega arith)
       ∙ ap (λ i. lit_at (l ∷ []) i) (none_over (length (linked links (literals front))))
 
   -- the refused literal stands negated in the clause
@@ -171,7 +171,8 @@ module _ (db : List (List Lit)) (links : List (Option (Edge × Edge))) (base : L
   order_held : (k : ℕ) → k < length orders → Contains (literals t.entries) (lit_at orders k)
   order_held k below =
       let p : Lit → Bool = λ (x : Lit). is_some (edges_at links x.var) in
-      All-get_or (Contains (literals t.entries)) orders k (record { var = 0; positive = false }) below (All-filter p (Contains (literals t.entries)) (literals t.entries) (All-contains_itself (literals t.entries)))
+      All-get_or (Contains (literals t.entries)) orders k (record { var = 0; positive = false }) below
+      (All-filter p (Contains (literals t.entries)) (literals t.entries) (All-contains_itself (literals t.entries)))
 
   pub clause_false : All (λ p. p < length base + length orders) g.cycle → IsFalsified t.entries clause
   clause_false within = denied_all (length base) orders (λ (m : Lit). Contains (literals t.entries) (negation m)) g.cycle (λ k d below ge.

@@ -11,7 +11,7 @@ ghost use Rattle.cdcl_core.specs.Values.{AreNodesOf, IsSearched, RefuteEachValue
 
 use crate::{Found, search};
 use formula_arena::Arena;
-use mt_model::{Formula, Log, NodeId, Steps, Times, bounds_are_admissible};
+use mt_model::{Formula, Log, NodeId, Steps, Times, bounds_are_admissible, log_is_valid};
 use mtl_encode::encode_by;
 use proof_log::{Line, Lines};
 use skew_bounds::{BoundSystem, Consistency, Tight, settle_by, system_of, tight_by, times_of};
@@ -59,7 +59,7 @@ pub fn search_value(
 {
     bounds_are_admissible();
     // What a log and a formula are, their parts are known with.
-    let _ = log.rows();
+    log_is_valid(log);
     let _ = f.tree();
     let problem = encode_by(alloc, log, &nodes.arena, nodes.root, value, system, tight)?;
     match search(alloc, problem, budget)? {
@@ -107,8 +107,7 @@ pub fn refuted_by_conflict(alloc: Global, log: &Log, steps: Steps) -> Result<Lin
     ensures refuted { IfOk result (RefuteEachValue log.now) }
     ensures one { IfOk result (λ lines. length lines ≡ 1) }
 {
-    // What a log is, that it is valid is known with.
-    let _ = log.rows();
+    log_is_valid(log);
     let mut lines = Lines::new(alloc);
     lines.push(Line::Cycle(steps))?;
     Ok(lines)

@@ -1,6 +1,5 @@
 -- Laws of literals, and of clauses that are added.
 use Rattle.std.proofs.Common.{◌≡◌, ◌∙◌, ap, sym, subst, refl, ℕ, ◌<◌, ◌⊎◌, inl, inr, Bool, true, false, not, List, [], ◌∷◌, ◌++◌, length, get_or, arith}
-use Rattle.std.specs.Prelude.{if◌then◌else◌}
 use Rattle.std.specs.List.{All}
 use Rattle.std.proofs.lemmas.List.{get_or_append_left, length-append}
 use Rattle.std.proofs.lemmas.List.Elements.{All-head, All-tail, All-map, All-weaker}
@@ -11,6 +10,7 @@ use Rattle.clause_db.specs.declared.lit.Lit.{Lit}
 use Rattle.clause_db.specs.Literals.{negation, value_of}
 use Rattle.clause_db.specs.Clauses.{clause_at, clauses_at, AreHeld}
 use Rattle.clause_db.specs.Laws.{NegationIsOther, VariablesHaveValues, HeldHintsAreSound, AddedLeavesHeld}
+use Rattle.hint_refutation.proofs.Lists.{value_turned}
 
 not_not : (b : Bool) → not (not b) ≡ b
 not_not true = refl
@@ -26,7 +26,7 @@ two_senses true false = inr refl
 two_senses false true = inr refl
 two_senses false false = inl refl
 
-lit_same : (k l : Lit) → k.var ≡ l.var → k.positive ≡ l.positive → k ≡ l
+pub lit_same : (k l : Lit) → k.var ≡ l.var → k.positive ≡ l.positive → k ≡ l
 lit_same k l var sense =
     let lit : ℕ → Bool → Lit = λ v b. record { var = v; positive = b } in
     ap (λ v. lit v k.positive) var ∙ ap (λ b. lit l.var b) sense
@@ -40,10 +40,6 @@ negation_other = record {
     | inr sense ↦ inr (lit_same k (negation l) same sense)
   ];
 }
-
-value_turned : (sense value : Bool) → (if not sense then value else not value) ≡ not (if sense then value else not value)
-value_turned true value = refl
-value_turned false value = sym (not_not value)
 
 pub variables_valued : VariablesHaveValues
 variables_valued values l = value_turned l.positive (values l.var)

@@ -18,12 +18,13 @@ pub struct Db {
 
 impl Model for Db {
     ghost use Rattle.std.specs.Prelude.{List};
+    ghost use Rattle.hint_refutation.specs.Pieces.{pieces_from};
     ghost use Rattle.clause_db.specs.declared.lit.Lit.{Lit};
-    ghost use Rattle.clause_db.specs.Flat.{clauses_from, IsFlat};
+    ghost use Rattle.clause_db.specs.Flat.{IsFlat};
 
     ghost Value = { List (List Lit) };
 
-    ghost view = { λ d. clauses_from 0 d.lits.items d.ends.items };
+    ghost view = { λ d. pieces_from 0 d.lits.items d.ends.items };
 
     ghost invariant = { λ d. IsFlat d.lits.items d.ends.items };
 }

@@ -15,6 +15,7 @@ use Rattle.decimal.specs.Numbers.{is_number, negated, number_below, number_up_to
 use Rattle.decimal.specs.Laws.{NumbersAreDecimal, SignedNumbersAreDecimal, WritesNumber, WritesSigned}
 use Rattle.decimal.proofs.Digits.{digits_model}
 use Rattle.decimal.proofs.Printed.{negated-is, number-below-printed, signed-printed}
+use Rattle.std.proofs.lemmas.Bool.{and_parts}
 
 -- digits can only raise the number that they follow
 raised : (n : ℕ) (ds : List ℕ) → n ≤ digits_value_after 10 n ds
@@ -47,16 +48,12 @@ one_digit d digit =
 all_digits : (w : List ℕ) → list_all is_ascii_digit w ≡ true → AllDigits 10 w
 all_digits w test = digits_model.to w test
 
-both : (a b : Bool) → (a && b) ≡ true → (a ≡ true) × (b ≡ true)
-both true b h = (refl, h)
-both false b h = cc
-
 -- bytes of the form that is read are what is printed of their value
 written-read : (w : List ℕ) → is_number w ≡ true → digits_value 10 w < 10 ^ 64 → decimal (digits_value 10 w) ≡ w
 written-read [] form small = cc
 written-read (b ∷ []) form small = one_digit b (all_digits (b ∷ []) (rw form refl)).0
 written-read (b ∷ c ∷ bs) form small =
-    let tests = both (not (b == 48)) (list_all is_ascii_digit (b ∷ c ∷ bs)) form in
+    let tests = and_parts (not (b == 48)) (list_all is_ascii_digit (b ∷ c ∷ bs)) form in
     let digits = all_digits (b ∷ c ∷ bs) tests.1 in
     let is : digit_value b + 48 ≡ b = digit_value_digit b (digit_from_value b digits.0) in
     let some : 0 < 0 * 10 + digit_value b = let other = tests.0 in grind (arith, nat_tests) in

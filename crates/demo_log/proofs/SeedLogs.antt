@@ -1,5 +1,5 @@
 -- That each seed has a valid log.
-use Rattle.std.proofs.Common.{◌≡◌, ◌∙◌, sym, ap, refl, ℕ, zero, suc, ◌+◌, ◌*◌, ◌/◌, ◌%◌, ◌-◌, ◌<◌, ◌==◌, ◌&&◌, ◌||◌, Bool, true, false, List, [], ◌∷◌, ◌++◌, map, length, Option, Some, None, pos, arith}
+use Rattle.std.proofs.Common.{◌≡◌, ◌∙◌, sym, ap, refl, ℕ, zero, suc, ◌+◌, ◌*◌, ◌/◌, ◌%◌, ◌-◌, ◌<◌, ◌==◌, ◌&&◌, ◌||◌, Bool, true, false, List, [], ◌∷◌, ◌++◌, map, length, Some, None, pos, arith}
 use Rattle.std.specs.Prelude.{All, AllPairs, Any, IfSome, codes, nat_le, if◌then◌else◌}
 use Rattle.std.specs.Fmt.{decimal}
 use Rattle.std.specs.List.{list_all, range_with_len}
@@ -15,6 +15,7 @@ use Rattle.mt_model.specs.declared.log.Row.{Row}
 use Rattle.mt_model.specs.Log.{AreRows, IsHost, IsRow, IsSent, IsWithin, SendSame, name_in, plain_log, received_by, sent_by}
 use Rattle.mt_model.specs.Name.{is_digit, is_letter, is_name, is_name_byte}
 use Rattle.demo_log.specs.DemoLog.{SeedsHaveLogs, demo_act, demo_host, demo_row, draw_for, log_of_seed, numbered}
+use Rattle.mt_model.proofs.BoundLists.{IfSome-where}
 
 -- what holds of a list that is made from places
 module _ {X : Type 0} (f : ℕ → X) (n : ℕ) where
@@ -40,10 +41,6 @@ module _ {X : Type 0} (f : ℕ → X) (n : ℕ) where
   pub made-more : (xs more : List X) (x : X) → xs ≡ map f (range_with_len 0 n) → x ≡ f n → more ≡ xs ++ x ∷ [] → more ≡ map f (range_with_len 0 (n + 1))
   made-more xs more x made is pushed = rw (pushed, made, is) (sym (map-range_with_len_more f 0 n n (omega arith)))
 
-if-some : {X : Type 0} (o : Option X) (P : X → Type 0) → ((x : X) → o ≡ Some x → P x) → IfSome o P
-if-some None P each = tt
-if-some (Some x) P each = each x refl
-
 digit-byte : (n : ℕ) → n < 10 → is_name_byte (48 + n) ≡ true
 digit-byte n small =
     or_left (is_letter (48 + n) || is_digit (48 + n)) ((48 + n) == 95)
@@ -53,7 +50,8 @@ digit-byte n small =
 pub numbered-name : (letter n : ℕ) → is_letter letter ≡ true → n < 10 → is_name (numbered (letter ∷ []) n) ≡ true
 numbered-name letter n first small =
     let rest : list_all is_name_byte ((48 + n) ∷ []) ≡ true = and_from (is_name_byte (48 + n)) true (digit-byte n small) refl in
-    let bytes : is_name (letter ∷ (48 + n) ∷ []) ≡ true = and_from (is_letter letter && list_all is_name_byte ((48 + n) ∷ [])) true (and_from (is_letter letter) (list_all is_name_byte ((48 + n) ∷ [])) first rest) refl in
+    let bytes : is_name (letter ∷ (48 + n) ∷ []) ≡ true =
+    and_from (is_letter letter && list_all is_name_byte ((48 + n) ∷ [])) true (and_from (is_letter letter) (list_all is_name_byte ((48 + n) ∷ [])) first rest) refl in
     ap (λ digits. is_name (letter ∷ digits)) (decimal_digit n small) ∙ bytes
 
 -- the number is told by the name
@@ -142,7 +140,9 @@ module _ (seed : ℕ) where
   rows-valid = record {
     each = made-each (demo_row seed) 24 (IsRow 6) row-valid;
     sent_once = made-pairs (demo_row seed) 24 (λ q r. SendSame q r → ⊥) sent-once;
-    sent = made-each (demo_row seed) 24 (λ r. IfSome (received_by r.act) (IsSent (map (demo_row seed) (range_with_len 0 24)))) (λ r small. if-some (received_by (demo_act (r % 6) (r / 6))) (IsSent (map (demo_row seed) (range_with_len 0 24))) (sent-before r small));
+    sent =
+        made-each (demo_row seed) 24 (λ r. IfSome (received_by r.act) (IsSent (map (demo_row seed) (range_with_len 0 24))))
+        (λ r small. IfSome-where (received_by (demo_act (r % 6) (r / 6))) (IsSent (map (demo_row seed) (range_with_len 0 24))) (sent-before r small));
   }
 
 pub seeds-have-logs : SeedsHaveLogs
@@ -159,5 +159,6 @@ seeds-have-logs seed = record {
   extras = λ k d within. absurd (omega (arith, within));
 }
 
-pub built-log : (seed : ℕ) (hosts : List Host) (rows : List Row) → hosts ≡ map demo_host (range_with_len 0 6) → rows ≡ map (demo_row seed) (range_with_len 0 24) → plain_log hosts rows ≡ log_of_seed seed
+pub built-log : (seed : ℕ) (hosts : List Host) (rows : List Row) → hosts ≡ map demo_host (range_with_len 0 6) → rows ≡ map (demo_row seed) (range_with_len 0 24)
+    → plain_log hosts rows ≡ log_of_seed seed
 built-log seed hosts rows same_hosts same_rows = rw (same_hosts, same_rows) refl

@@ -1,10 +1,9 @@
 //! The log of a seed: six hosts and 24 rows, whose local times are drawn by a linear congruence.
 
-ghost use Rattle.std.specs.Prelude.{◌≡◌, ◌<◌, ◌+◌, ◌*◌, ◌/◌, ◌%◌, ◌++◌, IfOk, true, map, pos, codes, string_bytes};
+ghost use Rattle.std.specs.Prelude.{◌≡◌, ◌<◌, ◌+◌, ◌*◌, ◌/◌, ◌%◌, IfOk, true, map};
 ghost use Rattle.std.specs.List.{range_with_len};
-ghost use Rattle.std.specs.Fmt.{decimal};
 ghost use Rattle.mt_model.specs.Name.{is_name};
-ghost use Rattle.demo_log.specs.DemoLog.{demo_act as demo_act_of, demo_host as demo_host_of, demo_row as demo_row_of, drawn as drawn_at, log_of_seed, next_state as state_after_this, numbered as numbered_name, row_with, state_after, switched as switched_in};
+ghost use Rattle.demo_log.specs.DemoLog.{demo_act as demo_act_of, demo_host as demo_host_of, demo_row as demo_row_of, drawn as drawn_at, log_of_seed, next_state as state_after_this, numbered as numbered_name, row_with, switched as switched_in};
 
 use mt_model::{Act, Host, HostId, HostList, Log, MIN_DELAY, Name, Row, RowList};
 use std::alloc::{AllocError, Global};

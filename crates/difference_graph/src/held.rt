@@ -4,7 +4,7 @@ ghost use Rattle.std.specs.Prelude.{◌≡◌, ◌<◌, ◌≤◌, ◌-◌, [], 
 ghost use Rattle.neg_cycle.specs.declared.system.TheConstants.{MAX_EDGES};
 ghost use Rattle.difference_graph.specs.Incoming.{AreIncoming};
 
-use crate::room::push_within;
+use mt_list::push_within;
 use neg_cycle::Edge;
 use std::alloc::{AllocError, Global};
 

@@ -10,7 +10,6 @@ mod numbers;
 mod push;
 mod queue;
 mod repair;
-mod room;
 mod trace;
 mod waiting;
 mod work;

@@ -2,7 +2,7 @@
 
 ghost use Rattle.std.specs.Prelude.{◌≡◌, ◌<◌, ◌≤◌, length, All, Any, Contains, IfSome, IfNone};
 ghost use Rattle.std.specs.BinaryHeap.{heap_items, heap_capacity};
-ghost use Rattle.neg_cycle.specs.Systems.{IsEdge, Meets, edge_at};
+ghost use Rattle.neg_cycle.specs.Systems.{IsEdge, Meets};
 ghost use Rattle.difference_graph.specs.Gaps.{IsNumber};
 ghost use Rattle.difference_graph.specs.Incoming.{AreIncoming};
 ghost use Rattle.difference_graph.specs.Queues.{IsClosing, IsTakenUp, IsQueue, IsRest, IsNext, IsAdded, IsOrdered};

@@ -11,9 +11,9 @@ ghost use Rattle.difference_graph.specs.Work.{HasWorkRoom, KeepsRoom, MeetsFirst
 use crate::Push;
 use crate::held::Held;
 use crate::queue::{next_missed, take_up, take_up_all};
-use crate::room::push_within;
 use crate::trace::trace;
 use crate::work::Work;
+use mt_list::push_within;
 use neg_cycle::Edge;
 
 // Lowers numbers until they meet all edges, where those before the last one are met already. The node

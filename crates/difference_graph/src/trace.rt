@@ -4,7 +4,7 @@ ghost use Rattle.std.specs.Prelude.{◌≡◌, ◌≢◌, ◌<◌, ◌≤◌, �
 ghost use Rattle.neg_cycle.specs.Systems.{edge_at};
 ghost use Rattle.difference_graph.specs.Repairs.{LeadsOn, IsTree, IsTrace};
 
-use crate::room::push_within;
+use mt_list::push_within;
 use neg_cycle::Edge;
 
 // The walk over the edge at a place, and from there over the edges of the tree, to where that edge

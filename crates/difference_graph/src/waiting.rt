@@ -1,7 +1,7 @@
 //! Edges that numbers miss, of which the one that they miss by most is taken out first.
 
 ghost use Rattle.std.specs.Prelude.{◌≡◌, ◌<◌, ◌≤◌, ◌∷◌, [], length, All, IfSome, IfNone, IsPermutation, ◌≤ℤ◌};
-ghost use Rattle.std.specs.BinaryHeap.{heap_items, heap_len, heap_capacity};
+ghost use Rattle.std.specs.BinaryHeap.{heap_items, heap_capacity};
 ghost use Rattle.difference_graph.specs.Queues.{IsOrdered};
 
 use std::collections::BinaryHeap;

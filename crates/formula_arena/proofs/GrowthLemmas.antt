@@ -128,7 +128,8 @@ missing_new trees f fs e =
     ∙ ap (λ l. trees ++ f ∷ l) (filter_filter (λ g. not (has_form trees g)) (λ g. not (same_form g f)) (each_once fs) ∙ filter_agree _ _ (λ g. lacks_new trees f g) (each_once fs))
     ∙ sym (append_assoc trees (f ∷ []) (missing (trees ++ f ∷ []) (each_once fs)))
 
-grown_more : (trees : List Form) (f : Form) (fs : List Form) → grown trees fs ≡ trees ++ missing trees (each_once fs) → grown (trees ++ f ∷ []) fs ≡ (trees ++ f ∷ []) ++ missing (trees ++ f ∷ []) (each_once fs)
+grown_more : (trees : List Form) (f : Form) (fs : List Form) → grown trees fs ≡ trees ++ missing trees (each_once fs)
+    → grown (trees ++ f ∷ []) fs ≡ (trees ++ f ∷ []) ++ missing (trees ++ f ∷ []) (each_once fs)
     → grown (with_tree trees f) fs ≡ trees ++ missing trees (each_once (f ∷ fs))
 grown_more trees f fs old new = by (has_form trees f) refl
   where

@@ -3,7 +3,7 @@ mod Lookups
 mod GrowthLemmas
 mod FormLemmas
 mod CoreTruth
-mod TreeLists
+pub mod TreeLists
 mod NodeLemmas
 mod TableLemmas
 mod Tables

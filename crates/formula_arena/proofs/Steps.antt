@@ -12,12 +12,13 @@ use Rattle.formula_arena.specs.Table.{IsOver, IsTable, tree_of_proposition, tree
 use Rattle.formula_arena.proofs.FormLemmas.{has_from_at}
 use Rattle.formula_arena.proofs.GrowthLemmas.{with_tree-new, with_tree-old}
 use Rattle.formula_arena.proofs.TableLemmas.{length-trees_of}
-use Rattle.formula_arena.proofs.TreeLists.{IsAt-new, length-push}
+use Rattle.formula_arena.proofs.TreeLists.{IsAt-new}
 use Rattle.formula_arena.proofs.Tables.{entry-absent, entry-lacks, entry-there, node-absent, node-known, props_in, table-push, table-push_prop, trees_in, trees-push, trees-push_prop}
+use Rattle.std.proofs.lemmas.List.{length_push}
 
 -- a full list of trees has no room for one that is not there
 too_many : (old : List Form) (f : Form) → has_form old f ≡ false → MAX_NODES ≤ length old → MAX_NODES < length (with_tree old f)
-too_many old f lacks full = omega (arith, ap length (with_tree-new old f lacks), length-push old f)
+too_many old f lacks full = omega (arith, ap length (with_tree-new old f lacks), length_push old f)
 
 module _ (es : List (Proposition × ℕ)) (cs : List Core) (t : IsTable es cs) (old : List Form) (view : trees_in es cs ≡ old) where
   long : length old ≡ length cs
@@ -52,7 +53,8 @@ module _ (es : List (Proposition × ℕ)) (cs : List Core) (t : IsTable es cs) (
         fresh-nodes = grown ∙ sym (with_tree-new old (tree_over [] old c) lacks)
 
         pub fresh-at : (k : ℕ) → k ≡ length old → IsAt (trees_in es cs') k (tree_over [] old c)
-        fresh-at k last = subst (λ l. IsAt l k (tree_over [] old c)) (sym grown) (subst (λ j. IsAt (old ++ tree_over [] old c ∷ []) j (tree_over [] old c)) (sym last) (IsAt-new old (tree_over [] old c)))
+        fresh-at k last =
+            subst (λ l. IsAt l k (tree_over [] old c)) (sym grown) (subst (λ j. IsAt (old ++ tree_over [] old c ∷ []) j (tree_over [] old c)) (sym last) (IsAt-new old (tree_over [] old c)))
 
         pub fresh-kept : Extends old (trees_in es cs')
         fresh-kept = (tree_over [] old c ∷ [], grown)
@@ -80,7 +82,8 @@ module _ (es : List (Proposition × ℕ)) (cs : List Core) (t : IsTable es cs) (
 
       module _ (k : ℕ) (last : k ≡ length old) (es' : List (Proposition × ℕ)) (cs' : List Core) (entered : es' ≡ es ++ (q, k) ∷ []) (pushed : cs' ≡ cs ++ core.Prop (length es) ∷ []) where
         pub prop-table : length old < MAX_NODES → IsTable es' cs'
-        prop-table room = subst (λ l. IsTable l cs') (sym entered) (subst (IsTable (es ++ (q, k) ∷ [])) (sym pushed) (table-push_prop es cs t q k (last ∙ long) lacks_tree (omega (arith, ap length view))))
+        prop-table room =
+            subst (λ l. IsTable l cs') (sym entered) (subst (IsTable (es ++ (q, k) ∷ [])) (sym pushed) (table-push_prop es cs t q k (last ∙ long) lacks_tree (omega (arith, ap length view))))
 
         prop_grown : trees_in es' cs' ≡ old ++ tree_of_proposition q ∷ []
         prop_grown = (λ i. trees_in (entered i) (pushed i)) ∙ trees-push_prop es cs q k t ∙ ap (λ l. l ++ tree_of_proposition q ∷ []) view
@@ -89,7 +92,9 @@ module _ (es : List (Proposition × ℕ)) (cs : List Core) (t : IsTable es cs) (
         prop-nodes = prop_grown ∙ sym (with_tree-new old (tree_of_proposition q) lacks)
 
         pub prop-at : IsAt (trees_in es' cs') k (tree_of_proposition q)
-        prop-at = subst (λ l. IsAt l k (tree_of_proposition q)) (sym prop_grown) (subst (λ j. IsAt (old ++ tree_of_proposition q ∷ []) j (tree_of_proposition q)) (sym last) (IsAt-new old (tree_of_proposition q)))
+        prop-at =
+            subst (λ l. IsAt l k (tree_of_proposition q)) (sym prop_grown)
+            (subst (λ j. IsAt (old ++ tree_of_proposition q ∷ []) j (tree_of_proposition q)) (sym last) (IsAt-new old (tree_of_proposition q)))
 
         pub prop-kept : Extends old (trees_in es' cs')
         prop-kept = (tree_of_proposition q ∷ [], prop_grown)

@@ -3,7 +3,7 @@ use Rattle.std.proofs.Common.{◌≡◌, ◌∙◌, ℕ, ◌≤◌, ◌<◌, ◌
 use Rattle.std.specs.Prelude.{All, Contains}
 use Rattle.std.specs.Option.{option_map, option_map_or}
 use Rattle.std.proofs.lemmas.Option.{get_or_from_slice_get, slice_get-map, slice_get_cases, slice_get_read, slice_get_within}
-use Rattle.std.proofs.lemmas.List.{append-nil, length-map, map-append}
+use Rattle.std.proofs.lemmas.List.{append-nil, length-map, map-append, length_push}
 use Rattle.std.proofs.lemmas.List.Elements.{All-cons, All-contains, All-map, All-nil, All-push, All-weaker, filter-append}
 use Rattle.mt_model.specs.Form.{Form, True, Not, And, Until, Since}
 use Rattle.formula_arena.specs.declared.arena.TheConstants.{MAX_NODES}
@@ -16,7 +16,7 @@ use Rattle.formula_arena.specs.Nodes.{IsArena, IsAt, has_form, is_proposition, p
 use Rattle.formula_arena.specs.Shapes.{IsNode}
 use Rattle.formula_arena.specs.Table.{AreOver, IsOver, IsTable, tree_of_proposition, tree_over, trees_of}
 use Rattle.formula_arena.proofs.FormLemmas.{has_from_at, lacks_from_none}
-use Rattle.formula_arena.proofs.TreeLists.{Has, IsAt-new, IsAt-old, length-push, orderly-push}
+use Rattle.formula_arena.proofs.TreeLists.{Has, IsAt-new, IsAt-old, orderly-push}
 use Rattle.formula_arena.proofs.TableLemmas.{AreOver-more, AreOver-push, IsOver-more, Stands, length-trees_of, stands, tree_over-same, trees_of-prop, trees_of-push}
 
 -- the propositions of the entries, and the trees of the table
@@ -31,7 +31,7 @@ pub arena-push : (trees : List Form) (f : Form) → IsArena trees → length tre
 arena-push trees f a room absent is_core children =
     let o = orderly-push trees f absent (record { once = a.once; children_first = a.children_first }) children in
     record {
-      few = omega (arith, length-push trees f);
+      few = omega (arith, length_push trees f);
       cores = All-push IsCore trees f a.cores is_core;
       once = o.once;
       children_first = o.children_first;
@@ -51,10 +51,12 @@ entry_at es p within = elim (slice_get_cases es p).1 [
   | inr past ↦ absurd (let beyond = past.0 in omega arith)
 ]
 
-pub proposition-at : (es : List (Proposition × ℕ)) (cs : List Core) → IsTable es cs → (p : ℕ) (e : Proposition × ℕ) → slice_get es p ≡ Some e → tree_at (propositions_in (trees_in es cs)) p ≡ tree_of_proposition e.0
+pub proposition-at : (es : List (Proposition × ℕ)) (cs : List Core) → IsTable es cs → (p : ℕ) (e : Proposition × ℕ) → slice_get es p ≡ Some e
+    → tree_at (propositions_in (trees_in es cs)) p ≡ tree_of_proposition e.0
 proposition-at es cs t p e at =
     ap (λ l. tree_at l p) (sym t.props)
-    ∙ get_or_from_slice_get (map (λ x. tree_of_proposition x.0) es) p (tree_of_proposition e.0) True (slice_get-map (λ x. tree_of_proposition x.0) es p ∙ ap (option_map (λ x. tree_of_proposition x.0)) at)
+    ∙ get_or_from_slice_get (map (λ x. tree_of_proposition x.0) es) p (tree_of_proposition e.0) True
+    (slice_get-map (λ x. tree_of_proposition x.0) es p ∙ ap (option_map (λ x. tree_of_proposition x.0)) at)
 
 pub length-propositions : (es : List (Proposition × ℕ)) (cs : List Core) → IsTable es cs → length (propositions_in (trees_in es cs)) ≡ length es
 length-propositions es cs t = ap length (sym t.props) ∙ length-map es (λ e. tree_of_proposition e.0)
@@ -132,25 +134,29 @@ node_at cs k within = elim (slice_get_cases cs k).1 [
 ]
 
 -- the tree of a node that is not there is not there
-pub node-absent : (es : List (Proposition × ℕ)) (cs : List Core) → IsTable es cs → (c : Core) → IsOver 0 (length (trees_in es cs)) c → (Contains cs c → ⊥) → has_form (trees_in es cs) (tree_over [] (trees_in es cs) c) ≡ false
+pub node-absent : (es : List (Proposition × ℕ)) (cs : List Core) → IsTable es cs → (c : Core) → IsOver 0 (length (trees_in es cs)) c → (Contains cs c → ⊥)
+    → has_form (trees_in es cs) (tree_over [] (trees_in es cs) c) ≡ false
 node-absent es cs t c over absent = lacks_from_none (trees_in es cs) (tree_over [] (trees_in es cs) c) (λ k at.
     let within = at.0 in
     let there = node_at cs k (omega (arith, length-trees_of (props_in es) cs)) in
     let s = stands-table es cs t k there.0 there.1 in
     let reaches : k ≤ length (trees_in es cs) = omega arith in
     let enough : length es ≤ length (props_in es) = omega (arith, length-map es (λ e. e.0)) in
-    let same = node_told (length (trees_in es cs)) (props_in es) (trees_in es cs) (omega arith) t.arena.once c there.0 over (IsOver-more (length es) (length (props_in es)) k (length (trees_in es cs)) there.0 enough reaches s.over)
+    let same = node_told (length (trees_in es cs)) (props_in es) (trees_in es cs) (omega arith) t.arena.once c there.0 over
+    (IsOver-more (length es) (length (props_in es)) k (length (trees_in es cs)) there.0 enough reaches s.over)
     (plain-tree (props_in es) (trees_in es cs) (length (trees_in es cs)) c over ∙ sym at.1 ∙ s.tree) in
     absent (contains_from_get cs k c (there.1 ∙ ap Some (sym same))))
 
 -- what is read at a node's place says what the tree is
-pub node-read : (es : List (Proposition × ℕ)) (cs : List Core) (trees : List Form) → IsTable es cs → trees_in es cs ≡ trees → (k : ℕ) (c : Core) → k < length trees → c ≡ slice_index_or cs k c → IsNode trees k c
+pub node-read : (es : List (Proposition × ℕ)) (cs : List Core) (trees : List Form) → IsTable es cs → trees_in es cs ≡ trees → (k : ℕ) (c : Core)
+    → k < length trees → c ≡ slice_index_or cs k c → IsNode trees k c
 node-read es cs trees t e k c within is =
     let here : k < length cs = omega (arith, length-trees_of (props_in es) cs, ap length e) in
     subst (λ l. IsNode l k c) e (node-shape es cs t k c (stands-table es cs t k c (slice_get_read cs (length cs) k c refl here is)))
 
 -- a node that is there has its tree, and adds none
-pub node-known : (es : List (Proposition × ℕ)) (cs : List Core) → IsTable es cs → (c : Core) → IsOver 0 (length (trees_in es cs)) c → (k : ℕ) → slice_get cs k ≡ Some c → IsAt (trees_in es cs) k (tree_over [] (trees_in es cs) c)
+pub node-known : (es : List (Proposition × ℕ)) (cs : List Core) → IsTable es cs → (c : Core) → IsOver 0 (length (trees_in es cs)) c → (k : ℕ)
+    → slice_get cs k ≡ Some c → IsAt (trees_in es cs) k (tree_over [] (trees_in es cs) c)
 node-known es cs t c over k at =
     let within = slice_get_within cs k c at in
     (omega (arith, length-trees_of (props_in es) cs), (stands-table es cs t k c at).tree ∙ plain-tree (props_in es) (trees_in es cs) (length (trees_in es cs)) c over)
@@ -192,7 +198,8 @@ module _ (trees : List Form) (k : ℕ) (few : k ≤ length trees) where
 propositions-push : (trees : List Form) (f : Form) (b : Bool) → is_proposition f ≡ b → propositions_in (trees ++ f ∷ []) ≡ propositions_in trees ++ cond b (f ∷ []) []
 propositions-push trees f b e = filter-append is_proposition trees (f ∷ []) ∙ ap (λ c. propositions_in trees ++ cond c (f ∷ []) []) e
 
-pub table-push : (es : List (Proposition × ℕ)) (cs : List Core) → IsTable es cs → (c : Core) → IsOver 0 (length (trees_in es cs)) c → (Contains cs c → ⊥) → length (trees_in es cs) < MAX_NODES → IsTable es (cs ++ c ∷ [])
+pub table-push : (es : List (Proposition × ℕ)) (cs : List Core) → IsTable es cs → (c : Core) → IsOver 0 (length (trees_in es cs)) c → (Contains cs c → ⊥)
+    → length (trees_in es cs) < MAX_NODES → IsTable es (cs ++ c ∷ [])
 table-push es cs t c over absent room =
     let T : List Form = trees_in es cs in
     let f : Form = tree_over [] T c in
@@ -204,11 +211,14 @@ table-push es cs t c over absent room =
       over = AreOver-push (length es) 0 cs c t.over (IsOver-more 0 (length es) (length T) (0 + length cs) c (omega arith) (omega arith) over);
       arena = subst IsArena (sym more) (arena-push T f t.arena room lacks (core_there T (length T) (omega arith) t.arena.cores c over) (children_there T (length T) (omega arith) c over));
       props = t.props ∙ sym (append-nil (propositions_in T)) ∙ sym (propositions-push T f false plain) ∙ ap propositions_in (sym more);
-      nodes = subst (λ l. All (λ e. IsAt l e.1 (tree_of_proposition e.0)) es) (sym more) (All-weaker (λ e. IsAt T e.1 (tree_of_proposition e.0)) (λ e. IsAt (T ++ f ∷ []) e.1 (tree_of_proposition e.0)) (λ e at. IsAt-old T (f ∷ []) e.1 (tree_of_proposition e.0) at) es t.nodes);
+      nodes =
+          subst (λ l. All (λ e. IsAt l e.1 (tree_of_proposition e.0)) es) (sym more)
+          (All-weaker (λ e. IsAt T e.1 (tree_of_proposition e.0)) (λ e. IsAt (T ++ f ∷ []) e.1 (tree_of_proposition e.0)) (λ e at. IsAt-old T (f ∷ []) e.1 (tree_of_proposition e.0) at) es t.nodes);
     }
 
 -- with a new proposition and its node the table has one more tree
-pub trees-push_prop : (es : List (Proposition × ℕ)) (cs : List Core) (q : Proposition) (k : ℕ) → IsTable es cs → trees_in (es ++ (q, k) ∷ []) (cs ++ core.Prop (length es) ∷ []) ≡ trees_in es cs ++ tree_of_proposition q ∷ []
+pub trees-push_prop : (es : List (Proposition × ℕ)) (cs : List Core) (q : Proposition) (k : ℕ) → IsTable es cs
+    → trees_in (es ++ (q, k) ∷ []) (cs ++ core.Prop (length es) ∷ []) ≡ trees_in es cs ++ tree_of_proposition q ∷ []
 trees-push_prop es cs q k t =
     let n : length (props_in es) ≡ length es = length-map es (λ e. e.0) in
     let ps : props_in (es ++ (q, k) ∷ []) ≡ props_in es ++ q ∷ [] = map-append (λ e. e.0) es ((q, k) ∷ []) in
@@ -216,7 +226,8 @@ trees-push_prop es cs q k t =
     ∙ ap (λ m. trees_of (props_in es ++ q ∷ []) (cs ++ core.Prop m ∷ [])) (sym n)
     ∙ trees_of-prop (props_in es) q cs (subst (λ m. AreOver m 0 cs) (sym n) t.over)
 
-pub table-push_prop : (es : List (Proposition × ℕ)) (cs : List Core) → IsTable es cs → (q : Proposition) (k : ℕ) → k ≡ length cs → has_form (trees_in es cs) (tree_of_proposition q) ≡ false → length (trees_in es cs) < MAX_NODES
+pub table-push_prop : (es : List (Proposition × ℕ)) (cs : List Core) → IsTable es cs → (q : Proposition) (k : ℕ) → k ≡ length cs
+    → has_form (trees_in es cs) (tree_of_proposition q) ≡ false → length (trees_in es cs) < MAX_NODES
     → IsTable (es ++ (q, k) ∷ []) (cs ++ core.Prop (length es) ∷ [])
 table-push_prop es cs t q k last lacks room =
     let T : List Form = trees_in es cs in
@@ -250,7 +261,8 @@ entry-absent es cs t q lacks there =
     true≢false (sym (All-contains P (props_in es) q (All-map P (λ e. e.0) es each) there) ∙ lacks)
 
 -- and one without an entry has no tree
-entry-told : (es : List (Proposition × ℕ)) (trees : List Form) (k : ℕ) (q : Proposition) (c : Core) → IsOver (length es) k c → tree_over (props_in es) trees c ≡ tree_of_proposition q → Contains (props_in es) q
+entry-told : (es : List (Proposition × ℕ)) (trees : List Form) (k : ℕ) (q : Proposition) (c : Core) → IsOver (length es) k c
+    → tree_over (props_in es) trees c ≡ tree_of_proposition q → Contains (props_in es) q
 entry-told es trees k q (core.Prop p) over e =
     let x = entry_at es p over in
     let same : tree_of_proposition x.0.0 ≡ tree_of_proposition q = sym (at_entry es p x.0 x.1) ∙ e in

@@ -2,7 +2,7 @@
 use Rattle.std.proofs.Common.{◌≡◌, ◌∙◌, ℕ, ◌≤◌, ◌<◌, ◌+◌, ◌-◌, Bool, true, false, ◌⊎◌, inl, inr, refl, sym, ap, subst, List, [], ◌∷◌, ◌++◌, length, length-append, arith}
 use Rattle.std.specs.Prelude.{All, Contains}
 use Rattle.std.proofs.lemmas.Bool.{cases_lt}
-use Rattle.std.proofs.lemmas.List.{get_or_append_left, get_or_push, get_or_default}
+use Rattle.std.proofs.lemmas.List.{get_or_append_left, get_or_push, get_or_default, length_push}
 use Rattle.std.proofs.lemmas.List.Elements.{All-cons, All-nil, All-weaker, All-contains}
 use Rattle.mt_model.specs.Form.{Form, True, False, Prop, Not, And, Or, Implies, Until, Since, Eventually, Always, Once, Historically, height_of}
 use Rattle.formula_arena.specs.Subtrees.{IsSubtree, whole, below, children_of}
@@ -26,19 +26,16 @@ at-old trees fs k within = get_or_append_left trees fs True k within
 pub at-new : (trees : List Form) (f : Form) → tree_at (trees ++ f ∷ []) (length trees) ≡ f
 at-new trees f = get_or_push trees f True (length trees) refl
 
-pub length-push : (trees : List Form) (f : Form) → length (trees ++ f ∷ []) ≡ length trees + 1
-length-push trees f = length-append trees (f ∷ [])
-
 pub IsAt-old : (trees fs : List Form) (k : ℕ) (f : Form) → IsAt trees k f → IsAt (trees ++ fs) k f
 IsAt-old trees fs k f at = (let within = at.0 in omega (arith, length-append trees fs), at-old trees fs k at.0 ∙ at.1)
 
 pub IsAt-new : (trees : List Form) (f : Form) → IsAt (trees ++ f ∷ []) (length trees) f
-IsAt-new trees f = (omega (arith, length-push trees f), at-new trees f)
+IsAt-new trees f = (omega (arith, length_push trees f), at-new trees f)
 
 pub at-push-cases : (trees : List Form) (f : Form) (k : ℕ) → k < length (trees ++ f ∷ []) → (k < length trees) ⊎ (k ≡ length trees)
 at-push-cases trees f k within = elim (cases_lt k (length trees)) [
   | inl old ↦ inl old
-  | inr new ↦ inr (omega (arith, length-push trees f))
+  | inr new ↦ inr (omega (arith, length_push trees f))
 ]
 
 none_at : (trees : List Form) (f : Form) (k : ℕ) → has_form trees f ≡ false → IsAt trees k f → ⊥
@@ -62,7 +59,8 @@ module _ (trees : List Form) (f : Form) (absent : has_form trees f ≡ false) wh
       → (k : ℕ) → k < length (trees ++ f ∷ []) → All (StandsBefore (trees ++ f ∷ []) k) (children_of (tree_at (trees ++ f ∷ []) k))
   children_more first children k in_k = elim (at-push-cases trees f k in_k) [
     | inl old ↦ subst (λ g. All (StandsBefore (trees ++ f ∷ []) k) (children_of g)) (sym (at-old trees (f ∷ []) k old))
-        (All-weaker (StandsBefore trees k) (StandsBefore (trees ++ f ∷ []) k) (λ g h. let less = h.1 in (h.0, less, at-old trees (f ∷ []) h.0 (omega arith) ∙ h.2)) (children_of (tree_at trees k)) (first k old))
+        (All-weaker (StandsBefore trees k) (StandsBefore (trees ++ f ∷ []) k)
+        (λ g h. let less = h.1 in (h.0, less, at-old trees (f ∷ []) h.0 (omega arith) ∙ h.2)) (children_of (tree_at trees k)) (first k old))
     | inr new ↦ subst (λ g. All (StandsBefore (trees ++ f ∷ []) k) (children_of g)) (sym (ap (tree_at (trees ++ f ∷ [])) new ∙ at-new trees f))
         (All-weaker (Has trees) (StandsBefore (trees ++ f ∷ []) k) (λ g h. let within = h.at.0 in (h.number, omega arith, at-old trees (f ∷ []) h.number within ∙ h.at.1)) (children_of f) children)
   ]
@@ -103,11 +101,16 @@ has-with_subtrees_old trees x True h = has-with_tree_old trees True x h
 has-with_subtrees_old trees x False h = has-with_tree_old trees False x h
 has-with_subtrees_old trees x (Prop host name) h = has-with_tree_old trees (Prop host name) x h
 has-with_subtrees_old trees x (Not f) h = has-with_tree_old (with_subtrees trees f) (Not f) x (has-with_subtrees_old trees x f h)
-has-with_subtrees_old trees x (And f g) h = has-with_tree_old (with_subtrees (with_subtrees trees f) g) (And f g) x (has-with_subtrees_old (with_subtrees trees f) x g (has-with_subtrees_old trees x f h))
-has-with_subtrees_old trees x (Or f g) h = has-with_tree_old (with_subtrees (with_subtrees trees f) g) (Or f g) x (has-with_subtrees_old (with_subtrees trees f) x g (has-with_subtrees_old trees x f h))
-has-with_subtrees_old trees x (Implies f g) h = has-with_tree_old (with_subtrees (with_subtrees trees f) g) (Implies f g) x (has-with_subtrees_old (with_subtrees trees f) x g (has-with_subtrees_old trees x f h))
-has-with_subtrees_old trees x (Until I f g) h = has-with_tree_old (with_subtrees (with_subtrees trees f) g) (Until I f g) x (has-with_subtrees_old (with_subtrees trees f) x g (has-with_subtrees_old trees x f h))
-has-with_subtrees_old trees x (Since I f g) h = has-with_tree_old (with_subtrees (with_subtrees trees f) g) (Since I f g) x (has-with_subtrees_old (with_subtrees trees f) x g (has-with_subtrees_old trees x f h))
+has-with_subtrees_old trees x (And f g) h =
+    has-with_tree_old (with_subtrees (with_subtrees trees f) g) (And f g) x (has-with_subtrees_old (with_subtrees trees f) x g (has-with_subtrees_old trees x f h))
+has-with_subtrees_old trees x (Or f g) h =
+    has-with_tree_old (with_subtrees (with_subtrees trees f) g) (Or f g) x (has-with_subtrees_old (with_subtrees trees f) x g (has-with_subtrees_old trees x f h))
+has-with_subtrees_old trees x (Implies f g) h =
+    has-with_tree_old (with_subtrees (with_subtrees trees f) g) (Implies f g) x (has-with_subtrees_old (with_subtrees trees f) x g (has-with_subtrees_old trees x f h))
+has-with_subtrees_old trees x (Until I f g) h =
+    has-with_tree_old (with_subtrees (with_subtrees trees f) g) (Until I f g) x (has-with_subtrees_old (with_subtrees trees f) x g (has-with_subtrees_old trees x f h))
+has-with_subtrees_old trees x (Since I f g) h =
+    has-with_tree_old (with_subtrees (with_subtrees trees f) g) (Since I f g) x (has-with_subtrees_old (with_subtrees trees f) x g (has-with_subtrees_old trees x f h))
 has-with_subtrees_old trees x (Eventually I f) h = has-with_tree_old (with_subtrees trees f) (Eventually I f) x (has-with_subtrees_old trees x f h)
 has-with_subtrees_old trees x (Always I f) h = has-with_tree_old (with_subtrees trees f) (Always I f) x (has-with_subtrees_old trees x f h)
 has-with_subtrees_old trees x (Once I f) h = has-with_tree_old (with_subtrees trees f) (Once I f) x (has-with_subtrees_old trees x f h)
@@ -129,13 +132,16 @@ has-with_subtrees trees (Once I f) = has-with_tree (with_subtrees trees f) (Once
 has-with_subtrees trees (Historically I f) = has-with_tree (with_subtrees trees f) (Historically I f)
 
 orderly_one : (trees : List Form) (f h : Form) → children_of h ≡ f ∷ [] → Orderly (with_subtrees trees f) → Orderly (with_tree (with_subtrees trees f) h)
-orderly_one trees f h e o = orderly-with_tree (with_subtrees trees f) h o (subst (All (Has (with_subtrees trees f))) (sym e) (All-cons (Has (with_subtrees trees f)) f [] (has-with_subtrees trees f) (All-nil (Has (with_subtrees trees f)))))
+orderly_one trees f h e o =
+    orderly-with_tree (with_subtrees trees f) h o
+    (subst (All (Has (with_subtrees trees f))) (sym e) (All-cons (Has (with_subtrees trees f)) f [] (has-with_subtrees trees f) (All-nil (Has (with_subtrees trees f)))))
 
 orderly_two : (trees : List Form) (f g h : Form) → children_of h ≡ f ∷ g ∷ [] → Orderly (with_subtrees (with_subtrees trees f) g) → Orderly (with_tree (with_subtrees (with_subtrees trees f) g) h)
 orderly_two trees f g h e o =
     let P : Form → Type 0 = Has (with_subtrees (with_subtrees trees f) g) in
     orderly-with_tree (with_subtrees (with_subtrees trees f) g) h o
-    (subst (All P) (sym e) (All-cons P f (g ∷ []) (has-with_subtrees_old (with_subtrees trees f) f g (has-with_subtrees trees f)) (All-cons P g [] (has-with_subtrees (with_subtrees trees f) g) (All-nil P))))
+    (subst (All P) (sym e)
+    (All-cons P f (g ∷ []) (has-with_subtrees_old (with_subtrees trees f) f g (has-with_subtrees trees f)) (All-cons P g [] (has-with_subtrees (with_subtrees trees f) g) (All-nil P))))
 
 pub orderly-with_subtrees : (trees : List Form) (f : Form) → Orderly trees → Orderly (with_subtrees trees f)
 orderly-with_subtrees trees True o = orderly-with_tree trees True o (All-nil (Has trees))
@@ -181,7 +187,8 @@ from_leaf trees x h has = elim (from-with_tree trees h x has) [
   | inr e ↦ inr (subst (IsSubtree x) (sym e) whole)
 ]
 
-from_one : (trees : List Form) (x f h : Form) → Contains (children_of h) f → (Has (with_subtrees trees f) x → Has trees x ⊎ IsSubtree x f) → Has (with_tree (with_subtrees trees f) h) x → Has trees x ⊎ IsSubtree x h
+from_one : (trees : List Form) (x f h : Form) → Contains (children_of h) f → (Has (with_subtrees trees f) x → Has trees x ⊎ IsSubtree x f)
+    → Has (with_tree (with_subtrees trees f) h) x → Has trees x ⊎ IsSubtree x h
 from_one trees x f h child from has = elim (from_leaf (with_subtrees trees f) x h has) [
   | inl old ↦ elim (from old) [ inl older ↦ inl older | inr sub ↦ inr (below h f child sub) ]
   | inr sub ↦ inr sub
@@ -243,7 +250,7 @@ abbrev pub Last : List Form → Form → Type 0
 Last trees f = (0 < length trees) × (tree_at trees (length trees - 1) ≡ f)
 
 last-push : (trees : List Form) (f : Form) → Last (trees ++ f ∷ []) f
-last-push trees f = (omega (arith, length-push trees f), ap (tree_at (trees ++ f ∷ [])) (omega (arith, length-push trees f)) ∙ at-new trees f)
+last-push trees f = (omega (arith, length_push trees f), ap (tree_at (trees ++ f ∷ [])) (omega (arith, length_push trees f)) ∙ at-new trees f)
 
 pub none_of_nil : (f : Form) → Has [] f → ⊥
 none_of_nil f has = let within = has.at.0 in absurd (omega arith)

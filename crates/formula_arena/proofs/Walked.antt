@@ -1,6 +1,6 @@
 -- What the steps of a walk lead to.
 use Rattle.std.proofs.Common.{◌≡◌, ◌∙◌, ℕ, ◌+◌, ◌≤◌, ◌<◌, List, [], ◌∷◌, ◌++◌, length, length-append, map, reverse, drop, Some, Result, Ok, Err, OnOk, refl, sym, ap, subst, arith}
-use Rattle.std.proofs.lemmas.List.{append-nil, map-append, reverse-append}
+use Rattle.std.proofs.lemmas.List.{append-nil, map-append, reverse-append, length_push}
 use Rattle.std.proofs.lemmas.List.Elements.{All-head, All-pop, All-push, All-tail, All-weaker}
 use Rattle.mt_model.specs.Form.{Form, True, False, Prop, Not, And, Or, Implies, Until, Since, Eventually, Always, Once, Historically}
 use Rattle.formula_arena.specs.declared.fault.ArenaFault.{ArenaFault}
@@ -20,7 +20,8 @@ waiting-push trees nodes node = ap reverse (map-append (tree_at trees) nodes (no
 
 trees_kept : (old more : List Form) (nodes : List ℕ) → AreHeld old nodes → map (tree_at (old ++ more)) nodes ≡ map (tree_at old) nodes
 trees_kept old more [] held = refl
-trees_kept old more (node ∷ nodes) held = λ i. at-old old more node (All-head (λ id. id < length old) node nodes held) i ∷ trees_kept old more nodes (All-tail (λ id. id < length old) node nodes held) i
+trees_kept old more (node ∷ nodes) held =
+    λ i. at-old old more node (All-head (λ id. id < length old) node nodes held) i ∷ trees_kept old more nodes (All-tail (λ id. id < length old) node nodes held) i
 
 -- nodes that wait have their trees as more of them are held
 pub waiting-kept : (old new : List Form) (nodes : List ℕ) → Extends old new → AreHeld old nodes → waiting_in new nodes ≡ waiting_in old nodes
@@ -87,7 +88,8 @@ taken_task {task} {shape} steps {old} {waiting} {new} {nodes} {r} is adds one le
     subst (λ t. IsTaken (step_in t ∷ steps) old waiting r steps new nodes) (sym is) (taken (step_in shape) steps adds one left)
 
 -- what a tree's core comes to leads where the tree leads
-pub leads_within : (f : Form) (steps : List Step) (trees waiting grown : List Form) (g : Form) → Leads (Whole (core_of f) ∷ steps) trees waiting grown g → Leads (steps_of f ++ steps) trees waiting grown g
+pub leads_within : (f : Form) (steps : List Step) (trees waiting grown : List Form) (g : Form) → Leads (Whole (core_of f) ∷ steps) trees waiting grown g
+    → Leads (steps_of f ++ steps) trees waiting grown g
 leads_within True steps trees waiting grown g leads = (omega arith, leads.1)
 leads_within False steps trees waiting grown g leads = (omega arith, (omega arith, leads.1))
 leads_within (Prop host name) steps trees waiting grown g leads = (omega arith, leads.1)
@@ -102,9 +104,6 @@ leads_within (Once I f) steps trees waiting grown g leads = (omega arith, (omega
 leads_within (Always I f) steps trees waiting grown g leads = (omega arith, (omega arith, (omega arith, (omega arith, (omega arith, leads.1)))))
 leads_within (Historically I f) steps trees waiting grown g leads = (omega arith, (omega arith, (omega arith, (omega arith, (omega arith, leads.1)))))
 
-after_one : (fs : List Form) (h : Form) → length (fs ++ h ∷ []) ≡ length fs + 1
-after_one fs h = length-append fs (h ∷ [])
-
 after_two : (fs gs : List Form) (h : Form) → length (fs ++ gs ++ h ∷ []) ≡ length fs + length gs + 1
 after_two fs gs h = omega (arith, length-append (fs ++ gs) (h ∷ []), length-append fs gs)
 
@@ -113,25 +112,50 @@ pub work_within : (f : Form) (steps : List Step) → work (steps_of f ++ steps) 
 work_within True steps = omega arith
 work_within False steps = omega arith
 work_within (Prop host name) steps = omega arith
-work_within (Not f) steps = omega (arith, after_one (subtrees_of (core_of f)) (Not (core_of f)))
+work_within (Not f) steps = omega (arith, length_push (subtrees_of (core_of f)) (Not (core_of f)))
 work_within (And f g) steps = omega (arith, after_two (subtrees_of (core_of f)) (subtrees_of (core_of g)) (And (core_of f) (core_of g)))
 work_within (Or f g) steps =
     let not_f = Not (core_of f) in
     let not_g = Not (core_of g) in
-    omega (arith, after_one (subtrees_of (core_of f)) not_f, after_one (subtrees_of (core_of g)) not_g, after_two (subtrees_of not_f) (subtrees_of not_g) (And not_f not_g), after_one (subtrees_of (And not_f not_g)) (core_of (Or f g)))
+    omega (
+      arith,
+      length_push (subtrees_of (core_of f)) not_f,
+      length_push (subtrees_of (core_of g)) not_g,
+      after_two (subtrees_of not_f) (subtrees_of not_g)
+          (And not_f not_g),
+      length_push (subtrees_of (And not_f not_g)) (core_of (Or f g)),
+    )
 work_within (Implies f g) steps =
     let not_g = Not (core_of g) in
-    omega (arith, after_one (subtrees_of (core_of g)) not_g, after_two (subtrees_of (core_of f)) (subtrees_of not_g) (And (core_of f) not_g), after_one (subtrees_of (And (core_of f) not_g)) (core_of (Implies f g)))
+    omega (
+      arith,
+      length_push (subtrees_of (core_of g)) not_g,
+      after_two (subtrees_of (core_of f)) (subtrees_of not_g) (And (core_of f) not_g),
+      length_push
+          (subtrees_of (And (core_of f) not_g)) (core_of (Implies f g)),
+    )
 work_within (Until I f g) steps = omega (arith, after_two (subtrees_of (core_of f)) (subtrees_of (core_of g)) (Until I (core_of f) (core_of g)))
 work_within (Since I f g) steps = omega (arith, after_two (subtrees_of (core_of f)) (subtrees_of (core_of g)) (Since I (core_of f) (core_of g)))
 work_within (Eventually I f) steps = omega (arith, after_two (subtrees_of True) (subtrees_of (core_of f)) (Until I True (core_of f)))
 work_within (Once I f) steps = omega (arith, after_two (subtrees_of True) (subtrees_of (core_of f)) (Since I True (core_of f)))
 work_within (Always I f) steps =
     let not_f = Not (core_of f) in
-    omega (arith, after_one (subtrees_of (core_of f)) not_f, after_two (subtrees_of True) (subtrees_of not_f) (Until I True not_f), after_one (subtrees_of (Until I True not_f)) (core_of (Always I f)))
+    omega (
+      arith,
+      length_push (subtrees_of (core_of f)) not_f,
+      after_two (subtrees_of True) (subtrees_of not_f) (Until I True not_f),
+      length_push
+          (subtrees_of (Until I True not_f)) (core_of (Always I f)),
+    )
 work_within (Historically I f) steps =
     let not_f = Not (core_of f) in
-    omega (arith, after_one (subtrees_of (core_of f)) not_f, after_two (subtrees_of True) (subtrees_of not_f) (Since I True not_f), after_one (subtrees_of (Since I True not_f)) (core_of (Historically I f)))
+    omega (
+      arith,
+      length_push (subtrees_of (core_of f)) not_f,
+      after_two (subtrees_of True) (subtrees_of not_f) (Since I True not_f),
+      length_push
+          (subtrees_of (Since I True not_f)) (core_of (Historically I f)),
+    )
 
 -- a walk from trees that are held, over a formula of core f: where the steps that are left lead
 pub record IsWalk (old : List Form) (f : Form) (steps : List Step) (trees : List Form) (nodes : List ℕ) : Type 0 where
@@ -143,7 +167,8 @@ pub record IsWalk (old : List Form) (f : Form) (steps : List Step) (trees : List
 pub expanded : (task : Task) (f : Form) (steps left : List Step) (old : List Form) (nodes : List ℕ) → step_in task ≡ Whole (core_of f) → left ≡ steps_of f ++ steps → AreHeld old nodes
     → IsTaken (step_in task ∷ steps) old (waiting_in old nodes) (Ok tt) left old nodes
 expanded task f steps left old nodes is e held =
-    subst (λ s. IsTaken (s ∷ steps) old (waiting_in old nodes) (Ok tt) left old nodes) (sym is) (subst (λ l. IsTaken (Whole (core_of f) ∷ steps) old (waiting_in old nodes) (Ok tt) l old nodes) (sym e) record {
+    subst (λ s. IsTaken (s ∷ steps) old (waiting_in old nodes) (Ok tt) left old nodes) (sym is)
+    (subst (λ l. IsTaken (Whole (core_of f) ∷ steps) old (waiting_in old nodes) (Ok tt) l old nodes) (sym e) record {
       held = held;
       leads = λ grown g leads. leads_within f steps old (waiting_in old nodes) grown g leads;
       less = work_within f steps;

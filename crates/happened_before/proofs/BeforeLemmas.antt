@@ -72,5 +72,9 @@ module _ (law : PreviousRowIsLast) (log : Logged) (e f : ℕ) (within : e < leng
   told-by_clocks c d h same low ce cf =
       let host : host_of log e < length log.hosts = let size = ce.hosts in omega arith in
       let first : slice_index c h ≡ count_by (λ r. ce.past r && (host_of log r == host_of log e)) (range_with_len 0 (length log.rows)) = rw same (ce.number (host_of log e) host) in
-      let second : slice_index d h ≡ count_by (λ r. cf.past r && (host_of log r == host_of log e)) (range_with_len 0 (length log.rows)) = rw same (cf.number (host_of log e) host) in
-      (λ passes. let less = leb-true (slice_index c h) (slice_index d h) passes in past-from_le ce.past cf.past ce.told cf.told (omega arith), λ past. let less = count-le ce.past cf.past ce.told cf.told past in le-leb (slice_index c h) (slice_index d h) (omega arith))
+      let second : slice_index d h ≡ count_by (λ r. cf.past r && (host_of log r == host_of log e)) (range_with_len 0 (length log.rows)) = rw same (cf.number (host_of log e) host) in (
+        λ passes. let less = leb-true (slice_index c h) (slice_index d h) passes in
+            past-from_le ce.past cf.past ce.told cf.told (omega arith),
+        λ past. let less = count-le ce.past cf.past ce.told cf.told past in
+            le-leb (slice_index c h) (slice_index d h) (omega arith),
+      )

@@ -49,7 +49,8 @@ module _ (log : Logged) where
   caused-within e f among = elim (cases_lt f (length log.rows)) [
     | inl within ↦ within
     | inr past ↦
-        let none : causes_at (causes_of_rows log) f ≡ record { previous = None; send = None } = get_or_past (causes_of_rows log) f (record { previous = None; send = None }) (omega (arith, causes-count)) in
+        let none : causes_at (causes_of_rows log) f ≡ record { previous = None; send = None } =
+        get_or_past (causes_of_rows log) f (record { previous = None; send = None }) (omega (arith, causes-count)) in
         elim (rw none at among) [ inl is ↦ none-within e is | inr is ↦ none-within e is ]
   ]
 
@@ -115,11 +116,14 @@ module _ (log : Logged) where
       all-finished f within = all f false (omega (arith, are.flags, causes-count))
 
       -- a cause's number is 0, or that of a row directly before
-      of-cause : (cause : Option ℕ) (f h : ℕ) (causes : (e : ℕ) → cause ≡ Some e → IsDirectlyBefore log e f) → (number_of clocks cause h ≡ 0) ⊎ ((e : ℕ) × IsDirectlyBefore log e f × (number_of clocks cause h ≡ number_at clocks e h))
+      of-cause : (cause : Option ℕ) (f h : ℕ) (causes : (e : ℕ) → cause ≡ Some e → IsDirectlyBefore log e f)
+          → (number_of clocks cause h ≡ 0) ⊎ ((e : ℕ) × IsDirectlyBefore log e f × (number_of clocks cause h ≡ number_at clocks e h))
       of-cause None f h causes = inl refl
       of-cause (Some e) f h causes = inr (e, causes e refl, refl)
 
-      from-cause : (cause : Option ℕ) (f h : ℕ) → ((e : ℕ) → cause ≡ Some e → IsDirectlyBefore log e f) → number_at clocks f h ≡ number_of clocks cause h + own log f h → (number_at clocks f h ≡ own log f h) ⊎ ((e : ℕ) × IsDirectlyBefore log e f × (number_at clocks f h ≡ number_at clocks e h + own log f h))
+      from-cause : (cause : Option ℕ) (f h : ℕ) → ((e : ℕ) → cause ≡ Some e → IsDirectlyBefore log e f)
+          → number_at clocks f h ≡ number_of clocks cause h + own log f h
+          → (number_at clocks f h ≡ own log f h) ⊎ ((e : ℕ) × IsDirectlyBefore log e f × (number_at clocks f h ≡ number_at clocks e h + own log f h))
       from-cause cause f h causes is = elim (of-cause cause f h causes) [
         | inl none ↦ inl (omega arith)
         | inr there ↦ let same = there.2 in inr (there.0, there.1, omega arith)

@@ -226,7 +226,9 @@ module _ (law : PreviousRowIsLast) (log : Logged) (c : ℕ → ℕ → ℕ) (joi
   place zero e small row = absurd (omega arith)
   place (suc n) e small row = by (previous_row log e) refl (place n)
     where
-      by : (o : Option ℕ) → previous_row log e ≡ o → ((d : ℕ) → d < n → d < length log.rows → c d (host_of log d) ≡ count_by (is_of (host_of log d)) (range_with_len 0 (suc d))) → c e (host_of log e) ≡ count_by (is_of (host_of log e)) (range_with_len 0 (suc e))
+      by : (o : Option ℕ) → previous_row log e ≡ o
+          → ((d : ℕ) → d < n → d < length log.rows → c d (host_of log d) ≡ count_by (is_of (host_of log d)) (range_with_len 0 (suc d)))
+          → c e (host_of log e) ≡ count_by (is_of (host_of log e)) (range_with_len 0 (suc e))
       by None is rest =
           let none = count_below-cut (is_of (host_of log e)) 0 e (omega arith) (λ k low below. ne_eqb (host_of log k) (host_of log e) (law.absent log e is k below)) in
           omega (arith, first-number e row is, count-own e, none)

@@ -4,13 +4,13 @@ use Rattle.std.specs.Prelude.{count_by, sum_by}
 use Rattle.std.specs.List.{range_with_len}
 use Rattle.std.proofs.lemmas.Bool.{cases_eq}
 use Rattle.std.proofs.lemmas.List.Sums.{sum_by_push}
-
-range_with_len-suc : (a n j : ℕ) → a + n ≡ j → range_with_len a (suc n) ≡ range_with_len a n ++ j ∷ []
-range_with_len-suc a zero j at = ap (λ x. x ∷ []) (omega arith)
-range_with_len-suc a (suc n) j at = ap (λ xs. a ∷ xs) (range_with_len-suc (a + 1) n j (omega arith))
+use Rattle.mt_list.proofs.Lists.{range_more}
 
 pub sum_below-suc : (f : ℕ → ℕ) (n : ℕ) → sum_by f (range_with_len 0 (suc n)) ≡ sum_by f (range_with_len 0 n) + f n
-sum_below-suc f n = ap (sum_by f) (range_with_len-suc 0 n n (omega arith)) ∙ sum_by_push f (range_with_len 0 n) n
+sum_below-suc f n =
+    let next : suc n ≡ n + 1 = omega arith in
+    let last : 0 + n ≡ n = omega arith in
+    ap (λ (m : ℕ). sum_by f (range_with_len 0 m)) next ∙ ap (sum_by f) (range_more 0 n) ∙ ap (λ (j : ℕ). sum_by f (range_with_len 0 n ++ j ∷ [])) last ∙ sum_by_push f (range_with_len 0 n) n
 
 -- a sum of terms that are at least as great
 pub sum_below-le : (f g : ℕ → ℕ) (n : ℕ) → ((k : ℕ) → k < n → f k ≤ g k) → sum_by f (range_with_len 0 n) ≤ sum_by g (range_with_len 0 n)

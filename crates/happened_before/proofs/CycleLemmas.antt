@@ -1,8 +1,8 @@
 -- The way back along causes, one event longer, and the cycle that it ends in.
-use Rattle.std.proofs.Common.{◌≡◌, ◌≢◌, ◌∙◌, sym, ap, ℕ, suc, ◌+◌, ◌-◌, ◌<◌, ◌≤◌, inl, inr, Bool, true, false, eqb, List, [], ◌∷◌, ◌++◌, length, drop, get_or, arith, length-drop, get_or-drop}
+use Rattle.std.proofs.Common.{◌≡◌, ◌≢◌, ◌∙◌, sym, ap, ℕ, ◌+◌, ◌-◌, ◌<◌, ◌≤◌, inl, inr, Bool, false, List, [], ◌∷◌, ◌++◌, length, drop, get_or, arith, length-drop, get_or-drop}
 use Rattle.std.specs.Prelude.{All, AllPairs, reverse, slice_index}
-use Rattle.std.specs.List.{AllAdjacentBelow, list_any}
-use Rattle.std.proofs.lemmas.Bool.{cases_eq, eqb-true, or_cases}
+use Rattle.std.specs.List.{AllAdjacentBelow}
+use Rattle.std.proofs.lemmas.Bool.{cases_eq}
 use Rattle.std.proofs.lemmas.Bool.Decides.{Decides-eqb}
 use Rattle.std.proofs.lemmas.List.{get_or-reverse, get_or_append_left, get_or_push, length-reverse, length_push}
 use Rattle.std.proofs.lemmas.List.Elements.{All-push}
@@ -12,17 +12,11 @@ use Rattle.std.proofs.lemmas.Map.Steps.{length-le_from_distinct_below}
 use Rattle.happened_before.specs.declared.causes.Causes.{Causes}
 use Rattle.happened_before.specs.Causes.{IsAmong, causes_at, is_finished}
 use Rattle.happened_before.specs.Cycles.{IsCausal, IsPath}
-
-stands-below : (n : ℕ) (xs : List ℕ) → All (λ x. x < n) xs → (q : ℕ) → list_any (eqb q) xs ≡ true → q < n
-stands-below n [] each q found = absurd (cc)
-stands-below n (x ∷ xs) each q found = elim (or_cases (eqb q x) (list_any (eqb q) xs) found) [
-  | inl same ↦ let is = eqb-true q x same in rw is (each 0 0 (omega arith))
-  | inr rest ↦ stands-below n xs (λ k d within. each (suc k) d (omega arith)) q rest
-]
+use Rattle.mt_list.proofs.Lists.{stands_below}
 
 -- distinct numbers below n are at most n
 few-below : (n : ℕ) (xs : List ℕ) → AllPairs (λ x y. x ≢ y) xs → All (λ x. x < n) xs → length xs ≤ n
-few-below n xs once each = length-le_from_distinct_below xs n (IsDistinct-from_AllPairs Decides-eqb xs once) (stands-below n xs each)
+few-below n xs once each = length-le_from_distinct_below xs n (IsDistinct-from_AllPairs Decides-eqb xs once) (stands_below n xs each)
 
 module _ (table : List Causes) (finished : List Bool) (path : List ℕ) (here : ℕ) (is : IsPath table finished path here) where
   abbrev Back : ℕ → ℕ → Type 0

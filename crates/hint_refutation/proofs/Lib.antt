@@ -4,3 +4,4 @@ pub mod Sound
 pub mod Propagated
 pub mod Carried
 pub mod Cases
+pub mod Pieces

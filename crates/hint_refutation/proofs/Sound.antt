@@ -1,5 +1,5 @@
 -- Where each hint is met, what the hints refute doesn't all hold.
-use Rattle.std.proofs.Common.{◌≡◌, ◌∙◌, ap, sym, refl, inl, inr, Bool, true, false, not, List, [], ◌∷◌}
+use Rattle.std.proofs.Common.{◌≡◌, ◌∙◌, ap, sym, inl, inr, Bool, true, false, not, List, [], ◌∷◌}
 use Rattle.std.specs.Prelude.{map, IsTrue, IsFalse}
 use Rattle.std.specs.List.{All, Contains}
 use Rattle.std.proofs.lemmas.List.Elements.{All-head, All-tail}
@@ -7,10 +7,7 @@ use Rattle.hint_refutation.specs.Hints.{Refutes}
 use Rattle.hint_refutation.specs.Laws.{IsValuation, IsMet, RefutedAssumptionsFail, HintsAreSound}
 use Rattle.hint_refutation.proofs.Lists.{contains_cases, contains_unmap, any_found, any_from}
 use Rattle.hint_refutation.proofs.Hinted.{left_or_false, is_false}
-
-from_not : (b : Bool) → not b ≡ false → b ≡ true
-from_not true is = refl
-from_not false is = cc
+use Rattle.std.proofs.lemmas.Bool.{not-false}
 
 module _ {L : Type 0} (neg : L → L) (holds : L → Bool) (valuation : IsValuation neg holds) where
   negation_fails : (l : L) → IsTrue (holds l) → IsFalse (holds (neg l))
@@ -42,4 +39,4 @@ pub hints-sound : (L : Type 0) → HintsAreSound L
 hints-sound L neg holds valuation clause hints met refutes =
     let (a, has, fails) = some_fails neg holds valuation (map neg clause) hints met refutes in
     let (l, in_, is) = contains_unmap neg clause a has in
-    any_from (λ (k : L). IsTrue (holds k)) clause l in_ (from_not (holds l) (sym (valuation l) ∙ ap holds is ∙ fails))
+    any_from (λ (k : L). IsTrue (holds k)) clause l in_ (not-false (holds l) (sym (valuation l) ∙ ap holds is ∙ fails))

@@ -3,3 +3,4 @@ pub mod Propagation
 pub mod Laws
 pub mod Maps
 pub mod Worked
+pub mod Pieces

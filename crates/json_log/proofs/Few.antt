@@ -38,7 +38,8 @@ within_object d = suc (suc (size d))
 size-get_member : (k : List ℕ) (ms : Members) → AtMost within_object (suc (members_size ms)) (get_member k ms)
 size-get_member k no_members = tt
 size-get_member k (member l e ms) =
-    AtMost-match within_object (suc (members_size (member l e ms))) _ (get_member k ms) (Some e) (AtMost-weaker within_object (suc (members_size ms)) _ (omega arith) (get_member k ms) (size-get_member k ms)) (omega arith)
+    AtMost-match within_object (suc (members_size (member l e ms))) _ (get_member k ms) (Some e)
+    (AtMost-weaker within_object (suc (members_size ms)) _ (omega arith) (get_member k ms) (size-get_member k ms)) (omega arith)
 
 size-value_at : (k : Key) (d : Data) → AtMost within_object (size d) (value_at k d)
 size-value_at k null = tt
@@ -109,7 +110,8 @@ module _ (of : Data → Option (List Record)) (few : (d : Data) → AtMost lengt
   few-in no_items = omega arith
   few-in (item d ds) =
       AtMost-and_then length length (size d) (items_size (item d ds)) _
-      (λ rs x. AtMost-map length length (items_size ds) (items_size (item d ds)) (λ more. rs ++ more) (λ more y. omega (arith, length-append rs more, x, y)) (records_in of ds) (few-in ds)) (of d) (few d)
+      (λ rs x. AtMost-map length length (items_size ds) (items_size (item d ds)) (λ more. rs ++ more) (λ more y. omega (arith, length-append rs more, x, y)) (records_in of ds) (few-in ds))
+      (of d) (few d)
 
   few-at : (k : Key) (d : Data) → AtMost (λ rs. 3 + length rs) (size d) (records_at of k d)
   few-at k d =
@@ -126,7 +128,8 @@ both d = option_and_then (λ hosts. option_map (λ events. header version.Two �
 few-both : (d : Data) → AtMost (λ rs. 5 + length rs) (size d + size d) (both d)
 few-both d =
     AtMost-and_then (λ rs. 3 + length rs) (λ rs. 5 + length rs) (size d) (size d + size d) _
-    (λ hosts x. AtMost-map (λ rs. 3 + length rs) (λ rs. 5 + length rs) (size d) (size d + size d) (λ events. header version.Two ∷ hosts ++ events) (λ events y. omega (arith, length-append hosts events, x, y))
+    (λ hosts x. AtMost-map (λ rs. 3 + length rs) (λ rs. 5 + length rs) (size d) (size d + size d) (λ events. header version.Two ∷ hosts ++ events)
+    (λ events y. omega (arith, length-append hosts events, x, y))
     (records_at event_records key.Events d) (few-at event_records few-event key.Events d)) (records_at host_records key.Hosts d) (few-at host_records few-host key.Hosts d)
 
 few-of : (d : Data) → AtMost (λ rs. 5 + length rs) (size d + size d) (records_of d)
@@ -162,6 +165,7 @@ pub records-answered : (bytes : List ℕ) (d : Data) (r : Result (List Record) J
 records-answered bytes d (Ok rs) value is = rw (value, is) refl
 records-answered bytes d (Err f) value is = records-stopped bytes d f value is
 
-pub records-few : (bytes : List ℕ) (d : Data) (r : Result (List Record) JsonFault) → length bytes < 1073741824 → read bytes ≡ Some d → MatchResult r (λ rs. records_of d ≡ Some rs) (Stops (records_of d)) → IfOk r (λ rs. length rs < 2147483648)
+pub records-few : (bytes : List ℕ) (d : Data) (r : Result (List Record) JsonFault) → length bytes < 1073741824 → read bytes ≡ Some d
+    → MatchResult r (λ rs. records_of d ≡ Some rs) (Stops (records_of d)) → IfOk r (λ rs. length rs < 2147483648)
 records-few bytes d (Ok rs) short reads is = few-records bytes d rs short reads is
 records-few bytes d (Err f) short reads is = tt

@@ -79,7 +79,8 @@ module _ {B : Type 0} (g : B → ℕ) (h : json.Json → B → B) (more : Parse 
       last (Some (b, s)) y = omega (arith, adds j b, x, y)
 
 module _ (p : Parse json.Json) (fits : Fits json_size p) where
-  item_turn : (more : Parse json.Items) → Fits json_items_size more → (ts : List Token) (o : Option (List Token)) → after_end_array ts ≡ o → AtMost (measure json_items_size) (length ts) (items_step p more ts o)
+  item_turn : (more : Parse json.Items) → Fits json_items_size more → (ts : List Token) (o : Option (List Token)) → after_end_array ts ≡ o
+      → AtMost (measure json_items_size) (length ts) (items_step p more ts o)
   item_turn more again ts (Some r) is = omega (arith, after_end_array-shorter ts r is)
   item_turn more again ts None is = then_more json_items_size json.item more again (length ts) (length ts) 0 (omega arith) (λ j b. omega arith) (p ts) (fits ts)
 
@@ -100,7 +101,8 @@ module _ (p : Parse json.Json) (fits : Fits json_size p) where
   Fits-members zero ts = tt
   Fits-members (suc n) ts = member_turn (members p n) (Fits-members n) ts (read_key ts) refl
 
-one_more : {A : Type 0} (f : A → ℕ) (h : A → json.Json) (n : ℕ) → ((a : A) → json_size (h a) ≤ suc (f a)) → (o : Option (A × List Token)) → AtMost (measure f) n o → AtMost (measure json_size) (suc n) (parse_map h o)
+one_more : {A : Type 0} (f : A → ℕ) (h : A → json.Json) (n : ℕ) → ((a : A) → json_size (h a) ≤ suc (f a)) → (o : Option (A × List Token))
+    → AtMost (measure f) n o → AtMost (measure json_size) (suc n) (parse_map h o)
 one_more f h n adds None x = tt
 one_more f h n adds (Some (a, r)) x = omega (arith, adds a, x)
 
@@ -121,7 +123,8 @@ Fits-value : (d : ℕ) → Fits json_size (value d)
 unfolding value
 Fits-value zero = one_level (λ ts. None) (λ ts. None) (λ ts. tt) (λ ts. tt)
 Fits-value (suc d) =
-    one_level (λ ts. items (value d) (length ts) ts) (λ ts. members (value d) (length ts) ts) (λ ts. Fits-items (value d) (Fits-value d) (length ts) ts) (λ ts. Fits-members (value d) (Fits-value d) (length ts) ts)
+    one_level (λ ts. items (value d) (length ts) ts) (λ ts. members (value d) (length ts) ts) (λ ts. Fits-items (value d) (Fits-value d) (length ts) ts)
+    (λ ts. Fits-members (value d) (Fits-value d) (length ts) ts)
 
 -- ---- from JSON to data: the last value of a key stays
 
@@ -133,7 +136,8 @@ members_size-match_ordering Greater a b c n p q r = r
 members_size-put : (k : List ℕ) (d : Data) (ms : Members) → members_size (put k d ms) ≤ suc (size d + members_size ms)
 members_size-put k d no_members = omega arith
 members_size-put k d (member l e ms) =
-    members_size-match_ordering _ (member k d (member l e ms)) (member l d ms) (member l e (put k d ms)) (suc (size d + members_size (member l e ms))) (omega arith) (omega arith) (omega (arith, members_size-put k d ms))
+    members_size-match_ordering _ (member k d (member l e ms)) (member l d ms) (member l e (put k d ms)) (suc (size d + members_size (member l e ms)))
+    (omega arith) (omega arith) (omega (arith, members_size-put k d ms))
 
 flat : {A : Type 0} (o : Option A) → AtMost (λ _. 0) 0 o
 flat None = tt
@@ -151,7 +155,8 @@ mutual
   size-of_items : (js : json.Items) (n : ℕ) → json_items_size js ≤ n → AtMost items_size n (of_items js)
   size-of_items json.no_items n h = omega arith
   size-of_items (json.item j js) n h =
-      AtMost-and_then size items_size (json_size j) n _ (λ d x. AtMost-map items_size items_size (json_items_size js) n (item d) (λ ds y. omega (arith, x, y, h)) _ (size-of_items js (json_items_size js) (omega arith))) _
+      AtMost-and_then size items_size (json_size j) n _
+      (λ d x. AtMost-map items_size items_size (json_items_size js) n (item d) (λ ds y. omega (arith, x, y, h)) _ (size-of_items js (json_items_size js) (omega arith))) _
       (size-of_json j (json_size j) (omega arith))
 
   size-of_members : (ms : json.Members) (found : Members) (n : ℕ) → json_members_size ms + members_size found ≤ n → AtMost members_size n (of_members ms found)

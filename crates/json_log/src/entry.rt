@@ -1,6 +1,6 @@
 //! The records that an entry of a log in JSON stands for.
 
-ghost use Rattle.std.specs.Prelude.{◌≡◌, ◌||◌, [], ◌∷◌, ◌++◌, bytes_eq, codes, Some, IfOk, OnOk, option_map};
+ghost use Rattle.std.specs.Prelude.{◌≡◌, ◌||◌, Some, option_map};
 ghost use Rattle.serde_json.specs.View.{items_view, view};
 ghost use Rattle.json_log.specs.Entries.{clock_record, delays_of, latency_record, most_of, record_of_kind, row_record};
 ghost use Rattle.json_log.specs.Extends.{delays_in, most_text, record_in};

@@ -1,6 +1,6 @@
 //! The records that a JSON value stands for.
 
-ghost use Rattle.std.specs.Prelude.{◌≡◌, [], ◌∷◌, ◌++◌, MatchResult, Some, IfOk, option_map, string_bytes};
+ghost use Rattle.std.specs.Prelude.{◌≡◌, [], ◌∷◌, MatchResult, Some, IfOk, option_map, string_bytes};
 ghost use Rattle.log_read.specs.LogText.{header as header_of};
 ghost use Rattle.log_read.specs.declared.version.Version.TheVariants.{Two};
 ghost use Rattle.serde_json.specs.View.{items_view, view};

@@ -22,7 +22,8 @@ module _ {X : Type 0} (a b : Logged) (t : List ℤ) (same : (u : ℤ) (host name
   truths (Not f) = ap {B = X → Bool} (λ (p : X → Bool) (x : X). not (p x)) (truths f)
   truths (And f g) = ap {B = X → Bool} (λ (p : X → Bool) (x : X). p x && truth_in a t F x g) (truths f) ∙ ap {B = X → Bool} (λ (p : X → Bool) (x : X). truth_in b t F x f && p x) (truths g)
   truths (Or f g) = ap {B = X → Bool} (λ (p : X → Bool) (x : X). p x || truth_in a t F x g) (truths f) ∙ ap {B = X → Bool} (λ (p : X → Bool) (x : X). truth_in b t F x f || p x) (truths g)
-  truths (Implies f g) = ap {B = X → Bool} (λ (p : X → Bool) (x : X). implies (p x) (truth_in a t F x g)) (truths f) ∙ ap {B = X → Bool} (λ (p : X → Bool) (x : X). implies (truth_in b t F x f) (p x)) (truths g)
+  truths (Implies f g) =
+      ap {B = X → Bool} (λ (p : X → Bool) (x : X). implies (p x) (truth_in a t F x g)) (truths f) ∙ ap {B = X → Bool} (λ (p : X → Bool) (x : X). implies (truth_in b t F x f) (p x)) (truths g)
   truths (Until I f g) =
       ap {B = X → Bool} (λ (p : X → Bool) (x : X). reaches F (is_ahead F I) p (λ y. truth_in a t F y g) x) (truths f)
       ∙ ap {B = X → Bool} (λ (p : X → Bool) (x : X). reaches F (is_ahead F I) (λ y. truth_in b t F y f) p x) (truths g)

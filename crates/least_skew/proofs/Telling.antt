@@ -21,7 +21,8 @@ use Rattle.least_skew.proofs.ValidWidenings.{wide-valid}
 use Rattle.least_skew.proofs.Sames.{values-may-grow}
 
 -- a budget of which lines show that it was spent can be
-pub could-be-spent : SpentIsBounded → RefutedByRulesIsNotSpent → (log : Logged) (f : Form) (v : Bool) (budget : ℕ) (lines : List Line) → 1 ≤ budget → SpendsWithin log f v budget lines → CanBeSpent log f v budget
+pub could-be-spent : SpentIsBounded → RefutedByRulesIsNotSpent → (log : Logged) (f : Form) (v : Bool) (budget : ℕ) (lines : List Line) → 1 ≤ budget
+    → SpendsWithin log f v budget lines → CanBeSpent log f v budget
 could-be-spent bounded by_rules log f v budget lines some spent = record {
   bounded = λ atoms all. bounded.by_rules log f v spent.rules budget lines atoms spent.spends all;
   not_refuted = λ rules kept refuted.

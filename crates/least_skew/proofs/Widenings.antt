@@ -59,7 +59,8 @@ abbrev gap-from : Option Resync → Option Host → ℤ
 gap-from r h = option_map_or (λ x. x.gap) r (option_map_or (λ x. x.gap) h (pos 0))
 
 module _ (y z : ℤ) where
-  skew-further : y ≤ℤ z → (r : Option Resync) (h : Option Host) → skew-from (option_map (widened_resync y) r) (option_map (widened_host y) h) ≤ℤ skew-from (option_map (widened_resync z) r) (option_map (widened_host z) h)
+  skew-further : y ≤ℤ z → (r : Option Resync) (h : Option Host)
+      → skew-from (option_map (widened_resync y) r) (option_map (widened_host y) h) ≤ℤ skew-from (option_map (widened_resync z) r) (option_map (widened_host z) h)
   skew-further less (Some r) h = omega (arith, ints, less)
   skew-further less None (Some h) = omega (arith, ints, less)
   skew-further less None None = omega (arith, ints)

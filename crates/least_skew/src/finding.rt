@@ -18,7 +18,7 @@ use crate::turn::{Turned, turn};
 use crate::widening::widened;
 use crate::{Tolerance, ToleranceFault};
 use cdcl_core::Nodes;
-use mt_model::{Formula, Log, conflict_excludes_timings};
+use mt_model::{Formula, Log, conflict_excludes_timings, log_is_valid};
 use mtl_encode::sizes_fall;
 use std::alloc::{AllocError, Global};
 
@@ -83,8 +83,7 @@ pub fn least(
     skews_may_grow();
     sizes_fall();
     conflict_excludes_timings();
-    // What a log is, that it is valid is known with.
-    let _ = log.rows();
+    log_is_valid(log);
     let nodes = nodes_of(alloc, log, f)?;
     let wide = widened(alloc, log, max)?;
     match ground_of(alloc, &wide, f, &nodes)? {

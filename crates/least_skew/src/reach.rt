@@ -13,10 +13,10 @@ ghost use Rattle.least_skew.specs.Least.{HasWrittenSkews, wide};
 
 use crate::widening::widened;
 use cdcl_core::Nodes;
-use mt_model::{Bound, EventId, Formula, Log, Step};
+use mt_model::{Formula, Log, Step, log_is_valid};
 use proof_check::{Check, Checker};
 use proof_log::Line;
-use skew_bounds::{bounds, edge_of, first_broken};
+use skew_bounds::{bound_of, bounds, edge_of, first_broken};
 use std::alloc::{AllocError, Global};
 
 // A number as a widening up to this one.
@@ -78,8 +78,7 @@ pub fn admitted_from(
     ensures to { IfOk result (λ r. r ≤ s) }
     ensures admissible { IfOk result (λ r. Admissible (wide r log.now) times.now) }
 {
-    // What a log is, that it is valid is known with.
-    let _ = log.rows();
+    log_is_valid(log);
     let r = needed(log, times, s).max(low);
     let narrow = widened(alloc, log, r)?;
     if admits(alloc, &narrow, times)? {
@@ -90,17 +89,14 @@ pub fn admitted_from(
 }
 
 // The bound of a step of a walk in a log.
-fn bound_of(log: &Log, step: Step) -> i128 {
-    let edge = match step {
-        Step::Low(e) => edge_of(log, Bound::Low(EventId::new(e))),
-        Step::High(e) => edge_of(log, Bound::High(EventId::new(e))),
-        Step::Rise(f) => edge_of(log, Bound::Rise(EventId::new(f))),
-        Step::Message(r) => edge_of(log, Bound::Message(EventId::new(r))),
-        Step::Late(r) => edge_of(log, Bound::Late(EventId::new(r))),
-        Step::Extra(k) => edge_of(log, Bound::Extra(k)),
-        Step::Order { c, .. } => return c,
+fn bound_in(log: &Log, step: Step) -> i128 {
+    if let Step::Order { c, .. } = step {
+        return c;
+    }
+    let Some(bound) = bound_of(step) else {
+        return 0;
     };
-    match edge {
+    match edge_of(log, bound) {
         Some(edge) => edge.bound,
         None => 0,
     }
@@ -110,7 +106,7 @@ fn bound_of(log: &Log, step: Step) -> i128 {
 pub fn walk_slack(log: &Log, steps: &[Step]) -> i128 {
     let mut sum: i128 = 0;
     for step in steps {
-        sum = sum.saturating_add(bound_of(log, *step));
+        sum = sum.saturating_add(bound_in(log, *step));
     }
     (-1i128).saturating_sub(sum)
 }

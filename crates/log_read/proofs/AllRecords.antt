@@ -21,7 +21,9 @@ after_end-rests true = refl
 after_end-rests false = refl
 
 in_field-rests : (c : ℕ) → RestsAtEnd (in_field default_config c)
-in_field-rests c = cond-rests (c == 44) (st.StartField, act.EndField) _ (λ h. cc) (cond-rests ((c == 13) || (c == 10)) (cond (c == 13) st.AfterCr st.StartRecord, act.EndRecord) (st.InField, act.Copy) (λ h. after_end-rests (c == 13)) (λ h. cc))
+in_field-rests c =
+    cond-rests (c == 44) (st.StartField, act.EndField) _ (λ h. cc)
+    (cond-rests ((c == 13) || (c == 10)) (cond (c == 13) st.AfterCr st.StartRecord, act.EndRecord) (st.InField, act.Copy) (λ h. after_end-rests (c == 13)) (λ h. cc))
 
 start_field-rests : (c : ℕ) → RestsAtEnd (start_field default_config c)
 start_field-rests c = cond-rests (c == 34) (st.InQuoted, act.Skip) (in_field default_config c) (λ h. cc) (in_field-rests c)
@@ -52,13 +54,18 @@ takes s fields field [] p h = ended (ends_at_end s) h
     ended : (b : Bool) → cond b (Some (let r : Read = (fields ++ (field ∷ []), st.StartRecord, []) in r)) None ≡ Some p → Takes [] p
     ended true h = let e : p ≡ (fields ++ (field ∷ []), st.StartRecord, []) = cc in rw e (record { most = omega arith; some = λ n. absurd (omega arith); rests = refl })
     ended false h = cc
-takes s fields field (c ∷ rest) p h = went (is_end (step default_config s c).1) refl h (takes (step default_config s c).0 (fields_after (step default_config s c).1 fields field) (field_after (step default_config s c).1 c field) rest p)
+takes s fields field (c ∷ rest) p h =
+    went (is_end (step default_config s c).1) refl h
+    (takes (step default_config s c).0 (fields_after (step default_config s c).1 fields field) (field_after (step default_config s c).1 c field) rest p)
   where
     went : (b : Bool) → is_end (step default_config s c).1 ≡ b
-        → cond b (Some (let r : Read = (fields_after (step default_config s c).1 fields field, (step default_config s c).0, rest) in r)) (next_record default_config (step default_config s c).0 (fields_after (step default_config s c).1 fields field) (field_after (step default_config s c).1 c field) rest) ≡ Some p
-        → (next_record default_config (step default_config s c).0 (fields_after (step default_config s c).1 fields field) (field_after (step default_config s c).1 c field) rest ≡ Some p → Takes rest p)
+        → cond b (Some (let r : Read = (fields_after (step default_config s c).1 fields field, (step default_config s c).0, rest) in r))
+        (next_record default_config (step default_config s c).0 (fields_after (step default_config s c).1 fields field) (field_after (step default_config s c).1 c field) rest) ≡ Some p
+        → (next_record default_config (step default_config s c).0 (fields_after (step default_config s c).1 fields field) (field_after (step default_config s c).1 c field) rest ≡ Some p
+        → Takes rest p)
         → Takes (c ∷ rest) p
-    went true is h more = let e : p ≡ (fields_after (step default_config s c).1 fields field, (step default_config s c).0, rest) = cc in rw e (record { most = omega arith; some = λ n. omega arith; rests = step-rests s c is })
+    went true is h more = let e : p ≡ (fields_after (step default_config s c).1 fields field, (step default_config s c).0, rest) = cc in
+        rw e (record { most = omega arith; some = λ n. omega arith; rests = step-rests s c is })
     went false is h more =
         let t = more h in
         record { most = omega (arith, t.most); some = λ n. omega (arith, t.most); rests = t.rests }

@@ -6,7 +6,7 @@ use Rattle.std.specs.Ordering.{int_eq}
 use Rattle.std.specs.Str.Parse.{digits_value}
 use Rattle.std.proofs.lemmas.Int.{ints}
 use Rattle.std.specs.List.{position_or_len}
-use Rattle.std.proofs.lemmas.Bool.{leb-true, ltb-false, ltb-true}
+use Rattle.std.proofs.lemmas.Bool.{and_parts, leb-true, ltb-false, ltb-true, or_parts}
 use Rattle.std.proofs.lemmas.Bool.Decides.{nat_tests}
 use Rattle.std.proofs.lemmas.List.{get_or-map, length-map}
 use Rattle.std.proofs.lemmas.List.Elements.{All-nil, All-push}
@@ -40,23 +40,15 @@ four_pass false false true d w x y z h = cc
 four_pass false false false true w x y z h = cc
 four_pass false false false false w x y z h = (refl, refl, refl, refl)
 
-pub either_none : (a b : Bool) → (a || b) ≡ false → (a ≡ false) × (b ≡ false)
-either_none true b h = cc
-either_none false b h = (refl, h)
-
 found_is : (b : Bool) (v z : ℤ) → (if b then Some v else None) ≡ Some z → (v ≡ z) × (b ≡ true)
 found_is true v z h = (cc, refl)
 found_is false v z h = cc
-
-both_true : (a b : Bool) → (a && b) ≡ true → b ≡ true
-both_true true b h = h
-both_true false b h = cc
 
 -- a number that was read is in its range
 pub number_in_range : (most : ℤ) (bytes : List ℕ) (z : ℤ) → number_up_to most bytes ≡ Some z → (pos 0 ≤ℤ z) × (z ≤ℤ most)
 number_in_range most bytes z h =
     let found = found_is (is_number bytes && int_le (pos (digits_value 10 bytes)) most) (pos (digits_value 10 bytes)) z h in
-    let within = both_true (is_number bytes) (int_le (pos (digits_value 10 bytes)) most) found.1 in
+    let within = (and_parts (is_number bytes) (int_le (pos (digits_value 10 bytes)) most) found.1).1 in
     rw (← found.0) (omega (arith, ints), grind (arith, ints))
 
 -- the fields of a host that was read
@@ -67,12 +59,20 @@ record HostRead (name first second : List ℕ) (h : Host) : Type 0 where
   least : h.least ≡ MIN_DELAY
   most : h.most ≡ None
 
-host_of_numbers : (name : List ℕ) (s g : Option ℤ) (h : Host) → option_and_then (λ x. option_map (λ y. let made : Host = record { name = name; skew = x; gap = y; least = MIN_DELAY; most = None } in made) g) s ≡ Some h
+host_of_numbers : (name : List ℕ) (s g : Option ℤ) (h : Host)
+    → option_and_then (λ x. option_map (λ y. let made : Host = record { name = name; skew = x; gap = y; least = MIN_DELAY; most = None } in made) g) s ≡ Some h
     → (h.name ≡ name) × (s ≡ Some h.skew) × (g ≡ Some h.gap) × (h.least ≡ MIN_DELAY) × (h.most ≡ None)
 host_of_numbers name None g h e = cc
 host_of_numbers name (Some x) None h e = cc
-host_of_numbers name (Some x) (Some y) h e =
-    (ap (λ o. option_map_or (λ (k : Host). k.name) o name) (sym e), ap (λ o. Some (option_map_or (λ (k : Host). k.skew) o x)) e, ap (λ o. Some (option_map_or (λ (k : Host). k.gap) o y)) e, ap (λ o. option_map_or (λ (k : Host). k.least) o MIN_DELAY) (sym e), ap (λ o. option_map_or (λ (k : Host). k.most) o None) (sym e))
+host_of_numbers name (Some x) (Some y) h e = (
+  ap (λ o. option_map_or (λ (k : Host). k.name) o name) (sym e),
+  ap (λ o. Some (option_map_or (λ (k : Host). k.skew) o x)) e,
+  ap
+      (λ o. Some (option_map_or (λ (k : Host). k.gap) o y)) e,
+  ap (λ o. option_map_or (λ (k : Host). k.least) o MIN_DELAY) (sym e),
+  ap
+      (λ o. option_map_or (λ (k : Host). k.most) o None) (sym e),
+)
 
 host_read : (name skew gap : List ℕ) (h : Host) → host_with name skew gap ≡ Some h → HostRead name skew gap h
 host_read name skew gap h e =
@@ -121,12 +121,14 @@ pub begun_host : (place : ℕ) (log : Listing) (h : Host) (name skew gap : List 
     → IsBegun (record { hosts = log.hosts ++ h ∷ []; rows = log.rows; resyncs = log.resyncs; latencies = log.latencies })
 begun_host place log h name skew gap begun clear e =
     let read = host_read name skew gap h e in
-    let tests = four_pass (not (is_name name) || is_reserved name) (is_declared log.hosts name) (nat_le MAX_HOSTS (length log.hosts)) (is_none (number_up_to MAX_WRITTEN_SKEW skew) || is_none (number_up_to MAX_GAP gap)) _ _ _ _ clear in
+    let tests =
+    four_pass (not (is_name name) || is_reserved name) (is_declared log.hosts name) (nat_le MAX_HOSTS (length log.hosts))
+    (is_none (number_up_to MAX_WRITTEN_SKEW skew) || is_none (number_up_to MAX_GAP gap)) _ _ _ _ clear in
     let skews = number_in_range MAX_WRITTEN_SKEW skew h.skew read.skew in
     let gaps = number_in_range MAX_GAP gap h.gap read.gap in
     let host : IsHost h = record {
-      called = rw read.named (named-true name (either_none (not (is_name name)) (is_reserved name) tests.0).0);
-      name = rw read.named ((either_none (not (is_name name)) (is_reserved name) tests.0).1);
+      called = rw read.named (named-true name (or_parts (not (is_name name)) (is_reserved name) tests.0).0);
+      name = rw read.named ((or_parts (not (is_name name)) (is_reserved name) tests.0).1);
       skew_low = skews.0;
       skew_high = omega (arith, ints, skews.1);
       gap_low = gaps.0;
@@ -145,7 +147,8 @@ begun_host place log h name skew gap begun clear e =
       hosts = All-push IsHost log.hosts h begun.hosts host;
       rows = λ k d within. let row = begun.rows k d within in record { host = omega (arith, row.host, length-append log.hosts (h ∷ [])); local = row.local; named = row.named };
       sent_once = begun.sent_once;
-      resyncs = resyncs-more (length log.hosts) (length log.rows) (length (log.hosts ++ h ∷ [])) (length log.rows) log.resyncs (omega (arith, length-append log.hosts (h ∷ []))) (omega arith) begun.resyncs;
+      resyncs =
+          resyncs-more (length log.hosts) (length log.rows) (length (log.hosts ++ h ∷ [])) (length log.rows) log.resyncs (omega (arith, length-append log.hosts (h ∷ []))) (omega arith) begun.resyncs;
       latencies = begun.latencies;
     }
 
@@ -218,7 +221,9 @@ pub begun_row : (place : ℕ) (log : Listing) (r : Row) (e : EventKind) (host lo
     → row_with log.hosts e host local name ≡ Some r → IsBegun (record { hosts = log.hosts; rows = log.rows ++ r ∷ []; resyncs = log.resyncs; latencies = log.latencies })
 begun_row place log r e host local name begun clear h =
     let read = row_read log.hosts e host local name r h in
-    let tests = five_pass (is_none (place_of_host log.hosts host)) (is_none (signed_up_to MAX_LOCAL local)) (not (is_name name)) (sends_again e log.rows name) (nat_le MAX_ROWS (length log.rows)) _ _ _ _ _ clear in
+    let tests =
+    five_pass (is_none (place_of_host log.hosts host)) (is_none (signed_up_to MAX_LOCAL local)) (not (is_name name)) (sends_again e log.rows name)
+    (nat_le MAX_ROWS (length log.rows)) _ _ _ _ _ clear in
     let row : IsRow (length log.hosts) r = record {
       host = (position-Some (λ h. bytes_eq h.name host) log.hosts r.host (record { name = name; skew = pos 0; gap = pos 0; least = MIN_DELAY; most = None }) read.host).0;
       local = signed_in_range MAX_LOCAL local r.local read.local;
@@ -231,7 +236,8 @@ begun_row place log r e host local name begun clear h =
       hosts = begun.hosts;
       rows = All-push (IsRow (length log.hosts)) log.rows r begun.rows row;
       sent_once = all_pairs_push (λ (q p : Row). SendSame q p → ⊥) log.rows r begun.sent_once (λ k d within same. not_sent log.rows e name r k d tests.3 read.act within same);
-      resyncs = resyncs-more (length log.hosts) (length log.rows) (length log.hosts) (length (log.rows ++ r ∷ [])) log.resyncs (omega arith) (omega (arith, length-append log.rows (r ∷ []))) begun.resyncs;
+      resyncs =
+          resyncs-more (length log.hosts) (length log.rows) (length log.hosts) (length (log.rows ++ r ∷ [])) log.resyncs (omega arith) (omega (arith, length-append log.rows (r ∷ []))) begun.resyncs;
       latencies = begun.latencies;
     }
 
@@ -240,7 +246,8 @@ some_host hosts [] all some = absurd (omega arith)
 some_host hosts (r ∷ rs) all some = let row = all 0 r (omega arith) in omega (arith, row.host)
 
 -- the fields of a resync that was read
-resync_of_parts : (rows : ℕ) (o : Option ℕ) (s g : Option ℤ) (r : Resync) → option_and_then (λ h. option_and_then (λ x. option_map (λ y. let made : Resync = record { place = rows; host = h; skew = x; gap = y } in made) g) s) o ≡ Some r
+resync_of_parts : (rows : ℕ) (o : Option ℕ) (s g : Option ℤ) (r : Resync)
+    → option_and_then (λ h. option_and_then (λ x. option_map (λ y. let made : Resync = record { place = rows; host = h; skew = x; gap = y } in made) g) s) o ≡ Some r
     → (r.place ≡ rows) × (o ≡ Some r.host) × (s ≡ Some r.skew) × (g ≡ Some r.gap)
 resync_of_parts rows None s g r e = absurd (cc)
 resync_of_parts rows (Some h) None g r e = absurd (cc)
@@ -277,7 +284,8 @@ begun_resync log r host skew gap begun h =
       sent_once = begun.sent_once;
       resyncs = record {
         each = All-push (IsResync (length log.hosts) (length log.rows)) log.resyncs r begun.resyncs.each one;
-        in_order = all_pairs_push (λ (q p : Resync). q.place ≤ p.place) log.resyncs r begun.resyncs.in_order (λ k d within. let before = begun.resyncs.each k d within in omega (arith, before.place, read.0));
+        in_order =
+            all_pairs_push (λ (q p : Resync). q.place ≤ p.place) log.resyncs r begun.resyncs.in_order (λ k d within. let before = begun.resyncs.each k d within in omega (arith, before.place, read.0));
       };
       latencies = begun.latencies;
     }
@@ -288,7 +296,7 @@ delay-high field n h = go (is_number field && nat_lt (digits_value 10 field) (su
   where
     go : (b : Bool) → (is_number field && nat_lt (digits_value 10 field) (suc MAX_DELAY)) ≡ b → (let o : Option ℕ = (if b then Some (digits_value 10 field) else None) in o) ≡ Some n → n ≤ MAX_DELAY
     go true is same =
-        let low = both_true (is_number field) (nat_lt (digits_value 10 field) (suc MAX_DELAY)) is in
+        let low = (and_parts (is_number field) (nat_lt (digits_value 10 field) (suc MAX_DELAY)) is).1 in
         let value : digits_value 10 field ≡ n = ap (λ o. unwrap_or o n) same in
         let less = ltb-true (digits_value 10 field) (suc MAX_DELAY) low in
         omega (arith, value, less)
@@ -310,7 +318,8 @@ greatest-high field m h = go (bytes_eq field (codes "inf")) (delay_in field) ref
     go false None is same = absurd (cc)
     go false (Some n) is same = let value : Some n ≡ m = ap (λ p. unwrap_or p m) same in rw (← value) (delay-high field n is)
 
-latency_of_parts : (host : List ℕ) (o : Option ℕ) (g : Option (Option ℕ)) (l : Latency) → option_and_then (λ x. option_map (λ m. let made : Latency = record { host = host; least = x; most = m } in made) g) o ≡ Some l
+latency_of_parts : (host : List ℕ) (o : Option ℕ) (g : Option (Option ℕ)) (l : Latency)
+    → option_and_then (λ x. option_map (λ m. let made : Latency = record { host = host; least = x; most = m } in made) g) o ≡ Some l
     → (o ≡ Some l.least) × (g ≡ Some l.most)
 latency_of_parts host None g l e = absurd (cc)
 latency_of_parts host (Some x) None l e = absurd (cc)
@@ -322,10 +331,13 @@ not-empty least None h = tt
 not-empty least (Some m) h = ltb-false m least h
 
 -- a latency that has no fault may be added
-pub begun_latency : (place : ℕ) (log : Listing) (l : Latency) (host least most : List ℕ) → IsBegun log → latency_fault place log.hosts log.latencies host least most ≡ None → latency_with host least most ≡ Some l
+pub begun_latency : (place : ℕ) (log : Listing) (l : Latency) (host least most : List ℕ) → IsBegun log
+    → latency_fault place log.hosts log.latencies host least most ≡ None → latency_with host least most ≡ Some l
     → IsBegun (record { hosts = log.hosts; rows = log.rows; resyncs = log.resyncs; latencies = log.latencies ++ l ∷ [] })
 begun_latency place log l host least most begun clear h =
-    let tests = four_pass (is_none (place_of_host log.hosts host)) (is_delayed log.latencies host) (is_none (least_in least) || is_none (greatest_in most)) (option_map_or is_empty (latency_with host least most) false) _ _ _ _ clear in
+    let tests =
+    four_pass (is_none (place_of_host log.hosts host)) (is_delayed log.latencies host) (is_none (least_in least) || is_none (greatest_in most))
+    (option_map_or is_empty (latency_with host least most) false) _ _ _ _ clear in
     let read = latency_of_parts host (least_in least) (greatest_in most) l h in
     let parts = least-parts (delay_in least) l.least read.0 in
     let range : is_empty l ≡ false = ap (λ o. option_map_or is_empty o false) (sym h) ∙ tests.3 in
@@ -382,7 +394,14 @@ finished log begun some sent =
       names = λ i j d before within.
           let below : j < length log.hosts = rw same at within in
           let first : i < length log.hosts = omega arith in
-          rw (get_or-map delay log.hosts i d d first, get_or-map delay log.hosts j d d below, delayed-name (latency_of log.latencies (get_or log.hosts i d).name) (get_or log.hosts i d), delayed-name (latency_of log.latencies (get_or log.hosts j d).name) (get_or log.hosts j d))
+          rw (
+            get_or-map delay log.hosts i d d first,
+            get_or-map delay log.hosts j d d below,
+            delayed-name
+                (latency_of log.latencies (get_or log.hosts i d).name) (get_or log.hosts i d),
+            delayed-name
+                (latency_of log.latencies (get_or log.hosts j d).name) (get_or log.hosts j d),
+          )
           (begun.names i j d before below);
       hosts = λ k d within.
           let below : k < length log.hosts = rw same at within in

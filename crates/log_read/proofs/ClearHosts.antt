@@ -51,7 +51,8 @@ module _ (v : Version) (before : List Host) (h : Host) (after : List Host) (host
   host-clear : (place : ℕ) → fault_of v place (hosts_listing before) (host_fields h) ≡ None
   host-clear place =
       let is = All-middle IsWritable before h after hosts.each in
-      let room : nat_le MAX_HOSTS (length (map bare before)) ≡ false = let few = hosts.few in let sum = length-append before (h ∷ after) in let same = length-map before bare in lt-leb _ _ (omega (arith, few, sum, same)) in
+      let room : nat_le MAX_HOSTS (length (map bare before)) ≡ false =
+      let few = hosts.few in let sum = length-append before (h ∷ after) in let same = length-map before bare in lt-leb _ _ (omega (arith, few, sum, same)) in
       let skew = number-printed MAX_WRITTEN_SKEW h.skew (omega (arith, ints)) is.valid.skew_low is.skew in
       let gap = number-printed MAX_GAP h.gap (omega (arith, ints)) is.valid.gap_low is.valid.gap_high in
       let named : (not (is_name h.name) || is_reserved h.name) ≡ false = rw (is.name, is.valid.name) refl in
@@ -70,4 +71,5 @@ hosts-run v before [] hosts = rw (append-nil before) (runs-none v (hosts_listing
 hosts-run v before (h ∷ hs) hosts =
     let more = hosts-run v (before ++ h ∷ []) hs (subst AreHosts (sym (append_assoc before (h ∷ []) hs)) hosts) in
     let rest = rw (append_assoc before (h ∷ []) hs) at more in
-    runs-cons v (hosts_listing before) (hosts_listing (before ++ h ∷ [])) (hosts_listing (before ++ h ∷ hs)) (host_fields h) (map host_fields hs) (host-clear v before h hs hosts) (host-step v before h hs hosts) rest
+    runs-cons v (hosts_listing before) (hosts_listing (before ++ h ∷ [])) (hosts_listing (before ++ h ∷ hs)) (host_fields h) (map host_fields hs)
+    (host-clear v before h hs hosts) (host-step v before h hs hosts) rest

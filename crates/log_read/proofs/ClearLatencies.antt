@@ -35,7 +35,8 @@ stated hosts = map latency_from (filter has_latency hosts)
 
 -- hosts of other names state no latency of this name
 stated-others : (hosts : List Host) (name : List ℕ) → All (λ g. bytes_eq g.name name ≡ false) hosts → All (λ l. bytes_eq l.host name ≡ false) (stated hosts)
-stated-others hosts name all = All-map (λ (l : Latency). bytes_eq l.host name ≡ false) latency_from (filter has_latency hosts) (All-filter has_latency (λ (g : Host). bytes_eq g.name name ≡ false) hosts all)
+stated-others hosts name all =
+    All-map (λ (l : Latency). bytes_eq l.host name ≡ false) latency_from (filter has_latency hosts) (All-filter has_latency (λ (g : Host). bytes_eq g.name name ≡ false) hosts all)
 
 stated-none : (hosts : List Host) (name : List ℕ) → All (λ g. bytes_eq g.name name ≡ false) hosts → latency_of (stated hosts) name ≡ None
 stated-none hosts name all = find-none (λ l. bytes_eq l.host name) (stated hosts) (stated-others hosts name all)
@@ -87,7 +88,8 @@ module _ (before : List Host) (h : Host) (after : List Host) (hosts : AreHosts (
       let is = All-middle IsWritable before h after hosts.each in
       let delays = is.valid.delays in
       let found : place_of_host (map bare (before ++ h ∷ after)) h.name ≡ Some (length before) =
-      ap (place_of_host (map bare (before ++ h ∷ after))) (sym (host_name-at before h after)) ∙ place-bare (before ++ h ∷ after) (length before) hosts.distinct (let sum = length-append before (h ∷ after) in omega (arith, sum)) in
+      ap (place_of_host (map bare (before ++ h ∷ after))) (sym (host_name-at before h after))
+      ∙ place-bare (before ++ h ∷ after) (length before) hosts.distinct (let sum = length-append before (h ∷ after) in omega (arith, sum)) in
       let new : is_delayed (stated before) h.name ≡ false = list_any_none (λ l. bytes_eq l.host h.name) (stated before) (stated-others before h.name names-before) in
       let known : is_none (place_of_host (map bare (before ++ h ∷ after)) h.name) ≡ false = ap is_none found in
       let least = least-printed h.least delays.least_low delays.least_high in
@@ -109,14 +111,16 @@ module _ (before : List Host) (h : Host) (after : List Host) (hosts : AreHosts (
   latency-skip : has_latency h ≡ false → latencies_listing before ≡ latencies_listing (before ++ h ∷ [])
   latency-skip has =
       let none : stated (h ∷ []) ≡ [] = rw has refl in
-      ap (λ ls. (let l : Listing = record { hosts = map bare (before ++ h ∷ after); rows = []; resyncs = []; latencies = ls } in l)) (sym (stated-append before (h ∷ []) ∙ ap (λ ls. stated before ++ ls) none ∙ append-nil (stated before)))
+      ap (λ ls. (let l : Listing = record { hosts = map bare (before ++ h ∷ after); rows = []; resyncs = []; latencies = ls } in l))
+      (sym (stated-append before (h ∷ []) ∙ ap (λ ls. stated before ++ ls) none ∙ append-nil (stated before)))
 
 -- the hosts of a log before their latencies, with the latencies of some
 abbrev pub listing_of : List Host → List Host → Listing
 listing_of hosts some = record { hosts = map bare hosts; rows = []; resyncs = []; latencies = stated some }
 
 -- the records of latencies are read as the latencies
-pub latencies-run : (hosts before after : List Host) → before ++ after ≡ hosts → AreHosts hosts → Runs version.Two (listing_of hosts before) (map latency_fields (filter has_latency after)) (listing_of hosts hosts)
+pub latencies-run : (hosts before after : List Host) → before ++ after ≡ hosts → AreHosts hosts
+    → Runs version.Two (listing_of hosts before) (map latency_fields (filter has_latency after)) (listing_of hosts hosts)
 latencies-run hosts before [] split are = let same : before ≡ hosts = sym (append-nil before) ∙ split in rw same (runs-none version.Two (listing_of hosts hosts))
 latencies-run hosts before (h ∷ hs) split are =
     let more = latencies-run hosts (before ++ h ∷ []) hs (append_assoc before (h ∷ []) hs ∙ split) are in
@@ -158,7 +162,9 @@ All-others-after before h after distinct k d within =
     let sum = length-append before (h ∷ after) in
     let apart = distinct (length before) (length before + suc k) d (omega arith) (omega (arith, sum, within)) in
     let here : get_or (before ++ h ∷ after) (length before) d ≡ h = get_or_at before h after d (length before) refl in
-    let there : get_or (before ++ h ∷ after) (length before + suc k) d ≡ get_or after k d = get_or-append_right before (h ∷ after) (length before + suc k) d (omega arith) ∙ ap (λ n. get_or (h ∷ after) n d) (let minus : length before + suc k - length before ≡ suc k = omega arith in minus) in
+    let there : get_or (before ++ h ∷ after) (length before + suc k) d ≡ get_or after k d =
+    get_or-append_right before (h ∷ after) (length before + suc k) d (omega arith)
+    ∙ ap (λ n. get_or (h ∷ after) n d) (let minus : length before + suc k - length before ≡ suc k = omega arith in minus) in
     false_from_ne_true _ (λ same. (rw (here, there) at apart) ((bytes_eq-Decides _ h.name).0 same))
 
 -- a host gets its delays back
@@ -166,7 +172,10 @@ delays-back : (before : List Host) (h : Host) (after : List Host) → AreDistinc
 delays-back before h after distinct =
     let first = All-others-before before h after distinct in
     let second = All-others-after before h after distinct in
-    let split = ap (λ ls. find (λ (l : Latency). bytes_eq l.host h.name) ls) (stated-append before (h ∷ after)) ∙ find-append (λ (l : Latency). bytes_eq l.host h.name) (stated before) (stated (h ∷ after)) ∙ ap (λ o. option_or o (latency_of (stated (h ∷ after)) h.name)) (stated-none before h.name first) in
+    let split =
+    ap (λ ls. find (λ (l : Latency). bytes_eq l.host h.name) ls) (stated-append before (h ∷ after))
+    ∙ find-append (λ (l : Latency). bytes_eq l.host h.name) (stated before) (stated (h ∷ after))
+    ∙ ap (λ o. option_or o (latency_of (stated (h ∷ after)) h.name)) (stated-none before h.name first) in
     ap (λ o. delayed_by o (bare h)) split ∙ go (has_latency h) refl (stated-none after h.name second)
   where
     go : (b : Bool) → has_latency h ≡ b → latency_of (stated after) h.name ≡ None

@@ -1,7 +1,7 @@
 -- The records of the resyncs of a log's text pass each test, and give the resyncs back in order.
-use Rattle.std.proofs.Common.{◌≡◌, ◌∙◌, sym, ap, refl, arith, ℕ, suc, ◌<◌, ◌≤◌, ◌==◌, ◌⊎◌, inl, inr, Bool, true, false, cond, List, [], ◌∷◌, ◌++◌, length, map, Some, None, append_assoc, ◌≤ℤ◌}
+use Rattle.std.proofs.Common.{◌≡◌, ◌∙◌, sym, ap, refl, arith, ℕ, suc, ◌≤◌, ◌==◌, inl, inr, Bool, true, false, cond, List, [], ◌∷◌, ◌++◌, length, map, Some, None, append_assoc, ◌≤ℤ◌}
 use Rattle.std.specs.Prelude.{All, AllPairs, filter, nat_lt, option_to_list}
-use Rattle.std.proofs.lemmas.Bool.{cases_eq, eq-eqb, eqb-true, lt-ltb, le-ltb, ltb-false, ltb-true, ne_eqb}
+use Rattle.std.proofs.lemmas.Bool.{cases_order, eq-eqb, eqb-true, le-ltb, lt-ltb, ne_eqb}
 use Rattle.std.proofs.lemmas.Int.{ints}
 use Rattle.std.proofs.lemmas.List.{append-nil}
 use Rattle.std.proofs.lemmas.List.Elements.{All-cons, All-filter, All-head, All-nil, All-tail}
@@ -19,6 +19,7 @@ use Rattle.log_read.specs.Reading.{with_record}
 use Rattle.log_read.specs.Records.{Listing, resync_in}
 use Rattle.log_read.proofs.Runs.{Runs, runs-cons, runs-none}
 use Rattle.log_read.proofs.WrittenRecords.{AreDistinct, bare, place-bare}
+use Rattle.mt_list.proofs.Lists.{filter_whole}
 
 -- a resync that a text can state
 pub record IsWritableResync (hosts rows : ℕ) (r : Resync) : Type 0 where
@@ -54,27 +55,22 @@ module _ (hosts : List Host) (rows : ℕ) (given : List Row) (latencies : List L
         ∙ ap (made (map bare hosts) given (done ++ r ∷ [])) (append-nil latencies)
 
   -- the records of resyncs at one place are read as the resyncs
-  pub resyncs-run : (done xs : List Resync) → All (IsWritableResync (length hosts) rows) xs → All (λ r. r.place ≡ length given) xs → Runs version.Two (resyncs_listing done) (map (resync_fields hosts) xs) (resyncs_listing (done ++ xs))
+  pub resyncs-run : (done xs : List Resync) → All (IsWritableResync (length hosts) rows) xs → All (λ r. r.place ≡ length given) xs
+      → Runs version.Two (resyncs_listing done) (map (resync_fields hosts) xs) (resyncs_listing (done ++ xs))
   resyncs-run done [] each at = rw (append-nil done) (runs-none version.Two (resyncs_listing done))
   resyncs-run done (r ∷ rs) each at =
       let here = All-head (IsWritableResync (length hosts) rows) r rs each in
       let place = All-head (λ r. r.place ≡ length given) r rs at in
       let more = resyncs-run (done ++ r ∷ []) rs (All-tail (IsWritableResync (length hosts) rows) r rs each) (All-tail (λ r. r.place ≡ length given) r rs at) in
       let rest = rw (append_assoc done (r ∷ []) rs) at more in
-      runs-cons version.Two (resyncs_listing done) (resyncs_listing (done ++ r ∷ [])) (resyncs_listing (done ++ r ∷ rs)) (resync_fields hosts r) (map (resync_fields hosts) rs) (resync-clear r here place done) (resync-step r here place done) rest
+      runs-cons version.Two (resyncs_listing done) (resyncs_listing (done ++ r ∷ [])) (resyncs_listing (done ++ r ∷ rs)) (resync_fields hosts r)
+      (map (resync_fields hosts) rs) (resync-clear r here place done) (resync-step r here place done) rest
 
 filter-none : {X : Type 0} (p : X → Bool) (xs : List X) → All (λ x. p x ≡ false) xs → filter p xs ≡ []
 filter-none p [] none = refl
 filter-none p (x ∷ xs) none =
     let here = All-head (λ x. p x ≡ false) x xs none in
     let rest = filter-none p xs (All-tail (λ x. p x ≡ false) x xs none) in
-    rw (here, rest) refl
-
-filter-all : {X : Type 0} (p : X → Bool) (xs : List X) → All (λ x. p x ≡ true) xs → filter p xs ≡ xs
-filter-all p [] all = refl
-filter-all p (x ∷ xs) all =
-    let here = All-head (λ x. p x ≡ true) x xs all in
-    let rest = filter-all p xs (All-tail (λ x. p x ≡ true) x xs all) in
     rw (here, rest) refl
 
 -- each element of a filter passes
@@ -86,16 +82,6 @@ filter-passes p (x ∷ xs) = go (p x) refl (filter-passes p xs)
     go true is rest = All-cons (λ x. p x ≡ true) x (filter p xs) is rest
     go false is rest = rest
 
-compare3 : (a b : ℕ) → (a < b) ⊎ ((a ≡ b) ⊎ (b < a))
-compare3 a b = elim (cases_eq a b) [
-  | inl same ↦ inr (inl same)
-  | inr other ↦ by (nat_lt a b) refl other
-]
-  where
-    by : (t : Bool) → nat_lt a b ≡ t → (a ≡ b → ⊥) → (a < b) ⊎ ((a ≡ b) ⊎ (b < a))
-    by true is other = inl (ltb-true a b is)
-    by false is other = let low = ltb-false a b is in inr (inr (omega arith))
-
 -- the resyncs before a place
 abbrev pub resyncs_before : List Resync → ℕ → List Resync
 resyncs_before rs n = filter (λ r. nat_lt r.place n) rs
@@ -105,17 +91,18 @@ front-more : (rs : List Resync) (n : ℕ) → AllPairs (λ q r. q.place ≤ r.pl
 front-more [] n order = refl
 front-more (x ∷ xs) n order =
     let rest = front-more xs n (λ i j d before within. order (suc i) (suc j) d (omega arith) (omega (arith, within))) in
-    elim (compare3 x.place n) [
-      | inl less ↦
+    elim (cases_order x.place n) [
+      | inr (inl less) ↦
           let a = lt-ltb x.place n less in
           let b = ne_eqb x.place n (λ same. absurd (omega (arith, same, less))) in
           let c = lt-ltb x.place (suc n) (omega (arith, less)) in
           rw (a, b, c) (ap (λ ys. x ∷ ys) rest)
-      | inr (inl same) ↦
+      | inl same ↦
           let a = le-ltb x.place n (omega (arith, same)) in
           let b = eq-eqb x.place n same in
           let c = lt-ltb x.place (suc n) (omega (arith, same)) in
-          let none : resyncs_before xs n ≡ [] = filter-none (λ r. nat_lt r.place n) xs (λ k d within. let later = order 0 (suc k) d (omega arith) (omega (arith, within)) in le-ltb _ n (omega (arith, same, later))) in
+          let none : resyncs_before xs n ≡ [] =
+          filter-none (λ r. nat_lt r.place n) xs (λ k d within. let later = order 0 (suc k) d (omega arith) (omega (arith, within)) in le-ltb _ n (omega (arith, same, later))) in
           rw (a, b, c, none) (ap (λ ys. x ∷ ys) (rw none at rest))
       | inr (inr more) ↦
           let a = le-ltb x.place n (omega (arith, more)) in
@@ -129,13 +116,18 @@ pub before-none : (rs : List Resync) → resyncs_before rs 0 ≡ []
 before-none rs = filter-none (λ r. nat_lt r.place 0) rs (λ k d within. le-ltb _ 0 (omega arith))
 
 pub before-all : (rs : List Resync) (n : ℕ) → All (λ r. r.place ≤ n) rs → resyncs_before rs (suc n) ≡ rs
-before-all rs n each = filter-all (λ r. nat_lt r.place (suc n)) rs (λ k d within. let low = each k d within in lt-ltb _ (suc n) (omega (arith, low)))
+before-all rs n each = filter_whole (λ r. nat_lt r.place (suc n)) rs (λ k d within. let low = each k d within in lt-ltb _ (suc n) (omega (arith, low)))
 
 -- the resyncs at the place of the next row are read
-pub block-run : (hosts : List Host) (rows : ℕ) (given : List Row) (latencies : List Latency) (rs : List Resync) → AreDistinct hosts → All (IsWritableResync (length hosts) rows) rs → AllPairs (λ q r. q.place ≤ r.place) rs
-    → Runs version.Two (record { hosts = map bare hosts; rows = given; resyncs = resyncs_before rs (length given); latencies = latencies }) (resyncs_at hosts rs (length given)) (record { hosts = map bare hosts; rows = given; resyncs = resyncs_before rs (suc (length given)); latencies = latencies })
+pub block-run : (hosts : List Host) (rows : ℕ) (given : List Row) (latencies : List Latency) (rs : List Resync) → AreDistinct hosts
+    → All (IsWritableResync (length hosts) rows) rs → AllPairs (λ q r. q.place ≤ r.place) rs
+    → Runs version.Two (record { hosts = map bare hosts; rows = given; resyncs = resyncs_before rs (length given); latencies = latencies })
+    (resyncs_at hosts rs (length given))
+    (record { hosts = map bare hosts; rows = given; resyncs = resyncs_before rs (suc (length given)); latencies = latencies })
 block-run hosts rows given latencies rs distinct each order =
     let at = λ (r : Resync). r.place == length given in
     let passes = filter-passes at rs in
-    let run = resyncs-run hosts rows given latencies distinct (resyncs_before rs (length given)) (filter at rs) (All-filter at (IsWritableResync (length hosts) rows) rs each) (λ k d within. eqb-true _ _ (passes k d within)) in
+    let run =
+    resyncs-run hosts rows given latencies distinct (resyncs_before rs (length given)) (filter at rs)
+    (All-filter at (IsWritableResync (length hosts) rows) rs each) (λ k d within. eqb-true _ _ (passes k d within)) in
     rw (front-more rs (length given) order) at run

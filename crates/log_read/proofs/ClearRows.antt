@@ -84,16 +84,29 @@ module _ (v : Version) (hosts : List Host) (rs : List Resync) (latencies : List 
         let host : host_in (row_fields hosts r) ≡ None = rw (kind_of-word r.act) refl in
         let resync : resync_in (map bare hosts) (length before) (row_fields hosts r) ≡ None = rw (kind_of-word r.act) refl in
         let latency : latency_in (row_fields hosts r) ≡ None = rw (kind_of-word r.act) refl in
-        ap (λ o. made (map bare hosts ++ option_to_list o) (before ++ option_to_list (row_in (map bare hosts) (row_fields hosts r))) (done ++ option_to_list (resync_in (map bare hosts) (length before) (row_fields hosts r))) (latencies ++ option_to_list (latency_in (row_fields hosts r)))) host
-        ∙ ap (λ hs. made hs (before ++ option_to_list (row_in (map bare hosts) (row_fields hosts r))) (done ++ option_to_list (resync_in (map bare hosts) (length before) (row_fields hosts r))) (latencies ++ option_to_list (latency_in (row_fields hosts r)))) (append-nil (map bare hosts))
-        ∙ ap (λ o. made (map bare hosts) (before ++ option_to_list o) (done ++ option_to_list (resync_in (map bare hosts) (length before) (row_fields hosts r))) (latencies ++ option_to_list (latency_in (row_fields hosts r)))) given
+        ap
+        (λ o. made (map bare hosts ++ option_to_list o) (before ++ option_to_list (row_in (map bare hosts) (row_fields hosts r)))
+        (done ++ option_to_list (resync_in (map bare hosts) (length before) (row_fields hosts r)))
+        (latencies ++ option_to_list (latency_in (row_fields hosts r))))
+        host
+        ∙ ap
+        (λ hs. made hs (before ++ option_to_list (row_in (map bare hosts) (row_fields hosts r)))
+        (done ++ option_to_list (resync_in (map bare hosts) (length before) (row_fields hosts r)))
+        (latencies ++ option_to_list (latency_in (row_fields hosts r))))
+        (append-nil (map bare hosts))
+        ∙ ap
+        (λ o. made (map bare hosts) (before ++ option_to_list o) (done ++ option_to_list (resync_in (map bare hosts) (length before) (row_fields hosts r)))
+        (latencies ++ option_to_list (latency_in (row_fields hosts r))))
+        given
         ∙ ap (λ o. made (map bare hosts) (before ++ r ∷ []) (done ++ option_to_list o) (latencies ++ option_to_list (latency_in (row_fields hosts r)))) resync
         ∙ ap (λ o. made (map bare hosts) (before ++ r ∷ []) (done ++ []) (latencies ++ option_to_list o)) latency
         ∙ ap (λ ys. made (map bare hosts) (before ++ r ∷ []) ys (latencies ++ [])) (append-nil done)
         ∙ ap (made (map bare hosts) (before ++ r ∷ []) done) (append-nil latencies)
 
   -- the records of rows, with the resyncs between them, are read as both
-  pub rows-run : ((given : List Row) → Runs v (rows_listing given (resyncs_before rs (length given))) (resyncs_at hosts rs (length given)) (rows_listing given (resyncs_before rs (suc (length given)))))
+  pub
+      rows-run : ((given : List Row)
+      → Runs v (rows_listing given (resyncs_before rs (length given))) (resyncs_at hosts rs (length given)) (rows_listing given (resyncs_before rs (suc (length given)))))
       → (rows before after : List Row) → before ++ after ≡ rows → AreRowsOf v hosts rows
       → Runs v (rows_listing before (resyncs_before rs (length before))) (rows_from hosts rs (length before) after) (rows_listing rows (resyncs_before rs (suc (length rows))))
   rows-run block rows before [] split are = let same : before ≡ rows = sym (append-nil before) ∙ split in rw same (block rows)
@@ -102,5 +115,8 @@ module _ (v : Version) (hosts : List Host) (rs : List Resync) (latencies : List 
       let count : length (before ++ r ∷ []) ≡ suc (length before) = length-append before (r ∷ []) ∙ (let one : length before + 1 ≡ suc (length before) = omega arith in one) in
       let rest = rw count at (rows-run block rows (before ++ r ∷ []) more (append_assoc before (r ∷ []) more ∙ split) are) in
       let done = resyncs_before rs (suc (length before)) in
-      runs-append v (rows_listing before (resyncs_before rs (length before))) (rows_listing before done) (rows_listing rows (resyncs_before rs (suc (length rows)))) (resyncs_at hosts rs (length before)) (row_fields hosts r ∷ rows_from hosts rs (suc (length before)) more) (block before)
-      (runs-cons v (rows_listing before done) (rows_listing (before ++ r ∷ []) done) (rows_listing rows (resyncs_before rs (suc (length rows)))) (row_fields hosts r) (rows_from hosts rs (suc (length before)) more) (row-clear before r more parts done) (row-step before r more parts done) rest)
+      runs-append v (rows_listing before (resyncs_before rs (length before))) (rows_listing before done)
+      (rows_listing rows (resyncs_before rs (suc (length rows)))) (resyncs_at hosts rs (length before))
+      (row_fields hosts r ∷ rows_from hosts rs (suc (length before)) more) (block before)
+      (runs-cons v (rows_listing before done) (rows_listing (before ++ r ∷ []) done) (rows_listing rows (resyncs_before rs (suc (length rows))))
+      (row_fields hosts r) (rows_from hosts rs (suc (length before)) more) (row-clear before r more parts done) (row-step before r more parts done) rest)

@@ -47,7 +47,9 @@ pub read-more : (v : Version) (records : List Record) (i : ℕ) (r : Record) (lo
     → fault_of v (i + 2) log r ≡ None → now ≡ with_record log r → IsReadUpTo v records (i + 1) now
 read-more v records i r log now within is before none due = record {
   read = due ∙ ap (λ l. with_record l r) before.read ∙ sym (ap listed (take-more records i r within is) ∙ listed-push (take i records) r);
-  clear = before.clear ∙ first_fault-step v records i r within is ∙ ap (λ o. or_else o (first_fault v (take (i + 1) records) (drop (i + 1) records))) (ap (λ l. fault_of v (i + 2) l r) (sym before.read) ∙ none);
+  clear =
+      before.clear ∙ first_fault-step v records i r within is
+      ∙ ap (λ o. or_else o (first_fault v (take (i + 1) records) (drop (i + 1) records))) (ap (λ l. fault_of v (i + 2) l r) (sym before.read) ∙ none);
 }
 
 prefix_step : {X : Type 0} (p : X → Bool) (x : X) (xs : List X) (b : Bool) → p x ≡ b → (length xs ≤ position_or_len p xs → All (λ x. p x ≡ false) xs)
@@ -101,7 +103,8 @@ row_in-matched all hosts (a ∷ b ∷ c ∷ d ∷ []) r matched h = row-matched 
 row_in-matched all hosts (a ∷ b ∷ c ∷ d ∷ x ∷ xs) r matched h = cc
 
 -- what is received in the rows of records is sent, where no record is unmatched
-rows-matched : (all : List Row) (hosts : List Host) (records : List Record) → All (λ q. is_unmatched all q ≡ false) records → All (λ r. IfSome (received_by r.act) (IsSent all)) (rows_after hosts records)
+rows-matched : (all : List Row) (hosts : List Host) (records : List Record) → All (λ q. is_unmatched all q ≡ false) records
+    → All (λ r. IfSome (received_by r.act) (IsSent all)) (rows_after hosts records)
 rows-matched all hosts [] matched = All-nil (λ r. IfSome (received_by r.act) (IsSent all))
 rows-matched all hosts (q ∷ qs) matched =
     All-append (λ r. IfSome (received_by r.act) (IsSent all)) (option_to_list (row_in hosts q)) (rows_after (hosts ++ option_to_list (host_in q)) qs)

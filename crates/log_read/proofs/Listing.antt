@@ -55,7 +55,8 @@ module _ (v : Version) (place : ℕ) (l now : Listing) (fields : Record) (w a b 
       rw (four, is, test) added
 
   pub adds_host : known_in v (kind_of w) ≡ Some kind.Host
-      → Adds r (host_fault place l.hosts a b c) now (record { hosts = l.hosts ++ option_to_list (host_with a b c); rows = l.rows; resyncs = l.resyncs; latencies = l.latencies }) → Adds r (fault_of v place l fields) now (with_record l fields)
+      → Adds r (host_fault place l.hosts a b c) now (record { hosts = l.hosts ++ option_to_list (host_with a b c); rows = l.rows; resyncs = l.resyncs; latencies = l.latencies })
+      → Adds r (fault_of v place l fields) now (with_record l fields)
   adds_host known added = adds kind.Host known (rw (append-nil l.rows, append-nil l.resyncs, append-nil l.latencies) added)
 
   pub adds_event : (e : EventKind) → known_in v (kind_of w) ≡ Some (kind.Event e)
@@ -64,7 +65,8 @@ module _ (v : Version) (place : ℕ) (l now : Listing) (fields : Record) (w a b 
   adds_event e known added = adds (kind.Event e) known (rw (append-nil l.hosts, append-nil l.resyncs, append-nil l.latencies) added)
 
   pub adds_resync : known_in v (kind_of w) ≡ Some kind.Resync
-      → Adds r (resync_fault place l.hosts a b c) now (record { hosts = l.hosts; rows = l.rows; resyncs = l.resyncs ++ option_to_list (resync_with l.hosts (length l.rows) a b c); latencies = l.latencies })
+      → Adds r (resync_fault place l.hosts a b c) now
+      (record { hosts = l.hosts; rows = l.rows; resyncs = l.resyncs ++ option_to_list (resync_with l.hosts (length l.rows) a b c); latencies = l.latencies })
       → Adds r (fault_of v place l fields) now (with_record l fields)
   adds_resync known added = adds kind.Resync known (rw (append-nil l.hosts, append-nil l.rows, append-nil l.latencies) added)
 
@@ -88,7 +90,8 @@ rows_after-push hosts (x ∷ xs) r =
     append_assoc hosts (option_to_list (host_in x)) (hosts_in xs) ∙ ap (λ ys. hosts ++ ys) (sym (cons_option-is (host_in x) (hosts_in xs))) in
     rw (more, same, append_assoc) refl
 
-resyncs_after-push : (hosts : List Host) (n : ℕ) (rs : List Record) (r : Record) → resyncs_after hosts n (rs ++ r ∷ []) ≡ resyncs_after hosts n rs ++ option_to_list (resync_in (hosts ++ hosts_in rs) (n + length (rows_after hosts rs)) r)
+resyncs_after-push : (hosts : List Host) (n : ℕ) (rs : List Record) (r : Record)
+    → resyncs_after hosts n (rs ++ r ∷ []) ≡ resyncs_after hosts n rs ++ option_to_list (resync_in (hosts ++ hosts_in rs) (n + length (rows_after hosts rs)) r)
 resyncs_after-push hosts n [] r = let none : n + 0 ≡ n = omega arith in rw (append-nil (option_to_list (resync_in hosts n r)), append-nil hosts, none) refl
 resyncs_after-push hosts n (x ∷ xs) r =
     let others = hosts ++ option_to_list (host_in x) in
@@ -97,18 +100,25 @@ resyncs_after-push hosts n (x ∷ xs) r =
     let same : others ++ hosts_in xs ≡ hosts ++ hosts_in (x ∷ xs) =
     append_assoc hosts (option_to_list (host_in x)) (hosts_in xs) ∙ ap (λ ys. hosts ++ ys) (sym (cons_option-is (host_in x) (hosts_in xs))) in
     let count : n + length given + length (rows_after others xs) ≡ n + length (rows_after hosts (x ∷ xs)) = let sum = length-append given (rows_after others xs) in omega (arith, sum) in
-    ap (λ ys. option_to_list (resync_in hosts n x) ++ ys) (more ∙ ap (λ hs. resyncs_after others (n + length given) xs ++ option_to_list (resync_in hs (n + length given + length (rows_after others xs)) r)) same
+    ap (λ ys. option_to_list (resync_in hosts n x) ++ ys)
+    (more ∙ ap (λ hs. resyncs_after others (n + length given) xs ++ option_to_list (resync_in hs (n + length given + length (rows_after others xs)) r)) same
     ∙ ap (λ k. resyncs_after others (n + length given) xs ++ option_to_list (resync_in (hosts ++ hosts_in (x ∷ xs)) k r)) count)
-    ∙ sym (append_assoc (option_to_list (resync_in hosts n x)) (resyncs_after others (n + length given) xs) (option_to_list (resync_in (hosts ++ hosts_in (x ∷ xs)) (n + length (rows_after hosts (x ∷ xs))) r)))
+    ∙ sym
+    (append_assoc (option_to_list (resync_in hosts n x)) (resyncs_after others (n + length given) xs)
+    (option_to_list (resync_in (hosts ++ hosts_in (x ∷ xs)) (n + length (rows_after hosts (x ∷ xs))) r)))
 
 -- what one more record lists comes at the end
 pub listed-push : (rs : List Record) (r : Record) → listed (rs ++ r ∷ []) ≡ with_record (listed rs) r
 listed-push rs r =
-    let made = λ (hosts : List Host) (rows : List Row) (resyncs : List Resync) (latencies : List Latency). (let l : Listing = record { hosts = hosts; rows = rows; resyncs = resyncs; latencies = latencies } in l) in
+    let made =
+    λ (hosts : List Host) (rows : List Row) (resyncs : List Resync)
+    (latencies : List Latency). (let l : Listing = record { hosts = hosts; rows = rows; resyncs = resyncs; latencies = latencies } in l) in
     let hosts = hosts_in rs ++ option_to_list (host_in r) in
     let rows = rows_after [] rs ++ option_to_list (row_in (hosts_in rs) r) in
     let resyncs = resyncs_after [] 0 rs ++ option_to_list (resync_in (hosts_in rs) (length (rows_after [] rs)) r) in
     ap (λ hs. made hs (rows_after [] (rs ++ r ∷ [])) (resyncs_after [] 0 (rs ++ r ∷ [])) (latencies_in (rs ++ r ∷ []))) (filter_map-push host_in rs r)
     ∙ ap (λ ys. made hosts ys (resyncs_after [] 0 (rs ++ r ∷ [])) (latencies_in (rs ++ r ∷ []))) (rows_after-push [] rs r)
-    ∙ ap (λ ys. made hosts rows ys (latencies_in (rs ++ r ∷ []))) (resyncs_after-push [] 0 rs r ∙ ap (λ n. resyncs_after [] 0 rs ++ option_to_list (resync_in (hosts_in rs) n r)) (let none : 0 + length (rows_after [] rs) ≡ length (rows_after [] rs) = omega arith in none))
+    ∙ ap (λ ys. made hosts rows ys (latencies_in (rs ++ r ∷ [])))
+    (resyncs_after-push [] 0 rs r
+    ∙ ap (λ n. resyncs_after [] 0 rs ++ option_to_list (resync_in (hosts_in rs) n r)) (let none : 0 + length (rows_after [] rs) ≡ length (rows_after [] rs) = omega arith in none))
     ∙ ap (made hosts rows resyncs) (filter_map-push latency_in rs r)

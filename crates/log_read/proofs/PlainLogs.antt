@@ -31,7 +31,9 @@ low-read bytes z is = (number_in_range MAX_WRITTEN_SKEW bytes z is).1
 host_with-low : (name skew gap : List ℕ) (h : Host) → host_with name skew gap ≡ Some h → Low h.skew
 host_with-low name skew gap h is = by (number_up_to MAX_WRITTEN_SKEW skew) (number_up_to MAX_GAP gap) refl is
   where
-    by : (s g : Option ℤ) → number_up_to MAX_WRITTEN_SKEW skew ≡ s → option_and_then (λ x. option_map (λ y. let made : Host = record { name = name; skew = x; gap = y; least = MIN_DELAY; most = None } in made) g) s ≡ Some h → Low h.skew
+    by : (s g : Option ℤ) → number_up_to MAX_WRITTEN_SKEW skew ≡ s
+        → option_and_then (λ x. option_map (λ y. let made : Host = record { name = name; skew = x; gap = y; least = MIN_DELAY; most = None } in made) g) s ≡ Some h
+        → Low h.skew
     by None g read e = absurd (cc)
     by (Some x) None read e = absurd (cc)
     by (Some x) (Some y) read e = let same : x ≡ h.skew = ap (λ o. option_map_or (λ (k : Host). k.skew) o x) e in subst Low same (low-read skew x read)

@@ -2,7 +2,7 @@
 use Rattle.std.proofs.Common.{◌≡◌, ◌∙◌, sym, ap, refl, subst, ℕ, suc, ◌≤◌, ◌==◌, Bool, true, false, cond, List, [], ◌∷◌, ◌++◌, length, get_or, map, Some, None, Ok}
 use Rattle.std.specs.Prelude.{All, IfSome, filter, if◌then◌else◌, not, position, ◌&&◌, ◌||◌}
 use Rattle.std.specs.List.{list_any}
-use Rattle.std.proofs.lemmas.Bool.{eqb-true}
+use Rattle.std.proofs.lemmas.Bool.{eqb-true, or_parts}
 use Rattle.std.proofs.lemmas.List.{nil_from_length}
 use Rattle.std.proofs.lemmas.List.Elements.{All-append, All-cons, All-head, All-map, All-nil, All-tail}
 use Rattle.std.proofs.lemmas.List.Folds.{list_any_at}
@@ -21,7 +21,6 @@ use Rattle.log_read.specs.declared.version.Version.TheVariants as version
 use Rattle.log_read.specs.Records.{Listing, Record, log_from}
 use Rattle.log_read.specs.LogOf.{is_sent, is_unmatched, is_unmatched_by, known_in, log_of_records, log_under, version_of}
 use Rattle.log_read.specs.LogText.{TextsReadBack, has_latency, has_pulse, header, host_fields, latency_fields, resync_fields, resyncs_at, row_fields, rows_from, version_for}
-use Rattle.log_read.proofs.Begun.{either_none}
 use Rattle.log_read.proofs.ClearHosts.{AreHosts, hosts-run}
 use Rattle.log_read.proofs.ClearLatencies.{all-delays-back, latencies-run, listing_of, stated}
 use Rattle.log_read.proofs.ClearResyncs.{IsWritableResync, before-all, before-none, block-run, resyncs_before}
@@ -51,13 +50,16 @@ row-matched : (rows : List Row) (hosts : List Host) (r : Row) → IfSome (receiv
 row-matched rows hosts r sent = rw (kind_of-word r.act) (act-matched rows r.act sent)
 
 -- each receive in a log's text is matched
-rows-matched : (all : List Row) (hosts : List Host) (rs : List Resync) (place : ℕ) (rows : List Row) → All (λ r. IfSome (received_by r.act) (IsSent all)) rows → All (λ q. is_unmatched all q ≡ false) (rows_from hosts rs place rows)
+rows-matched : (all : List Row) (hosts : List Host) (rs : List Resync) (place : ℕ) (rows : List Row) → All (λ r. IfSome (received_by r.act) (IsSent all)) rows
+    → All (λ q. is_unmatched all q ≡ false) (rows_from hosts rs place rows)
 rows-matched all hosts rs place [] sent = All-map (λ (q : Record). is_unmatched all q ≡ false) (resync_fields hosts) (filter (λ r. r.place == place) rs) (λ k d within. refl)
 rows-matched all hosts rs place (r ∷ more) sent =
     let passes = λ (q : Record). is_unmatched all q ≡ false in
     let one = λ (r : Row). IfSome (received_by r.act) (IsSent all) in
-    All-append passes (resyncs_at hosts rs place) (row_fields hosts r ∷ rows_from hosts rs (suc place) more) (All-map passes (resync_fields hosts) (filter (λ r. r.place == place) rs) (λ k d within. refl))
-    (All-cons passes (row_fields hosts r) (rows_from hosts rs (suc place) more) (row-matched all hosts r (All-head one r more sent)) (rows-matched all hosts rs (suc place) more (All-tail one r more sent)))
+    All-append passes (resyncs_at hosts rs place) (row_fields hosts r ∷ rows_from hosts rs (suc place) more)
+    (All-map passes (resync_fields hosts) (filter (λ r. r.place == place) rs) (λ k d within. refl))
+    (All-cons passes (row_fields hosts r) (rows_from hosts rs (suc place) more) (row-matched all hosts r (All-head one r more sent))
+    (rows-matched all hosts rs (suc place) more (All-tail one r more sent)))
 
 -- the records under the header
 abbrev rest_of : Logged → List Record
@@ -93,7 +95,7 @@ act-known (act.Pulse name) none = absurd (cc)
 known-rows : (rows : List Row) → list_any has_pulse rows ≡ false → All (IsKnown version.One) rows
 known-rows [] none = All-nil (IsKnown version.One)
 known-rows (r ∷ rs) none =
-    let parts = either_none (has_pulse r) (list_any has_pulse rs) none in
+    let parts = or_parts (has_pulse r) (list_any has_pulse rs) none in
     All-cons (IsKnown version.One) r rs (act-known r.act parts.0) (known-rows rs parts.1)
 
 module _ (log : Logged) (valid : IsLog log) (plain : IsPlain log) where
@@ -123,7 +125,11 @@ module _ (log : Logged) (valid : IsLog log) (plain : IsPlain log) where
   all-before : resyncs_before log.resyncs (suc (length log.rows)) ≡ log.resyncs
   all-before = before-all log.resyncs (length log.rows) (λ k d within. (valid.resyncs.each k d within).place)
 
-  rows-part : (v : Version) → All (IsKnown v) log.rows → ((rows : List Row) → Runs v (rows_listing v log.hosts log.resyncs (stated log.hosts) valid.names rows (resyncs_before log.resyncs (length rows))) (resyncs_at log.hosts log.resyncs (length rows)) (rows_listing v log.hosts log.resyncs (stated log.hosts) valid.names rows (resyncs_before log.resyncs (suc (length rows)))))
+  rows-part : (v : Version) → All (IsKnown v) log.rows
+      → ((rows : List Row)
+      → Runs v (rows_listing v log.hosts log.resyncs (stated log.hosts) valid.names rows (resyncs_before log.resyncs (length rows)))
+      (resyncs_at log.hosts log.resyncs (length rows))
+      (rows_listing v log.hosts log.resyncs (stated log.hosts) valid.names rows (resyncs_before log.resyncs (suc (length rows)))))
       → Runs v (listing_of log.hosts log.hosts) (rows_from log.hosts log.resyncs 0 log.rows) Due
   rows-part v known block =
       let run = rows-run v log.hosts log.resyncs (stated log.hosts) valid.names block log.rows [] log.rows refl (given v known) in
@@ -141,15 +147,19 @@ module _ (log : Logged) (valid : IsLog log) (plain : IsPlain log) where
   in-one none plain_hosts plain_rows =
       let no_latency : filter has_latency log.hosts ≡ [] = no-filter has_latency log.hosts plain_hosts in
       let first = hosts-run version.One [] log.hosts declared in
-      let second : Runs version.One (listing_of log.hosts []) (map latency_fields (filter has_latency log.hosts)) (listing_of log.hosts log.hosts) = rw no_latency (runs-none version.One (listing_of log.hosts [])) in
-      let third = rows-part version.One (known-rows log.rows plain_rows) (λ rows. rw none (runs-none version.One (record { hosts = map bare log.hosts; rows = rows; resyncs = []; latencies = stated log.hosts }))) in
+      let second : Runs version.One (listing_of log.hosts []) (map latency_fields (filter has_latency log.hosts)) (listing_of log.hosts log.hosts) =
+      rw no_latency (runs-none version.One (listing_of log.hosts [])) in
+      let third =
+      rows-part version.One (known-rows log.rows plain_rows)
+      (λ rows. rw none (runs-none version.One (record { hosts = map bare log.hosts; rows = rows; resyncs = []; latencies = stated log.hosts }))) in
       runs-append version.One Start (listing_of log.hosts log.hosts) Due (map host_fields log.hosts ++ map latency_fields (filter has_latency log.hosts)) (rows_from log.hosts log.resyncs 0 log.rows)
       (runs-append version.One Start (listing_of log.hosts []) (listing_of log.hosts log.hosts) (map host_fields log.hosts) (map latency_fields (filter has_latency log.hosts)) first second) third
 
   in-version : Runs (version_for log) Start (rest_of log) Due
   in-version = go (length log.resyncs == 0) (list_any has_latency log.hosts) (list_any has_pulse log.rows) refl refl refl
     where
-      go : (a b d : Bool) → (length log.resyncs == 0) ≡ a → list_any has_latency log.hosts ≡ b → list_any has_pulse log.rows ≡ d → Runs (if a && not b && not d then version.One else version.Two) Start (rest_of log) Due
+      go : (a b d : Bool) → (length log.resyncs == 0) ≡ a → list_any has_latency log.hosts ≡ b → list_any has_pulse log.rows ≡ d
+          → Runs (if a && not b && not d then version.One else version.Two) Start (rest_of log) Due
       go true false false none plain_hosts plain_rows = in-one (nil_from_length log.resyncs (eqb-true _ _ none)) plain_hosts plain_rows
       go true false true none plain_hosts some = in-two
       go true true d none some any = in-two
@@ -172,5 +182,6 @@ texts-read-back log valid plain =
     let same = run.lists [] refl in
     ap log_of_records (records-written log (writable log valid plain) (writable_resyncs log valid plain) (writable_rows log valid plain))
     ∙ ap (λ o. log_under o rest) (header-version (version_for log))
-    ∙ log-is (version_for log) rest (run.clear [] refl) (subst (λ (l : Listing). position (is_unmatched l.rows) rest ≡ None) (sym same) (all-matched log valid)) (subst (λ (l : Listing). 1 ≤ length l.rows) (sym same) valid.some_rows)
+    ∙ log-is (version_for log) rest (run.clear [] refl) (subst (λ (l : Listing). position (is_unmatched l.rows) rest ≡ None) (sym same) (all-matched log valid))
+    (subst (λ (l : Listing). 1 ≤ length l.rows) (sym same) valid.some_rows)
     ∙ ap Ok (ap log_from same ∙ back log valid plain)

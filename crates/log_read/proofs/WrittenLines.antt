@@ -81,13 +81,15 @@ resync-line hosts rows r all is =
 module _ (hosts : List Host) (count : ℕ) (rs : List Resync) (writable : All IsWritable hosts) (each : All (IsWritableResync (length hosts) count) rs) where
   block-lines : (place : ℕ) → All IsLine (resyncs_at hosts rs place)
   block-lines place =
-      All-map IsLine (resync_fields hosts) (filter (λ r. r.place == place) rs) (All-filter (λ r. r.place == place) (λ r. IsLine (resync_fields hosts r)) rs (λ k d within. resync-line hosts count _ writable (each k d within)))
+      All-map IsLine (resync_fields hosts) (filter (λ r. r.place == place) rs)
+      (All-filter (λ r. r.place == place) (λ r. IsLine (resync_fields hosts r)) rs (λ k d within. resync-line hosts count _ writable (each k d within)))
 
   pub rows-lines : (place : ℕ) (rows : List Row) → All (IsOf hosts) rows → All IsLine (rows_from hosts rs place rows)
   rows-lines place [] of = block-lines place
   rows-lines place (r ∷ more) of =
       All-append IsLine (resyncs_at hosts rs place) (row_fields hosts r ∷ rows_from hosts rs (suc place) more) (block-lines place)
-      (All-cons IsLine (row_fields hosts r) (rows_from hosts rs (suc place) more) (row-line hosts r writable (All-head (IsOf hosts) r more of)) (rows-lines (suc place) more (All-tail (IsOf hosts) r more of)))
+      (All-cons IsLine (row_fields hosts r) (rows_from hosts rs (suc place) more) (row-line hosts r writable (All-head (IsOf hosts) r more of))
+      (rows-lines (suc place) more (All-tail (IsOf hosts) r more of)))
 
 header-line : (v : Version) → IsLine (header v)
 header-line version.One = four-fields _ _ _ _ refl refl refl refl
@@ -100,7 +102,8 @@ header-first version.One rest = refl
 header-first version.Two rest = refl
 
 -- the records of a log's text are those of the log
-pub records-written : (log : Logged) → All IsWritable log.hosts → All (IsWritableResync (length log.hosts) (length log.rows)) log.resyncs → All (IsOf log.hosts) log.rows → records default_config (strip_bom (log_text log)) ≡ log_records log
+pub records-written : (log : Logged) → All IsWritable log.hosts → All (IsWritableResync (length log.hosts) (length log.rows)) log.resyncs
+    → All (IsOf log.hosts) log.rows → records default_config (strip_bom (log_text log)) ≡ log_records log
 records-written log hosts resyncs rows =
     let rest = map host_fields log.hosts ++ map latency_fields (filter has_latency log.hosts) ++ rows_from log.hosts log.resyncs 0 log.rows in
     ap (records default_config) (header-first (version_for log) rest)

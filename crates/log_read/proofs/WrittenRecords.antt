@@ -73,7 +73,9 @@ place-found (first ∷ others) i distinct within =
     let hosts = first ∷ others in
     let h = get_or hosts i first in
     let named : host_name hosts i ≡ h.name = rw (slice_get-get_or hosts i first within) refl in
-    let other = λ (k : ℕ) (before : k < i). false_from_ne_true (bytes_eq (get_or hosts k first).name h.name) (λ same. distinct k i first before within (sym ((bytes_eq-Decides (get_or hosts k first).name h.name).0 same))) in
+    let other =
+    λ (k : ℕ) (before : k < i). false_from_ne_true (bytes_eq (get_or hosts k first).name h.name)
+    (λ same. distinct k i first before within (sym ((bytes_eq-Decides (get_or hosts k first).name h.name).0 same))) in
     ap (place_of_host hosts) named ∙ position-found (λ g. bytes_eq g.name h.name) hosts i first within other ((bytes_eq-Decides h.name h.name).1 refl)
 
 -- a row of these hosts that a text can state

@@ -1,6 +1,5 @@
 ghost use Rattle.std.specs.Prelude.{◌≡◌, ◌≤◌, length};
 ghost use Rattle.mt_model.specs.Name.{is_reserved};
-ghost use Rattle.mt_model.specs.Timing.{is_send_of};
 ghost use Rattle.log_read.specs.LogOf.{host_fault, event_fault, is_declared, is_delayed, is_sent, latency_fault, resync_fault, sends_again};
 ghost use Rattle.log_read.specs.Reading.{Enters};
 ghost use Rattle.log_read.specs.Records.{host_with, latency_with, resync_with, row_with, place_of_host};
@@ -12,7 +11,7 @@ use crate::latency::{Latency, greatest_of, least_of};
 use decimal::{signed_number, unsigned_number};
 use mt_model::{
     Host, HostId, MAX_GAP, MAX_HOSTS, MAX_LOCAL, MAX_ROWS, MAX_WRITTEN_SKEW, MIN_DELAY, Name,
-    Resync, Row,
+    Resync, Row, sends,
 };
 use std::alloc::Global;
 
@@ -33,15 +32,6 @@ fn place_of(hosts: &[Host], name: &[u8]) -> Option<usize>
     ensures { result ≡ place_of_host hosts.now name.now }
 {
     hosts.iter().position(|h| h.name.bytes() == name)
-}
-
-fn sends(row: &Row, message: &[u8]) -> bool
-    ensures { result ≡ is_send_of message.now row.now }
-{
-    match row.act.sent() {
-        Some(name) => name.bytes() == message,
-        None => false,
-    }
 }
 
 /// Whether one of the rows sends the message.

@@ -1,6 +1,6 @@
 //! Latencies: how long what a host receives took.
 
-ghost use Rattle.std.specs.Prelude.{◌≡◌, ◌<◌, ◌+◌, map, option_copied, IfSome};
+ghost use Rattle.std.specs.Prelude.{◌≡◌, ◌<◌, ◌+◌, map, option_copied};
 ghost use Rattle.mt_model.specs.declared.limits.TheConstants.{MAX_DELAY};
 ghost use Rattle.log_read.specs.Records.{delayed as delayed_host, delay_in, greatest_in, latency_of, least_in};
 

@@ -1,4 +1,4 @@
-ghost use Rattle.std.specs.Prelude.{◌≡◌, [], ◌∷◌, ◌++◌, ◌≤◌, length, None, Some, option_to_list, All, IfSome, IfOk};
+ghost use Rattle.std.specs.Prelude.{◌≡◌, [], ◌++◌, ◌≤◌, length, None, Some, option_to_list, All, IfSome};
 ghost use Rattle.mt_model.specs.Log.{IsSent, received_by};
 ghost use Rattle.log_read.specs.LogOf.{fault_of, host_fault, event_fault, latency_fault, resync_fault};
 ghost use Rattle.log_read.specs.Reading.{Adds, with_record};

@@ -11,7 +11,7 @@ ghost use Rattle.mtl_encode.specs.Size.{IsSmall};
 use crate::atom_order::{AtomOrder, ordered};
 use cdcl_core::{Found, search};
 use formula_arena::Arena;
-use mt_model::{Formula, Log, NodeId, bounds_are_admissible};
+use mt_model::{Formula, Log, NodeId, bounds_are_admissible, log_is_valid};
 use mtl_encode::{MAX_SIZE, encode_by, size_of, sizes_are_unique};
 use skew_bounds::{BoundSystem, Tight, system_of, tight_by};
 use std::alloc::{AllocError, Global};
@@ -47,7 +47,7 @@ fn searched_nodes(
 {
     bounds_are_admissible();
     // What a log and a formula are, their parts are known with.
-    let _ = log.rows();
+    log_is_valid(log);
     let _ = f.tree();
     let encoded = encode_by(alloc, log, arena, root, asked.value, system, tight)?;
     let problem = ordered(alloc, encoded, asked.order)?;

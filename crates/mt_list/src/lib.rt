@@ -2,5 +2,7 @@
 #![tactic(auto)]
 
 mod list_of;
+mod room;
 
 pub use list_of::ListOf;
+pub use room::push_within;

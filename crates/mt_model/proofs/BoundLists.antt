@@ -40,7 +40,7 @@ All-map P f a (suc n) e all least most = elim (cases_eq a e) [
   | inr other ↦ All-map P f (a + 1) n e (All-tail P (f a) (map f (range_with_len (a + 1) n)) all) (omega arith) (omega arith)
 ]
 
-IfSome-where : {A : Type 0} (o : Option A) (P : A → Type 0) → ((x : A) → o ≡ Some x → P x) → IfSome o P
+pub IfSome-where : {A : Type 0} (o : Option A) (P : A → Type 0) → ((x : A) → o ≡ Some x → P x) → IfSome o P
 IfSome-where None P h = tt
 IfSome-where (Some x) P h = h x refl
 

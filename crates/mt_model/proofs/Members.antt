@@ -1,16 +1,12 @@
 -- What stands in a list, and what holds of some and of each of its elements.
-use Rattle.std.proofs.Common.{◌≡◌, ◌∙◌, sym, refl, Bool, true, false, List, [], ◌∷◌, ◌⊎◌, inl, inr}
+use Rattle.std.proofs.Common.{◌≡◌, ◌∙◌, sym, refl, Bool, true, List, [], ◌∷◌, ◌⊎◌, inl, inr}
 use Rattle.std.specs.List.{list_any, list_all}
 use Rattle.std.proofs.lemmas.Bool.{or_cases, or_left, or_right, and_parts, and_from}
+use Rattle.std.specs.Cmp.{both_ways}
 
 abbrev pub Among : {X : Type 0} → List X → X → Type 0
 Among [] x = ⊥
 Among (y ∷ ys) x = (y ≡ x) ⊎ Among ys x
-
-pub same_bool : (a b : Bool) → (a ≡ true → b ≡ true) → (b ≡ true → a ≡ true) → a ≡ b
-same_bool true b f g = sym (f refl)
-same_bool false true f g = g refl
-same_bool false false f g = refl
 
 module _ {X : Type 0} (p : X → Bool) where
   pub any_some : (xs : List X) → list_any p xs ≡ true → (x : X) × Among xs x × (p x ≡ true)
@@ -51,7 +47,7 @@ module _ {X Y : Type 0} (xs : List X) (ys : List Y) (φ : X → Y) (into : (x : 
       some_any p xs x at (same x at ∙ (rw to is))
 
   pub any_same : list_any p xs ≡ list_any q ys
-  any_same = same_bool _ _ any_to any_from
+  any_same = both_ways _ _ any_to any_from
 
   all_to : list_all p xs ≡ true → list_all q ys ≡ true
   all_to h = each_all q ys (λ y in_. back y (onto y in_))
@@ -63,4 +59,4 @@ module _ {X Y : Type 0} (xs : List X) (ys : List Y) (φ : X → Y) (into : (x : 
   all_from h = each_all p xs (λ x in_. same x in_ ∙ all_each q ys (φ x) h (into x in_))
 
   pub all_same : list_all p xs ≡ list_all q ys
-  all_same = same_bool _ _ all_to all_from
+  all_same = both_ways _ _ all_to all_from

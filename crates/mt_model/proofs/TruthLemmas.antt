@@ -1,10 +1,9 @@
 -- What each form says at a position, and the values of a formula.
 use Rattle.std.proofs.Common.{◌≡◌, ◌↔◌, refl, ℕ, ◌<◌, ◌≤◌, Bool, true, false, not, ◌&&◌, List, ◌⊎◌, inl, inr, Option, Some, None, arith, ℤ, pos, ◌≤ℤ◌}
-use Rattle.std.specs.Prelude.{IfSome, int_le, nat_le}
+use Rattle.std.specs.Prelude.{IfSome, int_le}
 use Rattle.std.specs.Option.{option_map_or}
 use Rattle.std.proofs.lemmas.Int.{ints}
-use Rattle.std.proofs.lemmas.Bool.{and_from, and_parts, or_cases, or_left, or_right}
-use Rattle.std.proofs.lemmas.Bool.Decides.{nat_tests}
+use Rattle.std.proofs.lemmas.Bool.{and_from, and_parts, or_cases, or_left, or_right, not_from_false, not-true, leb-true, le-leb, leb-false, lt-leb}
 use Rattle.mt_model.specs.declared.tree.Interval.{Interval}
 use Rattle.mt_model.specs.Form.{Form, Or, Until, Since, Eventually, Always, Once, Historically}
 use Rattle.mt_model.specs.Log.{Logged}
@@ -41,14 +40,6 @@ not-from : (a : Bool) → (a ≡ true → ⊥) → not a ≡ true
 not-from true h = absurd (h refl)
 not-from false h = refl
 
-not-false : (a : Bool) → a ≡ false → not a ≡ true
-not-false true h = cc
-not-false false h = refl
-
-false-of_not : (a : Bool) → not a ≡ true → a ≡ false
-false-of_not true h = cc
-false-of_not false h = refl
-
 -- the words of a frame, with some point and each point
 module _ {X : Type 0} (F : Frame X) (near : X → X → Bool) (f : X → Bool) (x : X) where
   -- a point from x on that is near x
@@ -80,12 +71,12 @@ module _ {X : Type 0} (F : Frame X) (near : X → X → Bool) (f : X → Bool) (
   Spans y = (z : X) → Among F.points z → F.not_after x z ≡ true → F.not_after y z ≡ false → f z ≡ true
 
   span-each : (y : X) → span F f x y ≡ true → Spans y
-  span-each y h z among from_here before = implies-then (F.not_after x z && not (F.not_after y z)) (f z) (all_each _ F.points z h among) (and_from (F.not_after x z) (not (F.not_after y z)) from_here (not-false (F.not_after y z) before))
+  span-each y h z among from_here before = implies-then (F.not_after x z && not (F.not_after y z)) (f z) (all_each _ F.points z h among) (and_from (F.not_after x z) (not (F.not_after y z)) from_here (not_from_false (F.not_after y z) before))
 
   each-span : (y : X) → Spans y → span F f x y ≡ true
   each-span y each = each_all _ F.points (λ z among. implies-from (F.not_after x z && not (F.not_after y z)) (f z) (λ both.
       let (from_here, before) = and_parts (F.not_after x z) (not (F.not_after y z)) both in
-      each z among from_here (false-of_not (F.not_after y z) before)))
+      each z among from_here (not-true (F.not_after y z) before)))
 
   pub reaches-some : (g : X → Bool) → reaches F near f g x ≡ true → (y : X) × Lies y × (g y ≡ true) × Spans y
   reaches-some g h =
@@ -114,18 +105,6 @@ is_in-from I d lies = and_from (int_le (pos I.low) d) (option_map_or (λ b. int_
     go None h = refl
     go (Some b) h = grind (arith, ints)
 
-le-then : (i j : ℕ) → nat_le i j ≡ true → i ≤ j
-le-then i j h = grind (arith, nat_tests)
-
-le-from : (i j : ℕ) → i ≤ j → nat_le i j ≡ true
-le-from i j h = grind (arith, nat_tests)
-
-more-then : (i j : ℕ) → nat_le i j ≡ false → j < i
-more-then i j h = grind (arith, nat_tests)
-
-more-from : (i j : ℕ) → j < i → nat_le i j ≡ false
-more-from i j h = grind (arith, nat_tests)
-
 -- the positions from i on, and those up to i
 module _ (t : List ℤ) (I : Interval) (f : ℕ → Bool) (i : ℕ) where
   abbrev Ahead : ℕ → Type 0
@@ -135,16 +114,16 @@ module _ (t : List ℤ) (I : Interval) (f : ℕ → Bool) (i : ℕ) where
   Behind = Lies (turned (positions_in (positions_of t))) (is_behind (positions_in (positions_of t)) I) f i
 
   ahead-then : (j : ℕ) → Ahead j → LiesAhead t I i j
-  ahead-then j lies = record { index = below _ j lies.among; from_here = le-then i j lies.from_here; distance = is_in-then I _ lies.near_here }
+  ahead-then j lies = record { index = below _ j lies.among; from_here = leb-true i j lies.from_here; distance = is_in-then I _ lies.near_here }
 
   ahead-from : (j : ℕ) → LiesAhead t I i j → Ahead j
-  ahead-from j lies = record { among = within_has _ j lies.index; from_here = le-from i j lies.from_here; near_here = is_in-from I _ lies.distance }
+  ahead-from j lies = record { among = within_has _ j lies.index; from_here = le-leb i j lies.from_here; near_here = is_in-from I _ lies.distance }
 
   behind-then : (j : ℕ) → Behind j → LiesBehind t I i j
-  behind-then j lies = record { index = below _ j lies.among; up_to_here = le-then j i lies.from_here; distance = is_in-then I _ lies.near_here }
+  behind-then j lies = record { index = below _ j lies.among; up_to_here = leb-true j i lies.from_here; distance = is_in-then I _ lies.near_here }
 
   behind-from : (j : ℕ) → LiesBehind t I i j → Behind j
-  behind-from j lies = record { among = within_has _ j lies.index; from_here = le-from j i lies.up_to_here; near_here = is_in-from I _ lies.distance }
+  behind-from j lies = record { among = within_has _ j lies.index; from_here = le-leb j i lies.up_to_here; near_here = is_in-from I _ lies.distance }
 
 module _ (log : Logged) (t : List ℤ) (i : ℕ) (I : Interval) (f g : Form) where
   abbrev P : Frame ℕ
@@ -157,15 +136,15 @@ module _ (log : Logged) (t : List ℤ) (i : ℕ) (I : Interval) (f g : Form) whe
   at_until index = (
     λ h. let (j, lies, there, spans) = reaches-some P (is_ahead P I) (on f) i (on g) h in
         let ahead = ahead-then t I (on f) i j lies in
-        (j, ahead, there, λ k from_here before. spans k (within_has _ k (let high = ahead.index in omega arith)) (le-from i k from_here) (more-from j k before)),
-    λ h. some-reaches P (is_ahead P I) (on f) i (on g) h.0 (ahead-from t I (on f) i h.0 h.1) h.2 (λ k among from_here before. h.3 k (le-then i k from_here) (more-then h.0 k before)),
+        (j, ahead, there, λ k from_here before. spans k (within_has _ k (let high = ahead.index in omega arith)) (le-leb i k from_here) (lt-leb j k before)),
+    λ h. some-reaches P (is_ahead P I) (on f) i (on g) h.0 (ahead-from t I (on f) i h.0 h.1) h.2 (λ k among from_here before. h.3 k (leb-true i k from_here) (leb-false h.0 k before)),
   )
 
   at_since : IsIndex t i → IsTrueAt log t i (Since I f g) ↔ ((j : ℕ) × LiesBehind t I i j × IsTrueAt log t j g × ((k : ℕ) → j < k → k ≤ i → IsTrueAt log t k f))
   at_since index = (
     λ h. let (j, lies, there, spans) = reaches-some (turned P) (is_behind P I) (on f) i (on g) h in
-        (j, behind-then t I (on f) i j lies, there, λ k after up_to_here. spans k (within_has _ k (omega arith)) (le-from k i up_to_here) (more-from k j after)),
-    λ h. some-reaches (turned P) (is_behind P I) (on f) i (on g) h.0 (behind-from t I (on f) i h.0 h.1) h.2 (λ k among up_to_here after. h.3 k (more-then k h.0 after) (le-then k i up_to_here)),
+        (j, behind-then t I (on f) i j lies, there, λ k after up_to_here. spans k (within_has _ k (omega arith)) (le-leb k i up_to_here) (lt-leb k j after)),
+    λ h. some-reaches (turned P) (is_behind P I) (on f) i (on g) h.0 (behind-from t I (on f) i h.0 h.1) h.2 (λ k among up_to_here after. h.3 k (leb-false k h.0 after) (leb-true k i up_to_here)),
   )
 
   at_eventually : IsTrueAt log t i (Eventually I f) ↔ ((j : ℕ) × LiesAhead t I i j × IsTrueAt log t j f)
@@ -214,3 +193,9 @@ table = record {
   once = λ log t i I f. at_once log t i I f f;
   historically = λ log t i I f. at_historically log t i I f f;
 }
+
+pub and_3 : (a b c : Bool) → (a && b && c) ≡ true → (a ≡ true) × (b ≡ true) × (c ≡ true)
+and_3 true true true h = (refl, refl, refl)
+and_3 true true false h = absurd (cc)
+and_3 true false c h = absurd (cc)
+and_3 false b c h = absurd (cc)

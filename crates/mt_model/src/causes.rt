@@ -1,19 +1,16 @@
 //! The rows directly before a row: on its host, and by the message that it receives.
 
-ghost use Rattle.std.specs.Prelude.{◌≡◌, ◌<◌, length, position, IfSome};
+ghost use Rattle.std.specs.Prelude.{◌≡◌, ◌↔◌, ◌<◌, length, position, IfSome, IsTrue, Some};
+ghost use Rattle.mt_model.specs.Log.{sent_by};
 ghost use Rattle.mt_model.specs.Timing.{host_of, is_send_of, previous_row, send_of};
 
+use crate::spans::host_at;
 use crate::{Log, Row};
 
-fn host_at(log: &Log, e: usize) -> u32
-    requires { e < length log.now.rows }
-    ensures { result ≡ host_of log.now e }
-{
-    log.rows()[e].host.get()
-}
-
-fn sends(row: &Row, message: &[u8]) -> bool
-    ensures { result ≡ is_send_of message.now row.now }
+/// Whether a row sends the message.
+pub fn sends(row: &Row, message: &[u8]) -> bool
+    ensures is { result ≡ is_send_of message.now row.now }
+    ensures sent { IsTrue result ↔ (sent_by row.now.act ≡ Some message.now) }
 {
     match row.act.sent() {
         Some(name) => name.bytes() == message,

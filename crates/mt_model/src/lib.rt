@@ -18,6 +18,7 @@ mod validity;
 mod widening;
 
 pub use bound::{Bound, BoundList};
+pub use causes::sends;
 pub use formula::Formula;
 pub use ids::{EventId, HostId, NodeId, PropId};
 pub use laws::{
@@ -30,7 +31,7 @@ pub use limits::{
     MAX_NAME_LENGTH, MAX_ORDER, MAX_PROPOSITIONS, MAX_ROWS, MAX_SKEW, MAX_TIME, MAX_WRITTEN_SKEW,
     MIN_DELAY,
 };
-pub use log::{Act, Extra, ExtraList, Host, HostList, Log, Row, RowList};
+pub use log::{Act, Extra, ExtraList, Host, HostList, Log, Row, RowList, log_is_valid};
 pub use name::Name;
 pub use resync::{Resync, ResyncList};
 pub use spans::{Span, SpanList};

@@ -1,5 +1,5 @@
-ghost use Rattle.std.specs.Prelude.{◌≡◌, [], ◌↔◌, IsTrue, IsSome, IfSome, IfOk, IfErr, option_copied, Any, Some, All, AllPairs, map, pos, ◌+ℤ◌, ◌≤ℤ◌};
-ghost use Rattle.mt_model.specs.Log.{Logged, IsLog, log_with, plain_log, IsHost, IsRow, IsExtra, IsPlain, AreRows, SendSame, IsSent, name_in, sent_by, received_by, with_extra, widened, widened_host};
+ghost use Rattle.std.specs.Prelude.{◌≡◌, ◌↔◌, IsTrue, IsSome, IfSome, IfOk, IfErr, option_copied, Some, All, pos, ◌+ℤ◌, ◌≤ℤ◌};
+ghost use Rattle.mt_model.specs.Log.{Logged, IsLog, log_with, plain_log, IsPlain, name_in, sent_by, received_by, with_extra, widened};
 ghost use Rattle.mt_model.specs.State.{host_named};
 
 use crate::validity::{is_extra, is_valid};
@@ -367,4 +367,11 @@ impl Log {
     {
         self.extras.len() == 0 && are_written(self.hosts.as_slice(), self.resyncs.as_slice())
     }
+}
+
+/// A log's hosts, rows, resyncs and extra bounds are within their ranges and fit together.
+pub fn log_is_valid(log: &Log)
+    ensures valid { IsLog log.now }
+{
+    let _ = log.rows();
 }

@@ -20,7 +20,8 @@ pub struct Span {
 /// Spans, one per row, in the order of the rows.
 pub type SpanList = ListOf<Span>;
 
-fn host_at(log: &Log, e: usize) -> u32
+// The host of row `e`.
+pub fn host_at(log: &Log, e: usize) -> u32
     requires { e < length log.now.rows }
     ensures host { result ≡ host_of log.now e }
     ensures within { result < length log.now.hosts }

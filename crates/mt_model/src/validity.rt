@@ -3,6 +3,7 @@
 ghost use Rattle.std.specs.Prelude.{◌≡◌, ◌↔◌, ◌≤◌, length, IsTrue, IfSome, Any, Some, All, AllPairs};
 ghost use Rattle.mt_model.specs.Log.{IsLog, IsHost, HasDelays, IsRow, IsExtra, AreRows, SendSame, IsSent, log_with, sent_by, received_by};
 
+use crate::causes::sends;
 use crate::name::is_reserved_name;
 use crate::resync::are_resyncs;
 use crate::{
@@ -55,15 +56,6 @@ fn names_differ(hosts: &[Host]) -> bool
         }
     }
     true
-}
-
-fn sends(row: &Row, message: &[u8]) -> bool
-    ensures { IsTrue result ↔ (sent_by row.now.act ≡ Some message.now) }
-{
-    match row.act.sent() {
-        Some(name) => name.bytes() == message,
-        None => false,
-    }
 }
 
 fn is_sent(rows: &[Row], message: &[u8]) -> bool

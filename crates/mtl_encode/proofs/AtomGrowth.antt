@@ -15,11 +15,7 @@ use Rattle.axiom_rules.specs.Laws.{HasAtomsOnce}
 use Rattle.axiom_rules.specs.Literals.{yes}
 use Rattle.mtl_encode.specs.Growth.{with_atoms}
 use Rattle.mtl_encode.specs.Problems.{ReadsAs, read_literal}
-
-get-left : {X : Type 0} (xs ys : List X) (v : ℕ) (x : X) → slice_get xs v ≡ Some x → slice_get (xs ++ ys) v ≡ Some x
-get-left [] ys v x is = absurd (cc)
-get-left (y ∷ xs) ys zero x is = is
-get-left (y ∷ xs) ys (suc v) x is = get-left xs ys v x is
+use Rattle.mt_list.proofs.Lists.{got_kept}
 
 -- each atom has the variable that it had
 abbrev pub Keeps : List Atom → List Atom → Type 0
@@ -28,7 +24,7 @@ Keeps old new = (v : ℕ) (a : Atom) → slice_get old v ≡ Some a → slice_ge
 pub keeps-atom : (atoms : List Atom) (b : Atom) → Keeps atoms (with_atom atoms b)
 keeps-atom atoms b v a is = elim (cases_Bool (has_atom atoms b)) [
   | inl there ↦ rw there is
-  | inr absent ↦ rw absent (get-left atoms (b ∷ []) v a is)
+  | inr absent ↦ rw absent (got_kept atoms (b ∷ []) v a is)
 ]
 
 pub keeps-atoms : (ls : List Literal) (atoms : List Atom) → Keeps atoms (with_atoms atoms ls)
@@ -51,7 +47,8 @@ atoms-append [] ys atoms = refl
 atoms-append (x ∷ xs) ys atoms = atoms-append xs ys (with_atom atoms x.atom)
 
 -- with one literal more
-pub atoms-more : (atoms : List Atom) (clause : List Literal) (i : ℕ) (d : Literal) → i < length clause → with_atoms atoms (take (i + 1) clause) ≡ with_atom (with_atoms atoms (take i clause)) (get_or clause i d).atom
+pub atoms-more : (atoms : List Atom) (clause : List Literal) (i : ℕ) (d : Literal) → i < length clause
+    → with_atoms atoms (take (i + 1) clause) ≡ with_atom (with_atoms atoms (take i clause)) (get_or clause i d).atom
 atoms-more atoms clause i d low = ap (with_atoms atoms) (take_more clause i d low) ∙ atoms-append (take i clause) (get_or clause i d ∷ []) atoms
 
 -- what holds of the atoms and of those of the literals
@@ -88,7 +85,15 @@ read-kept old new keeps (l ∷ lits) (c ∷ clause) is =
 pub read-more : (old new : List Atom) (lits : List Lit) (clause : List Literal) (i : ℕ) (d : Literal) (l : Lit) → Keeps old new → i < length clause
     → ReadsAs old lits (take i clause) → read_literal new l ≡ Some (get_or clause i d) → ReadsAs new (lits ++ l ∷ []) (take (i + 1) clause)
 read-more old new lits clause i d l keeps low at more =
-    rw (take_more clause i d low, map-append (read_literal new) lits (l ∷ []), map-append (λ (x : Literal). Some x) (take i clause) (get_or clause i d ∷ []), read-kept old new keeps lits (take i clause) at, more) refl
+    rw (
+      take_more clause i d low,
+      map-append (read_literal new) lits (l ∷ []),
+      map-append (λ (x : Literal). Some x) (take i clause)
+          (get_or clause i d ∷ []),
+      read-kept old new keeps lits (take i clause) at,
+      more,
+    )
+    refl
 
 pub read-count : (atoms : List Atom) (lits : List Lit) (clause : List Literal) → ReadsAs atoms lits clause → length lits ≡ length clause
 read-count atoms [] [] is = refl
@@ -96,7 +101,8 @@ read-count atoms [] (c ∷ clause) is = absurd (cc)
 read-count atoms (l ∷ lits) [] is = absurd (cc)
 read-count atoms (l ∷ lits) (c ∷ clause) is = ap suc (read-count atoms lits clause (parts-read _ _ _ _ is).1)
 
-pub read-at : (atoms : List Atom) (lits : List Lit) (clause : List Literal) (i : ℕ) (d : Lit) (e : Literal) → ReadsAs atoms lits clause → i < length lits → read_literal atoms (slice_index_or lits i d) ≡ Some (slice_index_or clause i e)
+pub read-at : (atoms : List Atom) (lits : List Lit) (clause : List Literal) (i : ℕ) (d : Lit) (e : Literal) → ReadsAs atoms lits clause → i < length lits
+    → read_literal atoms (slice_index_or lits i d) ≡ Some (slice_index_or clause i e)
 read-at atoms [] clause i d e is low = absurd (omega arith)
 read-at atoms (l ∷ lits) [] i d e is low = absurd (cc)
 read-at atoms (l ∷ lits) (c ∷ clause) zero d e is low = (parts-read _ _ _ _ is).0
@@ -106,7 +112,8 @@ read-at atoms (l ∷ lits) (c ∷ clause) (suc i) d e is low = read-at atoms lit
 pub read-atom : (atoms : List Atom) (l : Lit) (c : Literal) → read_literal atoms l ≡ Some c → (slice_get atoms l.var ≡ Some c.atom) × (l.positive ≡ c.positive)
 read-atom atoms l c is = go (slice_get atoms l.var) refl is
   where
-    go : (o : Option Atom) → slice_get atoms l.var ≡ o → option_map (λ a. let x : Literal = record { atom = a; positive = l.positive } in x) o ≡ Some c → (slice_get atoms l.var ≡ Some c.atom) × (l.positive ≡ c.positive)
+    go : (o : Option Atom) → slice_get atoms l.var ≡ o → option_map (λ a. let x : Literal = record { atom = a; positive = l.positive } in x) o ≡ Some c
+        → (slice_get atoms l.var ≡ Some c.atom) × (l.positive ≡ c.positive)
     go None at is = absurd (cc)
     go (Some a) at is =
         let same : (let x : Literal = record { atom = a; positive = l.positive } in x) ≡ c = cc in

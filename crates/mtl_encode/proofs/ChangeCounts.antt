@@ -211,7 +211,9 @@ module _ (log : Logged) where
     tree-counted False = omega arith
     tree-counted (Prop host name) = go (host_named log host)
       where
-        go : (o : Option ℕ) → length (option_map_or (λ h. changes_of log h name) o []) + length (option_map_or (λ h. pulses_of log h name) o []) ≤ count_by (λ e. option_map_or (λ h. tells h name e) o false) (range_with_len 0 (length log.rows))
+        go : (o : Option ℕ)
+            → length (option_map_or (λ h. changes_of log h name) o []) + length (option_map_or (λ h. pulses_of log h name) o []) ≤ count_by
+            (λ e. option_map_or (λ h. tells h name e) o false) (range_with_len 0 (length log.rows))
         go None = omega arith
         go (Some h) =
             let counted = either-counted (change_at log h name) (is_pulse_at log h name) (never-both h name) (range_with_len 0 (length log.rows)) in

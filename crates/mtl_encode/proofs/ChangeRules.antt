@@ -65,7 +65,8 @@ few-rows s k rows = go (slice_get s.trees k)
 
 module _ (s : Sought) (k e p d : ℕ) where
   -- a rule that writes nothing has no clause
-  unwritten : (there : Bool) (w : Written) → ((parts : List Part) → w ≡ Ok parts → ⊥) → is_ok (let r : Result (List Literal) RuleFault = (if there then clause_of_written w else Err Range) in r) ≡ false
+  unwritten : (there : Bool) (w : Written) → ((parts : List Part) → w ≡ Ok parts → ⊥)
+      → is_ok (let r : Result (List Literal) RuleFault = (if there then clause_of_written w else Err Range) in r) ≡ false
   unwritten true (Ok parts) none = absurd (none parts refl)
   unwritten true (Err fault) none = refl
   unwritten false w none = refl

@@ -28,9 +28,11 @@ use Rattle.mtl_encode.specs.Problems.{Fits}
 use Rattle.mtl_encode.specs.Size.{IsSmall, size_by}
 
 -- there is room for all rules that are kept
-pub room-of : ((f g : Form) → (same_form f g ≡ true) ↔ (f ≡ g)) → (s told : Sought) (d : Differences) → s ≡ told → IsLog told.log → IsArena told.trees → IsConsistent told.log → IsTight told.log d → IsSmall told.log told.trees → HasRoom s (instances s (out_by d s))
+pub room-of : ((f g : Form) → (same_form f g ≡ true) ↔ (f ≡ g)) → (s told : Sought) (d : Differences) → s ≡ told → IsLog told.log → IsArena told.trees
+    → IsConsistent told.log → IsTight told.log d → IsSmall told.log told.trees → HasRoom s (instances s (out_by d s))
 room-of same s told d is valid arena consistent tight small =
-    let size = small (size_by (extremes_of d) (length told.log.rows) told.trees) (inr (record { consistent = consistent; extremes = extremes_of d; are = tight-extremes told.log d tight; size = refl })) in
+    let size =
+    small (size_by (extremes_of d) (length told.log.rows) told.trees) (inr (record { consistent = consistent; extremes = extremes_of d; are = tight-extremes told.log d tight; size = refl })) in
     rw is (room-for-all (extremes_of d) told same arena valid.some_rows valid.few_rows size)
 
 pub room-first : (s : Sought) (none rules : List Rule) → none ≡ [] → HasRoom s rules → HasRoom s (none ++ rules)
@@ -49,7 +51,8 @@ pub lists-of : (s t : Sought) (left : Sought → Rule → Bool) (rules : List Ru
 lists-of s t left rules is all = rw (all, ← is) (instances-listed s (left s))
 
 -- the clauses with the bounds and their edges fit what is sought
-pub fits-of : (s t : Sought) (out : Rule → Bool) (held : Clauses) (bounds : List Bound) (edges : List Edge) (nodes : ℕ) → s ≡ t → AreClauses s held → held.rules ≡ instances s out → HasRoom s (instances s out)
+pub fits-of : (s t : Sought) (out : Rule → Bool) (held : Clauses) (bounds : List Bound) (edges : List Edge) (nodes : ℕ) → s ≡ t → AreClauses s held
+    → held.rules ≡ instances s out → HasRoom s (instances s out)
     → IsLog t.log → bounds ≡ bounds_of t.log → AreEdges t.log bounds edges → All (IsEdge (length t.log.rows + 1)) edges → nodes ≡ length t.log.rows + 1
     → Fits t (record { db = held.db; rules = held.rules; atoms = held.atoms; bounds = bounds; edges = edges; nodes = nodes })
 fits-of s t out held bounds edges nodes is before all room valid listed are within count =

@@ -9,9 +9,10 @@ use Rattle.axiom_rules.specs.declared.literal.Atom.TheVariants.{First, Node, Ord
 use Rattle.axiom_rules.specs.Literals.{no, same_atom, yes}
 use Rattle.axiom_rules.specs.Occurs.{OccursInRules}
 use Rattle.axiom_rules.specs.Sought.{sought_of}
-use Rattle.axiom_rules.proofs.BoolLemmas.{apart, not_true, was_false}
+use Rattle.axiom_rules.proofs.BoolLemmas.{apart}
 use Rattle.mtl_encode.specs.Exact.{SatisfiesRules, clause_is_true}
 use Rattle.mtl_encode.proofs.ClauseUses.{last_of_1, last_of_2}
+use Rattle.std.proofs.lemmas.Bool.{not-true, not_from_true}
 
 -- Clauses where event 0 is a first one and no other atom holds.
 
@@ -51,8 +52,10 @@ none-satisfy : (v : Atom → Bool) → SatisfiesRules (sought_of (noted (note 10
 none-satisfy v satisfied =
     let holds = last_of_1 (v (Node 0 0)) (satisfied (record { number = 3; args = 0 ∷ 0 ∷ 0 ∷ 0 ∷ [] }) (yes (Node 0 0) ∷ []) refl) in
     let first = last_of_1 (v (First 0)) (satisfied (record { number = 11; args = 0 ∷ 0 ∷ 0 ∷ 0 ∷ [] }) (yes (First 0) ∷ []) refl) in
-    let fails = last_of_2 (not (v (First 0))) (not (v (Node 0 0))) (satisfied (record { number = 24; args = 0 ∷ 0 ∷ 0 ∷ 0 ∷ [] }) (no (First 0) ∷ no (Node 0 0) ∷ []) refl) (not_true (v (First 0)) first) in
-    apart (v (Node 0 0)) holds (was_false (v (Node 0 0)) fails)
+    let fails =
+    last_of_2 (not (v (First 0))) (not (v (Node 0 0)))
+    (satisfied (record { number = 24; args = 0 ∷ 0 ∷ 0 ∷ 0 ∷ [] }) (no (First 0) ∷ no (Node 0 0) ∷ []) refl) (not_from_true (v (First 0)) first) in
+    apart (v (Node 0 0)) holds (not-true (v (Node 0 0)) fails)
 
 -- A proposition that is pulsed, and a note.
 
@@ -74,4 +77,5 @@ pulse-holds v satisfied = last_of_1 (v (Node 0 0)) (satisfied (record { number =
 
 -- and where it is true at the note, they are at one instant
 note-holds : (v : Atom → Bool) → SatisfiesRules (sought_of pulsed (Prop (codes "a") (codes "p")) true) v → v (Node 0 1) ≡ true → v (Same 0 1) ≡ true
-note-holds v satisfied holds = last_of_2 (not (v (Node 0 1))) (v (Same 0 1)) (satisfied (record { number = 1; args = 0 ∷ 1 ∷ 0 ∷ 0 ∷ [] }) (no (Node 0 1) ∷ yes (Same 0 1) ∷ []) refl) (not_true (v (Node 0 1)) holds)
+note-holds v satisfied holds =
+    last_of_2 (not (v (Node 0 1))) (v (Same 0 1)) (satisfied (record { number = 1; args = 0 ∷ 1 ∷ 0 ∷ 0 ∷ [] }) (no (Node 0 1) ∷ yes (Same 0 1) ∷ []) refl) (not_from_true (v (Node 0 1)) holds)

@@ -99,7 +99,8 @@ module _ (x : Extremes) (s : Sought) (same : (f g : Form) → (same_form f g ≡
       of-two : (k e : ℕ) → change_count s k ≤ rows → mass (with_two s out 2 (nodes ∷ rows ∷ rows ∷ 1 ∷ []) k e) ≤ change_count s k * (1 * (pulse_count s k + 5))
       of-two k e less =
           rw (first-thirds s out 2 (nodes ∷ rows ∷ rows ∷ 1 ∷ []) (change_count s k) k e less (λ p d past low. no-change s k e p d past))
-          (flat-within (most_in s) (with_three s out 2 (nodes ∷ rows ∷ rows ∷ 1 ∷ []) k e) (1 * (pulse_count s k + 5)) 0 (change_count s k) (three-within s out 2 (nodes ∷ rows ∷ rows ∷ 1 ∷ []) (pulse_count s k + 5) k (λ b c d. omega arith) e))
+          (flat-within (most_in s) (with_three s out 2 (nodes ∷ rows ∷ rows ∷ 1 ∷ []) k e) (1 * (pulse_count s k + 5)) 0 (change_count s k)
+          (three-within s out 2 (nodes ∷ rows ∷ rows ∷ 1 ∷ []) (pulse_count s k + 5) k (λ b c d. omega arith) e))
 
       of-one : (k : ℕ) → k < nodes → mass (with_one s out 2 (nodes ∷ rows ∷ rows ∷ 1 ∷ []) (0 + k)) ≤ rows * 261 * rows_of_tree s.log s.trees (tree_at s.trees k)
       of-one k low =
@@ -107,7 +108,8 @@ module _ (x : Extremes) (s : Sought) (same : (f g : Form) → (same_form f g ≡
           let few = tree-few s.log s.trees (tree_at s.trees k) in
           let changes = changes-of k low in
           let pulses = pulses-of k low in
-          let all = flat-within (most_in s) (with_two s out 2 (nodes ∷ rows ∷ rows ∷ 1 ∷ []) k) (change_count s k * (1 * (pulse_count s k + 5))) 0 rows (λ i. of-two k i (omega (arith, few, changes))) in
+          let all =
+          flat-within (most_in s) (with_two s out 2 (nodes ∷ rows ∷ rows ∷ 1 ∷ []) k) (change_count s k * (1 * (pulse_count s k + 5))) 0 rows (λ i. of-two k i (omega (arith, few, changes))) in
           let wide : 1 * (pulse_count s k + 5) ≡ pulse_count s k + 5 = omega arith in
           let product = mul-le-mul_left rows (product-few (change_count s k) (pulse_count s k) (omega (arith, few, changes, pulses, few_rows))) in
           let apart = mul_assoc rows 261 (change_count s k + pulse_count s k) in
@@ -123,7 +125,8 @@ module _ (x : Extremes) (s : Sought) (same : (f g : Form) → (same_form f g ≡
       of-two : (k e : ℕ) → pulse_count s k ≤ rows → mass (with_two s out 27 (nodes ∷ rows ∷ rows ∷ 1 ∷ []) k e) ≤ pulse_count s k * (1 * 5)
       of-two k e less =
           rw (first-thirds s out 27 (nodes ∷ rows ∷ rows ∷ 1 ∷ []) (pulse_count s k) k e less (λ p d past low. no-pulse s k e p d past))
-          (flat-within (most_in s) (with_three s out 27 (nodes ∷ rows ∷ rows ∷ 1 ∷ []) k e) (1 * 5) 0 (pulse_count s k) (three-within s out 27 (nodes ∷ rows ∷ rows ∷ 1 ∷ []) 5 k (λ b c d. omega arith) e))
+          (flat-within (most_in s) (with_three s out 27 (nodes ∷ rows ∷ rows ∷ 1 ∷ []) k e) (1 * 5) 0 (pulse_count s k)
+          (three-within s out 27 (nodes ∷ rows ∷ rows ∷ 1 ∷ []) 5 k (λ b c d. omega arith) e))
 
       of-one : (k : ℕ) → k < nodes → mass (with_one s out 27 (nodes ∷ rows ∷ rows ∷ 1 ∷ []) (0 + k)) ≤ rows * 5 * pulses_of_tree s.log s.trees (tree_at s.trees k)
       of-one k low =
@@ -184,11 +187,73 @@ module _ (x : Extremes) (s : Sought) (same : (f g : Form) → (same_form f g ≡
 
   -- .. of those of untils and sinces too, ..
   later-few : AllByRecursion IsFew (range_with_len 12 17)
-  later-few = (of-two 12 refl (λ a b c d. omega arith), (of-two 13 refl (λ a b c d. omega arith), (of-two 14 refl (λ a b c d. omega arith), (of-two 15 refl (λ a b c d. omega arith), (of-five 16 refl (λ a b c d. omega arith), (of-witnesses, (of-two 18 refl (λ a b c d. omega arith), (of-span 19 refl (λ a b c d. omega arith) (λ k i j m free. within-needless x s k i j free m), (of-gaps, (of-span 21 refl (λ a b c d. omega arith) (λ k i j m free. past-needless x s k i j free m), (of-two 22 refl (λ a b c d. omega arith), (of-two 23 refl (λ a b c d. omega arith), last-few))))))))))))
+  later-few = (
+    of-two 12 refl
+        (λ a b c d. omega arith),
+    (
+      of-two 13 refl
+          (λ a b c d. omega arith),
+      (
+        of-two 14 refl
+            (λ a b c d. omega arith),
+        (
+          of-two 15 refl
+              (λ a b c d. omega arith),
+          (
+            of-five 16 refl
+                (λ a b c d. omega
+                arith),
+            (
+              of-witnesses,
+              (
+                of-two 18 refl
+                    (λ a b c d. omega arith),
+                (of-span 19 refl (λ a b c d. omega arith) (λ k i j m free. within-needless x s k i j free m), (of-gaps, (of-span 21 refl (λ a b c d. omega arith) (λ k i j m free. past-needless x s k i j free m), (of-two 22 refl (λ a b c d. omega arith), (of-two 23 refl (λ a b c d. omega arith), last-few))))),
+              ),
+            ),
+          ),
+        ),
+      ),
+    ),
+  )
 
   -- .. and of all
   each-few : AllByRecursion IsFew (range_with_len 0 29)
-  each-few = (omega arith, (of-start, (of-change, (of-node-event 3 (λ a b c d. omega arith), (of-node-event 4 (λ a b c d. omega arith), (of-node-event 5 (λ a b c d. omega arith), (of-node-event 6 (λ a b c d. omega arith), (of-node-event 7 (λ a b c d. omega arith), (of-node-event 8 (λ a b c d. omega arith), (of-events 9 (λ a b c d. omega arith), (of-event 10 (λ a b c d. omega arith), (of-nothing 11 (λ a b c d. omega arith), later-few))))))))))))
+  each-few = (
+    omega
+        arith,
+    (
+      of-start,
+      (
+        of-change,
+        (
+          of-node-event 3
+              (λ a b c d. omega arith),
+          (
+            of-node-event 4
+                (λ a b c d. omega arith),
+            (
+              of-node-event 5
+                  (λ a b c d. omega arith),
+              (
+                of-node-event 6
+                    (λ a b c d. omega arith),
+                (
+                  of-node-event 7
+                      (λ a b c d. omega arith),
+                  (
+                    of-node-event 8
+                        (λ a b c d. omega arith),
+                    (of-events 9 (λ a b c d. omega arith), (of-event 10 (λ a b c d. omega arith), (of-nothing 11 (λ a b c d. omega arith), later-few))),
+                  ),
+                ),
+              ),
+            ),
+          ),
+        ),
+      ),
+    ),
+  )
 
   abbrev total : List ℕ → ℕ
   total [] = 0

@@ -91,7 +91,8 @@ module _ (s : Sought) (out : Rule → Bool) (number : ℕ) (counts : List ℕ) w
       (λ a r in_. let (b, c, d, is, has) = one-is a r in_ in sym (ap (arg_of 0) is)) 0 (slice_index counts 0)
 
   -- a rule that has a clause stands among them where its arguments are below the counts
-  none-has : (a b c d : ℕ) (clause : List Literal) → clause_of s (rule_at number a b c d) ≡ Ok clause → out (rule_at number a b c d) ≡ false → a < slice_index counts 0 → b < slice_index counts 1 → c < slice_index counts 2 → d < slice_index counts 3
+  none-has : (a b c d : ℕ) (clause : List Literal) → clause_of s (rule_at number a b c d) ≡ Ok clause → out (rule_at number a b c d) ≡ false
+      → a < slice_index counts 0 → b < slice_index counts 1 → c < slice_index counts 2 → d < slice_index counts 3
       → Among (with_none s out number counts) (rule_at number a b c d)
   none-has a b c d clause is stays low-a low-b low-c low-d =
       let rule = rule_at number a b c d in
@@ -123,7 +124,8 @@ module _ (s : Sought) where
   below APulse n other is = absurd (cc)
   below Unused n other is = grind (arith, nat_tests)
 
-  all-there : (p q r t : Argument) (write : Sought → List ℕ → Written) → is_looked_for p ≡ false → is_looked_for q ≡ false → is_looked_for r ≡ false → is_looked_for t ≡ false → AreBelow (record { arguments = p ∷ q ∷ r ∷ t ∷ []; writes = write })
+  all-there : (p q r t : Argument) (write : Sought → List ℕ → Written) → is_looked_for p ≡ false → is_looked_for q ≡ false → is_looked_for r ≡ false
+      → is_looked_for t ≡ false → AreBelow (record { arguments = p ∷ q ∷ r ∷ t ∷ []; writes = write })
   all-there p q r t write hp hq hr ht args parts is written =
       let (a, b, c, d, args-are, in-a, in-b, in-c, in-d) = four s p q r t args is in
       (a, b, c, d, args-are, below p a hp in-a, below q b hq in-b, below r c hr in-c, below t d ht in-d)
@@ -178,7 +180,9 @@ module _ (s : Sought) (out : Rule → Bool) where
       let w = written-by s rule c is in
       let (a, b, p, d, args-are, low-a, low-b, low-p, low-d) = rows-below s rule.number w.row w.at rule.args w.parts w.there w.written in
       let same : rule_at rule.number a b p d ≡ rule = ap (λ args. let r : Rule = record { number = rule.number; args = args } in r) (sym args-are) in
-      let has = none-has s out rule.number (map (count_of s) w.row.arguments) a b p d c (subst (λ (r : Rule). clause_of s r ≡ Ok c) (sym same) is) (subst (λ (r : Rule). out r ≡ false) (sym same) stays) low-a low-b low-p low-d in
+      let has =
+      none-has s out rule.number (map (count_of s) w.row.arguments) a b p d c (subst (λ (r : Rule). clause_of s r ≡ Ok c) (sym same) is)
+      (subst (λ (r : Rule). out r ≡ false) (sym same) stays) low-a low-b low-p low-d in
       among-flat (of_number s out) 0 (MAX_RULE + 1) rule.number rule (omega arith) (omega (arith, number-low rule.number w.row w.at))
       (subst (λ (o : Option Row). Among (option_map_or (λ row. with_none s out rule.number (map (count_of s) row.arguments)) o []) rule) (sym w.at)
       (subst (λ (r : Rule). Among (with_none s out rule.number (map (count_of s) w.row.arguments)) r) same has))

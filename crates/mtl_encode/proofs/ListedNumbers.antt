@@ -18,7 +18,8 @@ module _ {X : Type 0} (f : ℕ → List X) where
 
   -- with the list of one number more
   pub flat-more : (xs : List ℕ) (i d : ℕ) → i < length xs → flat_map f (take (i + 1) xs) ≡ flat_map f (take i xs) ++ f (slice_index_or xs i d)
-  flat-more xs i d low = ap (flat_map f) (take_more xs i d low) ∙ flat_map-append f (take i xs) (slice_index_or xs i d ∷ []) ∙ ap (λ rest. flat_map f (take i xs) ++ rest) (append-nil (f (slice_index_or xs i d)))
+  flat-more xs i d low =
+      ap (flat_map f) (take_more xs i d low) ∙ flat_map-append f (take i xs) (slice_index_or xs i d ∷ []) ∙ ap (λ rest. flat_map f (take i xs) ++ rest) (append-nil (f (slice_index_or xs i d)))
 
   -- the lists of the first numbers, and that of the next one, sum up to no more than those of all
   pub part-taken : (w : X → ℕ) (xs : List ℕ) (i d : ℕ) → i < length xs → sum_by w (flat_map f (take i xs)) + sum_by w (f (slice_index_or xs i d)) ≤ sum_by w (flat_map f xs)

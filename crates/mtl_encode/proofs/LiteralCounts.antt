@@ -21,7 +21,8 @@ module _ (s : Sought) (out : Rule → Bool) where
     -- where none of those with this first argument has more than m
     module _ (a : ℕ) (few : (b c d : ℕ) → most_in s (rule_at number a b c d) ≤ m) where
       pub three-within : (b c : ℕ) → sum_by (most_in s) (with_three s out number counts a b c) ≤ slice_index counts 3 * m
-      three-within b c = flat-within (most_in s) (λ d. kept s out (rule_at number a b c d)) m 0 (slice_index counts 3) (λ d. let low = kept-few (rule_at number a b c d) in omega (arith, low, few b c d))
+      three-within b c =
+          flat-within (most_in s) (λ d. kept s out (rule_at number a b c d)) m 0 (slice_index counts 3) (λ d. let low = kept-few (rule_at number a b c d) in omega (arith, low, few b c d))
 
       pub two-within : (b : ℕ) → sum_by (most_in s) (with_two s out number counts a b) ≤ slice_index counts 2 * (slice_index counts 3 * m)
       two-within b = flat-within (most_in s) (with_three s out number counts a b) (slice_index counts 3 * m) 0 (slice_index counts 2) (three-within b)
@@ -30,5 +31,7 @@ module _ (s : Sought) (out : Rule → Bool) where
       one-within = flat-within (most_in s) (with_two s out number counts a) (slice_index counts 2 * (slice_index counts 3 * m)) 0 (slice_index counts 1) two-within
 
     -- or none at all
-    pub none-within : ((a b c d : ℕ) → most_in s (rule_at number a b c d) ≤ m) → sum_by (most_in s) (with_none s out number counts) ≤ slice_index counts 0 * (slice_index counts 1 * (slice_index counts 2 * (slice_index counts 3 * m)))
-    none-within few = flat-within (most_in s) (with_one s out number counts) (slice_index counts 1 * (slice_index counts 2 * (slice_index counts 3 * m))) 0 (slice_index counts 0) (λ a. one-within a (few a))
+    pub none-within : ((a b c d : ℕ) → most_in s (rule_at number a b c d) ≤ m)
+        → sum_by (most_in s) (with_none s out number counts) ≤ slice_index counts 0 * (slice_index counts 1 * (slice_index counts 2 * (slice_index counts 3 * m)))
+    none-within few =
+        flat-within (most_in s) (with_one s out number counts) (slice_index counts 1 * (slice_index counts 2 * (slice_index counts 3 * m))) 0 (slice_index counts 0) (λ a. one-within a (few a))

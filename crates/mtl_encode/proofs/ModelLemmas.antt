@@ -59,12 +59,14 @@ value-of-var : (atoms : List Atom) (values : List Bool) (v : ℕ) (a : Atom) →
 value-of-var atoms values v a once is = ap (value_at values) (once.once (position_or_len (same_atom a) atoms) v a (position-there atoms v a is) is)
 
 -- a clause is true as its literals of variables are
-literal-same : (atoms : List Atom) (values : List Bool) (l : Lit) (c : Literal) → AreOnce atoms → read_literal atoms l ≡ Some c → value_of (value_at values) l ≡ literal_is_true (value_in atoms values) c
+literal-same : (atoms : List Atom) (values : List Bool) (l : Lit) (c : Literal) → AreOnce atoms → read_literal atoms l ≡ Some c
+    → value_of (value_at values) l ≡ literal_is_true (value_in atoms values) c
 literal-same atoms values l c once is =
     let both = read-atom atoms l c is in
     rw (both.1, value-of-var atoms values l.var c.atom once both.0) refl
 
-clause-same : (atoms : List Atom) (values : List Bool) → AreOnce atoms → (lits : List Lit) (clause : List Literal) → ReadsAs atoms lits clause → list_any (value_of (value_at values)) lits ≡ clause_is_true (value_in atoms values) clause
+clause-same : (atoms : List Atom) (values : List Bool) → AreOnce atoms → (lits : List Lit) (clause : List Literal) → ReadsAs atoms lits clause
+    → list_any (value_of (value_at values)) lits ≡ clause_is_true (value_in atoms values) clause
 clause-same atoms values once [] [] is = refl
 clause-same atoms values once [] (c ∷ clause) is = absurd (cc)
 clause-same atoms values once (l ∷ lits) [] is = absurd (cc)
@@ -82,7 +84,8 @@ time-of-node (x ∷ xs) e low =
 same-difference : (a b x : ℤ) → (a -ℤ x) -ℤ (b -ℤ x) ≡ a -ℤ b
 same-difference a b x = omega (arith, ints)
 
-module _ (s : Sought) (out : Rule → Bool) (p : Problem) (values : List Bool) (numbers : List ℤ) (fits : Fits s p) (lists : ListsRules s out p.rules) (once : AreOnce p.atoms) (model : IsModel p values numbers) where
+module _ (s : Sought) (out : Rule → Bool) (p : Problem) (values : List Bool) (numbers : List ℤ) (fits : Fits s p) (lists : ListsRules s out p.rules)
+    (once : AreOnce p.atoms) (model : IsModel p values numbers) where
   -- the rule of a clause, with what its place holds
   record Held (rule : Rule) (c : List Literal) : Type 0 where
     place : ℕ

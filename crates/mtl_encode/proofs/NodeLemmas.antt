@@ -47,7 +47,8 @@ module _ (same : (f g : Form) → (same_form f g ≡ true) ↔ (f ≡ g)) (s : S
     (children_first : (k : ℕ) → k < length s.trees → All (StandsBefore s.trees k) (children_of (tree_at s.trees k))) where
   -- what a node is, by its tree
   pub shape-is : (k : ℕ) (g : Form) → k < length s.trees → tree_at s.trees k ≡ g → shape_at s k ≡ shape_of s.log s.trees g
-  shape-is k g low is = ap (option_and_then (shape_of s.log s.trees)) (slice_get_read s.trees (length s.trees) k (tree_at s.trees k) refl low (index_or-there s.trees k True low)) ∙ ap (shape_of s.log s.trees) is
+  shape-is k g low is =
+      ap (option_and_then (shape_of s.log s.trees)) (slice_get_read s.trees (length s.trees) k (tree_at s.trees k) refl low (index_or-there s.trees k True low)) ∙ ap (shape_of s.log s.trees) is
 
   -- node a is there, and its tree is g
   pub record IsThere (a : ℕ) (g : Form) : Type 0 where
@@ -55,7 +56,8 @@ module _ (same : (f g : Form) → (same_form f g ≡ true) ↔ (f ≡ g)) (s : S
     pub tree : tree_at s.trees a ≡ g
 
   -- a child by its place
-  pub child-there : (k place : ℕ) (g h : Form) → k < length s.trees → tree_at s.trees k ≡ g → place < length (children_of g) → slice_index_or (children_of g) place h ≡ h → IsThere (number_of s.trees h) h
+  pub child-there : (k place : ℕ) (g h : Form) → k < length s.trees → tree_at s.trees k ≡ g → place < length (children_of g)
+      → slice_index_or (children_of g) place h ≡ h → IsThere (number_of s.trees h) h
   child-there k place g h low is within at =
       let (j, less, there) = children_first k low place h (rw is within) in
       let tree : tree_at s.trees j ≡ h = there ∙ (rw is at) in

@@ -39,10 +39,12 @@ use Rattle.mtl_encode.proofs.ReachUses.{reach-allowed}
 to_themselves : {X : Type 0} (F : Frame X) → Carries F F (λ x. x)
 to_themselves F = record { into = λ x a. a; onto = λ y b. (y, b, refl); not_after = λ x y a b. refl; instant = λ x a. refl }
 
-module _ (s : Sought) (x : Extremes) (v : Atom → Bool) (satisfied : SatisfiesKept s (is_needless x s) v) (t : List ℤ) (agrees : (e f : ℕ) (c : ℤ) → v (Order e f c) ≡ int_le (time_of t e -ℤ time_of t f) c)
+module _ (s : Sought) (x : Extremes) (v : Atom → Bool) (satisfied : SatisfiesKept s (is_needless x s) v) (t : List ℤ)
+    (agrees : (e f : ℕ) (c : ℤ) → v (Order e f c) ≡ int_le (time_of t e -ℤ time_of t f) c)
     (bounded : BoundsTimes x t (length s.log.rows)) (count : length t ≡ length s.log.rows)
     (same : (f g : Form) → (same_form f g ≡ true) ↔ (f ≡ g)) (cores : (k : ℕ) → k < length s.trees → IsCore (tree_at s.trees k))
-    (once : (j k : ℕ) → j < length s.trees → k < length s.trees → tree_at s.trees j ≡ tree_at s.trees k → j ≡ k) (children_first : (k : ℕ) → k < length s.trees → All (StandsBefore s.trees k) (children_of (tree_at s.trees k))) where
+    (once : (j k : ℕ) → j < length s.trees → k < length s.trees → tree_at s.trees j ≡ tree_at s.trees k → j ≡ k)
+    (children_first : (k : ℕ) → k < length s.trees → All (StandsBefore s.trees k) (children_of (tree_at s.trees k))) where
   abbrev told : Form → ℕ → Bool
   told f e = truth_of s.log t e f
 
@@ -54,7 +56,8 @@ module _ (s : Sought) (x : Extremes) (v : Atom → Bool) (satisfied : SatisfiesK
   is_core : (k : ℕ) (f : Form) → k < length s.trees → tree_at s.trees k ≡ f → IsCore f
   is_core k f low tree = subst IsCore tree (cores k low)
 
-  child : (k place : ℕ) (g h : Form) → k < length s.trees → tree_at s.trees k ≡ g → place < length (children_of g) → slice_index_or (children_of g) place h ≡ h → IsThere same s once children_first (number_of s.trees h) h
+  child : (k place : ℕ) (g h : Form) → k < length s.trees → tree_at s.trees k ≡ g → place < length (children_of g) → slice_index_or (children_of g) place h ≡ h
+      → IsThere same s once children_first (number_of s.trees h) h
   child k place g h low tree within at = child-there same s once children_first k place g h low tree within at
 
   is-shape : (k : ℕ) (g : Form) → k < length s.trees → tree_at s.trees k ≡ g → shape_at s k ≡ shape_of s.log s.trees g
@@ -69,13 +72,15 @@ module _ (s : Sought) (x : Extremes) (v : Atom → Bool) (satisfied : SatisfiesK
       go (Some h) among = of-each (IsPulse s.log h name) (pulses_of s.log h name) u (pulses-are s.log h name) among
 
   state-named : (instant : ℤ) (host name : List ℕ) (h : Option ℕ)
-      → list_any (λ u. int_eq (time_of t u) instant) (option_map_or (λ h. pulses_of s.log h name) h []) || option_map_or (λ (c : Change). c.sets) (last_of (is_by t instant) (option_map_or (λ h. changes_of s.log h name) h [])) false
+      → list_any (λ u. int_eq (time_of t u) instant) (option_map_or (λ h. pulses_of s.log h name) h []) || option_map_or (λ (c : Change). c.sets)
+      (last_of (is_by t instant) (option_map_or (λ h. changes_of s.log h name) h [])) false
       ≡ option_map_or (λ h. state s.log t instant h name) h false
   state-named instant host name None = refl
   state-named instant host name (Some h) = refl
 
   exact-prop : (host name : List ℕ) → IsExact (Prop host name)
-  exact-prop host name k e low tree in_ = proposition-exact s x v satisfied t agrees k e (rows_named s.log host name) low in_ (ap proposition_in (is-shape k (Prop host name) low tree)) (pulses-named host name)
+  exact-prop host name k e low tree in_ =
+      proposition-exact s x v satisfied t agrees k e (rows_named s.log host name) low in_ (ap proposition_in (is-shape k (Prop host name) low tree)) (pulses-named host name)
       ∙ state-named (time_of t e) host name (host_named s.log host)
 
   exact-not : (f : Form) → IsExact f → IsExact (Not f)
@@ -102,9 +107,11 @@ module _ (s : Sought) (x : Extremes) (v : Atom → Bool) (satisfied : SatisfiesK
       let left : ℕ → Bool = λ x. v (Node l x) in
       let right : ℕ → Bool = λ x. v (Node r x) in
       let point = at_row s.log t s.trees direction e (omega (arith, in_, count)) in
-      reach-exact O near (is_dead x (record { direction = direction; interval = I; left = l; right = r })) (is_constant (shape_at s l)) left right (λ x. v (Node k x)) (λ i j. v (Wit k i j)) (λ i j. v (Span k i j)) (λ i m. v (Gap k i m))
+      reach-exact O near (is_dead x (record { direction = direction; interval = I; left = l; right = r })) (is_constant (shape_at s l)) left right
+      (λ x. v (Node k x)) (λ i j. v (Wit k i j)) (λ i j. v (Span k i j)) (λ i m. v (Gap k i m))
       (reach-allowed s x v satisfied t agrees bounded k low direction I l r node count a.low) (near-ahead s.log t s.trees direction I) e point
-      ∙ reaches_same O O (λ x. x) (to_themselves O) near near (λ x y c d. refl) left (told f) (λ x c. exact_f l x a.low a.tree (in-log direction x c)) right (told g) (λ x c. exact_g r x b.low b.tree (in-log direction x c)) e point
+      ∙ reaches_same O O (λ x. x) (to_themselves O) near near (λ x y c d. refl) left (told f) (λ x c. exact_f l x a.low a.tree (in-log direction x c)) right
+      (told g) (λ x c. exact_g r x b.low b.tree (in-log direction x c)) e point
     where
       in-log : (direction : Direction) (x : ℕ) → Among (met direction (rows_in t)).points x → x < length s.log.rows
       in-log direction x among = let less = row_at s.log t s.trees direction x among in omega (arith, less, count)
@@ -118,9 +125,11 @@ module _ (s : Sought) (x : Extremes) (v : Atom → Bool) (satisfied : SatisfiesK
   node-exact (Or f g) k e low tree in_ = absurd (cc (is_core k (Or f g) low tree))
   node-exact (Implies f g) k e low tree in_ = absurd (cc (is_core k (Implies f g) low tree))
   node-exact (Until I f g) k e low tree in_ =
-      exact-reach Ahead I f g (node-exact f) (node-exact g) k e low in_ (ap reach_in (is-shape k (Until I f g) low tree)) (child k 0 (Until I f g) f low tree (omega arith) refl) (child k 1 (Until I f g) g low tree (omega arith) refl)
+      exact-reach Ahead I f g (node-exact f) (node-exact g) k e low in_ (ap reach_in (is-shape k (Until I f g) low tree))
+      (child k 0 (Until I f g) f low tree (omega arith) refl) (child k 1 (Until I f g) g low tree (omega arith) refl)
   node-exact (Since I f g) k e low tree in_ =
-      exact-reach Behind I f g (node-exact f) (node-exact g) k e low in_ (ap reach_in (is-shape k (Since I f g) low tree)) (child k 0 (Since I f g) f low tree (omega arith) refl) (child k 1 (Since I f g) g low tree (omega arith) refl)
+      exact-reach Behind I f g (node-exact f) (node-exact g) k e low in_ (ap reach_in (is-shape k (Since I f g) low tree))
+      (child k 0 (Since I f g) f low tree (omega arith) refl) (child k 1 (Since I f g) g low tree (omega arith) refl)
   node-exact (Eventually I f) k e low tree in_ = absurd (cc (is_core k (Eventually I f) low tree))
   node-exact (Always I f) k e low tree in_ = absurd (cc (is_core k (Always I f) low tree))
   node-exact (Once I f) k e low tree in_ = absurd (cc (is_core k (Once I f) low tree))

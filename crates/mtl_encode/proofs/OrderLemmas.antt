@@ -38,7 +38,9 @@ pub order-of : (n : ℕ) (order : List ℕ) → IsPermutation (range_with_len 0 
 order-of n order is = record {
   count = length_permutation (range_with_len 0 n) order is ∙ length-range_with_len 0 n;
   below = All-permutation (λ v. v < n) (range_with_len 0 n) order is (range-below n);
-  apart = AllPairs-from_IsDistinct Decides-eqb order (IsDistinct-IsPermutation (λ x y. x == y) eq-flips (range_with_len 0 n) order is (IsDistinct-from_AllPairs Decides-eqb (range_with_len 0 n) (range-apart n)));
+  apart =
+      AllPairs-from_IsDistinct Decides-eqb order
+      (IsDistinct-IsPermutation (λ x y. x == y) eq-flips (range_with_len 0 n) order is (IsDistinct-from_AllPairs Decides-eqb (range_with_len 0 n) (range-apart n)));
   every = λ v low. Contains-permutation (range_with_len 0 n) order v is (v, omega (arith, low, length-range_with_len 0 n), range-at n v v low);
 }
 

@@ -53,7 +53,9 @@ module _ (s : Sought) where
   first-few some number counts are = go (row_of number) refl are
     where
       few : (number : ℕ) (row : Row) → row_of number ≡ Some row → slice_index (map (count_of s) row.arguments) 1 ≤ length s.log.rows
-      few = shape-case (λ row. slice_index (map (count_of s) row.arguments) 1 ≤ length s.log.rows) (λ w. some) (λ w. some) (λ w. omega arith) (λ w. omega arith) (λ w. omega arith) (λ w. omega arith) (omega arith) (omega arith)
+      few =
+          shape-case (λ row. slice_index (map (count_of s) row.arguments) 1 ≤ length s.log.rows) (λ w. some) (λ w. some) (λ w. omega arith) (λ w. omega arith)
+          (λ w. omega arith) (λ w. omega arith) (omega arith) (omega arith)
 
       go : (o : Option Row) → row_of number ≡ o → Some counts ≡ option_map (λ row. map (count_of s) row.arguments) o → slice_index counts 1 ≤ length s.log.rows
       go None at is = absurd (cc)
@@ -82,7 +84,8 @@ module _ (s : Sought) where
           flat-nothing (λ d. kept s out (rule_at number a b c d)) 0 (slice_index counts 3) (λ d low-d high-d. clauseless s out (rule_at number a b c d) (unpaired a b c d fails other number of)))
 
   -- and so they are where they are listed
-  pub listed-enough : (out : Rule → Bool) (number : ℕ) (counts : List ℕ) (a : ℕ) (pulses : List ℕ) → is_of_pulses number && not (is_pulse_row s.log a) ≡ true → AreCounts s number counts → pulses ≡ pulse_rows s
+  pub listed-enough : (out : Rule → Bool) (number : ℕ) (counts : List ℕ) (a : ℕ) (pulses : List ℕ) → is_of_pulses number && not (is_pulse_row s.log a) ≡ true
+      → AreCounts s number counts → pulses ≡ pulse_rows s
       → with_one s out number counts a ≡ flat_map (with_two s out number counts a) pulses
   listed-enough out number counts a pulses wants are listed =
       let both = and_parts (is_of_pulses number) (not (is_pulse_row s.log a)) wants in
@@ -93,7 +96,8 @@ module _ (s : Sought) where
       not-false false h = refl
 
   -- and all events are
-  pub all-enough : (out : Rule → Bool) (number : ℕ) (counts : List ℕ) (a : ℕ) (all firsts : List ℕ) → 1 ≤ length s.log.rows → AreCounts s number counts → all ≡ range_with_len 0 (length s.log.rows) → firsts ≡ take (slice_index counts 1) all
+  pub all-enough : (out : Rule → Bool) (number : ℕ) (counts : List ℕ) (a : ℕ) (all firsts : List ℕ) → 1 ≤ length s.log.rows → AreCounts s number counts
+      → all ≡ range_with_len 0 (length s.log.rows) → firsts ≡ take (slice_index counts 1) all
       → flat_map (with_two s out number counts a) firsts ≡ with_one s out number counts a
   all-enough out number counts a all firsts some are listed taken =
       ap (flat_map (with_two s out number counts a)) (taken ∙ ap (take (slice_index counts 1)) listed ∙ take-range (slice_index counts 1) (length s.log.rows) 0 (first-few some number counts are))

@@ -3,11 +3,11 @@ use Rattle.std.proofs.Common.{◌≡◌, ◌∙◌, sym, refl, subst, ℕ, ◌==
 use Rattle.std.specs.Prelude.{int_le, nat_lt}
 use Rattle.std.specs.List.{AllByRecursion, list_any}
 use Rattle.std.specs.Ordering.{int_eq}
-use Rattle.std.proofs.lemmas.Bool.{eqb-true, or_cases, or_left, or_right}
+use Rattle.std.proofs.lemmas.Bool.{eqb-true, or_cases, or_left, or_right, not_from_true}
 use Rattle.std.proofs.lemmas.Bool.Decides.{Decides-int_eq, nat_tests}
 use Rattle.std.proofs.lemmas.Int.{ints}
 use Rattle.mt_model.specs.Timing.{time_of}
-use Rattle.mt_model.proofs.Members.{Among, same_bool}
+use Rattle.mt_model.proofs.Members.{Among}
 use Rattle.axiom_rules.specs.declared.fault.RuleFault.TheVariants.{Kind, NoRule}
 use Rattle.axiom_rules.specs.declared.literal.Atom.{Atom}
 use Rattle.axiom_rules.specs.declared.literal.Atom.TheVariants.{Order, Same}
@@ -18,17 +18,17 @@ use Rattle.axiom_rules.specs.Parts.{Written, after, not_after, not_same, same}
 use Rattle.axiom_rules.specs.Rules.{at_pulses, is_pulse_row, of_pulse}
 use Rattle.axiom_rules.specs.Rules as rule
 use Rattle.axiom_rules.specs.Sought.{Sought}
-use Rattle.axiom_rules.proofs.BoolLemmas.{not_true}
 use Rattle.axiom_rules.proofs.PartLemmas.{equal_turned, part_holds}
 use Rattle.mtl_encode.specs.Exact.{SatisfiesKept}
 use Rattle.mtl_encode.specs.Needless.{Extremes, is_needless}
 use Rattle.mtl_encode.proofs.ClauseUses.{first_of, last_of_2}
 use Rattle.mtl_encode.proofs.PartUses.{WrittenIsTrue}
 use Rattle.mtl_encode.proofs.RuleUses.{after-true, not_after-true, of_events-true}
+use Rattle.std.specs.Cmp.{both_ways}
 
 -- what is true just where neither of two times is before the other is that they are equal
 equal-times : (a : Bool) (x y : ℤ) → (a ≡ true → int_le x y ≡ true) → (a ≡ true → int_le y x ≡ true) → (int_le x y ≡ true → int_le y x ≡ true → a ≡ true) → a ≡ int_eq x y
-equal-times a x y low high equal = same_bool a (int_eq x y)
+equal-times a x y low high equal = both_ways a (int_eq x y)
     (λ holds. (Decides-int_eq x y).1 (meet (low holds) (high holds)))
     (λ is. let same : x ≡ y = (Decides-int_eq x y).0 is in equal (at-most same) (at-least same))
   where
@@ -67,11 +67,14 @@ module _ (v : Atom → Bool) where
   pub not-same : (e x : ℕ) → part_holds v (not_same e x) ≡ not (part_holds v (same e x))
   not-same e x = go (e == x)
     where
-      go : (one : Bool) → part_holds v (let p : Part = (if one then Known false else Says (no (one_instant e x))) in p) ≡ not (part_holds v (let p : Part = (if one then Known true else Says (yes (one_instant e x))) in p))
+      go : (one : Bool)
+          → part_holds v (let p : Part = (if one then Known false else Says (no (one_instant e x))) in p) ≡ not
+          (part_holds v (let p : Part = (if one then Known true else Says (yes (one_instant e x))) in p))
       go true = refl
       go false = refl
 
-module _ (s : Sought) (x : Extremes) (v : Atom → Bool) (satisfied : SatisfiesKept s (is_needless x s) v) (t : List ℤ) (agrees : (e f : ℕ) (c : ℤ) → v (Order e f c) ≡ int_le (time_of t e -ℤ time_of t f) c) where
+module _ (s : Sought) (x : Extremes) (v : Atom → Bool) (satisfied : SatisfiesKept s (is_needless x s) v) (t : List ℤ)
+    (agrees : (e f : ℕ) (c : ℤ) → v (Order e f c) ≡ int_le (time_of t e -ℤ time_of t f) c) where
   -- events of the log of which one is a pulse
   pub record IsPair (e f : ℕ) : Type 0 where
     pub low : e < length s.log.rows
@@ -96,12 +99,13 @@ module _ (s : Sought) (x : Extremes) (v : Atom → Bool) (satisfied : SatisfiesK
   not-after : (e f : ℕ) → IsPair e f → part_holds v (same e f) ≡ true → int_le (time_of t e) (time_of t f) ≡ true
   not-after e f is at = sym (not_after-true v s.log t s.trees agrees e f) ∙ last_of_2 (part_holds v (not_same e f)) (part_holds v (not_after e f))
       (of-pair e f (Ok (not_same e f ∷ not_after e f ∷ [])) is (of_events-true s (is_needless x s) v satisfied 25 rule.rule_25 refl e f is.low is.high refl))
-      (not-same v e f ∙ not_true (part_holds v (same e f)) at)
+      (not-same v e f ∙ not_from_true (part_holds v (same e f)) at)
 
   -- and where neither is, they are at one instant
   at-once : (e f : ℕ) → e < f → IsPair e f → int_le (time_of t e) (time_of t f) ≡ true → int_le (time_of t f) (time_of t e) ≡ true → part_holds v (same e f) ≡ true
   at-once e f less is low high = first_of (part_holds v (same e f)) _
-      (of-pair e f (Ok (same e f ∷ after e f ∷ after f e ∷ [])) is (subst (λ b. WrittenIsTrue v (let written : Written = (if b then of_pulse s.log e f (Ok (same e f ∷ after e f ∷ after f e ∷ [])) else Err Kind) in written)) smaller
+      (of-pair e f (Ok (same e f ∷ after e f ∷ after f e ∷ [])) is
+      (subst (λ b. WrittenIsTrue v (let written : Written = (if b then of_pulse s.log e f (Ok (same e f ∷ after e f ∷ after f e ∷ [])) else Err Kind) in written)) smaller
       (of_events-true s (is_needless x s) v satisfied 26 rule.rule_26 refl e f is.low is.high refl)))
       (rw (after-true v s.log t s.trees agrees e f, after-true v s.log t s.trees agrees f e, low, high) refl)
     where

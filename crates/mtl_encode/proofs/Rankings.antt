@@ -1,10 +1,11 @@
 -- The variables of a table, some of them orders.
-use Rattle.std.proofs.Common.{◌≡◌, ◌∙◌, sym, ap, subst, ℕ, zero, suc, ◌+◌, ◌<◌, List, [], ◌∷◌, ◌++◌, length, map, take, add-one, arith}
+use Rattle.std.proofs.Common.{◌≡◌, ◌∙◌, sym, ap, subst, ℕ, ◌+◌, ◌<◌, List, [], ◌∷◌, ◌++◌, length, map, take, arith}
 use Rattle.std.specs.Prelude.{slice_index_or}
 use Rattle.std.specs.List.{range_with_len}
 use Rattle.std.specs.List.Sorted.{IsPermutation}
 use Rattle.std.proofs.lemmas.List.{append_assoc, map-append, take_more}
 use Rattle.std.proofs.lemmas.List.Sorted.{IsPermutation-append_left, IsPermutation-append_right, IsPermutation-refl, IsPermutation-to_front, IsPermutation-trans}
+use Rattle.mt_list.proofs.Lists.{range_more}
 
 -- one number more at the end of the first list, or of the second one
 at-first : (a b : List ℕ) (v : ℕ) → IsPermutation ((a ++ b) ++ v ∷ []) ((a ++ v ∷ []) ++ b)
@@ -27,13 +28,9 @@ module _ {X : Type 0} (f : X → ℕ) where
   pushed-more old xs i d low =
       append_assoc old (map f (take i xs)) (f (slice_index_or xs i d) ∷ []) ∙ ap (λ l. old ++ l) (sym (ap (map f) (take_more xs i d low) ∙ map-append f (take i xs) (slice_index_or xs i d ∷ [])))
 
-range-more-from : (a n j : ℕ) → a + n ≡ j → range_with_len a (suc n) ≡ range_with_len a n ++ j ∷ []
-range-more-from a zero j at = ap (λ (x : ℕ). x ∷ []) (omega (arith, at))
-range-more-from a (suc n) j at = ap (λ (xs : List ℕ). a ∷ xs) (range-more-from (a + 1) n j (omega (arith, at)))
-
 -- the numbers below one more
 pub range-next : (v : ℕ) → range_with_len 0 (v + 1) ≡ range_with_len 0 v ++ v ∷ []
-range-next v = rw add-one (range-more-from 0 v v (omega arith))
+range-next v = let last : 0 + v ≡ v = omega arith in range_more 0 v ∙ ap (λ (j : ℕ). range_with_len 0 v ++ j ∷ []) last
 
 -- with the next variable
 pub range-more : (v : ℕ) (old new : List ℕ) → IsPermutation (range_with_len 0 v) old → IsPermutation (old ++ v ∷ []) new → IsPermutation (range_with_len 0 (v + 1)) new

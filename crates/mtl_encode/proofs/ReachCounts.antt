@@ -37,7 +37,8 @@ live-or-dead true low far near None is fails = absurd (cc)
 live-or-dead true low far near (Some b) is fails = or_right (int_lt far low) (int_lt (pos b) near) (low-fails near (pos b) fails)
 
 pub not-live : (x : Extremes) (u : Reach) (i j : ℕ) → is_live x u.direction u.interval i j ≡ false → is_dead x u i j ≡ true
-not-live x u i j fails = live-or-dead (int_le (pos u.interval.low) (farthest x u.direction i j)) (pos u.interval.low) (farthest x u.direction i j) (nearest x u.direction i j) u.interval.high refl fails
+not-live x u i j fails =
+    live-or-dead (int_le (pos u.interval.low) (farthest x u.direction i j)) (pos u.interval.low) (farthest x u.direction i j) (nearest x u.direction i j) u.interval.high refl fails
 
 -- the tree `true` is a constant
 true-constant : (s : Sought) (f : Form) → is_true f ≡ true → is_constant (shape_of s.log s.trees f) ≡ true
@@ -138,7 +139,8 @@ module _ (x : Extremes) (s : Sought) where
       of-constant is = flat-nothing (with_two s (is_needless x s) number counts k) 0 rows (λ i low-i high-i.
           flat-nothing (with_three s (is_needless x s) number counts k i) 0 rows (λ j low-j high-j. not-needed i j (or_right (is_dead x u i j) (has_constant x s u) is)))
 
-      by-left : (free : Bool) → (free ≡ true → has_constant x s u ≡ true) → mass (with_one s (is_needless x s) number counts k) ≤ wide * (rows ^ 2 + (if free then 0 else rows * live_pairs x u.direction u.interval rows))
+      by-left : (free : Bool) → (free ≡ true → has_constant x s u ≡ true)
+          → mass (with_one s (is_needless x s) number counts k) ≤ wide * (rows ^ 2 + (if free then 0 else rows * live_pairs x u.direction u.interval rows))
       by-left true constant = rw (of-constant (constant refl)) (omega arith)
       by-left false constant =
           let same = mul_assoc wide rows (live_pairs x u.direction u.interval rows) in
@@ -148,7 +150,8 @@ module _ (x : Extremes) (s : Sought) where
 
     module _ (same : (f g : Form) → (same_form f g ≡ true) ↔ (f ≡ g)) (arena : IsArena s.trees) (of : is_of_reach number ≡ true) where
       -- the left side of an until or a since is a constant where it is the tree `true`
-      left-constant : (k : ℕ) (tree f : Form) (direction : Direction) (I : Interval) (right : ℕ) → k < nodes → tree_at s.trees k ≡ tree → (number_of s.trees f < nodes) × (tree_at s.trees (number_of s.trees f) ≡ f)
+      left-constant : (k : ℕ) (tree f : Form) (direction : Direction) (I : Interval) (right : ℕ) → k < nodes → tree_at s.trees k ≡ tree
+          → (number_of s.trees f < nodes) × (tree_at s.trees (number_of s.trees f) ≡ f)
           → is_true f ≡ true → has_constant x s (record { direction = direction; interval = I; left = number_of s.trees f; right = right }) ≡ true
       left-constant k tree f direction I right low at child is = ap is_constant (shape-is same s arena.once arena.children_first (number_of s.trees f) f child.0 child.1) ∙ true-constant s f is
 
@@ -162,11 +165,13 @@ module _ (x : Extremes) (s : Sought) where
       of-tree k (Implies f g) low at is = absurd (cc)
       of-tree k (Until I f g) low at is =
           let child = child-there same s arena.once arena.children_first k 0 (Until I f g) f low at (omega arith) refl in
-          by-left k (record { direction = Ahead; interval = I; left = number_of s.trees f; right = number_of s.trees g }) (ap reach_in (shape-is same s arena.once arena.children_first k (Until I f g) low at))
+          by-left k (record { direction = Ahead; interval = I; left = number_of s.trees f; right = number_of s.trees g })
+          (ap reach_in (shape-is same s arena.once arena.children_first k (Until I f g) low at))
           (is_true f) (left-constant k (Until I f g) f Ahead I (number_of s.trees g) low at (child.low, child.tree))
       of-tree k (Since I f g) low at is =
           let child = child-there same s arena.once arena.children_first k 0 (Since I f g) f low at (omega arith) refl in
-          by-left k (record { direction = Behind; interval = I; left = number_of s.trees f; right = number_of s.trees g }) (ap reach_in (shape-is same s arena.once arena.children_first k (Since I f g) low at))
+          by-left k (record { direction = Behind; interval = I; left = number_of s.trees f; right = number_of s.trees g })
+          (ap reach_in (shape-is same s arena.once arena.children_first k (Since I f g) low at))
           (is_true f) (left-constant k (Since I f g) f Behind I (number_of s.trees g) low at (child.low, child.tree))
       of-tree k (Eventually I f) low at is = absurd (cc)
       of-tree k (Always I f) low at is = absurd (cc)

@@ -2,9 +2,10 @@
 use Rattle.std.proofs.Common.{◌≡◌, ◌∙◌, sym, Bool, true, false, inl, inr}
 use Rattle.std.proofs.lemmas.Bool.{cases_Bool, false_from_ne_true}
 use Rattle.mt_model.specs.Frame.{Frame, reaches, span, witness}
-use Rattle.mt_model.proofs.Members.{Among, any_some, same_bool}
+use Rattle.mt_model.proofs.Members.{Among, any_some}
 use Rattle.axiom_rules.proofs.BoolLemmas.{apart}
 use Rattle.axiom_rules.proofs.FrameRules.{reached, reaches_from, span_at, span_from, witness_from, witness_parts}
+use Rattle.std.specs.Cmp.{both_ways}
 
 -- truth values of a node, its witnesses, spans and gaps that the rules allow, over the values of the sides; some pairs of
 -- points are dead, and the left side may be `true`
@@ -24,16 +25,18 @@ pub record AllowedByRules {X : Type 0} (F : Frame X) (near dead : X → X → Bo
   -- a left side that is `true` holds
   pub constant_left : constant ≡ true → (m : X) → Among F.points m → left m ≡ true
   -- over a span the left side holds
-  pub span_left : constant ≡ false → (i j m : X) → Among F.points i → Among F.points j → Among F.points m → dead i j ≡ false → spans i j ≡ true → F.not_after i m ≡ true → F.not_after j m ≡ false → left m ≡ true
+  pub span_left : constant ≡ false → (i j m : X) → Among F.points i → Among F.points j → Among F.points m → dead i j ≡ false → spans i j ≡ true
+      → F.not_after i m ≡ true → F.not_after j m ≡ false → left m ≡ true
   -- where there is no span there is a gap before its end, from here on, at which the left side fails
   pub no_span_gap : constant ≡ false → (i j : X) → Among F.points i → Among F.points j → dead i j ≡ false → spans i j ≡ false → (m : X) × Among F.points m × (gap i m ≡ true)
   pub gap_span : constant ≡ false → (i j m : X) → Among F.points i → Among F.points j → Among F.points m → dead i j ≡ false → gap i m ≡ true → F.not_after j m ≡ true → spans i j ≡ true
   pub gap_begun : constant ≡ false → (i m : X) → Among F.points i → Among F.points m → gap i m ≡ true → F.not_after i m ≡ true
   pub gap_left : constant ≡ false → (i m : X) → Among F.points i → Among F.points m → gap i m ≡ true → left m ≡ false
 
-module _ {X : Type 0} (F : Frame X) (near dead : X → X → Bool) (constant : Bool) (left right node : X → Bool) (wit spans gap : X → X → Bool) (allowed : AllowedByRules F near dead constant left right node wit spans gap) where
+module _ {X : Type 0} (F : Frame X) (near dead : X → X → Bool) (constant : Bool) (left right node : X → Bool) (wit spans gap : X → X → Bool)
+    (allowed : AllowedByRules F near dead constant left right node wit spans gap) where
   span-exact : constant ≡ false → (i j : X) → Among F.points i → Among F.points j → dead i j ≡ false → spans i j ≡ span F left i j
-  span-exact other i j a b alive = same_bool _ _ to from
+  span-exact other i j a b alive = both_ways _ _ to from
     where
       to : spans i j ≡ true → span F left i j ≡ true
       to h = span_from F left i j (λ m c begun before. allowed.span_left other i j m a b c alive h begun before)
@@ -51,7 +54,7 @@ module _ {X : Type 0} (F : Frame X) (near dead : X → X → Bool) (constant : B
   free-span is i j = span_from F left i j (λ m c begun before. allowed.constant_left is m c)
 
   wit-exact : (i j : X) → Among F.points i → Among F.points j → wit i j ≡ witness F near left right i j
-  wit-exact i j a b = same_bool _ _ to from
+  wit-exact i j a b = both_ways _ _ to from
     where
       spanned : dead i j ≡ false → wit i j ≡ true → span F left i j ≡ true
       spanned alive h = elim (cases_Bool constant) [
@@ -74,7 +77,7 @@ module _ {X : Type 0} (F : Frame X) (near dead : X → X → Bool) (constant : B
           ]
 
   pub reach-exact : ((i j : X) → near i j ≡ true → F.not_after i j ≡ true) → (i : X) → Among F.points i → node i ≡ reaches F near left right i
-  reach-exact ahead i a = same_bool _ _ to from
+  reach-exact ahead i a = both_ways _ _ to from
     where
       to : node i ≡ true → reaches F near left right i ≡ true
       to h =

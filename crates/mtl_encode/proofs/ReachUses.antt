@@ -2,7 +2,7 @@
 use Rattle.std.proofs.Common.{◌≡◌, ◌∙◌, sym, refl, subst, ℕ, ◌<◌, Bool, true, false, not, ◌&&◌, ◌||◌, if◌then◌else◌, inl, inr, List, [], ◌∷◌, length, Option, Some, None, Ok, Err, ℤ, ◌-ℤ◌, arith}
 use Rattle.std.specs.Prelude.{int_le}
 use Rattle.std.specs.Option.{option_map_or}
-use Rattle.std.proofs.lemmas.Bool.{and_from, and_parts, cases_Bool, or_cases}
+use Rattle.std.proofs.lemmas.Bool.{and_from, and_parts, cases_Bool, or_cases, not-true, not_from_true}
 use Rattle.mt_model.specs.declared.tree.Interval.{Interval}
 use Rattle.mt_model.specs.Frame.{Frame}
 use Rattle.mt_model.specs.Timing.{time_of}
@@ -19,7 +19,7 @@ use Rattle.axiom_rules.specs.NodeShapes.{is_constant, reach_in, shape_at}
 use Rattle.axiom_rules.specs.Rules.{for_each_event, is, is_from, is_not, is_not_from, is_not_up_to, is_up_to, met_after, not_met_after}
 use Rattle.axiom_rules.specs.Rules as rule
 use Rattle.axiom_rules.specs.Sought.{Sought}
-use Rattle.axiom_rules.proofs.BoolLemmas.{apart, not_true, was_false}
+use Rattle.axiom_rules.proofs.BoolLemmas.{apart}
 use Rattle.axiom_rules.proofs.MeaningLemmas.{at_row, from, near-parts, row_at, up_to}
 use Rattle.axiom_rules.proofs.PartLemmas.{part_holds}
 use Rattle.mtl_encode.specs.Exact.{SatisfiesKept}
@@ -31,9 +31,11 @@ use Rattle.mtl_encode.proofs.NodeUses.{constant-exact}
 use Rattle.mtl_encode.proofs.ReachExact.{AllowedByRules}
 use Rattle.mtl_encode.proofs.RuleUses.{event-true, from-true, kind-true, met_after-true, met_not_after-true, not_from-true, not_up_to-true, of_node_event-true, of_node_events-true, of_node_three_events-true, up_to-true}
 
-module _ (s : Sought) (x : Extremes) (v : Atom → Bool) (satisfied : SatisfiesKept s (is_needless x s) v) (t : List ℤ) (agrees : (e f : ℕ) (c : ℤ) → v (Order e f c) ≡ int_le (time_of t e -ℤ time_of t f) c)
+module _ (s : Sought) (x : Extremes) (v : Atom → Bool) (satisfied : SatisfiesKept s (is_needless x s) v) (t : List ℤ)
+    (agrees : (e f : ℕ) (c : ℤ) → v (Order e f c) ≡ int_le (time_of t e -ℤ time_of t f) c)
     (bounded : BoundsTimes x t (length s.log.rows)) where
-  module _ (k : ℕ) (low : k < length s.trees) (direction : Direction) (I : Interval) (l r : ℕ) (node : reach_in (shape_at s k) ≡ Some (record { direction = direction; interval = I; left = l; right = r })) where
+  module _ (k : ℕ) (low : k < length s.trees) (direction : Direction) (I : Interval) (l r : ℕ)
+      (node : reach_in (shape_at s k) ≡ Some (record { direction = direction; interval = I; left = l; right = r })) where
     abbrev u : Reach
     u = record { direction = direction; interval = I; left = l; right = r }
 
@@ -63,7 +65,7 @@ module _ (s : Sought) (x : Extremes) (v : Atom → Bool) (satisfied : SatisfiesK
     rule-12 i j a b kept wit = sym (from-true v s.log t s.trees agrees direction I i j) ∙ last_of_2 (not (v (Wit k i j))) (part_holds v (is_from direction I i j))
         (kind-true s (is_needless x s) v satisfied (reach_in (shape_at s k)) u (λ u. Ok (is_not (Wit k i j) ∷ is_from u.direction u.interval i j ∷ [])) node
         (of_node_events-true s (is_needless x s) v satisfied 12 rule.rule_12 refl k i j low a b (rw node kept)))
-        (not_true (v (Wit k i j)) wit)
+        (not_from_true (v (Wit k i j)) wit)
 
     rule-13 : (i j : ℕ) → IsEvent i → IsEvent j → (is_always_up_to x u i j || is_never_from x u i j) ≡ false → v (Wit k i j) ≡ true → up_to s.log t s.trees direction I.high i j ≡ true
     rule-13 i j a b kept wit = go I.high
@@ -72,7 +74,8 @@ module _ (s : Sought) (x : Extremes) (v : Atom → Bool) (satisfied : SatisfiesK
       where
         go : (high : Option ℕ) → WrittenIsTrue v (option_map_or (λ b. Ok (is_not (Wit k i j) ∷ is_up_to direction b i j ∷ [])) high (Err NoRule)) → up_to s.log t s.trees direction high i j ≡ true
         go None h = refl
-        go (Some bound) h = sym (up_to-true v s.log t s.trees agrees direction bound i j) ∙ last_of_2 (not (v (Wit k i j))) (part_holds v (is_up_to direction bound i j)) h (not_true (v (Wit k i j)) wit)
+        go (Some bound) h =
+            sym (up_to-true v s.log t s.trees agrees direction bound i j) ∙ last_of_2 (not (v (Wit k i j))) (part_holds v (is_up_to direction bound i j)) h (not_from_true (v (Wit k i j)) wit)
 
     -- a pair with a witness isn't dead
     wit-alive : (i j : ℕ) → IsEvent i → IsEvent j → v (Wit k i j) ≡ true → dead i j ≡ false
@@ -115,33 +118,38 @@ module _ (s : Sought) (x : Extremes) (v : Atom → Bool) (satisfied : SatisfiesK
     ]
 
     wit-near : (i j : ℕ) → IsEvent i → IsEvent j → v (Wit k i j) ≡ true → is_near direction (rows_in t) I i j ≡ true
-    wit-near i j a b wit = near-parts s.log t s.trees direction I i j ∙ and_from (from s.log t s.trees direction I i j) (up_to s.log t s.trees direction I.high i j) (wit-from i j a b wit) (wit-up_to i j a b wit)
+    wit-near i j a b wit =
+        near-parts s.log t s.trees direction I i j ∙ and_from (from s.log t s.trees direction I i j) (up_to s.log t s.trees direction I.high i j) (wit-from i j a b wit) (wit-up_to i j a b wit)
 
     wit-right : (i j : ℕ) → IsEvent i → IsEvent j → dead i j ≡ false → v (Wit k i j) ≡ true → v (Node r j) ≡ true
     wit-right i j a b alive wit = last_of_2 (not (v (Wit k i j))) (v (Node r j))
         (kind-true s (is_needless x s) v satisfied (reach_in (shape_at s k)) u (λ u. Ok (is_not (Wit k i j) ∷ is (Node u.right j) ∷ [])) node
         (of_node_events-true s (is_needless x s) v satisfied 14 rule.rule_14 refl k i j low a b (alive-kept i j alive)))
-        (not_true (v (Wit k i j)) wit)
+        (not_from_true (v (Wit k i j)) wit)
 
     wit-span : (i j : ℕ) → IsEvent i → IsEvent j → dead i j ≡ false → constant ≡ false → v (Wit k i j) ≡ true → v (Span k i j) ≡ true
     wit-span i j a b alive other wit = last_of_2 (not (v (Wit k i j))) (v (Span k i j))
         (kind-true s (is_needless x s) v satisfied (reach_in (shape_at s k)) u (λ u. Ok (is_not (Wit k i j) ∷ is (Span k i j) ∷ [])) node
         (of_node_events-true s (is_needless x s) v satisfied 15 rule.rule_15 refl k i j low a b (other-kept i j alive other)))
-        (not_true (v (Wit k i j)) wit)
+        (not_from_true (v (Wit k i j)) wit)
 
     not_far : (i j : ℕ) (high : Option ℕ) → up_to s.log t s.trees direction high i j ≡ true → part_holds v (option_map_or (λ b. is_not_up_to direction b i j) high (Known false)) ≡ false
     not_far i j None h = refl
-    not_far i j (Some bound) h = not_up_to-true v s.log t s.trees agrees direction bound i j ∙ not_true _ h
+    not_far i j (Some bound) h = not_up_to-true v s.log t s.trees agrees direction bound i j ∙ not_from_true _ h
 
     from-wit : (i j : ℕ) → IsEvent i → IsEvent j → constant ≡ false → is_near direction (rows_in t) I i j ≡ true → v (Node r j) ≡ true → v (Span k i j) ≡ true → v (Wit k i j) ≡ true
     from-wit i j a b other near right spans =
         let both = and_parts (from s.log t s.trees direction I i j) (up_to s.log t s.trees direction I.high i j) (sym (near-parts s.log t s.trees direction I i j) ∙ near) in
         let alive = near-alive x t (length s.log.rows) bounded s.log s.trees u i j a b near in
-        first_of_5 (v (Wit k i j)) (part_holds v (is_not_from direction I i j)) (part_holds v (option_map_or (λ b. is_not_up_to direction b i j) I.high (Known false))) (not (v (Node r j))) (not (v (Span k i j)))
+        first_of_5 (v (Wit k i j)) (part_holds v (is_not_from direction I i j))
+        (part_holds v (option_map_or (λ b. is_not_up_to direction b i j) I.high (Known false))) (not (v (Node r j))) (not (v (Span k i j)))
         (kind-true s (is_needless x s) v satisfied (reach_in (shape_at s k)) u
-        (λ u. Ok (is (Wit k i j) ∷ is_not_from u.direction u.interval i j ∷ option_map_or (λ b. is_not_up_to u.direction b i j) u.interval.high (Known false) ∷ is_not (Node u.right j) ∷ is_not (Span k i j) ∷ [])) node
+        (λ u. Ok
+        (is (Wit k i j) ∷ is_not_from u.direction u.interval i j ∷ option_map_or (λ b. is_not_up_to u.direction b i j) u.interval.high
+        (Known false) ∷ is_not (Node u.right j) ∷ is_not (Span k i j) ∷ []))
+        node
         (of_node_events-true s (is_needless x s) v satisfied 16 rule.rule_16 refl k i j low a b (other-kept i j alive other)))
-        (not_from-true v s.log t s.trees agrees direction I i j ∙ not_true _ both.0) (not_far i j I.high both.1) (not_true _ right) (not_true _ spans)
+        (not_from-true v s.log t s.trees agrees direction I i j ∙ not_from_true _ both.0) (not_far i j I.high both.1) (not_from_true _ right) (not_from_true _ spans)
 
     first_of_4 : (a b c d : Bool) → (a || (b || (c || (d || false)))) ≡ true → b ≡ false → c ≡ false → d ≡ false → a ≡ true
     first_of_4 a b c d h p q r = first_of a _ h (rw (p, q, r) refl)
@@ -151,16 +159,22 @@ module _ (s : Sought) (x : Extremes) (v : Atom → Bool) (satisfied : SatisfiesK
         let both = and_parts (from s.log t s.trees direction I i j) (up_to s.log t s.trees direction I.high i j) (sym (near-parts s.log t s.trees direction I i j) ∙ near) in
         let alive = near-alive x t (length s.log.rows) bounded s.log s.trees u i j a b near in
         let written = kind-true s (is_needless x s) v satisfied (reach_in (shape_at s k)) u
-        (λ u. if is_constant (shape_at s u.left) then Ok (is (Wit k i j) ∷ is_not_from u.direction u.interval i j ∷ option_map_or (λ b. is_not_up_to u.direction b i j) u.interval.high (Known false) ∷ is_not (Node u.right j) ∷ []) else Err Kind) node
+        (λ u. if is_constant (shape_at s u.left) then Ok
+        (is (Wit k i j) ∷ is_not_from u.direction u.interval i j ∷ option_map_or (λ b. is_not_up_to u.direction b i j) u.interval.high (Known false) ∷ is_not (Node u.right j) ∷ []) else Err Kind)
+        node
         (of_node_events-true s (is_needless x s) v satisfied 28 rule.rule_28 refl k i j low a b (alive-kept i j alive)) in
         first_of_4 (v (Wit k i j)) (part_holds v (is_not_from direction I i j)) (part_holds v (option_map_or (λ b. is_not_up_to direction b i j) I.high (Known false))) (not (v (Node r j)))
-        (subst (λ b. WrittenIsTrue v (if b then Ok (is (Wit k i j) ∷ is_not_from direction I i j ∷ option_map_or (λ b. is_not_up_to direction b i j) I.high (Known false) ∷ is_not (Node r j) ∷ []) else Err Kind)) is_free written)
-        (not_from-true v s.log t s.trees agrees direction I i j ∙ not_true _ both.0) (not_far i j I.high both.1) (not_true _ right)
+        (subst
+        (λ b. WrittenIsTrue v
+        (if b then Ok (is (Wit k i j) ∷ is_not_from direction I i j ∷ option_map_or (λ b. is_not_up_to direction b i j) I.high (Known false) ∷ is_not (Node r j) ∷ []) else Err Kind))
+        is_free written)
+        (not_from-true v s.log t s.trees agrees direction I i j ∙ not_from_true _ both.0) (not_far i j I.high both.1) (not_from_true _ right)
 
     node-wit : (i : ℕ) → IsEvent i → v (Node k i) ≡ true → (j : ℕ) × IsEvent j × (v (Wit k i j) ≡ true)
     node-wit i a holds = event-true s (is_needless x s) v satisfied (λ j. is (Wit k i j)) (rest_of (not (v (Node k i))) _
-        (kind-true s (is_needless x s) v satisfied (reach_in (shape_at s k)) u (λ u. Ok (is_not (Node k i) ∷ for_each_event s (λ j. is (Wit k i j)))) node (of_node_event-true s (is_needless x s) v satisfied 17 rule.rule_17 refl k i low a refl))
-        (not_true (v (Node k i)) holds))
+        (kind-true s (is_needless x s) v satisfied (reach_in (shape_at s k)) u (λ u. Ok (is_not (Node k i) ∷ for_each_event s (λ j. is (Wit k i j)))) node
+        (of_node_event-true s (is_needless x s) v satisfied 17 rule.rule_17 refl k i low a refl))
+        (not_from_true (v (Node k i)) holds))
 
     wit-node : (i j : ℕ) → IsEvent i → IsEvent j → dead i j ≡ false → v (Wit k i j) ≡ true → v (Node k i) ≡ true
     wit-node i j a b alive wit = first_of (v (Node k i)) (not (v (Wit k i j)) || false)
@@ -189,9 +203,11 @@ module _ (s : Sought) (x : Extremes) (v : Atom → Bool) (satisfied : SatisfiesK
 
     span-left : (i j m : ℕ) → IsEvent i → IsEvent j → IsEvent m → dead i j ≡ false → constant ≡ false → v (Span k i j) ≡ true → O.not_after i m ≡ true → O.not_after j m ≡ false → v (Node l m) ≡ true
     span-left i j m a b c alive other spans begun before = last_of_4 (not (v (Span k i j))) (part_holds v (met_after direction i m)) (part_holds v (not_met_after direction j m)) (v (Node l m))
-        (kind-true s (is_needless x s) v satisfied (reach_in (shape_at s k)) u (λ u. Ok (is_not (Span k i j) ∷ met_after u.direction i m ∷ not_met_after u.direction j m ∷ is (Node u.left m) ∷ [])) node
-        (of_node_three_events-true s (is_needless x s) v satisfied 19 rule.rule_19 refl k i j m low a b c (rw node (none-of-four (dead i j) constant (is_always_before x u m i) (is_never_before x u m j) alive other (not-before i m a c begun) (not-after j m b c before)))))
-        (not_true _ spans) (met_after-true v s.log t s.trees agrees direction i m ∙ not_true _ begun) (met_not_after-true v s.log t s.trees agrees direction j m ∙ before)
+        (kind-true s (is_needless x s) v satisfied (reach_in (shape_at s k)) u
+        (λ u. Ok (is_not (Span k i j) ∷ met_after u.direction i m ∷ not_met_after u.direction j m ∷ is (Node u.left m) ∷ [])) node
+        (of_node_three_events-true s (is_needless x s) v satisfied 19 rule.rule_19 refl k i j m low a b c
+        (rw node (none-of-four (dead i j) constant (is_always_before x u m i) (is_never_before x u m j) alive other (not-before i m a c begun) (not-after j m b c before)))))
+        (not_from_true _ spans) (met_after-true v s.log t s.trees agrees direction i m ∙ not_from_true _ begun) (met_not_after-true v s.log t s.trees agrees direction j m ∙ before)
 
     no_span-gap : (i j : ℕ) → IsEvent i → IsEvent j → dead i j ≡ false → constant ≡ false → v (Span k i j) ≡ false → (m : ℕ) × IsEvent m × (v (Gap k i m) ≡ true)
     no_span-gap i j a b alive other fails = event-true s (is_needless x s) v satisfied (λ m. is (Gap k i m)) (rest_of (v (Span k i j)) _
@@ -202,8 +218,9 @@ module _ (s : Sought) (x : Extremes) (v : Atom → Bool) (satisfied : SatisfiesK
     gap-span : (i j m : ℕ) → IsEvent i → IsEvent j → IsEvent m → dead i j ≡ false → constant ≡ false → v (Gap k i m) ≡ true → O.not_after j m ≡ true → v (Span k i j) ≡ true
     gap-span i j m a b c alive other gap up = last_of_3 (not (v (Gap k i m))) (part_holds v (met_after direction j m)) (v (Span k i j))
         (kind-true s (is_needless x s) v satisfied (reach_in (shape_at s k)) u (λ u. Ok (is_not (Gap k i m) ∷ met_after u.direction j m ∷ is (Span k i j) ∷ [])) node
-        (of_node_three_events-true s (is_needless x s) v satisfied 21 rule.rule_21 refl k i j m low a b c (rw node (none-of-three (dead i j) constant (is_always_before x u m j) alive other (not-before j m b c up)))))
-        (not_true _ gap) (met_after-true v s.log t s.trees agrees direction j m ∙ not_true _ up)
+        (of_node_three_events-true s (is_needless x s) v satisfied 21 rule.rule_21 refl k i j m low a b c
+        (rw node (none-of-three (dead i j) constant (is_always_before x u m j) alive other (not-before j m b c up)))))
+        (not_from_true _ gap) (met_after-true v s.log t s.trees agrees direction j m ∙ not_from_true _ up)
 
     gap-begun : (i m : ℕ) → IsEvent i → IsEvent m → constant ≡ false → v (Gap k i m) ≡ true → O.not_after i m ≡ true
     gap-begun i m a c other gap = elim (cases_Bool (is_never_before x u m i)) [
@@ -211,14 +228,14 @@ module _ (s : Sought) (x : Extremes) (v : Atom → Bool) (satisfied : SatisfiesK
       | inr may ↦ sym (met_not_after-true v s.log t s.trees agrees direction i m) ∙ last_of_2 (not (v (Gap k i m))) (part_holds v (not_met_after direction i m))
           (kind-true s (is_needless x s) v satisfied (reach_in (shape_at s k)) u (λ u. Ok (is_not (Gap k i m) ∷ not_met_after u.direction i m ∷ [])) node
           (of_node_events-true s (is_needless x s) v satisfied 22 rule.rule_22 refl k i m low a c (rw node (none-of-two constant (is_never_before x u m i) other may))))
-          (not_true _ gap)
+          (not_from_true _ gap)
     ]
 
     gap-left : (i m : ℕ) → IsEvent i → IsEvent m → constant ≡ false → v (Gap k i m) ≡ true → v (Node l m) ≡ false
-    gap-left i m a c other gap = was_false (v (Node l m)) (last_of_2 (not (v (Gap k i m))) (not (v (Node l m)))
+    gap-left i m a c other gap = not-true (v (Node l m)) (last_of_2 (not (v (Gap k i m))) (not (v (Node l m)))
         (kind-true s (is_needless x s) v satisfied (reach_in (shape_at s k)) u (λ u. Ok (is_not (Gap k i m) ∷ is_not (Node u.left m) ∷ [])) node
         (of_node_events-true s (is_needless x s) v satisfied 23 rule.rule_23 refl k i m low a c (rw node other)))
-        (not_true _ gap))
+        (not_from_true _ gap))
 
     module _ (count : length t ≡ length s.log.rows) (left-low : l < length s.trees) where
       event : (e : ℕ) → Among O.points e → IsEvent e
@@ -228,7 +245,8 @@ module _ (s : Sought) (x : Extremes) (v : Atom → Bool) (satisfied : SatisfiesK
       among e a = at_row s.log t s.trees direction e (omega (arith, a, count))
 
       -- the rules allow these truth values of the node, over the points as it meets them
-      pub reach-allowed : AllowedByRules O (is_near direction (rows_in t) I) dead constant (λ e. v (Node l e)) (λ e. v (Node r e)) (λ e. v (Node k e)) (λ i j. v (Wit k i j)) (λ i j. v (Span k i j)) (λ i m. v (Gap k i m))
+      pub reach-allowed : AllowedByRules O (is_near direction (rows_in t) I) dead constant (λ e. v (Node l e)) (λ e. v (Node r e)) (λ e. v (Node k e))
+          (λ i j. v (Wit k i j)) (λ i j. v (Span k i j)) (λ i m. v (Gap k i m))
       reach-allowed = record {
         near_alive = λ i j a b. near-alive x t (length s.log.rows) bounded s.log s.trees u i j (event i a) (event j b);
         wit_near = λ i j a b. wit-near i j (event i a) (event j b);

@@ -42,30 +42,41 @@ module _ (s : Sought) (out : Rule → Bool) (v : Atom → Bool) (satisfied : Sat
   pub of_event-true : (number : ℕ) (write : Sought → ℕ → Written) → row_of number ≡ Some (of_event write) → (e : ℕ) → IsEventOf e → out (rule_at number e 0 0 0) ≡ false → WrittenIsTrue v (write s e)
   of_event-true number write is e a kept = written-true v s out satisfied number (e ∷ 0 ∷ 0 ∷ 0 ∷ []) (of_event write) is (and_from _ _ (lt-ltb e (length s.log.rows) a) refl) kept
 
-  pub of_events-true : (number : ℕ) (write : Sought → ℕ → ℕ → Written) → row_of number ≡ Some (of_events write) → (e x : ℕ) → IsEventOf e → IsEventOf x → out (rule_at number e x 0 0) ≡ false → WrittenIsTrue v (write s e x)
+  pub of_events-true : (number : ℕ) (write : Sought → ℕ → ℕ → Written) → row_of number ≡ Some (of_events write) → (e x : ℕ) → IsEventOf e → IsEventOf x
+      → out (rule_at number e x 0 0) ≡ false → WrittenIsTrue v (write s e x)
   of_events-true number write is e x a b kept =
       written-true v s out satisfied number (e ∷ x ∷ 0 ∷ 0 ∷ []) (of_events write) is (and_from _ _ (lt-ltb e (length s.log.rows) a) (and_from _ _ (lt-ltb x (length s.log.rows) b) refl)) kept
 
-  pub of_node_event-true : (number : ℕ) (write : Sought → ℕ → ℕ → Written) → row_of number ≡ Some (of_node_event write) → (k e : ℕ) → IsNodeOf k → IsEventOf e → out (rule_at number k e 0 0) ≡ false → WrittenIsTrue v (write s k e)
+  pub of_node_event-true : (number : ℕ) (write : Sought → ℕ → ℕ → Written) → row_of number ≡ Some (of_node_event write) → (k e : ℕ) → IsNodeOf k → IsEventOf e
+      → out (rule_at number k e 0 0) ≡ false → WrittenIsTrue v (write s k e)
   of_node_event-true number write is k e low a kept =
       written-true v s out satisfied number (k ∷ e ∷ 0 ∷ 0 ∷ []) (of_node_event write) is (and_from _ _ (lt-ltb k (length s.trees) low) (and_from _ _ (lt-ltb e (length s.log.rows) a) refl)) kept
 
-  pub of_node_event_change-true : (number : ℕ) (write : Sought → ℕ → ℕ → ℕ → Written) → row_of number ≡ Some (of_node_event_change write) → (k e place : ℕ) → IsNodeOf k → IsEventOf e → out (rule_at number k e place 0) ≡ false → WrittenIsTrue v (write s k e place)
+  pub of_node_event_change-true : (number : ℕ) (write : Sought → ℕ → ℕ → ℕ → Written) → row_of number ≡ Some (of_node_event_change write) → (k e place : ℕ)
+      → IsNodeOf k → IsEventOf e → out (rule_at number k e place 0) ≡ false → WrittenIsTrue v (write s k e place)
   of_node_event_change-true number write is k e place low a kept =
-      written-true v s out satisfied number (k ∷ e ∷ place ∷ 0 ∷ []) (of_node_event_change write) is (and_from _ _ (lt-ltb k (length s.trees) low) (and_from _ _ (lt-ltb e (length s.log.rows) a) refl)) kept
+      written-true v s out satisfied number (k ∷ e ∷ place ∷ 0 ∷ []) (of_node_event_change write) is
+      (and_from _ _ (lt-ltb k (length s.trees) low) (and_from _ _ (lt-ltb e (length s.log.rows) a) refl)) kept
 
-  pub of_node_event_pulse-true : (number : ℕ) (write : Sought → ℕ → ℕ → ℕ → Written) → row_of number ≡ Some (of_node_event_pulse write) → (k e place : ℕ) → IsNodeOf k → IsEventOf e → out (rule_at number k e place 0) ≡ false → WrittenIsTrue v (write s k e place)
+  pub of_node_event_pulse-true : (number : ℕ) (write : Sought → ℕ → ℕ → ℕ → Written) → row_of number ≡ Some (of_node_event_pulse write) → (k e place : ℕ)
+      → IsNodeOf k → IsEventOf e → out (rule_at number k e place 0) ≡ false → WrittenIsTrue v (write s k e place)
   of_node_event_pulse-true number write is k e place low a kept =
-      written-true v s out satisfied number (k ∷ e ∷ place ∷ 0 ∷ []) (of_node_event_pulse write) is (and_from _ _ (lt-ltb k (length s.trees) low) (and_from _ _ (lt-ltb e (length s.log.rows) a) refl)) kept
+      written-true v s out satisfied number (k ∷ e ∷ place ∷ 0 ∷ []) (of_node_event_pulse write) is
+      (and_from _ _ (lt-ltb k (length s.trees) low) (and_from _ _ (lt-ltb e (length s.log.rows) a) refl)) kept
 
-  pub of_node_events-true : (number : ℕ) (write : Sought → ℕ → ℕ → ℕ → Written) → row_of number ≡ Some (of_node_events write) → (k i j : ℕ) → IsNodeOf k → IsEventOf i → IsEventOf j → out (rule_at number k i j 0) ≡ false → WrittenIsTrue v (write s k i j)
+  pub of_node_events-true : (number : ℕ) (write : Sought → ℕ → ℕ → ℕ → Written) → row_of number ≡ Some (of_node_events write) → (k i j : ℕ) → IsNodeOf k
+      → IsEventOf i → IsEventOf j → out (rule_at number k i j 0) ≡ false → WrittenIsTrue v (write s k i j)
   of_node_events-true number write is k i j low a b kept =
-      written-true v s out satisfied number (k ∷ i ∷ j ∷ 0 ∷ []) (of_node_events write) is (and_from _ _ (lt-ltb k (length s.trees) low) (and_from _ _ (lt-ltb i (length s.log.rows) a) (and_from _ _ (lt-ltb j (length s.log.rows) b) refl))) kept
+      written-true v s out satisfied number (k ∷ i ∷ j ∷ 0 ∷ []) (of_node_events write) is
+      (and_from _ _ (lt-ltb k (length s.trees) low) (and_from _ _ (lt-ltb i (length s.log.rows) a) (and_from _ _ (lt-ltb j (length s.log.rows) b) refl))) kept
 
-  pub of_node_three_events-true : (number : ℕ) (write : Sought → ℕ → ℕ → ℕ → ℕ → Written) → row_of number ≡ Some (of_node_three_events write) → (k i j m : ℕ) → IsNodeOf k → IsEventOf i → IsEventOf j → IsEventOf m → out (rule_at number k i j m) ≡ false → WrittenIsTrue v (write s k i j m)
+  pub of_node_three_events-true : (number : ℕ) (write : Sought → ℕ → ℕ → ℕ → ℕ → Written) → row_of number ≡ Some (of_node_three_events write) → (k i j m : ℕ)
+      → IsNodeOf k → IsEventOf i → IsEventOf j → IsEventOf m → out (rule_at number k i j m) ≡ false → WrittenIsTrue v (write s k i j m)
   of_node_three_events-true number write is k i j m low a b c kept =
       written-true v s out satisfied number (k ∷ i ∷ j ∷ m ∷ []) (of_node_three_events write) is
-      (and_from _ _ (lt-ltb k (length s.trees) low) (and_from _ _ (lt-ltb i (length s.log.rows) a) (and_from _ _ (lt-ltb j (length s.log.rows) b) (and_from _ _ (lt-ltb m (length s.log.rows) c) refl)))) kept
+      (and_from _ _ (lt-ltb k (length s.trees) low)
+      (and_from _ _ (lt-ltb i (length s.log.rows) a) (and_from _ _ (lt-ltb j (length s.log.rows) b) (and_from _ _ (lt-ltb m (length s.log.rows) c) refl))))
+      kept
 
   -- what is written of a node that is of the kind
   pub kind-true : {X : Type 0} (o : Option X) (x : X) (write : X → Written) → o ≡ Some x → WrittenIsTrue v (of_kind o write) → WrittenIsTrue v (write x)

@@ -55,7 +55,8 @@ rules-exact cores nodes core rows log f value x v t valid are ok satisfied agree
     let some = (nodes.root f).0 in
     let root = length (nodes_of f) - 1 in
     let exact : w (Node root e) ≡ truth_of log t e (core_of f) =
-    node-exact s x w all t (λ e f c. refl) bounded ok.count cores.equality (node-core cores nodes f) (nodes.once f) (nodes.children_first f) (core_of f) root e (omega (arith, some)) (nodes.root f).1 in_ in
+    node-exact s x w all t (λ e f c. refl) bounded ok.count cores.equality (node-core cores nodes f) (nodes.once f) (nodes.children_first f) (core_of f) root e
+    (omega (arith, some)) (nodes.root f).1 in_ in
     let at_first : truth_of log t e (core_of f) ≡ truth log t 0 (core_of f) =
     rows.at_first log t e (core_of f) (omega (arith, in_, ok.count)) (λ k low. not_later (time_of t e) (time_of t k) (earliest k (omega (arith, low, ok.count)))) in
     sym (core.at_position log t 0 f) ∙ sym at_first ∙ sym exact ∙ root-exact s x w all t (λ e f c. refl) bounded e in_ first earliest

@@ -3,7 +3,7 @@ use Rattle.std.proofs.Common.{◌≡◌, refl, ℕ, ◌≤◌, Bool, true, false
 use Rattle.std.specs.Prelude.{count_by}
 use Rattle.std.specs.List.{range_with_len}
 use Rattle.std.proofs.Math.Nat.{mul-le-mul_left}
-use Rattle.std.proofs.lemmas.Bool.{and_from, and_parts}
+use Rattle.std.proofs.lemmas.Bool.{and_from, and_parts, cases_lt}
 use Rattle.std.proofs.lemmas.List.Sums.{sum_by-le-sum_by}
 use Rattle.std.proofs.lemmas.Int.{ints}
 use Rattle.mt_model.specs.declared.tree.Interval.{Interval}
@@ -15,7 +15,6 @@ use Rattle.mtl_encode.specs.Needless.{AreExtremes, Extremes, farthest, is_live, 
 use Rattle.mtl_encode.specs.Size.{is_true, live_pairs, reach_size, size_by, tree_size}
 use Rattle.mtl_encode.specs.SizesFall.{AdmitsNoMore, SizesFall}
 use Rattle.mtl_encode.proofs.ExtremeUses.{high-all, le-more}
-use Rattle.mtl_encode.proofs.SizesUnique.{below-or-not}
 
 cond-le : (a b : Bool) → (a ≡ true → b ≡ true) → cond a 1 0 ≤ cond b 1 0
 cond-le true b more = rw (more refl) (omega arith)
@@ -23,9 +22,9 @@ cond-le false b more = omega arith
 
 module _ (log other : Logged) (x y : Extremes) (of_x : AreExtremes log x) (of_y : AreExtremes other y) (no_more : AdmitsNoMore log other) where
   greatest-le : (e f : ℕ) → x.greatest e f ≤ℤ y.greatest e f
-  greatest-le e f = elim (below-or-not e (length log.rows)) [
+  greatest-le e f = elim (cases_lt e (length log.rows)) [
     | inr past ↦ rw (of_x.greatest_beyond e f (inl past), of_y.greatest_beyond e f (inl (rw (← no_more.rows) past))) (omega (arith, ints))
-    | inl low ↦ elim (below-or-not f (length log.rows)) [
+    | inl low ↦ elim (cases_lt f (length log.rows)) [
       | inr past ↦ rw (of_x.greatest_beyond e f (inr past), of_y.greatest_beyond e f (inr (rw (← no_more.rows) past))) (omega (arith, ints))
       | inl less ↦
           let here = (of_x.greatest e f low less).attained in
@@ -36,9 +35,9 @@ module _ (log other : Logged) (x y : Extremes) (of_x : AreExtremes log x) (of_y 
   ]
 
   least-le : (e f : ℕ) → y.least e f ≤ℤ x.least e f
-  least-le e f = elim (below-or-not e (length log.rows)) [
+  least-le e f = elim (cases_lt e (length log.rows)) [
     | inr past ↦ rw (of_x.least_beyond e f (inl past), of_y.least_beyond e f (inl (rw (← no_more.rows) past))) (omega (arith, ints))
-    | inl low ↦ elim (below-or-not f (length log.rows)) [
+    | inl low ↦ elim (cases_lt f (length log.rows)) [
       | inr past ↦ rw (of_x.least_beyond e f (inr past), of_y.least_beyond e f (inr (rw (← no_more.rows) past))) (omega (arith, ints))
       | inl less ↦
           let here = (of_x.least e f low less).attained in

@@ -1,6 +1,7 @@
 -- A log and a formula's nodes have one size.
-use Rattle.std.proofs.Common.{◌≡◌, ap, refl, ℕ, ◌<◌, ◌≤◌, Bool, cond, List, length, inl, inr, ◌⊎◌, ℤ, arith}
+use Rattle.std.proofs.Common.{◌≡◌, ap, refl, ℕ, Bool, cond, List, length, inl, inr, ℤ, arith}
 use Rattle.std.specs.Prelude.{count_by, sum_by}
+use Rattle.std.proofs.lemmas.Bool.{cases_lt}
 use Rattle.std.specs.List.{range_with_len}
 use Rattle.std.proofs.lemmas.List.Sums.{sum_by-le-sum_by}
 use Rattle.std.proofs.lemmas.Int.{ints}
@@ -15,9 +16,6 @@ use Rattle.mtl_encode.specs.Size.{live_pairs, size_by, tree_size}
 use Rattle.mtl_encode.specs.SizeLaws.{SizesAreUnique}
 
 -- a number below another one or not
-pub below-or-not : (a b : ℕ) → (a < b) ⊎ (b ≤ a)
-below-or-not a b = grind arith
-
 -- sums of equal terms
 pub same-sums : {X : Type 0} (f g : X → ℕ) (xs : List X) → ((x : X) → f x ≡ g x) → sum_by f xs ≡ sum_by g xs
 same-sums f g xs same =
@@ -46,18 +44,18 @@ module _ (log : Logged) (x y : Extremes) (of_x : AreExtremes log x) (of_y : AreE
       omega (arith, ints, up, down, here, there)
 
   greatest-same : (e f : ℕ) → x.greatest e f ≡ y.greatest e f
-  greatest-same e f = elim (below-or-not e (length log.rows)) [
+  greatest-same e f = elim (cases_lt e (length log.rows)) [
     | inr past ↦ rw (of_x.greatest_beyond e f (inl past), of_y.greatest_beyond e f (inl past)) refl
-    | inl low ↦ elim (below-or-not f (length log.rows)) [
+    | inl low ↦ elim (cases_lt f (length log.rows)) [
       | inr past ↦ rw (of_x.greatest_beyond e f (inr past), of_y.greatest_beyond e f (inr past)) refl
       | inl less ↦ one-greatest e f (x.greatest e f) (y.greatest e f) (of_x.greatest e f low less) (of_y.greatest e f low less)
     ]
   ]
 
   least-same : (e f : ℕ) → x.least e f ≡ y.least e f
-  least-same e f = elim (below-or-not e (length log.rows)) [
+  least-same e f = elim (cases_lt e (length log.rows)) [
     | inr past ↦ rw (of_x.least_beyond e f (inl past), of_y.least_beyond e f (inl past)) refl
-    | inl low ↦ elim (below-or-not f (length log.rows)) [
+    | inl low ↦ elim (cases_lt f (length log.rows)) [
       | inr past ↦ rw (of_x.least_beyond e f (inr past), of_y.least_beyond e f (inr past)) refl
       | inl less ↦ one-least e f (x.least e f) (y.least e f) (of_x.least e f low less) (of_y.least e f low less)
     ]

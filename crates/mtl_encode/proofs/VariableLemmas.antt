@@ -1,7 +1,7 @@
 -- Clauses over other variables read as they did.
 use Rattle.std.proofs.Common.{◌≡◌, ◌∙◌, sym, refl, subst, ℕ, suc, ◌+◌, ◌<◌, ◌≤◌, true, false, List, [], ◌∷◌, ◌++◌, length, map, get_or, Some, ◌⊎◌, inl, inr, arith}
 use Rattle.std.specs.Prelude.{All, Any, Contains, slice_get, slice_index, slice_index_or}
-use Rattle.std.specs.Cmp.{IsEquivalence}
+use Rattle.std.specs.Cmp.{IsEquivalence, both_ways}
 use Rattle.std.specs.List.{AllByRecursion, IsDistinct}
 use Rattle.std.proofs.lemmas.Bool.{cases_Bool}
 use Rattle.std.proofs.lemmas.List.{get_or-map, get_or_append_left, get_or_default, length-map}
@@ -9,7 +9,7 @@ use Rattle.std.proofs.Math.Seq.{get_or-append_seam}
 use Rattle.std.proofs.lemmas.Map.Keys.{IsDistinct-cons}
 use Rattle.std.proofs.lemmas.Map.Made.{length-le_from_is_member}
 use Rattle.std.proofs.lemmas.Option.{get_or_from_slice_get, slice_get-get_or, slice_get_within}
-use Rattle.mt_model.proofs.Members.{Among, any_some, same_bool, some_any}
+use Rattle.mt_model.proofs.Members.{Among, any_some, some_any}
 use Rattle.clause_db.specs.declared.lit.Lit.{Lit}
 use Rattle.clause_db.specs.Clauses.{clause_at}
 use Rattle.clause_db.specs.Renaming.{AreApart, AreBelow, moved}
@@ -30,7 +30,7 @@ use Rattle.mtl_encode.specs.Problems.{IsClauseOf, ReadsAs, StandsIn, read_litera
 use Rattle.mtl_encode.specs.Variables.{AreMoved}
 
 -- literals that are read have variables of atoms
-lits-below : (atoms : List Atom) (lits : List Lit) (clause : List Literal) → ReadsAs atoms lits clause → All (λ l. l.var < length atoms) lits
+pub lits-below : (atoms : List Atom) (lits : List Lit) (clause : List Literal) → ReadsAs atoms lits clause → All (λ l. l.var < length atoms) lits
 lits-below atoms lits clause is k d low =
     let at = read-at atoms lits clause k d (yes (First 0)) is low in
     let both = read-atom atoms (slice_index_or lits k d) (slice_index_or clause k (yes (First 0))) at in
@@ -63,7 +63,7 @@ module _ (old new : List Atom) (places : List ℕ) (moves : AreMoved old new pla
 atoms-equal : IsEquivalence same_atom
 atoms-equal = record {
   refl = atom-itself;
-  symm = λ a b. same_bool _ _ (λ h. rw (atoms_same a b h) (atom-itself b)) (λ h. rw (atoms_same b a h) (atom-itself a));
+  symm = λ a b. both_ways _ _ (λ h. rw (atoms_same a b h) (atom-itself b)) (λ h. rw (atoms_same b a h) (atom-itself a));
   congr = λ a b c h. rw (atoms_same a b h) refl;
 }
 
@@ -71,7 +71,9 @@ atoms-equal = record {
 distinct : (xs : List Atom) → ((v w : ℕ) (a : Atom) → IsVar xs v a → IsVar xs w a → v ≡ w) → IsDistinct same_atom xs
 unfolding IsDistinct
 distinct [] once = tt
-distinct (x ∷ xs) once = IsDistinct-cons same_atom x xs (differ xs (λ k y at same. let twice : slice_get xs k ≡ Some x = rw (atoms_same x y same) at in let zero-is = once 0 (suc k) x refl twice in absurd (omega (arith, zero-is))))
+distinct (x ∷ xs) once =
+    IsDistinct-cons same_atom x xs
+    (differ xs (λ k y at same. let twice : slice_get xs k ≡ Some x = rw (atoms_same x y same) at in let zero-is = once 0 (suc k) x refl twice in absurd (omega (arith, zero-is))))
     (distinct xs (λ v w a at-v at-w. let next = once (suc v) (suc w) a at-v at-w in omega (arith, next)))
   where
     differ : (ys : List Atom) → ((k : ℕ) (y : Atom) → slice_get ys k ≡ Some y → same_atom x y ≡ true → ⊥) → AllByRecursion (λ y. same_atom x y ≡ false) ys

@@ -1,6 +1,6 @@
 //! Goes through the numbers and arguments of rules, and adds those that have a clause.
 
-ghost use Rattle.std.specs.Prelude.{◌≡◌, ◌≤◌, ◌<◌, ◌++◌, ℕ, [], length, map, slice_index, true, false, None, OnOk, is_ok};
+ghost use Rattle.std.specs.Prelude.{◌≡◌, ◌≤◌, ◌<◌, ◌++◌, ℕ, length, map, slice_index, true, false, None, OnOk, is_ok};
 ghost use Rattle.std.specs.List.{flat_map};
 ghost use Rattle.axiom_rules.specs.Clauses.{clause_of};
 ghost use Rattle.axiom_rules.specs.NodeShapes.{reach_in, shape_at};

@@ -1,6 +1,6 @@
 //! Which instances of rules are needless, by the least and the greatest differences of events.
 
-ghost use Rattle.std.specs.Prelude.{◌≡◌, ◌||◌, true, false, int_le, int_lt, pos, length, ◌+ℤ◌};
+ghost use Rattle.std.specs.Prelude.{◌≡◌, ◌||◌, true, false, int_le, int_lt, pos, ◌+ℤ◌};
 ghost use Rattle.std.specs.Option.{option_map_or};
 ghost use Rattle.mt_model.specs.Log.{IsWithin};
 ghost use Rattle.mt_model.specs.declared.limits.TheConstants.{MAX_TIME};

@@ -9,6 +9,7 @@ ghost use Rattle.mtl_encode.specs.Instances.{is_of_pulses, pulse_rows as pulse_r
 ghost use Rattle.mtl_encode.specs.Seconds.{AreCounts, AreEvents};
 
 use axiom_rules::Rules;
+use mt_model::log_is_valid;
 use std::alloc::{AllocError, Global};
 
 /// The events of a log, and those of them that are pulses, in its order.
@@ -54,8 +55,7 @@ impl Events {
     pub fn new(alloc: Global, rules: &Rules) -> Result<Events, AllocError>
         ensures { IfOk result (AreEvents rules.now) }
     {
-        // What a log is, that it has rows is known with.
-        let _ = rules.log().rows();
+        log_is_valid(rules.log());
         Ok(Events {
             all: all_rows(alloc, rules)?,
             pulses: pulse_rows(alloc, rules)?,

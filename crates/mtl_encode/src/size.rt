@@ -10,7 +10,7 @@ ghost use Rattle.mtl_encode.specs.Size as sizes;
 
 use crate::needless::{farthest, nearest};
 use formula_arena::{Arena, Core, Direction};
-use mt_model::{Interval, Log, NodeId};
+use mt_model::{Interval, Log, NodeId, log_is_valid};
 use skew_bounds::Tight;
 
 /// The greatest size of a problem.
@@ -114,8 +114,7 @@ pub fn size_of(log: &Log, arena: &Arena, tight: Option<&Tight>) -> u128
     requires tight { MatchOption tight (IsInconsistent log.now) (λ t. IsTight log.now t.now) }
     ensures size { sizes.IsSize log.now arena.now result }
 {
-    // What a log is, how many rows it has is known with.
-    let _ = log.rows();
+    log_is_valid(log);
     match tight {
         Some(tight) => nodes_size(tight, arena),
         None => 0,

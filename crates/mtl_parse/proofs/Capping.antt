@@ -1,7 +1,7 @@
 -- Formulas that are too high may be taken for one another while a text is read.
 use Rattle.std.proofs.Common.{◌≡◌, ◌∙◌, sym, ap, refl, arith, zero, suc, ℕ, ◌+◌, ◌≤◌, ◌<◌, Bool, true, false, List, [], ◌∷◌, Option, Some, None, Result, Ok, Err, inl, inr}
 use Rattle.std.specs.Prelude.{max, nat_le, not, if◌then◌else◌, option_map, bytes_eq, codes}
-use Rattle.std.proofs.lemmas.Bool.{cases_Bool}
+use Rattle.std.proofs.lemmas.Bool.{cases_Bool, le-leb, lt-leb, leb-true, leb-false}
 use Rattle.mt_model.specs.declared.limits.TheConstants.{MAX_HEIGHT}
 use Rattle.mt_model.specs.declared.tree.Interval.{Interval}
 use Rattle.mt_model.specs.Form.{Form, Not, And, Or, Implies, height_of}
@@ -10,7 +10,6 @@ use Rattle.mtl_parse.specs.declared.fault.FormulaFault.TheVariants as fault
 use Rattle.mtl_parse.specs.Tokens.{Infix, U, S, Prefix, F, G, O, H, Token, Close, CloseBracket, Comma, Dot, Ampersand, Bar, Arrow, InfixLetter, Number, Word, Placed}
 use Rattle.mtl_parse.specs.Grammar.{prefix_form, infix_form, from_to}
 use Rattle.mtl_parse.specs.Machine.{Letter, OfOne, OfTwo, Pending, Opened, Negation, Timed, LeftOfAnd, LeftOfOr, LeftOfImplies, Stage, Wanted, HostRead, DotRead, LetterRead, BracketRead, LowRead, CommaRead, HighRead, Read, State, Completed, after_word, applied, capped, closed, complete, finish, finished, has_opened, is_whole, left_of, letter_after, negations, read_after, read_all, refusal, step_at, step_comma, step_letter, step_read, step_result, step_wanted, strength, tall}
-use Rattle.mtl_parse.proofs.Comparing.{test_fails, test_false, test_holds, test_true}
 use Rattle.mtl_parse.proofs.Completeness.{plain}
 
 negations_height : (n : ℕ) → height_of (negations n) ≡ n + 1
@@ -22,10 +21,10 @@ unfolding tall
 tall_high = let h = negations_height 200 in omega (arith, h)
 
 pub capped-low : (f : Form) → height_of f ≤ MAX_HEIGHT → capped f ≡ f
-capped-low f h = ap (λ v. if v then f else tall) (test_true (height_of f) MAX_HEIGHT h)
+capped-low f h = ap (λ v. if v then f else tall) (le-leb (height_of f) MAX_HEIGHT h)
 
 pub capped-high : (f : Form) → MAX_HEIGHT < height_of f → capped f ≡ tall
-capped-high f h = ap (λ v. if v then f else tall) (test_false (height_of f) MAX_HEIGHT h)
+capped-high f h = ap (λ v. if v then f else tall) (lt-leb (height_of f) MAX_HEIGHT h)
 
 -- a formula is low or high
 pub data Fits (f : Form) : Type 0 where
@@ -34,8 +33,8 @@ pub data Fits (f : Form) : Type 0 where
 
 pub fits : (f : Form) → Fits f
 fits f = elim (cases_Bool (nat_le (height_of f) MAX_HEIGHT)) [
-  | inl h ↦ fits_in (test_holds (height_of f) MAX_HEIGHT h)
-  | inr h ↦ too_high (test_fails (height_of f) MAX_HEIGHT h)
+  | inl h ↦ fits_in (leb-true (height_of f) MAX_HEIGHT h)
+  | inr h ↦ too_high (leb-false (height_of f) MAX_HEIGHT h)
 ]
 
 capped_capped : (f : Form) → capped (capped f) ≡ capped f

@@ -7,7 +7,7 @@ use Rattle.mt_model.specs.Name.{is_reserved}
 use Rattle.mtl_parse.specs.Tokens.{Infix, Token, Open, Close, OpenBracket, CloseBracket, Comma, Dot, Bang, Ampersand, Bar, Arrow, InfixLetter, PrefixLetter, Number, Word}
 use Rattle.mtl_parse.specs.Grammar.{Level, Implication, Disjunction, Conjunction, UntilOrSince, Unary, Atom, Reads, ReadsInterval, from_to, everything, bounded, unbounded, implies, implication, or, disjunction, and, conjunction, timed, until_or_since, not, prefixed, unary, constant_true, constant_false, proposition, parentheses}
 use Rattle.mtl_parse.specs.Machine.{Letter, OfOne, OfTwo, Pending, Opened, Negation, Timed, LeftOfAnd, LeftOfOr, LeftOfImplies, Wanted, HostRead, LetterRead, Read, State, after_word, applied, at_stage, begin, closed, complete, finish, finished, left_of, letter_after, step, strength}
-use Rattle.mtl_parse.proofs.Comparing.{test_false, test_true}
+use Rattle.std.proofs.lemmas.Bool.{le-leb, lt-leb}
 
 abbrev pub plain : Form → Form
 plain f = f
@@ -62,10 +62,10 @@ entry Atom = 6
 -- what is pending and binds less tightly stays
 pub kept : (n : ℕ) (stack : List Pending) (f : Form) → top_strength stack < n → complete plain n stack f ≡ record { stack = stack; form = f }
 kept n [] f h = refl
-kept n (p ∷ ps) f h = let less : nat_le n (strength p) ≡ false = test_false n (strength p) h in rw less refl
+kept n (p ∷ ps) f h = let less : nat_le n (strength p) ≡ false = lt-leb n (strength p) h in rw less refl
 
 popped : (n : ℕ) (p : Pending) (stack : List Pending) (f : Form) → n ≤ strength p → complete plain n (p ∷ stack) f ≡ complete plain n stack (applied p f)
-popped n p stack f h = let more : nat_le n (strength p) ≡ true = test_true n (strength p) h in rw more refl
+popped n p stack f h = let more : nat_le n (strength p) ≡ true = le-leb n (strength p) h in rw more refl
 
 -- what is pending is complete before such tokens
 pub join : (p : Pending) (stack : List Pending) (f : Form) (rest : List Token) → completes_first rest ≤ strength p → 0 < strength p → run (read (p ∷ stack) f) rest ≡ run (read stack (applied p f)) rest

@@ -1,7 +1,7 @@
 -- Each text has one answer, which the machine gives.
 use Rattle.std.proofs.Common.{◌≡◌, ◌∙◌, sym, ap, refl, subst, ℕ, true, false, List, [], ◌∷◌, ◌++◌, length, append-nil, Option, Some, None, Result, Ok, Err, inl, inr}
 use Rattle.std.specs.Prelude.{nat_le, is_some, if◌then◌else◌, option_and_then}
-use Rattle.std.proofs.lemmas.Bool.{cases_Bool}
+use Rattle.std.proofs.lemmas.Bool.{cases_Bool, le-leb, lt-leb, leb-true, leb-false}
 use Rattle.mt_model.specs.declared.limits.TheConstants.{MAX_HEIGHT}
 use Rattle.mt_model.specs.Form.{Form, height_of}
 use Rattle.mtl_parse.specs.declared.fault.FormulaFault.{FormulaFault}
@@ -10,7 +10,6 @@ use Rattle.mtl_parse.specs.Tokens.{Token, Placed, tokens_of}
 use Rattle.mtl_parse.specs.Grammar.{Implication, Reads}
 use Rattle.mtl_parse.specs.FormulaOf.{Begins, FormulaOf, IsUnexpected, Whole, tokens_in, first_empty_interval, scanned_in_part, empty, trailing, unexpected, cut_short, empty_interval, too_deep, formula}
 use Rattle.mtl_parse.specs.Machine.{State, begin, finish, is_whole, read_after, read_all, read_one, refusal, step, step_result}
-use Rattle.mtl_parse.proofs.Comparing.{test_fails, test_false, test_holds, test_true}
 use Rattle.mtl_parse.proofs.Completeness.{plain, run, run-reads}
 use Rattle.mtl_parse.proofs.Soundness.{reads-run}
 use Rattle.mtl_parse.proofs.Viability.{reaches, whole}
@@ -205,9 +204,9 @@ one_answer text r (cut_short ps scanned some begins other) =
 one_answer text r (empty_interval ps byte scanned w found) =
     judged_formula text ps w.0 scanned w.1 ∙ ap (λ o. judged_end (length text) o (Some w.0)) found
 one_answer text r (too_deep ps f scanned reads none high) =
-    judged_formula text ps f scanned reads ∙ ap (λ o. judged_end (length text) o (Some f)) none ∙ ap (λ v. if v then Ok f else Err (fault.TooDeep 0)) (test_false (height_of f) MAX_HEIGHT high)
+    judged_formula text ps f scanned reads ∙ ap (λ o. judged_end (length text) o (Some f)) none ∙ ap (λ v. if v then Ok f else Err (fault.TooDeep 0)) (lt-leb (height_of f) MAX_HEIGHT high)
 one_answer text r (formula ps f scanned reads none low) =
-    judged_formula text ps f scanned reads ∙ ap (λ o. judged_end (length text) o (Some f)) none ∙ ap (λ v. if v then Ok f else Err (fault.TooDeep 0)) (test_true (height_of f) MAX_HEIGHT low)
+    judged_formula text ps f scanned reads ∙ ap (λ o. judged_end (length text) o (Some f)) none ∙ ap (λ v. if v then Ok f else Err (fault.TooDeep 0)) (le-leb (height_of f) MAX_HEIGHT low)
 
 pub given_refused : (text : List ℕ) (ps : List Placed) (e : FormulaFault) → tokens_of text ≡ Ok ps → Refused begin ps e → FormulaOf text (Err e)
 given_refused text ps e scanned r = subst (λ e. FormulaOf text (Err e)) (sym r.fault) (elim (cases_Bool (is_whole r.state)) [
@@ -220,8 +219,8 @@ pub given_end : (text : List ℕ) (ps : List Placed) (s : State) → tokens_of t
 given_end text ps s scanned some h o is None none = cut_short ps scanned some (read_begins ps s h) (not_whole_read ps s h none)
 given_end text ps s scanned some h (Some byte) is (Some f) found = empty_interval ps byte scanned (f, read_formula ps s f h found) is
 given_end text ps s scanned some h None is (Some f) found = elim (cases_Bool (nat_le (height_of f) MAX_HEIGHT)) [
-  | inl low ↦ rw low (formula ps f scanned (read_formula ps s f h found) is (test_holds (height_of f) MAX_HEIGHT low))
-  | inr high ↦ rw high (too_deep ps f scanned (read_formula ps s f h found) is (test_fails (height_of f) MAX_HEIGHT high))
+  | inl low ↦ rw low (formula ps f scanned (read_formula ps s f h found) is (leb-true (height_of f) MAX_HEIGHT low))
+  | inr high ↦ rw high (too_deep ps f scanned (read_formula ps s f h found) is (leb-false (height_of f) MAX_HEIGHT high))
 ]
 
 -- a text that is a formula

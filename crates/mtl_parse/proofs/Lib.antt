@@ -1,4 +1,3 @@
-pub mod Comparing
 mod WorkedCases
 pub mod Completeness
 pub mod Soundness

@@ -12,8 +12,9 @@ use Rattle.mtl_parse.specs.Tokens.{Infix, U, S, Prefix, F, G, O, H, Placed, Toke
 use Rattle.mtl_parse.specs.Grammar.{ReadsInterval, bounded, unbounded, prefix_form, infix_form, from_to, Reads, Implication, Disjunction, Conjunction, UntilOrSince, Unary, implies, implication, or, disjunction, and, conjunction, timed, until_or_since, not as negated, prefixed as preceded, unary, constant_true, constant_false, proposition, parentheses}
 use Rattle.mtl_parse.specs.FormulaOf.{FormulaOf, formula, tokens_in}
 use Rattle.mtl_parse.specs.FormulaText.{TextsReadBack, formula_text, interval_text, joined, prefixed}
-use Rattle.mtl_parse.proofs.PrintedTokens.{Scans, both, without_places}
+use Rattle.mtl_parse.proofs.PrintedTokens.{Scans, without_places}
 use Rattle.mtl_parse.proofs.PrintedPieces.{Piece, are_in_order, arrow-piece, empty-piece, first-none, interval-piece, interval_tokens, joined-piece, prefixed-piece, proposition-piece, sign-piece, word-piece}
+use Rattle.std.proofs.lemmas.Bool.{and_parts}
 
 -- a proposition of which both words are names and the host is not reserved
 abbrev pub is_sayable : Proposition → Bool
@@ -33,10 +34,10 @@ pub record Printed (bytes : List ℕ) (f : Form) : Type 0 where
 -- what holds of all of two lists holds of all of each
 module _ {X : Type 0} (test : X → Bool) where
   pub front : (xs ys : List X) → list_all test (xs ++ ys) ≡ true → list_all test xs ≡ true
-  front xs ys h = (both (list_all test xs) (list_all test ys) (sym (list_all-append test xs ys) ∙ h)).0
+  front xs ys h = (and_parts (list_all test xs) (list_all test ys) (sym (list_all-append test xs ys) ∙ h)).0
 
   pub back : (xs ys : List X) → list_all test (xs ++ ys) ≡ true → list_all test ys ≡ true
-  back xs ys h = (both (list_all test xs) (list_all test ys) (sym (list_all-append test xs ys) ∙ h)).1
+  back xs ys h = (and_parts (list_all test xs) (list_all test ys) (sym (list_all-append test xs ys) ∙ h)).1
 
 -- the levels between a unary formula and an implication
 as_conjunction : (ts : List Token) (f : Form) → Reads Unary ts f → Reads Conjunction ts f
@@ -98,18 +99,18 @@ module _ (f g : Form) (propositions : list_all is_sayable (propositions_of f ++ 
     timed_left = record { propositions = front is_sayable (propositions_of f) (propositions_of g) propositions; intervals = front is_interval (intervals_of f) (I ∷ intervals_of g) intervals }
 
     timed_interval : is_interval I ≡ true
-    timed_interval = (both (is_interval I) (list_all is_interval (intervals_of g)) (back is_interval (intervals_of f) (I ∷ intervals_of g) intervals)).0
+    timed_interval = (and_parts (is_interval I) (list_all is_interval (intervals_of g)) (back is_interval (intervals_of f) (I ∷ intervals_of g) intervals)).0
 
     timed_right : Printable g
-    timed_right = record { propositions = back is_sayable (propositions_of f) (propositions_of g) propositions; intervals = (both (is_interval I) (list_all is_interval (intervals_of g)) (back is_interval (intervals_of f) (I ∷ intervals_of g) intervals)).1 }
+    timed_right = record { propositions = back is_sayable (propositions_of f) (propositions_of g) propositions; intervals = (and_parts (is_interval I) (list_all is_interval (intervals_of g)) (back is_interval (intervals_of f) (I ∷ intervals_of g) intervals)).1 }
 
 -- the parts of a formula behind a letter
 module _ (I : Interval) (f : Form) (propositions : list_all is_sayable (propositions_of f) ≡ true) (intervals : list_all is_interval (I ∷ intervals_of f) ≡ true) where
   first_interval : is_interval I ≡ true
-  first_interval = (both (is_interval I) (list_all is_interval (intervals_of f)) intervals).0
+  first_interval = (and_parts (is_interval I) (list_all is_interval (intervals_of f)) intervals).0
 
   operand : Printable f
-  operand = record { propositions = propositions; intervals = (both (is_interval I) (list_all is_interval (intervals_of f)) intervals).1 }
+  operand = record { propositions = propositions; intervals = (and_parts (is_interval I) (list_all is_interval (intervals_of f)) intervals).1 }
 
 words : (host name reserved : Bool) → (host && name && not reserved && true) ≡ true → (host ≡ true) × (name ≡ true) × (reserved ≡ false)
 words true true false h = (refl, refl, refl)
@@ -153,8 +154,8 @@ printed (Historically I f) v = printed-prefixed 72 H I refl (λ bs. refl) (first
 all_sayable : (ps : List Proposition) → list_all is_named ps ≡ true → list_all (λ p. not (is_reserved p.host)) ps ≡ true → list_all is_sayable ps ≡ true
 all_sayable [] names hosts = refl
 all_sayable (p ∷ ps) names hosts =
-    let named = both (is_named p) (list_all is_named ps) names in
-    let free = both (not (is_reserved p.host)) (list_all (λ q. not (is_reserved q.host)) ps) hosts in
+    let named = and_parts (is_named p) (list_all is_named ps) names in
+    let free = and_parts (not (is_reserved p.host)) (list_all (λ q. not (is_reserved q.host)) ps) hosts in
     rw (named.0, free.0, all_sayable ps named.1 free.1) refl
 
 scanned : (r : Result (List Placed) FormulaFault) (ts : List Token) → without_places r ≡ Some ts → (ps : List Placed) × (r ≡ Ok ps) × (tokens_in ps ≡ ts)

@@ -11,7 +11,8 @@ use Rattle.mt_model.specs.Name.{is_name, is_name_byte}
 use Rattle.mtl_parse.specs.Tokens.{Found, Placed, Token, Open, Close, OpenBracket, CloseBracket, Comma, Dot, Arrow, Number, Word, is_blank, lexeme_at}
 use Rattle.mtl_parse.specs.FormulaOf.{begins_with_empty_interval, first_empty_interval, tokens_in}
 use Rattle.mtl_parse.specs.FormulaText.{high_text, interval_text, joined, prefixed}
-use Rattle.mtl_parse.proofs.PrintedTokens.{Scans, begins_with, both, scans-blank, scans-number, scans-token, scans-word}
+use Rattle.mtl_parse.proofs.PrintedTokens.{Scans, begins_with, scans-blank, scans-number, scans-token, scans-word}
+use Rattle.std.proofs.lemmas.Bool.{and_parts}
 
 -- no interval in the tokens has its bounds exchanged
 abbrev pub are_in_order : List Token → Bool
@@ -37,7 +38,7 @@ BoundsAreSound low high = option_map_or (λ b. nat_le b MAX_DISTANCE && nat_le l
 
 high_within : (low : ℕ) (high : Option ℕ) → BoundsAreSound low high → option_map_or (λ b. nat_le b MAX_DISTANCE) high true ≡ true
 high_within low None h = refl
-high_within low (Some b) h = (both (nat_le b MAX_DISTANCE) (nat_le low b) h).0
+high_within low (Some b) h = (and_parts (nat_le b MAX_DISTANCE) (nat_le low b) h).0
 
 scans-high : {rest : List ℕ} {ts : List Token} (high : Option ℕ) → option_map_or (λ b. nat_le b MAX_DISTANCE) high true ≡ true → begins_with is_name_byte rest ≡ false → Scans rest ts → Scans (high_text high ++ rest) (high_token high ∷ ts)
 scans-high (Some b) within cut s = scans-number b within cut s
@@ -49,7 +50,7 @@ not_below low b h = grind (arith, nat_tests)
 bounds-in_order : (low : ℕ) (high : Option ℕ) (more : List Token) → BoundsAreSound low high → are_in_order more ≡ true → are_in_order (OpenBracket ∷ Number low ∷ Comma ∷ high_token high ∷ CloseBracket ∷ more) ≡ true
 bounds-in_order low None more sound h = h
 bounds-in_order low (Some b) more sound h =
-    let right : nat_lt b low ≡ false = not_below low b (both (nat_le b MAX_DISTANCE) (nat_le low b) sound).1 in
+    let right : nat_lt b low ≡ false = not_below low b (and_parts (nat_le b MAX_DISTANCE) (nat_le low b) sound).1 in
     rw right h
 
 interval-rest : (I : Interval) (rest : List ℕ) → interval_text I ++ rest ≡ 91 ∷ (decimal I.low ++ 44 ∷ (high_text I.high ++ 93 ∷ rest))
@@ -57,7 +58,7 @@ interval-rest I rest = simp append_assoc
 
 pub interval-piece : (I : Interval) → is_interval I ≡ true → Piece (interval_text I) (interval_tokens I)
 interval-piece I sound =
-    let parts = both (nat_le I.low MAX_DISTANCE) (option_map_or (λ b. nat_le b MAX_DISTANCE && nat_le I.low b) I.high true) sound in
+    let parts = and_parts (nat_le I.low MAX_DISTANCE) (option_map_or (λ b. nat_le b MAX_DISTANCE && nat_le I.low b) I.high true) sound in
     record {
       scans = λ rest more cut s. rw (interval-rest I rest)
           (scans-token 91 [] OpenBracket refl refl (scans-number I.low parts.0 refl (scans-token 44 [] Comma refl refl (scans-high I.high (high_within I.low I.high parts.1) refl (scans-token 93 [] CloseBracket refl refl s)))));

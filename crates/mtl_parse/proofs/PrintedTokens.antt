@@ -1,6 +1,6 @@
 -- The tokens of printed bytes, wherever they stand and whatever stands behind them.
 use Rattle.std.proofs.Common.{◌≡◌, ◌∙◌, ap, refl, arith, rules, ℕ, ◌+◌, ◌-◌, ◌^◌, ◌<◌, zero, suc, Bool, true, false, List, [], ◌∷◌, ◌++◌, length, get_or, Option, Some, None, Result, Ok, Err}
-use Rattle.std.specs.Prelude.{◌&&◌, nat_le, take_while}
+use Rattle.std.specs.Prelude.{nat_le, take_while}
 use Rattle.std.specs.List.{list_all}
 use Rattle.std.specs.Fmt.{decimal}
 use Rattle.std.specs.Str.Parse.{digits_value}
@@ -13,6 +13,8 @@ use Rattle.mt_model.specs.Name.{is_digit, is_letter, is_name, is_name_byte}
 use Rattle.mtl_parse.specs.declared.fault.FormulaFault.{FormulaFault}
 use Rattle.mtl_parse.specs.Tokens.{Found, Placed, Token, Number, Word, has_leading_zero, is_blank, lexeme_at, number_lexeme, tokens_from, with_token, word_lexeme}
 use Rattle.mtl_parse.specs.FormulaOf.{tokens_in}
+use Rattle.std.proofs.lemmas.Bool.{and_parts}
+use Rattle.mt_model.proofs.TruthLemmas.{and_3}
 
 abbrev pub without_places : Result (List Placed) FormulaFault → Option (List Token)
 without_places (Ok ps) = Some (tokens_in ps)
@@ -47,17 +49,13 @@ scans-token {rest} {ts} b inner t solid lexeme s = record {
       ap without_places (passed inner rest (place + 1) (place + 1 + length inner) refl) ∙ s.at (place + 1 + length inner)));
 }
 
-pub both : (a b : Bool) → (a && b) ≡ true → (a ≡ true) × (b ≡ true)
-both true b h = (refl, h)
-both false b h = cc
-
 -- a run that is cut off by what stands behind it
 pub run : (test : ℕ → Bool) (bytes rest : List ℕ) → list_all test bytes ≡ true → begins_with test rest ≡ false → take_while test (bytes ++ rest) ≡ bytes
 run test [] [] passes cut = refl
 run test [] (c ∷ cs) passes cut = take_while-cons test c cs ∙ rw cut refl
 run test (b ∷ bs) rest passes cut =
-    let first : test b ≡ true = (both (test b) (list_all test bs) passes).0 in
-    take_while-cons test b (bs ++ rest) ∙ rw first (ap (λ cs. b ∷ cs) (run test bs rest (both (test b) (list_all test bs) passes).1 cut))
+    let first : test b ≡ true = (and_parts (test b) (list_all test bs) passes).0 in
+    take_while-cons test b (bs ++ rest) ∙ rw first (ap (λ cs. b ∷ cs) (run test bs rest (and_parts (test b) (list_all test bs) passes).1 cut))
 
 pub letter_no_blank : (b : ℕ) → is_letter b ≡ true → is_blank b ≡ false
 letter_no_blank b h = grind (arith, nat_tests)
@@ -85,16 +83,11 @@ word_here b bs letter = rw letter refl
 pub whole_word : (b : ℕ) (bs : List ℕ) → nat_le (length (b ∷ bs)) MAX_NAME_LENGTH ≡ true → word_lexeme (b ∷ bs) ≡ Found (Word (b ∷ bs)) (length bs)
 whole_word b bs short = rw short (ap (Found (Word (b ∷ bs))) (let less : length (b ∷ bs) - 1 ≡ length bs = omega arith in less))
 
-pub name_parts : (letter passes short : Bool) → (letter && passes && short) ≡ true → (letter ≡ true) × (passes ≡ true) × (short ≡ true)
-name_parts true true short h = (refl, refl, h)
-name_parts true false short h = cc
-name_parts false passes short h = cc
-
 -- a name is a word
 pub scans-word : {rest : List ℕ} {ts : List Token} (name : List ℕ) → is_name name ≡ true → begins_with is_name_byte rest ≡ false → Scans rest ts → Scans (name ++ rest) (Word name ∷ ts)
 scans-word [] name cut s = absurd (cc)
 scans-word {rest} (b ∷ bs) name cut s =
-    let parts = name_parts (is_letter b) (list_all is_name_byte bs) (nat_le (length (b ∷ bs)) MAX_NAME_LENGTH) name in
+    let parts = and_3 (is_letter b) (list_all is_name_byte bs) (nat_le (length (b ∷ bs)) MAX_NAME_LENGTH) name in
     let whole = run is_name_byte (b ∷ bs) rest (name_passes b bs parts.0 parts.1) cut in
     scans-token b bs (Word (b ∷ bs)) (letter_no_blank b parts.0) (word_here b (bs ++ rest) parts.0 ∙ ap word_lexeme whole ∙ whole_word b bs parts.2) s
 
@@ -120,7 +113,7 @@ whole_number n b bs plain value within = rw (value, plain, within) (ap (Found (N
 digits : {rest : List ℕ} {ts : List Token} (n : ℕ) (ds : List ℕ) → list_all is_digit ds ≡ true → 0 < length ds → has_leading_zero ds ≡ false → digits_value 10 ds ≡ n → nat_le n MAX_DISTANCE ≡ true → begins_with is_digit rest ≡ false → Scans rest ts → Scans (ds ++ rest) (Number n ∷ ts)
 digits n [] passes some plain value within cut s = absurd (omega arith)
 digits {rest} n (b ∷ bs) passes some plain value within cut s =
-    let digit = (both (is_digit b) (list_all is_digit bs) passes).0 in
+    let digit = (and_parts (is_digit b) (list_all is_digit bs) passes).0 in
     let whole = run is_digit (b ∷ bs) rest passes cut in
     scans-token b bs (Number n) (digit_no_blank b digit) (number_here b (bs ++ rest) digit ∙ ap number_lexeme whole ∙ whole_number n b bs plain value within) s
 

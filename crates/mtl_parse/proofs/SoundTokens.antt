@@ -11,6 +11,7 @@ use Rattle.mtl_parse.specs.declared.fault.FormulaFault.{FormulaFault}
 use Rattle.mtl_parse.specs.Tokens.{U, S, F, G, O, H, Open, Close, OpenBracket, CloseBracket, Comma, Dot, Bang, Ampersand, Bar, Arrow, InfixLetter, PrefixLetter, Number, Placed, Lexeme, Found, NoToken, BadNumber, arrow_lexeme, has_leading_zero, is_blank, lexeme_at, number_lexeme, sign_lexeme, then_tokens, tokens_from, tokens_of, with_token, word_lexeme}
 use Rattle.mtl_parse.specs.Machine.{is_sound}
 use Rattle.mtl_parse.proofs.Digits.{run_passes}
+use Rattle.mtl_parse.proofs.TokenLexemes.{name_byte}
 
 -- a token that was found is sound
 abbrev pub SoundIfFound : Lexeme → Type 0
@@ -36,12 +37,9 @@ sign_sound false false false false false false false false false false false fal
 sign_sound false false false false false false false false false false false false false false true = refl
 sign_sound false false false false false false false false false false false false false false false = tt
 
-letter_goes_on : (b : ℕ) → is_letter b ≡ true → is_name_byte b ≡ true
-letter_goes_on b h = rw h refl
-
 word_sound : (b : ℕ) (bs : List ℕ) → is_letter b ≡ true → SoundIfFound (word_lexeme (take_while is_name_byte (b ∷ bs)))
 word_sound b bs letter =
-    let goes_on : is_name_byte b ≡ true = letter_goes_on b letter in
+    let goes_on : is_name_byte b ≡ true = name_byte b letter in
     let word : take_while is_name_byte (b ∷ bs) ≡ b ∷ take_while is_name_byte bs = take_while-cons is_name_byte b bs ∙ rw goes_on refl in
     let passes = run_passes is_name_byte bs in
     rw word (elim (cases_Bool (nat_le (length (b ∷ take_while is_name_byte bs)) MAX_NAME_LENGTH)) [

@@ -1,7 +1,7 @@
 -- What tokens lead to is a formula that they are.
 use Rattle.std.proofs.Common.{◌≡◌, ◌∙◌, sym, ap, refl, subst, arith, ℕ, ◌≤◌, ◌<◌, true, false, List, [], ◌∷◌, ◌++◌, append_assoc, append-nil, Option, Some, None, inl, inr}
 use Rattle.std.specs.Prelude.{nat_le, bytes_eq, codes, option_and_then}
-use Rattle.std.proofs.lemmas.Bool.{cases_Bool}
+use Rattle.std.proofs.lemmas.Bool.{cases_Bool, leb-true, leb-false}
 use Rattle.std.proofs.lemmas.Slice.Eq.{bytes_eq-Decides}
 use Rattle.mt_model.specs.declared.tree.Interval.{Interval}
 use Rattle.mt_model.specs.Form.{Form, True, False, Prop}
@@ -9,7 +9,6 @@ use Rattle.mt_model.specs.Name.{is_reserved}
 use Rattle.mtl_parse.specs.Tokens.{Infix, Token, Open, Close, OpenBracket, CloseBracket, Comma, Dot, Bang, Ampersand, Bar, Arrow, InfixLetter, PrefixLetter, Number, Word}
 use Rattle.mtl_parse.specs.Grammar.{Level, Implication, Disjunction, Conjunction, UntilOrSince, Unary, Atom, Reads, ReadsInterval, from_to, everything, bounded, unbounded, implies, implication, or, disjunction, and, conjunction, timed, until_or_since, not, prefixed, unary, constant_true, constant_false, proposition, parentheses}
 use Rattle.mtl_parse.specs.Machine.{Letter, OfOne, OfTwo, Pending, Opened, Negation, Timed, LeftOfAnd, LeftOfOr, LeftOfImplies, Stage, Wanted, HostRead, DotRead, LetterRead, BracketRead, LowRead, CommaRead, HighRead, Read, State, Completed, after_word, applied, begin, closed, complete, finish_at, finished, left_of, letter_after, letter_strength, step, step_at, step_wanted, step_host, step_dot, step_letter, step_bracket, step_low, step_comma, step_high, step_read, strength}
-use Rattle.mtl_parse.proofs.Comparing.{test_fails, test_holds}
 use Rattle.mtl_parse.proofs.Completeness.{plain, rank, run, top_strength}
 
 -- a formula of a level is one of each level that binds less tightly
@@ -179,13 +178,13 @@ complete_reads : (n : ℕ) (stack : List Pending) (f : Form) (o a : List Token) 
 complete_reads n [] f o a level some read r h tight = record { out = o; inner = a; level = level; split = refl; below = read; reads = r; fits = h; tight = tight; low = some }
 complete_reads n (p ∷ ps) f o a level some read r h tight = elim (cases_Bool (nat_le n (strength p))) [
   | inl more ↦
-      let enough : n ≤ strength p = test_holds n (strength p) more in
+      let enough : n ≤ strength p = leb-true n (strength p) more in
       let is_some : 0 < strength p = omega arith in
       let strong : strength p ≤ rank (made p) = made_strength p is_some in
       let whole : read.0 ++ (read.1 ++ a) ≡ o ++ a = sym (ap (λ xs. xs ++ a) read.2 ∙ append_assoc read.0 read.1 a) in
       rw more (subst (λ xs. Reduced n (complete plain n ps (applied p f)).stack (complete plain n ps (applied p f)).form xs) whole
       (complete_reads n ps (applied p f) read.0 (read.1 ++ a) (made p) some read.3 (applied_reads p read.1 a level f read.4 r h is_some) read.5 (omega arith)))
-  | inr less ↦ rw less (record { out = o; inner = a; level = level; split = refl; below = read; reads = r; fits = h; tight = tight; low = test_fails n (strength p) less })
+  | inr less ↦ rw less (record { out = o; inner = a; level = level; split = refl; below = read; reads = r; fits = h; tight = tight; low = leb-false n (strength p) less })
 ]
 
 takes_few : (stack : List Pending) → takes stack ≤ 5

@@ -16,7 +16,9 @@ use Rattle.mtl_parse.specs.Tokens.{U, S, F, G, O, H, Token, Open, Close, OpenBra
 use Rattle.mtl_parse.specs.Machine.{is_sound}
 use Rattle.mtl_parse.specs.TokenTexts.{is_longest, token_text}
 use Rattle.mtl_parse.proofs.Digits.{run_passes}
-use Rattle.mtl_parse.proofs.PrintedTokens.{begins_with, both, digit_no_blank, digits_model, letter_no_blank, name_parts, name_passes, no_leading_zero, number_here, run, whole_number, whole_word, word_here}
+use Rattle.mtl_parse.proofs.PrintedTokens.{begins_with, digit_no_blank, digits_model, letter_no_blank, name_passes, no_leading_zero, number_here, run, whole_number, whole_word, word_here}
+use Rattle.std.proofs.lemmas.Bool.{not-true, and_parts}
+use Rattle.mt_model.proofs.TruthLemmas.{and_3}
 
 -- the token's text stands at these bytes, of which so many follow the first, and is as long as it can be
 pub record StandsAt (b : ℕ) (bs : List ℕ) (t : Token) (more : ℕ) : Type 0 where
@@ -113,7 +115,7 @@ not_going_on : (t : Token) (test : ℕ → Bool) → ((b : ℕ) (bs : List ℕ) 
 not_going_on t test is [] cut = refl
 not_going_on t test is (b ∷ bs) cut = is b bs ∙ ap not cut
 
-name_byte : (b : ℕ) → is_letter b ≡ true → is_name_byte b ≡ true
+pub name_byte : (b : ℕ) → is_letter b ≡ true → is_name_byte b ≡ true
 name_byte b letter = rw letter refl
 
 word_stands : (b : ℕ) (bs : List ℕ) → is_letter b ≡ true → StandsIfFound b bs (word_lexeme (take_while is_name_byte (b ∷ bs)))
@@ -128,7 +130,7 @@ word_stands b bs letter = by (nat_le (length (take_while is_name_byte (b ∷ bs)
 -- a run of digits that is a number is what is written of its value
 is_number_run : (run : List ℕ) → list_all is_digit run ≡ true → 0 < length run → has_leading_zero run ≡ false → is_number run ≡ true
 is_number_run [] digits some plain = absurd (omega arith)
-is_number_run (b ∷ []) digits some plain = (both (is_digit b) true digits).0
+is_number_run (b ∷ []) digits some plain = (and_parts (is_digit b) true digits).0
 is_number_run (b ∷ c ∷ bs) digits some plain = rw plain digits
 
 pub number_written : (run : List ℕ) → list_all is_digit run ≡ true → 0 < length run → has_leading_zero run ≡ false → nat_le (digits_value 10 run) MAX_DISTANCE ≡ true → decimal (digits_value 10 run) ≡ run
@@ -245,29 +247,25 @@ pub record IsFound (t : Token) (after : List ℕ) : Type 0 where
   pub solid : is_blank first ≡ false
   pub found : lexeme_at first (more ++ after) ≡ Found t (length more)
 
-not-cut : (b : Bool) → not b ≡ true → b ≡ false
-not-cut true h = cc
-not-cut false h = refl
-
 word_cut : (bytes after : List ℕ) → is_longest (Word bytes) after ≡ true → begins_with is_name_byte after ≡ false
 word_cut bytes [] h = refl
-word_cut bytes (b ∷ bs) h = not-cut (is_name_byte b) h
+word_cut bytes (b ∷ bs) h = not-true (is_name_byte b) h
 
 number_cut : (n : ℕ) (after : List ℕ) → is_longest (Number n) after ≡ true → begins_with is_digit after ≡ false
 number_cut n [] h = refl
-number_cut n (b ∷ bs) h = not-cut (is_digit b) h
+number_cut n (b ∷ bs) h = not-true (is_digit b) h
 
 word_found : (bytes after : List ℕ) → is_name bytes ≡ true → is_longest (Word bytes) after ≡ true → IsFound (Word bytes) after
 word_found [] after name longest = absurd (cc)
 word_found (b ∷ bs) after name longest =
-    let parts = name_parts (is_letter b) (list_all is_name_byte bs) (nat_le (length (b ∷ bs)) MAX_NAME_LENGTH) name in
+    let parts = and_3 (is_letter b) (list_all is_name_byte bs) (nat_le (length (b ∷ bs)) MAX_NAME_LENGTH) name in
     let whole = run is_name_byte (b ∷ bs) after (name_passes b bs parts.0 parts.1) (word_cut (b ∷ bs) after longest) in
     record { first = b; more = bs; text = refl; solid = letter_no_blank b parts.0; found = word_here b (bs ++ after) parts.0 ∙ ap word_lexeme whole ∙ whole_word b bs parts.2 }
 
 digits_found : (n : ℕ) (ds after : List ℕ) → decimal n ≡ ds → list_all is_digit ds ≡ true → 0 < length ds → has_leading_zero ds ≡ false → digits_value 10 ds ≡ n → nat_le n MAX_DISTANCE ≡ true → begins_with is_digit after ≡ false → IsFound (Number n) after
 digits_found n [] after is passes some plain value within cut = absurd (omega arith)
 digits_found n (b ∷ bs) after is passes some plain value within cut =
-    let digit = (both (is_digit b) (list_all is_digit bs) passes).0 in
+    let digit = (and_parts (is_digit b) (list_all is_digit bs) passes).0 in
     let whole = run is_digit (b ∷ bs) after passes cut in
     record { first = b; more = bs; text = is; solid = digit_no_blank b digit; found = number_here b (bs ++ after) digit ∙ ap number_lexeme whole ∙ whole_number n b bs plain value within }
 

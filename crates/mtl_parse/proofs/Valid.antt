@@ -14,6 +14,7 @@ use Rattle.mtl_parse.specs.Grammar.{Level, Implication, Reads, ReadsInterval, pr
 use Rattle.mtl_parse.specs.FormulaOf.{begins_below, begins_with_empty_interval, first_empty_interval, has_bound_below, has_bounds_exchanged, tokens_in}
 use Rattle.mtl_parse.specs.Machine.{is_sound}
 use Rattle.mtl_parse.proofs.SoundTokens.{tokens-few, tokens-sound}
+use Rattle.std.proofs.lemmas.Bool.{and_from, and_parts}
 
 -- an interval somewhere in the tokens is empty
 abbrev has_empty : List Token → Bool
@@ -71,19 +72,11 @@ record Good (ts : List Token) : Type 0 where
   sound : list_all is_sound ts ≡ true
   whole : has_empty ts ≡ false
 
-and_left : (a b : Bool) → (a && b) ≡ true → a ≡ true
-and_left true b h = refl
-and_left false b h = cc
-
-and_right : (a b : Bool) → (a && b) ≡ true → b ≡ true
-and_right true b h = h
-and_right false b h = absurd (cc)
-
 good_left : (xs ys : List Token) → Good (xs ++ ys) → Good xs
-good_left xs ys g = record { sound = and_left (list_all is_sound xs) (list_all is_sound ys) (sym (list_all-append is_sound xs ys) ∙ g.sound); whole = empty_left xs ys g.whole }
+good_left xs ys g = record { sound = (and_parts (list_all is_sound xs) (list_all is_sound ys) (sym (list_all-append is_sound xs ys) ∙ g.sound)).0; whole = empty_left xs ys g.whole }
 
 good_right : (xs ys : List Token) → Good (xs ++ ys) → Good ys
-good_right xs ys g = record { sound = and_right (list_all is_sound xs) (list_all is_sound ys) (sym (list_all-append is_sound xs ys) ∙ g.sound); whole = empty_right xs ys g.whole }
+good_right xs ys g = record { sound = (and_parts (list_all is_sound xs) (list_all is_sound ys) (sym (list_all-append is_sound xs ys) ∙ g.sound)).1; whole = empty_right xs ys g.whole }
 
 good_rest : (t : Token) (ts : List Token) → Good (t ∷ ts) → Good ts
 good_rest t ts g = good_right (t ∷ []) ts g
@@ -101,19 +94,16 @@ record Parts (ps : List Proposition) (is : List Interval) (n : ℕ) : Type 0 whe
   intervals : list_all is_interval is ≡ true
   few : length ps ≤ n
 
-both : (a b : Bool) → a ≡ true → b ≡ true → (a && b) ≡ true
-both a b h k = rw (h, k) refl
-
 two_parts : (ps qs : List Proposition) (is js : List Interval) (n m k : ℕ) → n + m ≤ k → Parts ps is n → Parts qs js m → Parts (ps ++ qs) (is ++ js) k
 two_parts ps qs is js n m k fits p q = let first = p.few in let second = q.few in record {
-  names = list_all-append is_named ps qs ∙ both (list_all is_named ps) (list_all is_named qs) p.names q.names;
-  hosts = list_all-append is_free ps qs ∙ both (list_all is_free ps) (list_all is_free qs) p.hosts q.hosts;
-  intervals = list_all-append is_interval is js ∙ both (list_all is_interval is) (list_all is_interval js) p.intervals q.intervals;
+  names = list_all-append is_named ps qs ∙ and_from (list_all is_named ps) (list_all is_named qs) p.names q.names;
+  hosts = list_all-append is_free ps qs ∙ and_from (list_all is_free ps) (list_all is_free qs) p.hosts q.hosts;
+  intervals = list_all-append is_interval is js ∙ and_from (list_all is_interval is) (list_all is_interval js) p.intervals q.intervals;
   few = omega (arith, length-append ps qs, first, second);
 }
 
 with_interval : (I : Interval) (ps : List Proposition) (is : List Interval) (n k : ℕ) → n ≤ k → is_interval I ≡ true → Parts ps is n → Parts ps (I ∷ is) k
-with_interval I ps is n k fits ok p = let first = p.few in record { names = p.names; hosts = p.hosts; intervals = both (is_interval I) (list_all is_interval is) ok p.intervals; few = omega (arith, first) }
+with_interval I ps is n k fits ok p = let first = p.few in record { names = p.names; hosts = p.hosts; intervals = and_from (is_interval I) (list_all is_interval is) ok p.intervals; few = omega (arith, first) }
 
 more_room : (ps : List Proposition) (is : List Interval) (n k : ℕ) → n ≤ k → Parts ps is n → Parts ps is k
 more_room ps is n k fits p = let first = p.few in record { names = p.names; hosts = p.hosts; intervals = p.intervals; few = omega (arith, first) }
@@ -125,12 +115,12 @@ interval_good : {ts : List Token} {I : Interval} → ReadsInterval ts I → Good
 interval_good everything g = refl
 interval_good (bounded low high) g =
     let sound = g.sound in
-    let low_is : nat_le low MAX_DISTANCE ≡ true = and_left (nat_le low MAX_DISTANCE) (nat_le high MAX_DISTANCE && true) sound in
-    let high_is : nat_le high MAX_DISTANCE ≡ true = and_left (nat_le high MAX_DISTANCE) true (and_right (nat_le low MAX_DISTANCE) (nat_le high MAX_DISTANCE && true) sound) in
+    let low_is : nat_le low MAX_DISTANCE ≡ true = (and_parts (nat_le low MAX_DISTANCE) (nat_le high MAX_DISTANCE && true) sound).0 in
+    let high_is : nat_le high MAX_DISTANCE ≡ true = (and_parts (nat_le high MAX_DISTANCE) true ((and_parts (nat_le low MAX_DISTANCE) (nat_le high MAX_DISTANCE && true) sound).1)).0 in
     let order : nat_le low high ≡ true = not_less low high g.whole in
     rw (low_is, high_is, order) refl
 interval_good (unbounded low) g =
-    let low_is : nat_le low MAX_DISTANCE ≡ true = and_left (nat_le low MAX_DISTANCE) true g.sound in
+    let low_is : nat_le low MAX_DISTANCE ≡ true = (and_parts (nat_le low MAX_DISTANCE) true g.sound).0 in
     rw low_is refl
 
 before_parts : (op : Prefix) (I : Interval) (f : Form) (n k : ℕ) → n ≤ k → is_interval I ≡ true → Parts (propositions_of f) (intervals_of f) n → Parts (propositions_of (prefix_form op I f)) (intervals_of (prefix_form op I f)) k
@@ -175,14 +165,14 @@ parts constant_true good = record { names = refl; hosts = refl; intervals = refl
 parts constant_false good = record { names = refl; hosts = refl; intervals = refl; few = omega arith }
 parts (proposition host name free) good =
     let sound = good.sound in
-    prop_parts host name (length (Word host ∷ Dot ∷ Word name ∷ [])) free (and_left (is_name host) (is_name name && true) sound) (and_left (is_name name) true (and_right (is_name host) (is_name name && true) sound)) (omega arith)
+    prop_parts host name (length (Word host ∷ Dot ∷ Word name ∷ [])) free ((and_parts (is_name host) (is_name name && true) sound).0) ((and_parts (is_name name) true ((and_parts (is_name host) (is_name name && true) sound).1)).0) (omega arith)
 parts (parentheses inner ts f e r) good =
     let rest = good_rest Open (inner ++ Close ∷ []) (good_as ts (Open ∷ inner ++ Close ∷ []) e good) in
     more_room (propositions_of f) (intervals_of f) (length inner) (length ts) (omega (arith, ap length e, length-append inner (Close ∷ []))) (parts r (good_left inner (Close ∷ []) rest))
 
 sound_in : (ps : List Placed) → list_all (λ p. is_sound p.token) ps ≡ true → list_all is_sound (tokens_in ps) ≡ true
 sound_in [] h = refl
-sound_in (p ∷ ps) h = both (is_sound p.token) (list_all is_sound (tokens_in ps)) (and_left (is_sound p.token) (list_all (λ p. is_sound p.token) ps) h) (sound_in ps (and_right (is_sound p.token) (list_all (λ p. is_sound p.token) ps) h))
+sound_in (p ∷ ps) h = and_from (is_sound p.token) (list_all is_sound (tokens_in ps)) ((and_parts (is_sound p.token) (list_all (λ p. is_sound p.token) ps) h).0) (sound_in ps ((and_parts (is_sound p.token) (list_all (λ p. is_sound p.token) ps) h).1))
 
 -- the formula that a text is, is valid
 pub text-valid : (text : List ℕ) (ps : List Placed) (f : Form) → length text < 2 ^ 31 → tokens_of text ≡ Ok ps → Reads Implication (tokens_in ps) f → first_empty_interval ps ≡ None → height_of f ≤ MAX_HEIGHT → IsFormula f

@@ -3,7 +3,7 @@ use Rattle.std.proofs.Common.{◌≡◌, ◌∙◌, sym, subst, refl, ℕ, zero,
 use Rattle.std.specs.Prelude.{slice_index, replicate}
 use Rattle.std.specs.List.{list_any}
 use Rattle.std.proofs.lemmas.Int.{ints}
-use Rattle.std.proofs.lemmas.Bool.{cases_eq, cases_lt, cases_Bool}
+use Rattle.std.proofs.lemmas.Bool.{cases_eq, cases_lt, cases_Bool, or_cases}
 use Rattle.std.proofs.lemmas.Bool.Decides.{nat_tests}
 use Rattle.std.proofs.lemmas.List.{length-replicate, get_or-replicate, length-map}
 use Rattle.neg_cycle.specs.declared.system.Edge.{Edge}
@@ -11,7 +11,6 @@ use Rattle.neg_cycle.specs.declared.outcome.Outcome.TheVariants.{Potential, Cycl
 use Rattle.neg_cycle.specs.Systems.{IsSystem, number_of, Meets, edge_at}
 use Rattle.neg_cycle.specs.Search.{nodes_of, IsBest, room}
 use Rattle.neg_cycle.specs.Laws.{HasOutcome, SystemsHaveOutcomes}
-use Rattle.neg_cycle.proofs.WalkLemmas.{any_cases}
 use Rattle.neg_cycle.proofs.LabelLemmas.{all_met, refutes, room_less, best_other, best_new, best_start}
 
 int_cases : (x y : ℤ) → (x ≤ℤ y) ⊎ (y <ℤ x)
@@ -44,7 +43,7 @@ record StandsAt (node : ℕ) (ns : List ℕ) : Type 0 where
 
 stands_at : (node : ℕ) (ns : List ℕ) → list_any (eqb node) ns ≡ true → StandsAt node ns
 stands_at node [] found = absurd (cc)
-stands_at node (n ∷ ns) found = elim (any_cases (eqb node n) (list_any (eqb node) ns) found) [
+stands_at node (n ∷ ns) found = elim (or_cases (eqb node n) (list_any (eqb node) ns) found) [
   | inl e ↦ record { index = 0; within = omega arith; here = grind (arith, nat_tests) }
   | inr r ↦
       let rest = stands_at node ns r in

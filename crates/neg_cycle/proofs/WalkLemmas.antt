@@ -1,5 +1,5 @@
 -- Walks that are joined and cut, their sums, and the nodes that they visit.
-use Rattle.std.proofs.Common.{◌≡◌, ◌≢◌, ◌∙◌, ap, sym, subst, refl, ℕ, zero, suc, ◌+◌, ◌<◌, ◌≤◌, List, [], ◌∷◌, ◌++◌, length, map, take, drop, arith, get_or, pos, ◌+ℤ◌, eqb, Bool, true, false, ◌||◌, ◌⊎◌, inl, inr}
+use Rattle.std.proofs.Common.{◌≡◌, ◌≢◌, ◌∙◌, ap, sym, subst, refl, ℕ, zero, suc, ◌+◌, ◌<◌, ◌≤◌, List, [], ◌∷◌, ◌++◌, length, map, take, drop, arith, get_or, pos, ◌+ℤ◌, eqb, Bool, true, false, ◌||◌, inl, inr}
 use Rattle.std.specs.Prelude.{All, AllPairs, slice_index}
 use Rattle.std.specs.List.{IsDistinct, AllByRecursion, list_any}
 use Rattle.std.proofs.lemmas.Int.{ints}
@@ -13,6 +13,8 @@ use Rattle.std.proofs.lemmas.Map.Made.{AllPairs-from_IsDistinct}
 use Rattle.neg_cycle.specs.declared.system.Edge.{Edge}
 use Rattle.neg_cycle.specs.Systems.{IsEdge, edge_at, LeadsTo, IsClosedWalk, VisitsOnce, sum_of_bounds}
 use Rattle.neg_cycle.specs.Search.{nodes_of, IsTrail}
+use Rattle.std.proofs.lemmas.Bool.{or_cases}
+use Rattle.mt_list.proofs.Lists.{first_below}
 
 module _ (edges : List Edge) where
   walk_join : (a b c : ℕ) (ps qs : List ℕ) → LeadsTo edges a ps b → LeadsTo edges b qs c → LeadsTo edges a (ps ++ qs) c
@@ -92,13 +94,6 @@ distinct_drop zero xs d = d
 distinct_drop (suc n) [] d = tt
 distinct_drop (suc n) (x ∷ xs) d = distinct_drop n xs d.1
 
-pub any_cases : (p q : Bool) → (p || q) ≡ true → (p ≡ true) ⊎ (q ≡ true)
-any_cases true q e = inl refl
-any_cases false q e = inr e
-
-first_below : {n : ℕ} (q a : ℕ) → a < n → eqb q a ≡ true → q < n
-first_below q a start e = grind (arith, nat_tests)
-
 -- what a search along a walk knows of one more node
 pub visited_more : (node here : ℕ) (ns : List ℕ) (i : ℕ) → i < length ns → list_any (eqb node) (take i ns) ≡ false → here ≡ slice_index ns i → (here ≡ node → ⊥) → list_any (eqb node) (take (i + 1) ns) ≡ false
 visited_more node here ns i below before at other =
@@ -142,8 +137,8 @@ module _ (nodes : ℕ) (edges : List Edge) where
 
   module _ (all : All (IsEdge nodes) edges) where
     visits_below : (a b : ℕ) (ps : List ℕ) → a < nodes → LeadsTo edges a ps b → (q : ℕ) → list_any (eqb q) (nodes_of edges a ps) ≡ true → q < nodes
-    visits_below a b [] start w q found = elim (any_cases (eqb q a) false found) [ inl e ↦ first_below q a start e | inr r ↦ absurd cc ]
-    visits_below a b (p ∷ ps) start w q found = elim (any_cases (eqb q a) (list_any (eqb q) (nodes_of edges (edge_at edges p).to ps)) found) [
+    visits_below a b [] start w q found = elim (or_cases (eqb q a) false found) [ inl e ↦ first_below q a start e | inr r ↦ absurd cc ]
+    visits_below a b (p ∷ ps) start w q found = elim (or_cases (eqb q a) (list_any (eqb q) (nodes_of edges (edge_at edges p).to ps)) found) [
       | inl e ↦ first_below q a start e
       | inr r ↦ visits_below (edge_at edges p).to b ps (all p (record { from = 0; to = 0; bound = pos 0 }) w.0).to w.2 q r
     ]

@@ -138,11 +138,12 @@ module _ (s : Sought) (lines : List Line) where
 
     -- a line that isn't good is the first wrong one
     pub judged_wrong : (IsNext s kept line → ⊥) → OfSought s (λ log f v. IsAnswer log f v lines (check.Wrong (i + 1)))
-    judged_wrong wrong log f v sought = answer_wrong log f v lines (i + 1) (first_wrong log f v lines i low (judged.good log f v sought) (elim (empty_or (option_map clause_of_line (line_at lines i))) [
-      | inl empty ↦ inr empty
-      | inr unended ↦ inl (λ right.
-          wrong (right_next lines i kept within judged.same s line (subst (λ (x : Sought). IsRight x lines (i + 1) line) (sym sought) (there_right log f v lines (i + 1) line there right)) unended))
-    ]))
+    judged_wrong wrong log f v sought =
+        answer_wrong log f v lines (i + 1) (first_wrong log f v lines i low (judged.good log f v sought) (elim (empty_or (option_map clause_of_line (line_at lines i))) [
+          | inl empty ↦ inr empty
+          | inr unended ↦ inl (λ right.
+              wrong (right_next lines i kept within judged.same s line (subst (λ (x : Sought). IsRight x lines (i + 1) line) (sym sought) (there_right log f v lines (i + 1) line there right)) unended))
+        ]))
 
   -- where all were judged
   pub judged_all : (n : ℕ) (kept : List (List Literal)) (c : Check) → n ≡ length lines → AreJudged s lines n kept
@@ -153,7 +154,8 @@ module _ (s : Sought) (lines : List Line) where
       let empty_same = empty_same lines n kept (omega (arith, all)) judged.same in
       elim (empty_or (option_map clause_of_line (line_at lines n))) [
         | inl empty ↦ subst (IsAnswer log f v lines) (sym (refutes (empty_same.1 empty))) (answer_refutes log f v lines good (subst (IsEmptyAt lines) all empty))
-        | inr unended ↦ subst (IsAnswer log f v lines) (sym (derives (λ empty. unended (empty_same.0 empty)))) (answer_derives log f v lines good (λ empty. unended (subst (IsEmptyAt lines) (sym all) empty)))
+        | inr unended ↦ subst (IsAnswer log f v lines) (sym (derives (λ empty. unended (empty_same.0 empty))))
+            (answer_derives log f v lines good (λ empty. unended (subst (IsEmptyAt lines) (sym all) empty)))
       ]
 
 -- what follows from the answer, for the one who sought it
@@ -164,8 +166,10 @@ answered s t same lines (Ok c) is Q each = λ log f v sought. each log f v c sou
 answered s t same lines (Err e) is Q each = tt
 
 -- the same of lines whose text was checked
-pub answered_text : {E : Type 0} (s t : Sought) → s ≡ t → (text : List ℕ) (r : Result TextCheck E) → IfOk r (λ c. (lines : List Line) → IsTextOf text lines → OfSought s (λ log f v. IsAnswer log f v lines c.check))
-    → (Q : List Line → Logged → Form → Bool → Check → Type 0) → ((lines : List Line) (log : Logged) (f : Form) (v : Bool) (c : Check) → t ≡ sought_of log f v → IsAnswer log f v lines c → Q lines log f v c)
+pub answered_text : {E : Type 0} (s t : Sought) → s ≡ t → (text : List ℕ) (r : Result TextCheck E)
+    → IfOk r (λ c. (lines : List Line) → IsTextOf text lines → OfSought s (λ log f v. IsAnswer log f v lines c.check))
+    → (Q : List Line → Logged → Form → Bool → Check → Type 0)
+    → ((lines : List Line) (log : Logged) (f : Form) (v : Bool) (c : Check) → t ≡ sought_of log f v → IsAnswer log f v lines c → Q lines log f v c)
     → IfOk r (λ c. (lines : List Line) → IsTextOf text lines → OfSought t (λ log f v. Q lines log f v c.check))
 answered_text s t same text (Ok c) is Q each = λ lines of log f v sought. each lines log f v c.check sought (is lines of log f v (same ∙ sought))
 answered_text s t same text (Err e) is Q each = tt

@@ -100,7 +100,8 @@ module _ (s : Sought) (lines : List Line) (n : ℕ) (start : List Literal) (hint
     λ are. absurd (none_refuting s lines n old (subst (AreRefuting s lines n old) (drop_of_length-le hints past) (so_far.1 are))),
   )
 
-  module _ (giving : RefutersGive Literal) (set : AssumedIsSet Literal) (forced : StepsAreForced Literal) (old new : List Literal) (i : ℕ) (d : Hint) (low : i < length hints) (so_far : SoFar old i) where
+  module _ (giving : RefutersGive Literal) (set : AssumedIsSet Literal) (forced : StepsAreForced Literal) (old new : List Literal) (i : ℕ) (d : Hint)
+      (low : i < length hints) (so_far : SoFar old i) where
     next : drop i hints ≡ get_or hints i d ∷ drop (i + 1) hints
     next = drop_more hints i d low
 
@@ -132,7 +133,8 @@ module _ (s : Sought) (lines : List Line) (n : ℕ) (start : List Literal) (hint
     )
 
 -- a hint whose clause is taken, and one that has none
-pub cited_taken : {E : Type 0} (s : Sought) (lines : List Line) (n : ℕ) (h : Hint) (old new c : List Literal) → clause_of_hint s lines n h ≡ Some c → (r : Result Taken E) → IfOk r (λ found. IsTaken old c new found)
+pub cited_taken : {E : Type 0} (s : Sought) (lines : List Line) (n : ℕ) (h : Hint) (old new c : List Literal) → clause_of_hint s lines n h ≡ Some c
+    → (r : Result Taken E) → IfOk r (λ found. IsTaken old c new found)
     → IfOk r (λ found. IsHintTaken s lines n h old new found)
 cited_taken s lines n h old new c is (Ok found) so = rw is so
 cited_taken s lines n h old new c is (Err e) so = tt

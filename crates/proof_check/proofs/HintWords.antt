@@ -11,10 +11,9 @@ use Rattle.axiom_rules.specs.Literals.{negated}
 use Rattle.axiom_rules.specs.Sought.{Sought}
 use Rattle.proof_log.specs.declared.line.Hint.{Hint}
 use Rattle.proof_log.specs.declared.line.Line.{Line}
-use Rattle.proof_log.specs.Citing.{AreSpelledHints}
 use Rattle.proof_log.specs.Derivations.{IsLearnt, is_in_range}
 use Rattle.proof_log.specs.LinesText.{Word, hint_words}
-use Rattle.proof_log.specs.Spelled.{IsSpelledHint}
+use Rattle.proof_log.specs.Spelled.{AreSpelledHints, IsSpelledHint}
 use Rattle.proof_check.specs.declared.refutation.Taken.TheVariants as taken
 use Rattle.proof_check.specs.Judging.{AreRefuting, IsHintTaken}
 use Rattle.proof_check.proofs.HintLemmas.{ends_false, ends_none, ends_stuck, goes_on, learnt}
@@ -40,7 +39,8 @@ module _ (s : Sought) (lines : List Line) (n : ℕ) (start : List Literal) (word
   hints_end i rest assumed past before hints given = ends_none s lines n start hints assumed i (omega (arith, past, given.all)) (before hints given).so_far
 
   module _ (i : ℕ) (rest : List Word) (assumed : List Literal) (low : i < count) (before : (hints : List Hint) → AreGiven hints → HintsTaken i rest assumed hints) where
-    hint_there : (hints : List Hint) → AreGiven hints → (d : Hint) → (i < length hints) × IsSpelledHint (get_or hints i d) × (rest ≡ hint_words (get_or hints i d) ++ flat_map hint_words (drop (i + 1) hints))
+    hint_there : (hints : List Hint) → AreGiven hints → (d : Hint)
+        → (i < length hints) × IsSpelledHint (get_or hints i d) × (rest ≡ hint_words (get_or hints i d) ++ flat_map hint_words (drop (i + 1) hints))
     hint_there hints given d =
         let below : i < length hints = omega (arith, low, given.all) in
         (below, All-get_or IsSpelledHint hints i d below given.spelled.each, (before hints given).words_left ∙ ap (flat_map hint_words) (drop_more hints i d below))
@@ -58,21 +58,26 @@ module _ (s : Sought) (lines : List Line) (n : ℕ) (start : List Literal) (word
           let here = found hints given in
           record {
             words_left = here.1;
-            so_far = goes_on s lines n start hints giving set forced assumed new i h (hint_there hints given h).0 (before hints given).so_far (subst (λ k. IsHintTaken s lines n k assumed new taken.Gives) here.0 is);
+            so_far =
+                goes_on s lines n start hints giving set forced assumed new i h (hint_there hints given h).0 (before hints given).so_far
+                (subst (λ k. IsHintTaken s lines n k assumed new taken.Gives) here.0 is);
           }
 
       pub hints_false : IsHintTaken s lines n h assumed new taken.False → (hints : List Hint) → AreGiven hints → IsTrue (nat_eq (i + 1) count) ↔ AreRefuting s lines n start hints
       hints_false is hints given =
           subst (λ k. IsTrue (nat_eq (i + 1) k) ↔ AreRefuting s lines n start hints) given.all
-          (ends_false s lines n start hints giving set forced assumed new i h (hint_there hints given h).0 (before hints given).so_far (subst (λ k. IsHintTaken s lines n k assumed new taken.False) (found hints given).0 is))
+          (ends_false s lines n start hints giving set forced assumed new i h (hint_there hints given h).0 (before hints given).so_far
+          (subst (λ k. IsHintTaken s lines n k assumed new taken.False) (found hints given).0 is))
 
       pub hints_stuck : IsHintTaken s lines n h assumed new taken.Stuck → (hints : List Hint) → AreGiven hints → IsTrue false ↔ AreRefuting s lines n start hints
       hints_stuck is hints given =
-          ends_stuck s lines n start hints giving set forced assumed new i h (hint_there hints given h).0 (before hints given).so_far (subst (λ k. IsHintTaken s lines n k assumed new taken.Stuck) (found hints given).0 is)
+          ends_stuck s lines n start hints giving set forced assumed new i h (hint_there hints given h).0 (before hints given).so_far
+          (subst (λ k. IsHintTaken s lines n k assumed new taken.Stuck) (found hints given).0 is)
 
 module _ {E : Type 0} (s : Sought) (lines : List Line) (n : ℕ) (lits pending : List Literal) (words : List Word) where
   -- pending literals in range whose negations the hints refute are learnt
-  pub learnt_words : RefutersGive Literal → AssumedIsSet Literal → StepsAreForced Literal → (assumed : List Literal) (count : ℕ) (rest : List Word) → All (λ l. IsTrue (is_in_range s l.atom)) lits → lits ≡ pending → assumed ≡ map negated lits
+  pub learnt_words : RefutersGive Literal → AssumedIsSet Literal → StepsAreForced Literal → (assumed : List Literal) (count : ℕ) (rest : List Word)
+      → All (λ l. IsTrue (is_in_range s l.atom)) lits → lits ≡ pending → assumed ≡ map negated lits
       → ((k : ℕ) (after : List Word) → k < 2 ^ 32 → words ≡ decimal k ∷ after → (count ≡ k) × (rest ≡ after))
       → (r : Result Bool E) → IfOk r (λ b. (hints : List Hint) → AreSpelledHints hints → length hints ≡ count → rest ≡ flat_map hint_words hints → IsTrue b ↔ AreRefuting s lines n assumed hints)
       → IfOk r (λ b. (hints : List Hint) → AreSpelledHints hints → words ≡ decimal (length hints) ∷ flat_map hint_words hints → IsTrue b ↔ IsLearnt s lines n pending hints)
@@ -80,4 +85,5 @@ module _ {E : Type 0} (s : Sought) (lines : List Line) (n : ℕ) (lits pending :
   learnt_words giving set forced assumed count rest range same denied counted (Ok b) are = λ hints spelled is.
       let first = counted (length hints) (flat_map hint_words hints) spelled.count is in
       let one : Result Bool E = Ok b in
-      subst (λ ls. IsTrue b ↔ IsLearnt s lines n ls hints) same (learnt s lines n giving set forced lits hints assumed range (those_same (map negated lits) assumed denied) one (are hints spelled (sym first.0) first.1))
+      subst (λ ls. IsTrue b ↔ IsLearnt s lines n ls hints) same
+      (learnt s lines n giving set forced lits hints assumed range (those_same (map negated lits) assumed denied) one (are hints spelled (sym first.0) first.1))

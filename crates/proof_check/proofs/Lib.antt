@@ -2,7 +2,7 @@ mod Standing
 mod TakeLemmas
 mod GivenLemmas
 pub mod StepLemmas
-mod Pieces
+mod KeptPieces
 mod PlaceLemmas
 mod OnceLemmas
 mod KeptLemmas

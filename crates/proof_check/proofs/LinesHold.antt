@@ -1,5 +1,5 @@
 -- Where lines are right, their clauses hold.
-use Rattle.std.proofs.Common.{◌≡◌, ◌∙◌, sym, refl, subst, ℕ, zero, suc, ◌<◌, Bool, true, false, if◌then◌else◌, List, [], ◌∷◌, length, Option, Some, None, Ok, Err, inl, inr, ℤ, arith}
+use Rattle.std.proofs.Common.{◌≡◌, ◌∙◌, sym, subst, ℕ, zero, suc, ◌<◌, Bool, true, List, [], ◌∷◌, length, Some, Ok, Err, inl, inr, ℤ, arith}
 use Rattle.std.specs.Prelude.{Result, nat_lt, option_map, All}
 use Rattle.std.specs.Result.{result_ok}
 use Rattle.std.proofs.lemmas.Bool.{cases_lt, ltb-true}
@@ -25,20 +25,14 @@ use Rattle.proof_log.specs.Derivations.{HasClauses, IsShown, RightLine, clause_o
 use Rattle.proof_check.specs.Laws.{AreRight, RefutedIsNoValue, RightLinesHold}
 use Rattle.proof_check.proofs.Standing.{any_met, met_any}
 use Rattle.proof_check.proofs.WalksHold.{conflict_clause, valuation}
-
-mapped : {A B : Type 0} (f : A → B) (o : Option A) (y : B) → option_map f o ≡ Some y → (x : A) × (o ≡ Some x) × (f x ≡ y)
-mapped f None y is = absurd (cc)
-mapped f (Some x) y is = (x, refl, cc)
-
-guarded : {A : Type 0} (b : Bool) (o : Option A) (y : A) → (if b then o else None) ≡ Some y → (b ≡ true) × (o ≡ Some y)
-guarded false o y is = absurd (cc)
-guarded true o y is = (refl, is)
+use Rattle.mt_model.proofs.Conflicts.{guarded_some, mapped_some}
 
 was_ok : (r : Result (List Literal) RuleFault) (c : List Literal) → result_ok r ≡ Some c → r ≡ Ok c
 was_ok (Ok d) c is = cc
 was_ok (Err fault) c is = absurd (cc)
 
-module _ (rules : RulesHold) (sound : HintsAreSound Literal) (log : Logged) (f : Form) (v : Bool) (lines : List Line) (t : List ℤ) (valid : IsLog log) (ok : Admissible log t) (value : truth log t 0 f ≡ v) where
+module _ (rules : RulesHold) (sound : HintsAreSound Literal) (log : Logged) (f : Form) (v : Bool) (lines : List Line) (t : List ℤ) (valid : IsLog log)
+    (ok : Admissible log t) (value : truth log t 0 f ≡ v) where
   abbrev Held : List Literal → Type 0
   Held c = clause_holds log t (nodes_of f) c ≡ true
 
@@ -48,8 +42,8 @@ module _ (rules : RulesHold) (sound : HintsAreSound Literal) (log : Logged) (f :
 
   hint_held : (n : ℕ) → HeldBefore n → (h : Hint) (c : List Literal) → clause_of_hint (sought_of log f v) lines n h ≡ Some c → Held c
   hint_held n before (hint.Line m) c is =
-      let g = guarded (nat_lt m n) (option_map clause_of_line (line_at lines m)) c is in
-      let (l, at, same) = mapped clause_of_line (line_at lines m) c g.1 in
+      let g = guarded_some (nat_lt m n) (option_map clause_of_line (line_at lines m)) c is in
+      let (l, at, same) = mapped_some clause_of_line (line_at lines m) c g.1 in
       subst Held same (before m l (ltb-true m n g.0) at)
   hint_held n before (hint.Rule r) c is = rules.sought_value log t f v r c valid ok value (was_ok (clause_of (sought_of log f v) r) c is)
 
@@ -91,7 +85,7 @@ lines_hold rules sound log f v lines n line t valid right at ok value = right_be
 
 pub no_value : RightLinesHold → RefutedIsNoValue
 no_value law log f v lines valid refutes some =
-    let (last, at, empty) = mapped clause_of_line (line_at lines (length lines)) [] refutes.last in
+    let (last, at, empty) = mapped_some clause_of_line (line_at lines (length lines)) [] refutes.last in
     let held = law log f v lines (length lines) last some.timing valid (λ m least most. (refutes.none_wrong m least most).right) at some.admissible some.value in
     let none = subst (λ c. clause_holds log some.timing (nodes_of f) c ≡ true) empty held in
     absurd (cc)

@@ -7,7 +7,8 @@ use Rattle.axiom_rules.specs.declared.literal.Literal.{Literal}
 use Rattle.axiom_rules.specs.Literals.{has_literal}
 use Rattle.axiom_rules.specs.Parts.{each_once}
 use Rattle.axiom_rules.proofs.AddingLemmas.{once-new, once-old, stands, stands-has}
-use Rattle.proof_check.specs.Places.{StandsFirst, literal_at, marked}
+use Rattle.proof_log.specs.Marks.{marked}
+use Rattle.proof_check.specs.Places.{StandsFirst, literal_at}
 use Rattle.proof_check.proofs.Standing.{among_stands, stands_among}
 
 -- a literal stands before a place where it stands before it in the list
@@ -57,7 +58,8 @@ once_push ls l false first = elim (cases_Bool (has_literal ls l)) [
 ]
 
 -- one literal more
-pub marked_more : (lits : List Literal) (n : ℕ) (marks : List Bool) (b : Bool) → n < length lits → IsTrue b ↔ (Contains (take n lits) (literal_at lits n) → ⊥) → AreMarked lits n marks → AreMarked lits (n + 1) (marks ++ b ∷ [])
+pub marked_more : (lits : List Literal) (n : ℕ) (marks : List Bool) (b : Bool) → n < length lits → IsTrue b ↔ (Contains (take n lits) (literal_at lits n) → ⊥)
+    → AreMarked lits n marks → AreMarked lits (n + 1) (marks ++ b ∷ [])
 marked_more lits n marks b below first before = record {
   count = omega (arith, length-append marks (b ∷ []), before.count);
   once =
@@ -82,8 +84,10 @@ pub record IsPacked {X : Type 0} (old : List X) (start : ℕ) (marks : List Bool
 pub packed_none : {X : Type 0} (old : List X) (start : ℕ) (marks : List Bool) → IsPacked old start marks 0 start old
 packed_none old start marks = record { short = omega arith; size = refl; front = sym (append-nil (take start old)); later = refl }
 
-marked_next : {X : Type 0} (bs : List Bool) (xs : List X) (i : ℕ) (d : Bool) (e : X) → i < length bs → i < length xs → marked (take (i + 1) bs) xs ≡ marked (take i bs) xs ++ (if get_or bs i d then get_or xs i e ∷ [] else [])
-marked_next bs xs i d e low below = let next : suc i ≡ i + 1 = omega arith in subst (λ n. marked (take n bs) xs ≡ marked (take i bs) xs ++ (if get_or bs i d then get_or xs i e ∷ [] else [])) next (go bs xs i low below)
+marked_next : {X : Type 0} (bs : List Bool) (xs : List X) (i : ℕ) (d : Bool) (e : X) → i < length bs → i < length xs
+    → marked (take (i + 1) bs) xs ≡ marked (take i bs) xs ++ (if get_or bs i d then get_or xs i e ∷ [] else [])
+marked_next bs xs i d e low below = let next : suc i ≡ i + 1 = omega arith in
+    subst (λ n. marked (take n bs) xs ≡ marked (take i bs) xs ++ (if get_or bs i d then get_or xs i e ∷ [] else [])) next (go bs xs i low below)
   where
     go : (bs : List Bool) (xs : List _) (i : ℕ) → i < length bs → i < length xs → marked (take (suc i) bs) xs ≡ marked (take i bs) xs ++ (if get_or bs i d then get_or xs i e ∷ [] else [])
     go [] xs i low below = absurd (omega (arith, low))
@@ -93,7 +97,8 @@ marked_next bs xs i d e low below = let next : suc i ≡ i + 1 = omega arith in 
     go (true ∷ bs) (x ∷ xs) (suc i) low below = ap (λ zs. x ∷ zs) (go bs xs i (omega (arith, low)) (omega (arith, below)))
     go (false ∷ bs) (x ∷ xs) (suc i) low below = go bs xs i (omega (arith, low)) (omega (arith, below))
 
-module _ {X : Type 0} (old : List X) (start : ℕ) (marks : List Bool) (n end : ℕ) (now : List X) (d : Bool) (x : X) (below : n < length marks) (all : start + length marks ≡ length old) (packed : IsPacked old start marks n end now) where
+module _ {X : Type 0} (old : List X) (start : ℕ) (marks : List Bool) (n end : ℕ) (now : List X) (d : Bool) (x : X) (below : n < length marks)
+    (all : start + length marks ≡ length old) (packed : IsPacked old start marks n end now) where
   there : start + n < length now
   there = omega (arith, below, all, packed.size)
 
@@ -113,7 +118,9 @@ module _ {X : Type 0} (old : List X) (start : ℕ) (marks : List Bool) (n end : 
   get_drop (y ∷ ys) (suc a) k = let e : suc a + k ≡ suc (a + k) = omega arith in get_drop ys a k ∙ ap (λ j. get_or (y ∷ ys) j x) (sym e)
 
   grown : marked (take (n + 1) marks) (drop start old) ≡ marked (take n marks) (drop start old) ++ (if get_or marks n d then get_or old (start + n) x ∷ [] else [])
-  grown = marked_next marks (drop start old) n d x below (omega (arith, below, all, length-drop start old)) ∙ ap (λ y. marked (take n marks) (drop start old) ++ (if get_or marks n d then y ∷ [] else [])) (get_drop old start n)
+  grown =
+      marked_next marks (drop start old) n d x below (omega (arith, below, all, length-drop start old))
+      ∙ ap (λ y. marked (take n marks) (drop start old) ++ (if get_or marks n d then y ∷ [] else [])) (get_drop old start n)
 
   -- an element that isn't marked is left out
   pub packed_past : get_or marks n d ≡ false → IsPacked old start marks (n + 1) end now
@@ -134,5 +141,6 @@ module _ {X : Type 0} (old : List X) (start : ℕ) (marks : List Bool) (n end : 
     later = let e : start + (n + 1) ≡ start + n + 1 = omega arith in rw e (drop-set-lt (start + n + 1) now end y (omega (arith, packed.short)) ∙ same_later);
   }
 
-pub packed_all : {X : Type 0} (old : List X) (start : ℕ) (marks : List Bool) (n end : ℕ) (now : List X) → length marks ≤ n → IsPacked old start marks n end now → take end now ≡ take start old ++ marked marks (drop start old)
+pub packed_all : {X : Type 0} (old : List X) (start : ℕ) (marks : List Bool) (n end : ℕ) (now : List X) → length marks ≤ n → IsPacked old start marks n end now
+    → take end now ≡ take start old ++ marked marks (drop start old)
 packed_all old start marks n end now all packed = packed.front ∙ ap (λ bs. take start old ++ marked bs (drop start old)) (take_all n marks all)

@@ -1,5 +1,5 @@
 -- The places of literals in the order of the literals.
-use Rattle.std.proofs.Common.{Ordering, ◌≡◌, ◌∙◌, sym, ap, refl, subst, ℕ, zero, suc, ◌+◌, ◌-◌, ◌<◌, ◌≤◌, Bool, true, false, not, ◌&&◌, ltb, inl, inr, List, [], ◌∷◌, ◌++◌, length, get_or, take, arith, true≢false}
+use Rattle.std.proofs.Common.{Ordering, ◌≡◌, ◌∙◌, sym, ap, refl, subst, ℕ, zero, suc, ◌+◌, ◌-◌, ◌<◌, ◌≤◌, Bool, true, false, not, ◌&&◌, ltb, inl, inr, List, [], ◌∷◌, length, get_or, take, arith, true≢false}
 use Rattle.std.specs.Prelude.{All, Contains}
 use Rattle.std.specs.List.{range_with_len}
 use Rattle.std.specs.List.Sorted.{IsPartitionedBy, IsPartitionPoint, IsPermutation, IsSortedByKey, IsStableByKey}
@@ -42,7 +42,8 @@ sorted_from lits n places count moved sorted stable = record {
   each = λ k below. Contains-permutation (range_with_len 0 n) places k moved (range_has n k (omega (arith, below, count)));
   sorted = sorted;
   rising = λ i d low same. ltb-false (get_or places (i + 1) d) (get_or places i d)
-      (ties_stay_sorted _ _ (IsStrictWeakOrder-by_number (λ x. x)) (ranks_by total-law (literal_at lits)) (range_with_len 0 n) places up stable i d low (tie (literal_at lits (get_or places i d)) (literal_at lits (get_or places (i + 1) d)) same));
+      (ties_stay_sorted _ _ (IsStrictWeakOrder-by_number (λ x. x)) (ranks_by total-law (literal_at lits)) (range_with_len 0 n) places up stable i d low
+      (tie (literal_at lits (get_or places i d)) (literal_at lits (get_or places (i + 1) d)) same));
 }
   where
     up : (k d : ℕ) → 0 ≤ k → k + 1 < length (range_with_len 0 n) → ltb (get_or (range_with_len 0 n) (k + 1) d) (get_or (range_with_len 0 n) k d) ≡ false
@@ -146,13 +147,3 @@ module _ (lits : List Literal) (places : List ℕ) (s : AreSortedPlaces lits pla
 -- a literal that stands first stands in the list
 pub first_stands : (lits : List Literal) (l : Literal) (place : ℕ) → StandsFirst lits l place → Contains lits l
 first_stands lits l place stands = subst (λ (m : Literal). Contains lits m) stands.there (Contains-get_or lits place _ stands.within)
-
--- a place more
-pub range_push : (a n : ℕ) → range_with_len a (n + 1) ≡ range_with_len a n ++ (a + n) ∷ []
-range_push a n = let next : suc n ≡ n + 1 = omega arith in subst (λ k. range_with_len a k ≡ range_with_len a n ++ (a + n) ∷ []) next (go a n)
-  where
-    go : (a n : ℕ) → range_with_len a (suc n) ≡ range_with_len a n ++ (a + n) ∷ []
-    go a zero = let e : a + 0 ≡ a = omega arith in ap (λ k. k ∷ []) (sym e)
-    go a (suc n) =
-        let e : a + 1 + n ≡ a + suc n = omega arith in
-        ap (λ ks. a ∷ ks) (go (a + 1) n ∙ ap (λ k. range_with_len (a + 1) n ++ k ∷ []) e)

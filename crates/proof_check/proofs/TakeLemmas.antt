@@ -177,7 +177,8 @@ module _ (assumed : List Literal) where
       open_first o p none one is not_false not_true =
           subst (IsOpen (take (i + 1) clause)) (sym one) (further (Some next) (gives_first (take i clause) next (subst (IsOpen (take i clause)) none is) not_true (still_open not_false)))
 
-      pub open_again : (o p : Option Literal) (u : Literal) (b : Bool) → o ≡ Some u → p ≡ Some u → IsOpen (take i clause) o → b ≡ not (literal_eq.it u next) → b ≡ false → IsOpen (take (i + 1) clause) p
+      pub open_again : (o p : Option Literal) (u : Literal) (b : Bool) → o ≡ Some u → p ≡ Some u → IsOpen (take i clause) o → b ≡ not (literal_eq.it u next)
+          → b ≡ false → IsOpen (take (i + 1) clause) p
       open_again o p u b one kept is test equal =
           subst (IsOpen (take (i + 1) clause)) (sym kept) (further (Some u) (gives_more (take i clause) next u (subst (IsOpen (take i clause)) one is) (inl (agree u next b test equal))))
 
@@ -185,7 +186,8 @@ module _ (assumed : List Literal) where
       pub next_true : (Contains assumed n → ⊥) → Contains assumed next → IsNeither assumed clause
       next_true not_false held = true_neither next (Contains-get_or clause i d below) (still_open not_false) held
 
-      pub next_other : (o : Option Literal) (u : Literal) (b : Bool) → o ≡ Some u → IsOpen (take i clause) o → (Contains assumed n → ⊥) → b ≡ not (literal_eq.it u next) → b ≡ true → IsNeither assumed clause
+      pub next_other : (o : Option Literal) (u : Literal) (b : Bool) → o ≡ Some u → IsOpen (take i clause) o → (Contains assumed n → ⊥)
+          → b ≡ not (literal_eq.it u next) → b ≡ true → IsNeither assumed clause
       next_other o u b one is not_false test unequal =
           let gives = subst (IsOpen (take i clause)) one is in
           two_neither next u (Contains-get_or clause i d below) (read_stands i u gives.leaves.has) (still_open not_false) gives.not_false (differ u next b test unequal)

@@ -1,7 +1,6 @@
 -- Lines that are judged as they are read from their text.
 use Rattle.std.proofs.Common.{◌≡◌, ◌∙◌, sym, ap, refl, subst, cond, ℕ, ◌+◌, ◌<◌, ◌≤◌, List, [], ◌∷◌, ◌++◌, length, length-append, length-drop, get_or, take, drop, append-nil, Bool, Ok, Err, arith}
 use Rattle.std.specs.Prelude.{IfOk, Result}
-use Rattle.std.specs.List.{join_with_byte}
 use Rattle.std.proofs.lemmas.List.{drop_more, take_all, take_more}
 use Rattle.std.proofs.lemmas.List.Elements.{All-cons, All-nil}
 use Rattle.std.proofs.lemmas.List.Sums.{sum_by-append}
@@ -12,7 +11,7 @@ use Rattle.proof_log.specs.Derivations.{IsEmptyAt, clause_of_line}
 use Rattle.proof_log.specs.Freshness.{is_learn, learn_lines}
 use Rattle.proof_log.specs.declared.parts.LineWords.{LineWords}
 use Rattle.proof_log.specs.LinesOf.{IsTextOf}
-use Rattle.proof_log.specs.LinesText.{line_text, line_words, lines_text, newline, space}
+use Rattle.proof_log.specs.LinesText.{line_text, lines_text}
 use Rattle.proof_log.specs.Parts.{AreWordsOf, IsHeadWords}
 use Rattle.proof_log.specs.Spelled.{IsSpelled}
 use Rattle.proof_check.specs.declared.check.Check.{Check}
@@ -21,6 +20,8 @@ use Rattle.proof_check.specs.Answering.{AreJudged, IsAnswer, OfSought}
 use Rattle.proof_check.specs.Judging.{IsNext}
 use Rattle.proof_check.specs.Keeping.{lines_with}
 use Rattle.proof_check.proofs.AnswerLemmas.{judged_all, judged_more, judged_wrong}
+use Rattle.mt_list.proofs.Lists.{parts_same}
+use Rattle.proof_log.proofs.ReadingLines.{line_some}
 
 -- the element that comes next in a list, and what follows it
 record IsNextOf {X : Type 0} (xs : List X) (n : ℕ) (x : X) (ys : List X) : Type 0 where
@@ -28,13 +29,10 @@ record IsNextOf {X : Type 0} (xs : List X) (n : ℕ) (x : X) (ys : List X) : Typ
   at : x ≡ get_or xs n x
   later : ys ≡ drop (n + 1) xs
 
-parted : {X : Type 0} (x y : X) (xs ys : List X) → x ∷ xs ≡ y ∷ ys → (x ≡ y) × (xs ≡ ys)
-parted x y xs ys same = (cc, cc)
-
 next_of : {X : Type 0} (xs : List X) (n : ℕ) (x : X) (ys : List X) → drop n xs ≡ x ∷ ys → IsNextOf xs n x ys
 next_of xs n x ys is =
     let low : n < length xs = omega (arith, ap length is, length-drop n xs) in
-    let parts = parted x (get_or xs n x) ys (drop (n + 1) xs) (sym is ∙ drop_more xs n x low) in
+    let parts = parts_same x (get_or xs n x) ys (drop (n + 1) xs) (sym is ∙ drop_more xs n x low) in
     record { low = low; at = parts.0; later = parts.1 }
 
 none_left : {X : Type 0} (xs : List X) (n : ℕ) → n ≤ length xs → drop n xs ≡ [] → n ≡ length xs
@@ -65,25 +63,22 @@ none_taken_yet s text = record {
   few = omega arith;
 }
 
--- a line has a byte at least
-text_some : (l : Line) → 1 ≤ length (line_text l)
-text_some l = omega (arith, length-append (join_with_byte space (line_words l)) (newline ∷ []))
-
 -- what follows the first of the lines of a text is shorter than the text
 pub rest_shorter : (text : List ℕ) (lines : List Line) (ws : LineWords) (rest : List ℕ) → IsTextOf text lines → IsHeadWords lines ws rest → length rest < length text
 rest_shorter text lines ws rest is head =
     let whole : text ≡ line_text head.line ++ lines_text head.others = is.text ∙ ap lines_text head.split in
-    omega (arith, ap length whole, length-append (line_text head.line) (lines_text head.others), ap length head.text.text, text_some head.line)
+    omega (arith, ap length whole, length-append (line_text head.line) (lines_text head.others), ap length head.text.text, line_some head.line)
 
 -- a line alone is the one of which these are the words
 pub words_alone : (l : Line) (ws : LineWords) (rest : List ℕ) → IsHeadWords (l ∷ []) ws rest → AreWordsOf ws l
-words_alone l ws rest head = let same : head.line ≡ l = sym (parted l head.line [] head.others head.split).0 in subst (AreWordsOf ws) same head.words
+words_alone l ws rest head = let same : head.line ≡ l = sym (parts_same l head.line [] head.others head.split).0 in subst (AreWordsOf ws) same head.words
 
 pub text_alone : (l : Line) (text : List ℕ) → IsSpelled l → text ≡ line_text l → IsTextOf text (l ∷ [])
 text_alone l text spelled is = record { spelled = All-cons IsSpelled l [] spelled (All-nil IsSpelled); text = is ∙ sym (append-nil (line_text l)) }
 
 -- what is known of each line with these words is known of the line whose text they are from
-pub by_words : {E : Type 0} (P : Bool → Line → Type 0) (text : List ℕ) (ws : LineWords) (rest : List ℕ) → ((lines : List Line) → IsTextOf text lines → IsHeadWords lines ws rest) → (l : Line) → IsSpelled l → text ≡ line_text l
+pub by_words : {E : Type 0} (P : Bool → Line → Type 0) (text : List ℕ) (ws : LineWords) (rest : List ℕ)
+    → ((lines : List Line) → IsTextOf text lines → IsHeadWords lines ws rest) → (l : Line) → IsSpelled l → text ≡ line_text l
     → (r : Result Bool E) → IfOk r (λ b. (k : Line) → IsSpelled k → AreWordsOf ws k → P b k) → IfOk r (λ b. P b l)
 by_words P text ws rest head l spelled is (Ok b) each = each l spelled (words_alone l ws rest (head (l ∷ []) (text_alone l text spelled is)))
 by_words P text ws rest head l spelled is (Err e) each = tt
@@ -99,14 +94,17 @@ module _ (s : Sought) (text : List ℕ) (kept : List (List Literal)) (rest : Lis
       let h = head (drop (length kept) lines) (before.each lines is).text in
       next_of lines (length kept) h.line h.others h.split
 
-  pub taken_wrong : ((line : Line) → IsSpelled line → AreWordsOf ws line → IsNext s kept line → ⊥) → (n : ℕ) → n ≡ length kept + 1 → (lines : List Line) → IsTextOf text lines → OfSought s (λ log f v. IsAnswer log f v lines (check.Wrong n))
+  pub taken_wrong : ((line : Line) → IsSpelled line → AreWordsOf ws line → IsNext s kept line → ⊥) → (n : ℕ) → n ≡ length kept + 1 → (lines : List Line)
+      → IsTextOf text lines → OfSought s (λ log f v. IsAnswer log f v lines (check.Wrong n))
   taken_wrong wrong n number lines is =
       let h = head (drop (length kept) lines) (before.each lines is).text in
       let next = next_line lines is in
-      subst (λ k. OfSought s (λ log f v. IsAnswer log f v lines (check.Wrong k))) (sym number) (judged_wrong s lines (length kept) kept h.line next.low next.at (before.each lines is).judged (wrong h.line h.spelled h.words))
+      subst (λ k. OfSought s (λ log f v. IsAnswer log f v lines (check.Wrong k))) (sym number)
+      (judged_wrong s lines (length kept) kept h.line next.low next.at (before.each lines is).judged (wrong h.line h.spelled h.words))
 
   pub taken_more : ((line : Line) → IsSpelled line → AreWordsOf ws line → IsNext s kept line) → length after < length rest → (more : List (List Literal)) → length more ≡ length kept + 1
-      → ((line : Line) → IsSpelled line → AreWordsOf ws line → more ≡ kept ++ clause_of_line line ∷ []) → (counted : ℕ) → ((line : Line) → AreWordsOf ws line → counted ≡ count + learn_lines (line ∷ [])) → counted ≤ count + 1
+      → ((line : Line) → IsSpelled line → AreWordsOf ws line → more ≡ kept ++ clause_of_line line ∷ []) → (counted : ℕ)
+      → ((line : Line) → AreWordsOf ws line → counted ≡ count + learn_lines (line ∷ [])) → counted ≤ count + 1
       → AreTaken s text more after counted
   taken_more good shorter more size grown counted is_counted one = record {
     each = λ lines is.
@@ -115,9 +113,12 @@ module _ (s : Sought) (text : List ℕ) (kept : List (List Literal)) (rest : Lis
         let next = next_line lines is in
         record {
           within = omega (arith, size, next.low);
-          judged = subst (λ k. AreJudged s lines k more) (sym size) (judged_more s lines (length kept) kept h.line next.low next.at so_far.judged (good h.line h.spelled h.words) more (grown h.line h.spelled h.words));
+          judged =
+              subst (λ k. AreJudged s lines k more) (sym size)
+              (judged_more s lines (length kept) kept h.line next.low next.at so_far.judged (good h.line h.spelled h.words) more (grown h.line h.spelled h.words));
           text = subst (IsTextOf after) (next.later ∙ ap (λ k. drop k lines) (sym size)) h.text;
-          learnt = is_counted h.line h.words ∙ ap (λ k. k + learn_lines (h.line ∷ [])) so_far.learnt ∙ sym (sum_by-append (λ (l : Line). cond (is_learn l) 1 0) (take (length kept) lines) (h.line ∷ []))
+          learnt =
+              is_counted h.line h.words ∙ ap (λ k. k + learn_lines (h.line ∷ [])) so_far.learnt ∙ sym (sum_by-append (λ (l : Line). cond (is_learn l) 1 0) (take (length kept) lines) (h.line ∷ []))
               ∙ ap learn_lines (ap (λ l. take (length kept) lines ++ l ∷ []) next.at ∙ sym (take_more lines (length kept) h.line next.low)) ∙ ap (λ k. learn_lines (take k lines)) (sym size);
         };
     room = omega (arith, before.room, size, shorter);
@@ -125,7 +126,8 @@ module _ (s : Sought) (text : List ℕ) (kept : List (List Literal)) (rest : Lis
   }
 
 -- where nothing is left
-module _ (s : Sought) (text : List ℕ) (kept : List (List Literal)) (rest : List ℕ) (count : ℕ) (before : AreTaken s text kept rest count) (none : (lines : List Line) → IsTextOf rest lines → lines ≡ []) where
+module _ (s : Sought) (text : List ℕ) (kept : List (List Literal)) (rest : List ℕ) (count : ℕ) (before : AreTaken s text kept rest count)
+    (none : (lines : List Line) → IsTextOf rest lines → lines ≡ []) where
   whole : (lines : List Line) (is : IsTextOf text lines) → length kept ≡ length lines
   whole lines is =
       let so_far = before.each lines is in

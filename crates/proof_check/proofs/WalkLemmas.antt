@@ -4,7 +4,7 @@ use Rattle.std.specs.Prelude.{◌≢◌, IfSome, option_map, All}
 use Rattle.std.proofs.lemmas.Int.{ints}
 use Rattle.std.proofs.lemmas.List.Elements.{All-nil, All-cons, All-head, All-tail}
 use Rattle.std.proofs.Math.Seq.{take-length}
-use Rattle.std.proofs.lemmas.List.{take-append-le}
+use Rattle.std.proofs.lemmas.List.{take-append-le, map_push}
 use Rattle.mt_model.specs.declared.step.Step.{Step}
 use Rattle.mt_model.specs.declared.step.Step.TheVariants.{Low, High, Rise, Message, Late, Extra, Order}
 use Rattle.mt_model.specs.Laws.{IsBound}
@@ -15,15 +15,7 @@ use Rattle.skew_bounds.specs.Edges.{edge_in}
 use Rattle.proof_check.specs.declared.walk.Walk.{Walk}
 use Rattle.proof_check.specs.Cycles.{FollowOneAnother, IsCycle, IsPlace, IsWalk, bound_edge_of}
 use Rattle.proof_check.specs.Walking.{BeginsAt, Covers, Follows, Goes, IsCyclic, IsJoined, IsNear, Stops, StopsAt, with_edge}
-
-somes_same : {X : Type 0} (xs ys : List X) → map Some xs ≡ map Some ys → xs ≡ ys
-somes_same [] [] same = refl
-somes_same [] (y ∷ ys) same = absurd (cc)
-somes_same (x ∷ xs) [] same = absurd (cc)
-somes_same (x ∷ xs) (y ∷ ys) same =
-    let first : x ≡ y = cc in
-    let rest : map Some xs ≡ map Some ys = cc in
-    let later = somes_same xs ys rest in cc
+use Rattle.mt_list.proofs.Lists.{found_same}
 
 leads_more : (a b : ℕ) (xs : List Edge) (x : Edge) → LeadsTo a xs b → x.from ≡ b → LeadsTo a (xs ++ x ∷ []) x.to
 leads_more a b [] x leads joined = (joined ∙ sym leads, refl)
@@ -46,10 +38,6 @@ near_more n m a b sum bound =
     let more : (n + 1) * m ≡ n * m + m = grind arith in
     rw more (record { low = omega (arith, ints, sum.low, bound.low); high = omega (arith, ints, sum.high, bound.high) })
 
-map_more : {X Y : Type 0} (h : X → Y) (xs : List X) (x : X) → map h (xs ++ x ∷ []) ≡ map h xs ++ h x ∷ []
-map_more h [] x = refl
-map_more h (y ∷ ys) x = ap (λ zs. h y ∷ zs) (map_more h ys x)
-
 take_front : {X : Type 0} (xs ys : List X) → take (length xs) (xs ++ ys) ≡ xs
 take_front xs ys = take-append-le (length xs) xs ys (omega arith) ∙ take-length xs
 
@@ -62,7 +50,8 @@ near_edge None x near is = absurd (cc)
 near_edge (Some e) x near is = let same : edge_in e ≡ x = cc in subst (λ (y : Edge). IsNear (2 ^ 90) y.bound) same near
 
 -- and with one more
-pub near_next : (n : ℕ) (w further : Walk) (o : Option SystemEdge) → 1 ≤ n → IsNear ((n - 1) * 2 ^ 90) w.sum → IfSome o (λ e. IsNear (2 ^ 90) e.bound) → Goes w (option_map edge_in o) further → IsNear (n * 2 ^ 90) further.sum
+pub near_next : (n : ℕ) (w further : Walk) (o : Option SystemEdge) → 1 ≤ n → IsNear ((n - 1) * 2 ^ 90) w.sum → IfSome o (λ e. IsNear (2 ^ 90) e.bound)
+    → Goes w (option_map edge_in o) further → IsNear (n * 2 ^ 90) further.sum
 near_next n w further o some near bound goes =
     let same : n - 1 + 1 ≡ n = omega (arith, some) in
     subst (λ (v : Walk). IsNear (n * 2 ^ 90) v.sum) (sym goes.is)
@@ -72,13 +61,15 @@ module _ (edge : Step → Option Edge) where
   pub covers_none : (a : ℕ) → Covers edge [] (record { start = a; «end» = a; sum = pos 0 })
   covers_none a = record { edges = []; found = refl; leads = refl; sum = refl; near = record { low = omega (arith, ints); high = omega (arith, ints) } }
 
-  covers_push : (steps : List Step) (s : Step) (w : Walk) (x : Edge) → Covers edge steps w → edge s ≡ Some x → x.from ≡ w.«end» → IsNear (2 ^ 90) x.bound → Covers edge (steps ++ s ∷ []) (with_edge w x)
+  covers_push : (steps : List Step) (s : Step) (w : Walk) (x : Edge) → Covers edge steps w → edge s ≡ Some x → x.from ≡ w.«end» → IsNear (2 ^ 90) x.bound
+      → Covers edge (steps ++ s ∷ []) (with_edge w x)
   covers_push steps s w x covers is joined near = record {
     edges = covers.edges ++ x ∷ [];
-    found = map_more edge steps s ∙ rw (covers.found, is) (sym (map_more Some covers.edges x));
+    found = map_push edge steps s ∙ rw (covers.found, is) (sym (map_push Some covers.edges x));
     leads = leads_more w.start w.«end» covers.edges x covers.leads joined;
     sum = ap (λ n. n +ℤ x.bound) covers.sum ∙ sym (sum_more covers.edges x);
-    near = let count : length steps + 1 ≡ length (steps ++ s ∷ []) = omega (arith, length-append steps (s ∷ [])) in subst (λ n. IsNear (n * 2 ^ 90) (w.sum +ℤ x.bound)) count (near_more (length steps) (2 ^ 90) w.sum x.bound covers.near near);
+    near = let count : length steps + 1 ≡ length (steps ++ s ∷ []) = omega (arith, length-append steps (s ∷ [])) in
+        subst (λ n. IsNear (n * 2 ^ 90) (w.sum +ℤ x.bound)) count (near_more (length steps) (2 ^ 90) w.sum x.bound covers.near near);
   }
 
   -- edges that follow one another lead from the node where the first one begins
@@ -90,7 +81,8 @@ module _ (edge : Step → Option Edge) where
       (joined.0, (ap (λ (e : Edge). e.from) same ∙ from, joined.1))
 
   -- the edges of one step more
-  found_last : (steps : List Step) (s : Step) (edges others : List Edge) → map edge steps ≡ map Some edges → map edge (steps ++ s ∷ []) ≡ map Some others → (x : Edge) × (edge s ≡ Some x) × (others ≡ edges ++ x ∷ [])
+  found_last : (steps : List Step) (s : Step) (edges others : List Edge) → map edge steps ≡ map Some edges → map edge (steps ++ s ∷ []) ≡ map Some others
+      → (x : Edge) × (edge s ≡ Some x) × (others ≡ edges ++ x ∷ [])
   found_last [] s [] [] found more = absurd (cc)
   found_last [] s [] (x ∷ []) found more = (x, cc, refl)
   found_last [] s [] (x ∷ y ∷ ys) found more = absurd (cc)
@@ -172,7 +164,7 @@ module _ (edge : Step → Option Edge) where
 
   cyclic_covers : (steps : List Step) (w : Walk) → Covers edge steps w → IsCyclic edge steps → (w.start ≡ w.«end») × (w.sum <ℤ pos 0)
   cyclic_covers steps w covers cyclic =
-      let same : cyclic.edges ≡ covers.edges = somes_same cyclic.edges covers.edges (sym cyclic.found ∙ covers.found) in (
+      let same : cyclic.edges ≡ covers.edges = found_same cyclic.edges covers.edges (sym cyclic.found ∙ covers.found) in (
         comes_back covers.edges w.start w.«end» covers.leads (subst IsClosedWalk same cyclic.closed),
         subst (λ n. n <ℤ pos 0) (ap sum_of_bounds same ∙ sym covers.sum) cyclic.negative,
       )
@@ -196,7 +188,8 @@ module _ (edge : Step → Option Edge) where
   begins_some [] a (x, is, from) = absurd (cc)
   begins_some (s ∷ ss) a begins = omega arith
 
-  module _ (steps : List Step) (s : Step) (w : Walk) (o : Option SystemEdge) (n : ℕ) (is : option_map edge_in o ≡ edge s) (number : length steps + 1 ≡ n) (covers : Covers edge steps w) (begins : BeginsAt edge (steps ++ s ∷ []) w.start) where
+  module _ (steps : List Step) (s : Step) (w : Walk) (o : Option SystemEdge) (n : ℕ) (is : option_map edge_in o ≡ edge s) (number : length steps + 1 ≡ n)
+      (covers : Covers edge steps w) (begins : BeginsAt edge (steps ++ s ∷ []) w.start) where
     -- a walk that goes on by a step more
     pub goes_along : IfSome o (λ e. IsNear (2 ^ 90) e.bound) → (further : Walk) → Goes w (option_map edge_in o) further → Follows edge (steps ++ s ∷ []) further
     goes_along near further goes = record {
@@ -213,7 +206,8 @@ module _ (edge : Step → Option Edge) where
           some = omega (arith, number);
           within = omega (arith, size);
           before = subst (IsJoined edge) (sym (ap (λ k. take k (steps ++ s ∷ [])) before ∙ take_front steps (s ∷ []))) (covers_joined steps w covers);
-          loose = λ joined. stops_push steps s w covers begins (subst (Stops w) is stops) (subst (IsJoined edge) (ap (λ k. take k (steps ++ s ∷ [])) (sym size) ∙ take-length (steps ++ s ∷ [])) joined);
+          loose =
+              λ joined. stops_push steps s w covers begins (subst (Stops w) is stops) (subst (IsJoined edge) (ap (λ k. take k (steps ++ s ∷ [])) (sym size) ∙ take-length (steps ++ s ∷ [])) joined);
         }
 
   -- the first step has no edge

@@ -1,9 +1,9 @@
 -- In a timing that the log admits, not all order steps of a conflict hold.
-use Rattle.std.proofs.Common.{◌≡◌, ◌∙◌, sym, refl, ℕ, Bool, true, false, not, if◌then◌else◌, List, [], ◌∷◌, Some, inl, inr, ℤ, pos, ◌+ℤ◌, ◌-ℤ◌, ◌≤ℤ◌, neg_ℤ, arith}
+use Rattle.std.proofs.Common.{◌≡◌, ◌∙◌, sym, refl, ℕ, Bool, true, false, if◌then◌else◌, List, [], ◌∷◌, Some, inl, inr, ℤ, pos, ◌+ℤ◌, ◌-ℤ◌, ◌≤ℤ◌, neg_ℤ, arith}
 use Rattle.std.specs.Prelude.{nat_lt, int_le}
 use Rattle.std.specs.List.{Contains, filter_map}
 use Rattle.std.proofs.lemmas.Int.{ints}
-use Rattle.std.proofs.lemmas.Bool.{cases_Bool}
+use Rattle.std.proofs.lemmas.Bool.{cases_Bool, not-false, not-true}
 use Rattle.std.proofs.lemmas.Option.{cond_some}
 use Rattle.mt_model.specs.declared.step.Step.{Step}
 use Rattle.mt_model.specs.declared.step.Step.TheVariants.{Low, High, Rise, Message, Late, Extra, Order}
@@ -13,27 +13,14 @@ use Rattle.mt_model.specs.Timing.{Admissible, time_of}
 use Rattle.mt_model.specs.Walks.{Conflict, Edge, HasEdges, IsClosedWalk, LeadsTo, edge_of, is_order, node_time, sum_of_bounds}
 use Rattle.mt_model.proofs.Conflicts.{edge_holds}
 use Rattle.hint_refutation.specs.Laws.{IsValuation}
-use Rattle.hint_refutation.proofs.Lists.{contains_first, contains_later}
+use Rattle.hint_refutation.proofs.Lists.{contains_first, contains_later, any_true, given_stands, value_turned}
 use Rattle.axiom_rules.specs.declared.literal.Atom.TheVariants as atom
 use Rattle.axiom_rules.specs.declared.literal.Literal.{Literal}
 use Rattle.axiom_rules.specs.Holds.{clause_holds, holds}
 use Rattle.axiom_rules.specs.Literals.{negated, no, order_literal, yes}
 use Rattle.axiom_rules.specs.Parts.{each_once}
 use Rattle.proof_log.specs.Derivations.{negated_step}
-use Rattle.proof_check.proofs.Standing.{given_stands, stands_any, stands_once}
-
-turned : (b m : Bool) → (if not b then m else not m) ≡ not (if b then m else not m)
-turned true m = refl
-turned false true = refl
-turned false false = refl
-
-was_true : (b : Bool) → not b ≡ false → b ≡ true
-was_true true h = refl
-was_true false h = absurd (cc)
-
-was_false : (b : Bool) → not b ≡ true → b ≡ false
-was_false true h = absurd (cc)
-was_false false h = refl
+use Rattle.proof_check.proofs.Standing.{stands_once}
 
 -- the time of an edge's first end is at most that of its last and its bound
 abbrev pub Holds : List ℤ → Edge → Type 0
@@ -41,7 +28,7 @@ Holds t x = node_time t x.from ≤ℤ (node_time t x.to +ℤ x.bound)
 
 module _ (log : Logged) (t : List ℤ) (trees : List Form) where
   pub valuation : IsValuation negated (holds log t trees)
-  valuation l = turned l.positive _
+  valuation l = value_turned l.positive _
 
   -- an order literal that holds says what its step does
   order_means : (e f : ℕ) (c : ℤ) → holds log t trees (order_literal e f c) ≡ true → time_of t e ≤ℤ (time_of t f +ℤ c)
@@ -49,7 +36,7 @@ module _ (log : Logged) (t : List ℤ) (trees : List Form) where
     where
       go : (b : Bool) → holds log t trees (if b then yes (atom.Order e f c) else no (atom.Order f e (neg_ℤ c -ℤ pos 1))) ≡ true → time_of t e ≤ℤ (time_of t f +ℤ c)
       go true is = let at_most : int_le (time_of t e -ℤ time_of t f) c ≡ true = is in omega (arith, ints)
-      go false is = let above : int_le (time_of t f -ℤ time_of t e) (neg_ℤ c -ℤ pos 1) ≡ false = was_false _ is in omega (arith, ints)
+      go false is = let above : int_le (time_of t f -ℤ time_of t e) (neg_ℤ c -ℤ pos 1) ≡ false = not-true _ is in omega (arith, ints)
 
   -- a step holds where it is a bound, or the literal of its negation fails
   step_holds : Admissible log t → (step : Step) (x : Edge) → edge_of log step ≡ Some x → ((l : Literal) → negated_step step ≡ Some l → holds log t trees l ≡ false) → Holds t x
@@ -61,7 +48,7 @@ module _ (log : Logged) (t : List ℤ) (trees : List Form) where
   step_holds ok (Extra k) x is fails = edge_holds log t ok (Extra k) x tt is
   step_holds ok (Order e f c) x is fails =
       let parts = cond_some (is_order log e f c) _ x is in
-      let met = order_means e f c (was_true _ (sym (valuation (order_literal e f c)) ∙ fails (negated (order_literal e f c)) refl)) in
+      let met = order_means e f c (not-false _ (sym (valuation (order_literal e f c)) ∙ fails (negated (order_literal e f c)) refl)) in
       rw (← parts.1) met
 
   -- along a walk whose steps hold, the times of the ends differ by at most the sum of the bounds
@@ -98,6 +85,6 @@ module _ (log : Logged) (t : List ℤ) (trees : List Form) where
     where
       fails_at : (l : Literal) → Contains (each_once (filter_map negated_step steps)) l → clause_holds log t trees (each_once (filter_map negated_step steps)) ≡ false → holds log t trees l ≡ false
       fails_at l has fails = elim (cases_Bool (holds log t trees l)) [
-        | inl is ↦ let some = stands_any (holds log t trees) (each_once (filter_map negated_step steps)) l has is in absurd (cc)
+        | inl is ↦ let some = any_true (holds log t trees) (each_once (filter_map negated_step steps)) l has is in absurd (cc)
         | inr is ↦ is
       ]

@@ -17,7 +17,8 @@ use Rattle.proof_check.specs.Walking.{HasCome, HasRoom}
 
 module _ {X : Type 0} (item_words : X → List Word) where
   -- the words of the items from place i on begin with those of item i
-  pub words_next : (items : List X) (i : ℕ) (d : X) (after : List Word) → i < length items → flat_map item_words (drop i items) ++ after ≡ item_words (get_or items i d) ++ (flat_map item_words (drop (i + 1) items) ++ after)
+  pub words_next : (items : List X) (i : ℕ) (d : X) (after : List Word) → i < length items
+      → flat_map item_words (drop i items) ++ after ≡ item_words (get_or items i d) ++ (flat_map item_words (drop (i + 1) items) ++ after)
   words_next items i d after low = ap (λ xs. flat_map item_words xs ++ after) (drop_more items i d low) ∙ append_assoc (item_words (get_or items i d)) (flat_map item_words (drop (i + 1) items)) after
 
   -- no word follows the last item
@@ -62,7 +63,9 @@ module _ (old : Kept) (words : List Word) (count i : ℕ) (rest : List Word) (ke
       (below, All-get_or IsSpelledLiteral lits i d below spelled.each, read.words ∙ words_next literal_words lits i d after below)
 
   -- a literal more
-  pub lits_more : (l : Literal) (later : List Word) → ((m : Literal) (after : List Word) → IsSpelledLiteral m → rest ≡ literal_words m ++ after → (l ≡ m) × (later ≡ after)) → (more : Kept) → more ≡ with_pending kept (l ∷ [])
+  pub lits_more : (l : Literal) (later : List Word)
+      → ((m : Literal) (after : List Word) → IsSpelledLiteral m → rest ≡ literal_words m ++ after → (l ≡ m) × (later ≡ after)) → (more : Kept)
+      → more ≡ with_pending kept (l ∷ [])
       → LitsRead old words count (i + 1) later more
   lits_more l later read more grown = record {
     closed = ap (λ (k : Kept). k.closed) grown ∙ before.closed;
@@ -74,7 +77,9 @@ module _ (old : Kept) (words : List Word) (count i : ℕ) (rest : List Word) (ke
         record {
           all = so_far.all;
           words = found.1;
-          grown = grown ∙ ap (λ (k : Kept). with_pending k (l ∷ [])) so_far.grown ∙ pending_both old (take i lits) (l ∷ []) ∙ ap (with_pending old) (ap (λ m. take i lits ++ m ∷ []) found.0 ∙ sym (take_more lits i l step.0));
+          grown =
+              grown ∙ ap (λ (k : Kept). with_pending k (l ∷ [])) so_far.grown ∙ pending_both old (take i lits) (l ∷ [])
+              ∙ ap (with_pending old) (ap (λ m. take i lits ++ m ∷ []) found.0 ∙ sym (take_more lits i l step.0));
         };
   }
 
@@ -104,7 +109,8 @@ pub record StepsRead (edge : Step → Option Edge) (old : Kept) (words : List Wo
   pub room : HasRoom walk
   pub each : (steps : List Step) → IsSpelledCycle steps → length steps ≡ count → words ≡ flat_map step_words steps → AreReadSteps edge old count i rest walk kept steps
 
-pub no_steps_read : (edge : Step → Option Edge) (old : Kept) (words : List Word) (count : ℕ) (walk : CycleWalk) → walk.count ≡ 0 → HasRoom walk → HasCome edge [] walk → StepsRead edge old words count 0 words walk old
+pub no_steps_read : (edge : Step → Option Edge) (old : Kept) (words : List Word) (count : ℕ) (walk : CycleWalk) → walk.count ≡ 0 → HasRoom walk
+    → HasCome edge [] walk → StepsRead edge old words count 0 words walk old
 no_steps_read edge old words count walk none room come = record {
   closed = refl;
   few = omega arith;
@@ -113,8 +119,10 @@ no_steps_read edge old words count walk none room come = record {
   each = λ steps spelled all is. record { all = sym all; words = is; come = come; grown = pending_none old };
 }
 
-module _ (edge : Step → Option Edge) (old : Kept) (words : List Word) (count i : ℕ) (rest : List Word) (walk : CycleWalk) (kept : Kept) (low : i < count) (before : StepsRead edge old words count i rest walk kept) where
-  step_there : (steps : List Step) → IsSpelledCycle steps → length steps ≡ count → words ≡ flat_map step_words steps → (d : Step) → (i < length steps) × IsSpelledStep (get_or steps i d) × (rest ≡ step_words (get_or steps i d) ++ flat_map step_words (drop (i + 1) steps))
+module _ (edge : Step → Option Edge) (old : Kept) (words : List Word) (count i : ℕ) (rest : List Word) (walk : CycleWalk) (kept : Kept) (low : i < count)
+    (before : StepsRead edge old words count i rest walk kept) where
+  step_there : (steps : List Step) → IsSpelledCycle steps → length steps ≡ count → words ≡ flat_map step_words steps → (d : Step)
+      → (i < length steps) × IsSpelledStep (get_or steps i d) × (rest ≡ step_words (get_or steps i d) ++ flat_map step_words (drop (i + 1) steps))
   step_there steps spelled all is d =
       let below : i < length steps = omega (arith, low, all) in
       (below, All-get_or IsSpelledStep steps i d below spelled.each, (before.each steps spelled all is).words ∙ ap (flat_map step_words) (drop_more steps i d below))
@@ -138,15 +146,19 @@ module _ (edge : Step → Option Edge) (old : Kept) (words : List Word) (count i
           all = so_far.all;
           words = found.1;
           come = subst (λ ss. HasCome edge ss further) (sym one) (goes (take i steps) so_far.come);
-          grown = grown (subst IsSpelledStep (sym found.0) there.1) ∙ ap (λ (k : Kept). with_pending k (filter_map negated_step (s ∷ []))) so_far.grown ∙ pending_both old (filter_map negated_step (take i steps)) (filter_map negated_step (s ∷ []))
+          grown =
+              grown (subst IsSpelledStep (sym found.0) there.1) ∙ ap (λ (k : Kept). with_pending k (filter_map negated_step (s ∷ []))) so_far.grown
+              ∙ pending_both old (filter_map negated_step (take i steps)) (filter_map negated_step (s ∷ []))
               ∙ ap (with_pending old) (sym (filter_map-append negated_step (take i steps) (s ∷ [])) ∙ ap (filter_map negated_step) (sym one));
         };
   }
 
-  pub steps_none : ((t : Step) (after : List Word) → IsSpelledStep t → rest ≡ step_words t ++ after → ⊥) → (steps : List Step) → IsSpelledCycle steps → length steps ≡ count → words ≡ flat_map step_words steps → Step → ⊥
+  pub steps_none : ((t : Step) (after : List Word) → IsSpelledStep t → rest ≡ step_words t ++ after → ⊥) → (steps : List Step) → IsSpelledCycle steps
+      → length steps ≡ count → words ≡ flat_map step_words steps → Step → ⊥
   steps_none none steps spelled all is d = let there = step_there steps spelled all is d in none (get_or steps i d) (flat_map step_words (drop (i + 1) steps)) there.1 there.2
 
-pub steps_read : (edge : Step → Option Edge) (old : Kept) (words : List Word) (count i : ℕ) (rest : List Word) (walk : CycleWalk) (kept : Kept) → count ≤ i → StepsRead edge old words count i rest walk kept
+pub steps_read : (edge : Step → Option Edge) (old : Kept) (words : List Word) (count i : ℕ) (rest : List Word) (walk : CycleWalk) (kept : Kept) → count ≤ i
+    → StepsRead edge old words count i rest walk kept
     → (steps : List Step) → IsSpelledCycle steps → length steps ≡ count → words ≡ flat_map step_words steps → HasCome edge steps walk × (kept ≡ with_pending old (filter_map negated_step steps))
 steps_read edge old words count i rest walk kept past read steps spelled all is =
     let so_far = read.each steps spelled all is in

@@ -1,5 +1,5 @@
 -- The places of literals in a list, in the order of the literals. Places count from 0.
-use Rattle.std.specs.Prelude.{◌≡◌, ◌+◌, ◌<◌, ◌≤◌, ℕ, Bool, true, if◌then◌else◌, List, [], ◌∷◌, length, take, All, Contains, slice_index_or}
+use Rattle.std.specs.Prelude.{◌≡◌, ◌+◌, ◌<◌, ◌≤◌, ℕ, Bool, true, List, length, take, All, Contains, slice_index_or}
 use Rattle.std.specs.List.Sorted.{IsSortedByKey}
 use Rattle.std.specs.Ordering.{is_lt}
 use Rattle.axiom_rules.specs.declared.literal.Atom.TheVariants.{First}
@@ -31,9 +31,3 @@ pub record StandsFirst (lits : List Literal) (literal : Literal) (place : ℕ) :
   pub within : place < length lits
   pub there : literal_at lits place ≡ literal
   pub first : Contains (take place lits) literal → ⊥
-
--- the elements that are marked
-abbrev pub marked : {X : Type 0} → List Bool → List X → List X
-marked [] xs = []
-marked (b ∷ bs) [] = []
-marked (b ∷ bs) (x ∷ xs) = if b then x ∷ marked bs xs else marked bs xs

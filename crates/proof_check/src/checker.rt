@@ -17,7 +17,7 @@ use crate::laws::refuted_is_no_value;
 use crate::taking::{check_lines, check_lines_of};
 use axiom_rules::Rules;
 use formula_arena::{Arena, ArenaFault};
-use mt_model::{Formula, Log, NodeId};
+use mt_model::{Formula, Log, NodeId, log_is_valid};
 use proof_log::Line;
 use smallvec::SmallVec;
 use std::alloc::{AllocError, Global};
@@ -44,11 +44,11 @@ impl Model for Checker {
     ghost view = { λ c. c.rules };
 }
 
-// That the log of rules is a log is known with its rows.
-fn log_is_valid(rules: &Rules)
+// The log of rules is valid.
+fn rules_have_a_log(rules: &Rules)
     ensures { IsLog rules.now.log }
 {
-    let _ = rules.log().rows();
+    log_is_valid(rules.log());
 }
 
 impl Checker {
@@ -101,7 +101,7 @@ impl Checker {
         ensures kept { self.new ≡ self.old }
     {
         refuted_is_no_value();
-        log_is_valid(&self.rules);
+        rules_have_a_log(&self.rules);
         check_lines(self.alloc, &self.rules, &mut self.clause, lines)
     }
 
@@ -117,7 +117,7 @@ impl Checker {
         ensures kept { self.new ≡ self.old }
     {
         refuted_is_no_value();
-        log_is_valid(&self.rules);
+        rules_have_a_log(&self.rules);
         check_lines_of(self.alloc, &self.rules, &mut self.clause, text)
     }
 }

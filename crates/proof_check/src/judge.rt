@@ -7,11 +7,10 @@ ghost use Rattle.std.specs.Result.{result_ok};
 ghost use Rattle.axiom_rules.specs.declared.literal.Literal.{Literal};
 ghost use Rattle.axiom_rules.specs.Clauses.{clause_of as clause_of_rule};
 ghost use Rattle.proof_log.specs.declared.line.Hint.{Hint};
-ghost use Rattle.proof_log.specs.Citing.{AreSpelledHints};
 ghost use Rattle.proof_log.specs.Derivations.{IsLearnt};
 ghost use Rattle.proof_log.specs.LinesText.{Word, hint_words, literal_words};
 ghost use Rattle.proof_log.specs.Reading.{words_after};
-ghost use Rattle.proof_log.specs.Spelled.{IsSpelledLearn};
+ghost use Rattle.proof_log.specs.Spelled.{AreSpelledHints, IsSpelledLearn};
 ghost use Rattle.proof_check.specs.Judging.{AreRefuting, AreSpelledLiterals, IsHintTaken};
 ghost use Rattle.proof_check.specs.Keeping.{closed_only, lines_with, with_pending};
 

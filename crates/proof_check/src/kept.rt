@@ -1,6 +1,6 @@
 ghost use Rattle.std.specs.Prelude.{◌≡◌, ◌-◌, ◌<◌, ◌≤◌, ◌^◌, [], ◌∷◌, ◌++◌, length, option_copied, slice_get, slice_index, slice_index_or, OnOk};
 ghost use Rattle.axiom_rules.specs.Parts.{each_once};
-ghost use Rattle.proof_check.specs.Keeping.{closed_only, last_end};
+ghost use Rattle.proof_check.specs.Keeping.{closed_only};
 
 use crate::places::{are_first, keep_marked};
 use axiom_rules::Literal;
@@ -20,7 +20,8 @@ pub struct Clauses {
 
 impl Model for Clauses {
     ghost use Rattle.std.specs.Prelude.{length};
-    ghost use Rattle.proof_check.specs.Keeping.{Kept, Rise, kept_in};
+    ghost use Rattle.hint_refutation.specs.Pieces.{Rise};
+    ghost use Rattle.proof_check.specs.Keeping.{Kept, kept_in};
 
     ghost Value = { Kept };
 

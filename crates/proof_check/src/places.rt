@@ -3,7 +3,8 @@
 ghost use Rattle.std.specs.Prelude.{◌≡◌, ◌↔◌, ◌+◌, ◌<◌, ◌^◌, ◌++◌, Contains, length, take, drop, slice_set, IfOk, IsTrue, MatchOption};
 ghost use Rattle.std.specs.List.{range_with_len};
 ghost use Rattle.axiom_rules.specs.Parts.{each_once};
-ghost use Rattle.proof_check.specs.Places.{AreSortedPlaces, StandsFirst, comes_before as comes_before_of, literal_at as literal_at_of, marked};
+ghost use Rattle.proof_log.specs.Marks.{marked};
+ghost use Rattle.proof_check.specs.Places.{AreSortedPlaces, StandsFirst, comes_before as comes_before_of, literal_at as literal_at_of};
 
 use axiom_rules::{Atom, Literal};
 use std::alloc::{AllocError, Global};

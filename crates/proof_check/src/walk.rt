@@ -1,17 +1,15 @@
 //! Walks along the edges of steps.
 
 ghost use Rattle.std.specs.Prelude.{◌≡◌, ◌↔◌, ◌^◌, option_map, MatchOption, IfSome, IsTrue, pos, ◌<ℤ◌};
-ghost use Rattle.mt_model.specs.Bounds.{step_of};
-ghost use Rattle.mt_model.specs.Laws.{IsBound};
 ghost use Rattle.mt_model.specs.Walks.{edge_of as edge_of_step};
 ghost use Rattle.skew_bounds.specs.Edges.{edge_in};
 ghost use Rattle.skew_bounds.specs.RowEdges.{IsEdgeTableOf};
 ghost use Rattle.proof_check.specs.Cycles.{bound_edge_of};
 ghost use Rattle.proof_check.specs.Walking.{Goes, IsNear, Stops};
 
-use mt_model::{Bound, EventId, Log, MAX_ORDER, Step};
+use mt_model::{Log, MAX_ORDER, Step};
 use neg_cycle::Edge;
-use skew_bounds::{EdgeTable, edge_of};
+use skew_bounds::{EdgeTable, bound_of, edge_of};
 
 /// The node at which a walk begins, the one at which it has come to, and the sum of its steps' bounds.
 #[derive(Clone, Copy, Debug)]
@@ -54,21 +52,6 @@ impl Walk {
         ensures { IsTrue result ↔ ((self.start ≡ self.«end») × (self.sum <ℤ pos 0)) }
     {
         self.start == self.end && self.sum < 0
-    }
-}
-
-// The bound of a log that a step is, where it is one by its kind.
-fn bound_of(step: Step) -> Option<Bound>
-    ensures { MatchOption result (IsBound step → ⊥) (λ bound. step_of bound ≡ step) }
-{
-    match step {
-        Step::Low(e) => Some(Bound::Low(EventId::new(e))),
-        Step::High(e) => Some(Bound::High(EventId::new(e))),
-        Step::Rise(f) => Some(Bound::Rise(EventId::new(f))),
-        Step::Message(r) => Some(Bound::Message(EventId::new(r))),
-        Step::Late(r) => Some(Bound::Late(EventId::new(r))),
-        Step::Extra(k) => Some(Bound::Extra(k)),
-        Step::Order { .. } => None,
     }
 }
 

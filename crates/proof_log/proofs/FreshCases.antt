@@ -18,7 +18,8 @@ use Rattle.proof_log.specs.declared.line.Line.TheVariants as line
 use Rattle.proof_log.specs.Derivations.{HasClauses}
 use Rattle.proof_log.specs.Freshness.{Fresh, IsLearnAt, IsNew, Used, known_before, learn_lines}
 use Rattle.proof_log.proofs.LearnLines.{learn_same}
-use Rattle.proof_log.proofs.WorkedCases.{alone, first, found_same, is_true, node, not_among, single, stating}
+use Rattle.proof_log.proofs.WorkedCases.{alone, first, is_true, node, not_among, single, stating}
+use Rattle.mt_list.proofs.Lists.{found_same}
 
 -- a walk, and a line that learns what it says
 abbrev walk : Line
@@ -96,7 +97,9 @@ weaker_not_used used =
     let hints : used.learn.hints ≡ is_true ∷ [] = cc in
     let cited = subst (λ (hs : List Hint). HasClauses (sought_of single True false) (weaker ∷ []) 1 hs used.clauses) hints used.cited in
     let clauses : used.clauses ≡ (node ∷ []) ∷ [] = found_same used.clauses ((node ∷ []) ∷ []) (sym cited) in
-    let stands = All-contains (StandsIn used.clauses) used.learn.lits first used.resolvent.stand (subst (λ (ls : List Literal). Contains ls first) (sym lits) (contains_later node first (first ∷ []) (contains_first first []))) in
+    let stands =
+    All-contains (StandsIn used.clauses) used.learn.lits first used.resolvent.stand
+    (subst (λ (ls : List Literal). Contains ls first) (sym lits) (contains_later node first (first ∷ []) (contains_first first []))) in
     let (clause, has, there) = any_found (λ (c : List Literal). Contains c first) ((node ∷ []) ∷ []) (subst (λ (cs : List (List Literal)). StandsIn cs first) clauses stands) in
     elim (contains_cases (node ∷ []) clause [] has) [
       | inl is ↦ not_among node first node_not_first (subst (λ (c : List Literal). Contains c first) (sym is) there)

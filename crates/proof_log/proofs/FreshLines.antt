@@ -55,7 +55,8 @@ rules_known s rules lines n = all_from (Contains (known_before s rules lines n))
 pub fresh-lines_differ : FreshLinesDiffer
 fresh-lines_differ log f v rules lines m n earlier fresh less same =
     let s = sought_of log f v in
-    let there = given_has learnt_clause (take (n - 1) lines) (line.Learn earlier.lits earlier.hints) earlier.lits (line_front lines m n (line.Learn earlier.lits earlier.hints) less earlier.stands) refl in
+    let there =
+    given_has learnt_clause (take (n - 1) lines) (line.Learn earlier.lits earlier.hints) earlier.lits (line_front lines m n (line.Learn earlier.lits earlier.hints) less earlier.stands) refl in
     new_differs (known_before s rules lines n) fresh.learn.lits earlier.lits fresh.is_new (learnt_known s rules lines n earlier.lits there) same
 
 module _ (log : Logged) (f : Form) (v : Bool) (rules : List Rule) (conflicts : ℕ) (lines : List Line) (spends : Spends log f v rules conflicts lines) where

@@ -30,7 +30,8 @@ pub gives-weaker : {X : Type 0} (o : Option X) (P Q : X → Type 0) → ((x : X)
 gives-weaker None P Q step h = tt
 gives-weaker (Some x) P Q step h = step x h
 
-pub gives-made : {X Y : Type 0} (make : X → Y) (reading : Reading X) (P : X × List Word → Type 0) (Q : Y × List Word → Type 0) → ((x : X) (rest : List Word) → P (x, rest) → Q (make x, rest)) → IfSome reading P
+pub gives-made : {X Y : Type 0} (make : X → Y) (reading : Reading X) (P : X × List Word → Type 0) (Q : Y × List Word → Type 0)
+    → ((x : X) (rest : List Word) → P (x, rest) → Q (make x, rest)) → IfSome reading P
     → IfSome (made make reading) Q
 gives-made make None P Q step h = tt
 gives-made make (Some r) P Q step h = step r.0 r.1 h
@@ -42,7 +43,8 @@ gives-whole (Some (x, [])) P Q step h = step x h
 gives-whole (Some (x, w ∷ ws)) P Q step h = tt
 
 -- a name, and then what is made of a reading
-pub gives-after : {X Y : Type 0} (name : Word) (make : X → Y) (inner : X → List Word) (Inner : X → Type 0) (words : Y → List Word) (Valid : Y → Type 0) (reading : Reading X) (w : Word) (ws : List Word)
+pub gives-after : {X Y : Type 0} (name : Word) (make : X → Y) (inner : X → List Word) (Inner : X → Type 0) (words : Y → List Word) (Valid : Y → Type 0)
+    (reading : Reading X) (w : Word) (ws : List Word)
     → ((x : X) → words (make x) ≡ name ∷ inner x) → ((x : X) → Inner x → Valid (make x)) → w ≡ name → IfSome reading (IsRead inner Inner ws) → IfSome (made make reading) (IsRead words Valid (w ∷ ws))
 gives-after name make inner Inner words Valid reading w ws text valid is read = gives-made make reading (IsRead inner Inner ws) (IsRead words Valid (w ∷ ws)) step read
   where

@@ -7,8 +7,8 @@ pub mod WrittenItems
 pub mod PlainWords
 pub mod LineReading
 pub mod ReadingLines
-pub mod FrontLines
-pub mod CitedHints
+pub mod PassedItems
+pub mod HeadLines
 pub mod PassedLines
 pub mod HandedWords
 pub mod Texts

@@ -99,7 +99,9 @@ line-written (line.Learn lits hints) is =
     let read : counted_in hint_in after ≡ Some (hints, []) =
     ap (λ t. counted_in hint_in (decimal (length hints) ∷ t)) (sym (append-nil words)) ∙ counted-written hint_in hint_words IsSpelledHint hint-written hints [] is.hint_count is.each_hint in
     let first = counted-written literal_in literal_words IsSpelledLiteral literal-written lits after is.lit_count is.each_lit in
-    ap whole (ap (option_and_then (λ (a : List Literal × List Word). made (λ (h : List Hint). line.Learn a.0 h) (counted_in hint_in a.1))) first ∙ made-back (λ (h : List Hint). line.Learn lits h) (counted_in hint_in after) hints [] read)
+    ap whole
+    (ap (option_and_then (λ (a : List Literal × List Word). made (λ (h : List Hint). line.Learn a.0 h) (counted_in hint_in a.1))) first
+    ∙ made-back (λ (h : List Hint). line.Learn lits h) (counted_in hint_in after) hints [] read)
 
 -- the words of a line come apart again
 pub split-line : (l : Line) → IsSpelled l → slice_split (is_byte space) (join_with_byte space (line_words l)) ≡ line_words l
@@ -150,6 +152,8 @@ whole-going_on reading x [] is some = absurd (omega arith)
 whole-going_on reading x (b ∷ bs) is some = ap whole is ∙ whole-longer x (slice_split (is_byte space) bs) (omega (arith, length-slice_split (is_byte space) bs))
 
 -- the literals and the hints of a Learn line
-pub learn-is : (ws after rest : List Word) (lits : List Literal) (hints : List Hint) → counted_in literal_in ws ≡ Some (lits, after) → counted_in hint_in after ≡ Some (hints, rest) → learn_in ws ≡ Some (line.Learn lits hints, rest)
+pub learn-is : (ws after rest : List Word) (lits : List Literal) (hints : List Hint) → counted_in literal_in ws ≡ Some (lits, after)
+    → counted_in hint_in after ≡ Some (hints, rest) → learn_in ws ≡ Some (line.Learn lits hints, rest)
 learn-is ws after rest lits hints first second =
-    ap (option_and_then (λ (a : List Literal × List Word). made (λ (h : List Hint). line.Learn a.0 h) (counted_in hint_in a.1))) first ∙ made-back (λ (h : List Hint). line.Learn lits h) (counted_in hint_in after) hints rest second
+    ap (option_and_then (λ (a : List Literal × List Word). made (λ (h : List Hint). line.Learn a.0 h) (counted_in hint_in a.1))) first
+    ∙ made-back (λ (h : List Hint). line.Learn lits h) (counted_in hint_in after) hints rest second

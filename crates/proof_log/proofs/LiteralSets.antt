@@ -1,9 +1,8 @@
 -- Sets of literals over some atoms, none with an atom twice: they are numbers with a digit in base three for each atom.
-use Rattle.std.proofs.Common.{◌≡◌, ◌∙◌, ap, sym, subst, refl, ℕ, suc, ◌+◌, ◌*◌, ◌^◌, ◌<◌, ◌≤◌, ◌⊎◌, inl, inr, List, [], ◌∷◌, length, map, get_or, arith, eqb, Bool, true, false, cond}
-use Rattle.std.specs.Prelude.{All, AllPairs, Contains, ◌||◌}
+use Rattle.std.proofs.Common.{◌≡◌, ◌∙◌, ap, sym, subst, refl, ℕ, suc, ◌+◌, ◌*◌, ◌^◌, ◌<◌, ◌≤◌, inl, inr, List, [], ◌∷◌, length, map, get_or, arith, eqb, Bool, true, false, cond}
+use Rattle.std.specs.Prelude.{All, AllPairs, Contains}
 use Rattle.std.specs.List.{list_any}
-use Rattle.std.proofs.lemmas.Bool.{cases_Bool, cases_eq, cases_lt}
-use Rattle.std.proofs.lemmas.Bool.Decides.{nat_tests}
+use Rattle.std.proofs.lemmas.Bool.{cases_Bool, cases_eq, cases_lt, or_cases, ne_eqb}
 use Rattle.std.proofs.lemmas.List.{get_or_default, get_or-map, length-map}
 use Rattle.std.proofs.lemmas.List.Elements.{All-contains}
 use Rattle.std.proofs.lemmas.Map.Keys.{IsDistinct-from_apart}
@@ -15,6 +14,7 @@ use Rattle.axiom_rules.specs.Literals.{same_atom}
 use Rattle.axiom_rules.proofs.AddingLemmas.{atom-itself}
 use Rattle.axiom_rules.proofs.PartLemmas.{atoms_same}
 use Rattle.proof_log.specs.FreshLaws.{HaveSameLiterals}
+use Rattle.mt_list.proofs.Lists.{first_below}
 
 -- of an atom that is there the digit is 1 or 2, by the sense of its literal, and of any other atom it is 0
 abbrev sense : Bool → ℕ
@@ -119,21 +119,11 @@ in_digit (k ∷ ks) l plain has = elim (cases_Bool (same_atom k.atom l.atom)) [
     | inr there ↦ there
   ]
 
-differ : (a b : ℕ) → (a ≡ b → ⊥) → eqb a b ≡ false
-differ a b other = grind (arith, nat_tests)
-
-any_two : (p q : Bool) → (p || q) ≡ true → (p ≡ true) ⊎ (q ≡ true)
-any_two true q e = inl refl
-any_two false q e = inr e
-
-first_one : {n : ℕ} (q a : ℕ) → a < n → eqb q a ≡ true → q < n
-first_one q a low e = grind (arith, nat_tests)
-
 module _ (atoms : List Atom) where
   codes_below : (clauses : List (List Literal)) (q : ℕ) → list_any (eqb q) (map (code atoms) clauses) ≡ true → q < 3 ^ length atoms
   codes_below [] q found = absurd cc
-  codes_below (c ∷ cs) q found = elim (any_two (eqb q (code atoms c)) (list_any (eqb q) (map (code atoms) cs)) found) [
-    | inl here ↦ first_one q (code atoms c) (code_below atoms c) here
+  codes_below (c ∷ cs) q found = elim (or_cases (eqb q (code atoms c)) (list_any (eqb q) (map (code atoms) cs)) found) [
+    | inl here ↦ first_below q (code atoms c) (code_below atoms c) here
     | inr later ↦ codes_below cs q later
   ]
 
@@ -159,7 +149,7 @@ module _ (atoms : List Atom) where
           let c = get_or clauses i [] in
           let d = get_or clauses j [] in
           rw (get_or-map (code atoms) clauses i [] e i_in, get_or-map (code atoms) clauses j [] e j_in)
-          (differ (code atoms c) (code atoms d) (λ same. apart i j [] less j_in (record {
+          (ne_eqb (code atoms c) (code atoms d) (λ same. apart i j [] less j_in (record {
             into = code_into c d (plain i [] i_in) (among i [] i_in) same;
             back = code_into d c (plain j [] j_in) (among j [] j_in) (sym same);
           })))

@@ -1,5 +1,5 @@
 -- Lines that are passed over: what a reading of which only the atoms are kept says of its line.
-use Rattle.std.proofs.Common.{◌≡◌, ◌∙◌, sym, ap, subst, refl, arith, ℕ, ◌<◌, ◌≤◌, ◌==◌, ◌↔◌, Bool, true, false, List, [], ◌∷◌, ◌++◌, length, map, Some, None, codes}
+use Rattle.std.proofs.Common.{◌≡◌, ◌∙◌, sym, ap, subst, refl, arith, ℕ, ◌<◌, ◌≤◌, ◌==◌, ◌↔◌, Bool, true, false, List, [], ◌∷◌, ◌++◌, length, map, Some, None}
 use Rattle.std.specs.Prelude.{IsTrue, option_and_then}
 use Rattle.std.specs.List.{slice_split}
 use Rattle.std.proofs.lemmas.Bool.Decides.{nat_tests}
@@ -44,8 +44,12 @@ module _ (words left : List Word) (count : ℕ) (atoms : List Atom) (before : Ar
   }
 
   pub all-kept : count ≤ length atoms → (lits : List Literal) × (counted_in literal_in words ≡ Some (lits, left)) × (atoms ≡ map atom_of lits)
-  all-kept full =
-      (before.lits, counted literal_in words before.first count (Some (before.lits, left)) before.number (all-read literal_in before.first count before.lits left before.read_to (omega (arith, full, size))), before.held)
+  all-kept full = (
+    before.lits,
+    counted literal_in words before.first count (Some (before.lits, left)) before.number
+        (all-read literal_in before.first count before.lits left before.read_to (omega (arith, full, size))),
+    before.held,
+  )
 
   pub no-more_kept : length atoms < count → literal_in left ≡ None → counted_in literal_in words ≡ None
   no-more_kept more none = counted literal_in words before.first count None before.number (stopped literal_in before.first count before.lits left before.read_to (omega (arith, more, size)) none)
@@ -93,22 +97,14 @@ module _ (ws : List Word) where
 
   -- the atoms decide
   pub by-atoms : (after : List Word) (rest : List ℕ) (lits : List Literal) (hints : List Hint) (atoms : List Atom) (b : Bool)
-      → counted_in literal_in ws ≡ Some (lits, after) → counted_in hint_in after ≡ Some (hints, words_after rest) → atoms ≡ map atom_of lits → length rest ≡ 0 → IsTrue b ↔ AreApart atoms → IsTrue b ↔ GivesLine (whole (learn_in ws))
+      → counted_in literal_in ws ≡ Some (lits, after) → counted_in hint_in after ≡ Some (hints, words_after rest) → atoms ≡ map atom_of lits → length rest ≡ 0
+      → IsTrue b ↔ AreApart atoms → IsTrue b ↔ GivesLine (whole (learn_in ws))
   by-atoms after rest lits hints atoms b first second held empty apart =
       let is = learn-is ws after (words_after rest) lits hints first second in
       let once = decided atoms lits b held apart in (
         λ yes. given (learn_in ws) (line.Learn lits hints) rest is empty (once.0 yes),
         λ gives. once.1 (given-once (learn_in ws) (line.Learn lits hints) rest is empty gives),
       )
-
--- ---- the words of a line
-
-module _ (words word rest : List ℕ) (cut_is : slice_split (is_byte space) words ≡ word ∷ words_after rest) where
-  pub cycle-words : word ≡ codes "cycle" → line_in (slice_split (is_byte space) words) ≡ whole (made line.Cycle (counted_in step_in (words_after rest)))
-  cycle-words is = ap line_in cut_is ∙ ap (λ w. line_in (w ∷ words_after rest)) is
-
-  pub learn-words : word ≡ codes "learn" → line_in (slice_split (is_byte space) words) ≡ whole (learn_in (words_after rest))
-  learn-words is = ap line_in cut_is ∙ ap (λ w. line_in (w ∷ words_after rest)) is
 
 -- bytes that are a line
 pub line-given : (bytes : List ℕ) (l : Line) → IsLine bytes l → GivesLine (line_in (slice_split (is_byte space) bytes))

@@ -104,8 +104,14 @@ plain-all words Valid plain (x ∷ xs) all = plain-append (words x) (flat_map wo
 pub plain-line : (l : Line) → IsSpelled l → ArePlain (line_words l)
 plain-line (line.Cycle steps) is = (refl, (plain-number (length steps) is.count, plain-all step_words IsSpelledStep plain-step steps is.each))
 plain-line (line.Learn lits hints) is =
-    let second : ArePlain (decimal (length hints) ∷ flat_map hint_words hints) = (plain-number (length hints) is.hint_count, plain-all hint_words IsSpelledHint plain-hint hints is.each_hint) in
-    (refl, (plain-number (length lits) is.lit_count, plain-append (flat_map literal_words lits) (decimal (length hints) ∷ flat_map hint_words hints) (plain-all literal_words IsSpelledLiteral plain-literal lits is.each_lit) second))
+    let second : ArePlain (decimal (length hints) ∷ flat_map hint_words hints) = (plain-number (length hints) is.hint_count, plain-all hint_words IsSpelledHint plain-hint hints is.each_hint) in (
+      refl,
+      (
+        plain-number (length lits) is.lit_count,
+        plain-append (flat_map literal_words lits) (decimal (length hints) ∷ flat_map hint_words hints)
+            (plain-all literal_words IsSpelledLiteral plain-literal lits is.each_lit) second,
+      ),
+    )
 
 -- a plain word lacks a byte that is no greater than a space
 pub plain-lacks : (byte : ℕ) (w : Word) → byte ≤ 32 → is_plain w ≡ true → Lacks byte w

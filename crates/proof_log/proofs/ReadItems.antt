@@ -55,24 +55,29 @@ IsConstraint x = IsOrder x.e x.f x.c
 number-read : (ws : List Word) → IfSome (number_in ws) (IsRead one_word IsNumber ws)
 number-read [] = tt
 number-read (w ∷ ws) =
-    gives-map (λ n. (n, ws)) (number_below (2 ^ 32) w) (WritesNumber (2 ^ 32) w) (IsRead one_word IsNumber (w ∷ ws)) (λ n is. record { valid = is.below; words_are = ap (λ v. v ∷ ws) is.written }) (number-sound (2 ^ 32) w (lit≤ tt))
+    gives-map (λ n. (n, ws)) (number_below (2 ^ 32) w) (WritesNumber (2 ^ 32) w) (IsRead one_word IsNumber (w ∷ ws))
+    (λ n is. record { valid = is.below; words_are = ap (λ v. v ∷ ws) is.written }) (number-sound (2 ^ 32) w (lit≤ tt))
 
 byte-read : (ws : List Word) → IfSome (byte_in ws) (IsRead one_word (λ n. n < 2 ^ 8) ws)
 byte-read [] = tt
 byte-read (w ∷ ws) =
-    gives-map (λ n. (n, ws)) (number_below (2 ^ 8) w) (WritesNumber (2 ^ 8) w) (IsRead one_word (λ n. n < 2 ^ 8) (w ∷ ws)) (λ n is. record { valid = is.below; words_are = ap (λ v. v ∷ ws) is.written }) (number-sound (2 ^ 8) w (lit≤ tt))
+    gives-map (λ n. (n, ws)) (number_below (2 ^ 8) w) (WritesNumber (2 ^ 8) w) (IsRead one_word (λ n. n < 2 ^ 8) (w ∷ ws))
+    (λ n is. record { valid = is.below; words_are = ap (λ v. v ∷ ws) is.written }) (number-sound (2 ^ 8) w (lit≤ tt))
 
 bound-read : (ws : List Word) → IfSome (bound_in ws) (IsRead (λ c. signed_decimal c ∷ []) (IsWithin MAX_ORDER) ws)
 bound-read [] = tt
 bound-read (w ∷ ws) =
-    gives-map (λ c. (c, ws)) (signed_up_to MAX_ORDER w) (WritesSigned MAX_ORDER w) (IsRead (λ c. signed_decimal c ∷ []) (IsWithin MAX_ORDER) (w ∷ ws)) (λ c is. record { valid = record { low = is.low; high = is.high }; words_are = ap (λ v. v ∷ ws) is.written }) (signed-sound MAX_ORDER (omega (arith, ints)) w)
+    gives-map (λ c. (c, ws)) (signed_up_to MAX_ORDER w) (WritesSigned MAX_ORDER w) (IsRead (λ c. signed_decimal c ∷ []) (IsWithin MAX_ORDER) (w ∷ ws))
+    (λ c is. record { valid = record { low = is.low; high = is.high }; words_are = ap (λ v. v ∷ ws) is.written })
+    (signed-sound MAX_ORDER (omega (arith, ints)) w)
 
 two-read : (ws : List Word) → IfSome (two_in ws) (IsRead two_words AreTwo ws)
 two-read ws = gives-then (λ a. made (λ n. (a.0, n)) (number_in a.1)) (number_in ws) (IsRead one_word IsNumber ws) (IsRead two_words AreTwo ws) second (number-read ws)
   where
     second : (a : ℕ × List Word) → IsRead one_word IsNumber ws a → IfSome (made (λ n. (a.0, n)) (number_in a.1)) (IsRead two_words AreTwo ws)
     second a r =
-        gives-made (λ n. (a.0, n)) (number_in a.1) (IsRead one_word IsNumber a.1) (IsRead two_words AreTwo ws) (λ n rest q. record { valid = (r.valid, q.valid); words_are = r.words_are ∙ ap (λ t. decimal a.0 ∷ t) q.words_are }) (number-read a.1)
+        gives-made (λ n. (a.0, n)) (number_in a.1) (IsRead one_word IsNumber a.1) (IsRead two_words AreTwo ws)
+        (λ n rest q. record { valid = (r.valid, q.valid); words_are = r.words_are ∙ ap (λ t. decimal a.0 ∷ t) q.words_are }) (number-read a.1)
 
 rising-read : (ws : List Word) → IfSome (rising_in ws) (IsRead two_words AreRising ws)
 rising-read ws = gives-then (λ a. if nat_lt a.0.0 a.0.1 then Some a else None) (two_in ws) (IsRead two_words AreTwo ws) (IsRead two_words AreRising ws) step (two-read ws)
@@ -98,9 +103,11 @@ apart-from e f test same = absurd (grind (arith, nat_tests))
 
 constraint-read : (ws : List Word) → IfSome (constraint_in ws) (IsRead constraint_words IsConstraint ws)
 constraint-read ws =
-    gives-then (λ a. if a.0.0 == a.0.1 then None else made (λ c. record { e = a.0.0; f = a.0.1; c = c }) (bound_in a.1)) (two_in ws) (IsRead two_words AreTwo ws) (IsRead constraint_words IsConstraint ws) third (two-read ws)
+    gives-then (λ a. if a.0.0 == a.0.1 then None else made (λ c. record { e = a.0.0; f = a.0.1; c = c }) (bound_in a.1)) (two_in ws)
+    (IsRead two_words AreTwo ws) (IsRead constraint_words IsConstraint ws) third (two-read ws)
   where
-    third : (a : (ℕ × ℕ) × List Word) → IsRead two_words AreTwo ws a → IfSome (if a.0.0 == a.0.1 then None else made (λ c. record { e = a.0.0; f = a.0.1; c = c }) (bound_in a.1)) (IsRead constraint_words IsConstraint ws)
+    third : (a : (ℕ × ℕ) × List Word) → IsRead two_words AreTwo ws a
+        → IfSome (if a.0.0 == a.0.1 then None else made (λ c. record { e = a.0.0; f = a.0.1; c = c }) (bound_in a.1)) (IsRead constraint_words IsConstraint ws)
     third a r =
         gives-if (a.0.0 == a.0.1) None (made (λ c. record { e = a.0.0; f = a.0.1; c = c }) (bound_in a.1)) (IsRead constraint_words IsConstraint ws) (λ same. tt)
         (λ differ. gives-made (λ c. record { e = a.0.0; f = a.0.1; c = c }) (bound_in a.1) (IsRead (λ c. signed_decimal c ∷ []) (IsWithin MAX_ORDER) a.1) (IsRead constraint_words IsConstraint ws)
@@ -121,7 +128,8 @@ step-read (w ∷ ws) =
     (gives-named w (codes "order") _ _ (IsRead step_words IsSpelledStep (w ∷ ws))
     (λ is. gives-after (codes "order") step_of constraint_words IsConstraint step_words IsSpelledStep (constraint_in ws) w ws (λ x. refl) (λ x v. v) is (constraint-read ws)) tt))))))
   where
-    single : (name : Word) (make : ℕ → Step) → ((n : ℕ) → step_words (make n) ≡ name ∷ one_word n) → ((n : ℕ) → IsNumber n → IsSpelledStep (make n)) → w ≡ name → IfSome (made make (number_in ws)) (IsRead step_words IsSpelledStep (w ∷ ws))
+    single : (name : Word) (make : ℕ → Step) → ((n : ℕ) → step_words (make n) ≡ name ∷ one_word n) → ((n : ℕ) → IsNumber n → IsSpelledStep (make n)) → w ≡ name
+        → IfSome (made make (number_in ws)) (IsRead step_words IsSpelledStep (w ∷ ws))
     single name make text valid is = gives-after name make one_word IsNumber step_words IsSpelledStep (number_in ws) w ws text valid is (number-read ws)
 
 -- the atom of a name, with the sign of a sense before the name
@@ -200,7 +208,9 @@ argument_words true n = decimal n ∷ []
 argument_words false n = []
 
 argument-read : (used : Bool) (ws : List Word) → IfSome (argument_in used ws) (IsRead (λ n. argument_words used n) (λ n. IsArgument used n) ws)
-argument-read true ws = gives-weaker (number_in ws) (IsRead one_word IsNumber ws) (IsRead (λ n. argument_words true n) (λ n. IsArgument true n) ws) (λ r is. record { valid = is.valid; words_are = is.words_are }) (number-read ws)
+argument-read true ws =
+    gives-weaker (number_in ws) (IsRead one_word IsNumber ws) (IsRead (λ n. argument_words true n) (λ n. IsArgument true n) ws)
+    (λ r is. record { valid = is.valid; words_are = is.words_are }) (number-read ws)
 argument-read false ws = record { valid = refl; words_are = refl }
 
 pub record AreArguments (count : ℕ) (args : List ℕ) : Type 0 where
@@ -259,25 +269,39 @@ module _ (count : ℕ) (few : count ≤ 4) where
   AllRead all = IsRead (used_words count) (AreArguments count) all
 
   arguments-read : (all : List Word) → IfSome (arguments_in count all) (AllRead all)
-  arguments-read all = gives-then (λ (a : ℕ × List Word). option_and_then (λ (b : ℕ × List Word). option_and_then (λ (c : ℕ × List Word). made (λ (d : ℕ). a.0 ∷ b.0 ∷ c.0 ∷ d ∷ []) (argument_in (nat_lt 3 count) c.1)) (argument_in (nat_lt 2 count) b.1)) (argument_in (nat_lt 1 count) a.1))
+  arguments-read all =
+      gives-then
+      (λ (a : ℕ × List Word). option_and_then
+      (λ (b : ℕ × List Word). option_and_then (λ (c : ℕ × List Word). made (λ (d : ℕ). a.0 ∷ b.0 ∷ c.0 ∷ d ∷ []) (argument_in (nat_lt 3 count) c.1)) (argument_in (nat_lt 2 count) b.1))
+      (argument_in (nat_lt 1 count) a.1))
       (argument_in (nat_lt 0 count) all) (ArgumentRead 0 all) (AllRead all) second (argument-read (nat_lt 0 count) all)
     where
-      fourth : (a b c : ℕ × List Word) → ArgumentRead 0 all a → ArgumentRead 1 a.1 b → ArgumentRead 2 b.1 c → IfSome (made (λ (d : ℕ). a.0 ∷ b.0 ∷ c.0 ∷ d ∷ []) (argument_in (nat_lt 3 count) c.1)) (AllRead all)
+      fourth : (a b c : ℕ × List Word) → ArgumentRead 0 all a → ArgumentRead 1 a.1 b → ArgumentRead 2 b.1 c
+          → IfSome (made (λ (d : ℕ). a.0 ∷ b.0 ∷ c.0 ∷ d ∷ []) (argument_in (nat_lt 3 count) c.1)) (AllRead all)
       fourth a b c ra rb rc =
           gives-made (λ (d : ℕ). a.0 ∷ b.0 ∷ c.0 ∷ d ∷ []) (argument_in (nat_lt 3 count) c.1) (ArgumentRead 3 c.1) (AllRead all)
           (λ d rest rd. together count a.0 b.0 c.0 d all rest few ra.valid rb.valid rc.valid rd.valid
-          (ra.words_are ∙ ap (λ t. argument_words (nat_lt 0 count) a.0 ++ t) (rb.words_are ∙ ap (λ t. argument_words (nat_lt 1 count) b.0 ++ t) (rc.words_are ∙ ap (λ t. argument_words (nat_lt 2 count) c.0 ++ t) rd.words_are))))
+          (ra.words_are
+          ∙ ap (λ t. argument_words (nat_lt 0 count) a.0 ++ t)
+          (rb.words_are ∙ ap (λ t. argument_words (nat_lt 1 count) b.0 ++ t) (rc.words_are ∙ ap (λ t. argument_words (nat_lt 2 count) c.0 ++ t) rd.words_are))))
           (argument-read (nat_lt 3 count) c.1)
 
       third : (a b : ℕ × List Word) → ArgumentRead 0 all a → ArgumentRead 1 a.1 b
           → IfSome (option_and_then (λ (c : ℕ × List Word). made (λ (d : ℕ). a.0 ∷ b.0 ∷ c.0 ∷ d ∷ []) (argument_in (nat_lt 3 count) c.1)) (argument_in (nat_lt 2 count) b.1)) (AllRead all)
       third a b ra rb =
-          gives-then (λ (c : ℕ × List Word). made (λ (d : ℕ). a.0 ∷ b.0 ∷ c.0 ∷ d ∷ []) (argument_in (nat_lt 3 count) c.1)) (argument_in (nat_lt 2 count) b.1) (ArgumentRead 2 b.1) (AllRead all) (λ c rc. fourth a b c ra rb rc) (argument-read (nat_lt 2 count) b.1)
+          gives-then (λ (c : ℕ × List Word). made (λ (d : ℕ). a.0 ∷ b.0 ∷ c.0 ∷ d ∷ []) (argument_in (nat_lt 3 count) c.1)) (argument_in (nat_lt 2 count) b.1)
+          (ArgumentRead 2 b.1) (AllRead all) (λ c rc. fourth a b c ra rb rc) (argument-read (nat_lt 2 count) b.1)
 
       second : (a : ℕ × List Word) → ArgumentRead 0 all a
-          → IfSome (option_and_then (λ (b : ℕ × List Word). option_and_then (λ (c : ℕ × List Word). made (λ (d : ℕ). a.0 ∷ b.0 ∷ c.0 ∷ d ∷ []) (argument_in (nat_lt 3 count) c.1)) (argument_in (nat_lt 2 count) b.1)) (argument_in (nat_lt 1 count) a.1)) (AllRead all)
+          → IfSome
+          (option_and_then
+          (λ (b : ℕ × List Word). option_and_then (λ (c : ℕ × List Word). made (λ (d : ℕ). a.0 ∷ b.0 ∷ c.0 ∷ d ∷ []) (argument_in (nat_lt 3 count) c.1)) (argument_in (nat_lt 2 count) b.1))
+          (argument_in (nat_lt 1 count) a.1))
+          (AllRead all)
       second a ra =
-          gives-then (λ (b : ℕ × List Word). option_and_then (λ (c : ℕ × List Word). made (λ (d : ℕ). a.0 ∷ b.0 ∷ c.0 ∷ d ∷ []) (argument_in (nat_lt 3 count) c.1)) (argument_in (nat_lt 2 count) b.1)) (argument_in (nat_lt 1 count) a.1) (ArgumentRead 1 a.1) (AllRead all)
+          gives-then
+          (λ (b : ℕ × List Word). option_and_then (λ (c : ℕ × List Word). made (λ (d : ℕ). a.0 ∷ b.0 ∷ c.0 ∷ d ∷ []) (argument_in (nat_lt 3 count) c.1)) (argument_in (nat_lt 2 count) b.1))
+          (argument_in (nat_lt 1 count) a.1) (ArgumentRead 1 a.1) (AllRead all)
           (λ b rb. third a b ra rb) (argument-read (nat_lt 1 count) a.1)
 
 abbrev rule_of : ℕ → List ℕ → Rule
@@ -287,7 +311,8 @@ abbrev IsByte : ℕ → Type 0
 IsByte n = n < 2 ^ 8
 
 rule-read : (ws : List Word) → IfSome (rule_in ws) (IsRead rule_words IsSpelledRule ws)
-rule-read ws = gives-then (λ (n : ℕ × List Word). made (rule_of n.0) (arguments_in (argument_count n.0) n.1)) (byte_in ws) (IsRead one_word IsByte ws) (IsRead rule_words IsSpelledRule ws) second (byte-read ws)
+rule-read ws =
+    gives-then (λ (n : ℕ × List Word). made (rule_of n.0) (arguments_in (argument_count n.0) n.1)) (byte_in ws) (IsRead one_word IsByte ws) (IsRead rule_words IsSpelledRule ws) second (byte-read ws)
   where
     second : (n : ℕ × List Word) → IsRead one_word IsByte ws n → IfSome (made (rule_of n.0) (arguments_in (argument_count n.0) n.1)) (IsRead rule_words IsSpelledRule ws)
     second n r =
@@ -312,7 +337,9 @@ module _ {X : Type 0} (read : List Word → Reading X) (words : X → List Word)
   all_words xs = flat_map words xs
 
   -- an item more
-  item-more : (count : ℕ) (ws : List Word) (x : X × List Word) → IsRead words Valid ws x → IfSome (items_in read count x.1) (IsRead all_words (AreItems count) x.1) → IfSome (made (λ (xs : List X). x.0 ∷ xs) (items_in read count x.1)) (IsRead all_words (AreItems (suc count)) ws)
+  item-more : (count : ℕ) (ws : List Word) (x : X × List Word) → IsRead words Valid ws x
+      → IfSome (items_in read count x.1) (IsRead all_words (AreItems count) x.1)
+      → IfSome (made (λ (xs : List X). x.0 ∷ xs) (items_in read count x.1)) (IsRead all_words (AreItems (suc count)) ws)
   item-more count ws x r later =
       gives-made (λ (xs : List X). x.0 ∷ xs) (items_in read count x.1) (IsRead all_words (AreItems count) x.1) (IsRead all_words (AreItems (suc count)) ws)
       (λ xs rest q. record {
@@ -323,7 +350,8 @@ module _ {X : Type 0} (read : List Word → Reading X) (words : X → List Word)
   items-read : (count : ℕ) (ws : List Word) → IfSome (items_in read count ws) (IsRead all_words (AreItems count) ws)
   items-read zero ws = record { valid = record { number = refl; each = All-nil Valid }; words_are = refl }
   items-read (suc count) ws =
-      gives-then (λ (x : X × List Word). made (λ (xs : List X). x.0 ∷ xs) (items_in read count x.1)) (read ws) (IsRead words Valid ws) (IsRead all_words (AreItems (suc count)) ws) (λ x r. item-more count ws x r (items-read count x.1)) (sound ws)
+      gives-then (λ (x : X × List Word). made (λ (xs : List X). x.0 ∷ xs) (items_in read count x.1)) (read ws) (IsRead words Valid ws)
+      (IsRead all_words (AreItems (suc count)) ws) (λ x r. item-more count ws x r (items-read count x.1)) (sound ws)
 
   -- a number and so many items
   abbrev pub counted_words : List X → List Word

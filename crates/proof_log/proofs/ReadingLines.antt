@@ -4,7 +4,7 @@ use Rattle.std.specs.Prelude.{All, MatchOption}
 use Rattle.std.specs.List.{join_with_byte, slice_split}
 use Rattle.std.proofs.Math.Seq.{split_at}
 use Rattle.std.proofs.lemmas.Bool.Decides.{nat_tests}
-use Rattle.std.proofs.lemmas.List.{append-nil, append_cancel_left}
+use Rattle.std.proofs.lemmas.List.{append-nil, append_cancel_left, nil_from_length}
 use Rattle.std.proofs.lemmas.List.Concat.{flat_map-append}
 use Rattle.std.proofs.lemmas.List.Elements.{All-head, All-nil, All-push, All-tail}
 use Rattle.std.proofs.lemmas.List.Splits.{length-slice_split, slice_split_at, slice_split_none}
@@ -37,7 +37,10 @@ text-cut l after is =
     ap (slice_split (is_byte newline)) (append_assoc (joined l) (newline ∷ []) after)
     ∙ slice_split_at (is_byte newline) (joined l) newline after (joined-lacks (line_words l) (plain-line l is)) refl
 
-first_same : (a b : List ℕ) (as_ bs : List (List ℕ)) → a ∷ as_ ≡ b ∷ bs → a ≡ b
+pub line_some : (l : Line) → 1 ≤ length (line_text l)
+line_some l = omega (arith, length-append (join_with_byte space (line_words l)) (newline ∷ []))
+
+pub first_same : (a b : List ℕ) (as_ bs : List (List ℕ)) → a ∷ as_ ≡ b ∷ bs → a ≡ b
 first_same a b as_ bs same = cc
 
 later_same : (a b : List ℕ) (as_ bs : List (List ℕ)) → a ∷ as_ ≡ b ∷ bs → as_ ≡ bs
@@ -58,7 +61,8 @@ module _ (rest : List ℕ) (end : ℕ) (first : NoneBefore (Passes (is_byte newl
   pub not-begun : ((l : Line) → IsLine (take end rest) l → ⊥) → BeginsWithLine rest → ⊥
   not-begun none begins =
       let parts = sym (cut-at newline rest end first here) ∙ ap (slice_split (is_byte newline)) begins.text ∙ text-cut begins.line begins.after begins.spelled in
-      let same : take end rest ≡ joined begins.line = first_same (take end rest) (joined begins.line) (slice_split (is_byte newline) (drop (end + 1) rest)) (slice_split (is_byte newline) begins.after) parts in
+      let same : take end rest ≡ joined begins.line =
+      first_same (take end rest) (joined begins.line) (slice_split (is_byte newline) (drop (end + 1) rest)) (slice_split (is_byte newline) begins.after) parts in
       none begins.line (record { spelled = begins.spelled; text = ap (λ t. t ++ newline ∷ []) (sym same) })
 
   pub cut : rest ≡ (take end rest ++ newline ∷ []) ++ drop (end + 1) rest
@@ -82,16 +86,13 @@ module _ (rest : List ℕ) (end : ℕ) (first : NoneBefore (Passes (is_byte newl
     pub faulty-line : ((l : Line) → IsLine (take end rest) l → ⊥) → (n : ℕ) → n ≡ length lines + 1 → IsFaultyAt bytes n
     faulty-line none n place = record { before = lines; rest = rest; split = before.text; spelled = before.spelled; place = place; some = omega (arith, first.high); faulty = not-begun none }
 
-pub faulty-end : (bytes : List ℕ) (lines : List Line) (rest : List ℕ) → AreReadUpTo bytes lines rest → 1 ≤ length rest → Nowhere (Passes (is_byte newline) rest) 0 (length rest) → (n : ℕ) → n ≡ length lines + 1 → IsFaultyAt bytes n
+pub faulty-end : (bytes : List ℕ) (lines : List Line) (rest : List ℕ) → AreReadUpTo bytes lines rest → 1 ≤ length rest
+    → Nowhere (Passes (is_byte newline) rest) 0 (length rest) → (n : ℕ) → n ≡ length lines + 1 → IsFaultyAt bytes n
 faulty-end bytes lines rest before some nowhere n place =
     record { before = lines; rest = rest; split = before.text; spelled = before.spelled; place = place; some = some; faulty = no-newline rest (cut-none newline rest nowhere) }
 
-nothing : (rest : List ℕ) → length rest ≡ 0 → rest ≡ []
-nothing [] empty = refl
-nothing (b ∷ bs) empty = absurd (omega arith)
-
 pub all-read : (bytes : List ℕ) (lines : List Line) (rest : List ℕ) → AreReadUpTo bytes lines rest → length rest ≡ 0 → IsTextOf bytes lines
-all-read bytes lines rest before empty = record { spelled = before.spelled; text = before.text ∙ ap (λ t. lines_text lines ++ t) (nothing rest empty) ∙ append-nil (lines_text lines) }
+all-read bytes lines rest before empty = record { spelled = before.spelled; text = before.text ∙ ap (λ t. lines_text lines ++ t) (nil_from_length rest empty) ∙ append-nil (lines_text lines) }
 
 -- two ways of taking bytes apart are one
 record AreSame (xs ys : List Line) (a b : List ℕ) : Type 0 where

@@ -1,5 +1,5 @@
 -- Short derivations over small logs, with what the definitions say of them. Numbers and texts are worked out by hand.
-use Rattle.std.proofs.Common.{lit<, ap, subst, sym, ◌≡◌, refl, arith, inl, inr, ℕ, zero, suc, ◌<◌, ◌≤◌, ◌⊎◌, List, [], ◌∷◌, length, map, false, Some, None, codes, pos, negsuc}
+use Rattle.std.proofs.Common.{lit<, ap, subst, sym, ◌≡◌, refl, arith, inl, inr, ℕ, zero, suc, ◌<◌, ◌≤◌, ◌⊎◌, List, [], ◌∷◌, length, false, None, codes, pos, negsuc}
 use Rattle.std.specs.Prelude.{IsTrue, All, AllPairs, Contains}
 use Rattle.std.specs.Fmt.{digits}
 use Rattle.std.proofs.lemmas.Int.{ints}
@@ -23,6 +23,7 @@ use Rattle.proof_log.specs.declared.line.Line.TheVariants as line
 use Rattle.proof_log.specs.Derivations.{Derives, FirstWrong, IsEmptyAt, IsGood, IsShown, is_in_range, NoneWrong, Refutes, RightLine, clause_of_hint, clause_of_line}
 use Rattle.proof_log.specs.LinesText.{line_text, lines_text}
 use Rattle.proof_log.specs.Spelled.{IsNumber, IsSpelled, IsSpelledHint, IsSpelledLiteral}
+use Rattle.mt_list.proofs.Lists.{found_same}
 
 -- One host with an exact clock and one row, at 10; the formula is `true`, and no timing makes it false.
 
@@ -91,7 +92,8 @@ unfolding digits
 no_such_rule = refl
 
 -- the clause of a cycle has the negation of each order step once
-cycle_clause : clause_of_line (line.Cycle (step.Order 2 5 (pos 7) ∷ step.Low 0 ∷ step.Order 2 5 (pos 7) ∷ step.Order 5 2 (negsuc 9) ∷ [])) ≡ order_literal 5 2 (negsuc 7) ∷ order_literal 2 5 (pos 9) ∷ []
+cycle_clause : clause_of_line (line.Cycle (step.Order 2 5 (pos 7) ∷ step.Low 0 ∷ step.Order 2 5 (pos 7) ∷ step.Order 5 2 (negsuc 9) ∷ [])) ≡ order_literal 5 2
+    (negsuc 7) ∷ order_literal 2 5 (pos 9) ∷ []
 cycle_clause = refl
 
 -- Spellings.
@@ -214,7 +216,9 @@ first_given = record {
 }
 
 last_false : IsFalseUnder negated (first ∷ node ∷ []) (negated first ∷ negated node ∷ [])
-last_false = All-from_recursion (λ l. Contains (first ∷ node ∷ []) (negated l)) (negated first ∷ negated node ∷ []) (contains_first first (node ∷ []), (contains_later first node (node ∷ []) (contains_first node []), tt))
+last_false =
+    All-from_recursion (λ l. Contains (first ∷ node ∷ []) (negated l)) (negated first ∷ negated node ∷ [])
+    (contains_first first (node ∷ []), (contains_later first node (node ∷ []) (contains_first node []), tt))
 
 hints_refute : HintsRefute negated [] clauses
 hints_refute = inr (node, node_given, inr (first, first_given, inl (refl, last_false)))
@@ -251,7 +255,12 @@ derivation = record {
       line = stating;
       stands = refl;
       spelled = spelled_stating;
-      shown = record { in_range = All-from_recursion (λ l. IsTrue (is_in_range (sought_of single True false) l.atom)) (node ∷ []) (refl, tt); clauses = (node ∷ []) ∷ []; cited = refl; refuted = hint_refutes };
+      shown = record {
+        in_range = All-from_recursion (λ l. IsTrue (is_in_range (sought_of single True false) l.atom)) (node ∷ []) (refl, tt);
+        clauses = (node ∷ []) ∷ [];
+        cited = refl;
+        refuted = hint_refutes;
+      };
     };
     open_before = λ empty. cc;
   });
@@ -287,7 +296,12 @@ two_lines = record {
           line = stating;
           stands = refl;
           spelled = spelled_stating;
-          shown = record { in_range = All-from_recursion (λ l. IsTrue (is_in_range (sought_of single True false) l.atom)) (node ∷ []) (refl, tt); clauses = (node ∷ []) ∷ []; cited = refl; refuted = hint_refutes };
+          shown = record {
+            in_range = All-from_recursion (λ l. IsTrue (is_in_range (sought_of single True false) l.atom)) (node ∷ []) (refl, tt);
+            clauses = (node ∷ []) ∷ [];
+            cited = refl;
+            refuted = hint_refutes;
+          };
         };
         open_before = λ empty. cc;
       })
@@ -304,15 +318,6 @@ two_lines = record {
 }
 
 -- Wrong lines.
-
-pub found_same : {X : Type 0} (xs ys : List X) → map Some xs ≡ map Some ys → xs ≡ ys
-found_same [] [] same = refl
-found_same [] (y ∷ ys) same = cc
-found_same (x ∷ xs) [] same = cc
-found_same (x ∷ xs) (y ∷ ys) same =
-    let later : map Some xs ≡ map Some ys = cc in
-    let rest = found_same xs ys later in
-    cc
 
 abbrev two_clauses : List (List Literal)
 two_clauses = (node ∷ []) ∷ (first ∷ []) ∷ []

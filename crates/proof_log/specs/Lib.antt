@@ -1,10 +1,10 @@
 pub mod Spelled
 pub mod LinesText
 pub mod LinesOf
-pub mod Citing
 pub mod Derivations
 pub mod Freshness
 pub mod FreshLaws
 pub mod Reading
 pub mod Parts
 pub mod Laws
+pub mod Marks

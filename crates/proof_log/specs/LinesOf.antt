@@ -24,12 +24,6 @@ pub record IsFrontLine (bytes : List ℕ) (line : Line) (rest : List ℕ) : Type
   pub spelled : IsSpelled line
   pub split : bytes ≡ line_text line ++ rest
 
--- the line is the first of the lines, and the rest is the text of the others
-pub record IsHeadLine (lines : List Line) (line : Line) (rest : List ℕ) : Type 0 where
-  pub others : List Line
-  pub split : lines ≡ line ∷ others
-  pub text : IsTextOf rest others
-
 -- the lines before the faulty one are lines, and what comes next is something, but does not begin with the text of a line
 pub record IsFaultyAt (bytes : List ℕ) (n : ℕ) : Type 0 where
   pub before : List Line

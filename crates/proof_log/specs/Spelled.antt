@@ -84,6 +84,11 @@ abbrev pub IsSpelledHint : Hint → Type 0
 IsSpelledHint (hint.Line n) = IsNumber n
 IsSpelledHint (hint.Rule r) = IsSpelledRule r
 
+-- hints have a spelling: there are fewer than 2^32, and each has one
+pub record AreSpelledHints (hints : List Hint) : Type 0 where
+  pub count : IsNumber (length hints)
+  pub each : All IsSpelledHint hints
+
 -- a Cycle line has a spelling: so have its steps, of which there are fewer than 2^32
 pub record IsSpelledCycle (steps : List Step) : Type 0 where
   pub count : IsNumber (length steps)

@@ -1,6 +1,6 @@
 //! What stands at the front of the words of a line.
 
-ghost use Rattle.std.specs.Prelude.{◌≡◌, ◌≢◌, ◌∷◌, ◌<◌, ◌^◌, [], Some, None, MatchOption, IfSome};
+ghost use Rattle.std.specs.Prelude.{◌≡◌, ◌≢◌, ◌<◌, Some, None, MatchOption, IfSome};
 ghost use Rattle.mt_model.specs.declared.limits.TheConstants.{MAX_ORDER};
 ghost use Rattle.mt_model.specs.Log.{IsWithin};
 ghost use Rattle.proof_log.specs.Reading.{argument_in, arguments_in, atom_in, bound_in, byte_in, constraint_in, hint_in, literal_in, literal_of, made, number_in, rising_in, rule_in, signed_in, step_in, step_of, three_in, two_in, words_after};

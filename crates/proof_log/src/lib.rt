@@ -2,9 +2,7 @@
 #![tactic(auto)]
 
 mod atoms;
-mod citing;
 mod fault;
-mod front;
 mod item;
 mod laws;
 mod line;
@@ -16,9 +14,7 @@ mod spelling;
 mod word;
 
 pub use atoms::has_atoms_once;
-pub use citing::{LineText, next_line_text, read_cited};
 pub use fault::LineFault;
-pub use front::next_line;
 pub use laws::{
     bytes_are_unambiguous, fresh_lines_differ, refuted_by_rules_is_not_spent, spent_is_bounded,
     steps_read_alike, texts_read_back, texts_tell_apart,
@@ -28,4 +24,4 @@ pub use parts::{LineWords, next_words, read_count, read_hint, read_literal, read
 pub use passing::pass_line;
 pub use printer::{print_lines, push_hints, push_line};
 pub use reader::{read_line, read_lines};
-pub use spelling::has_spelling;
+pub use spelling::{has_spelling, is_number};

@@ -1,10 +1,10 @@
 //! The text of lines.
 
 ghost use Rattle.std.specs.Prelude.{◌≡◌, [], ◌∷◌, ◌++◌, ◌<◌, ◌^◌, length, All, IfOk, OnOk};
-ghost use Rattle.std.specs.Fmt.{decimal, signed_decimal};
+ghost use Rattle.std.specs.Fmt.{decimal};
 ghost use Rattle.std.specs.List.{flat_map, join_with_byte};
-ghost use Rattle.proof_log.specs.LinesText.{atom_words, hint_words, line_text, line_words, lines_text, literal_words, number_words, order_words, rule_words, signed_word, space, spaced, step_words};
-ghost use Rattle.proof_log.specs.Spelled.{IsSpelled, IsSpelledAtom, IsSpelledHint, IsSpelledLearn, IsSpelledLiteral, IsSpelledRule};
+ghost use Rattle.proof_log.specs.LinesText.{hint_words, line_text, line_words, lines_text, literal_words, number_words, order_words, rule_words, signed_word, space, spaced, step_words};
+ghost use Rattle.proof_log.specs.Spelled.{IsSpelled, IsSpelledLiteral};
 
 use crate::line::{Hint, Line};
 use axiom_rules::{Atom, Literal, Rule, argument_count};

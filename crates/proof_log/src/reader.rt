@@ -1,6 +1,6 @@
 //! Lines from their text.
 
-ghost use Rattle.std.specs.Prelude.{◌≡◌, ◌↔◌, ◌<◌, ◌^◌, [], ◌∷◌, ◌++◌, length, None, Some, IfOk, IsTrue, MatchOption};
+ghost use Rattle.std.specs.Prelude.{◌≡◌, ◌↔◌, ◌<◌, ◌^◌, [], length, None, Some, IfOk, IsTrue, MatchOption};
 ghost use Rattle.std.specs.List.{slice_split};
 ghost use Rattle.memchr.specs.Find.{is_byte};
 ghost use Rattle.proof_log.specs.LinesOf.{Answers, HasAtomsOnce, IsLine};

@@ -10,7 +10,8 @@ use axiom_rules::{Atom, Literal, Rule, argument_count};
 use mt_model::{MAX_ORDER, Step};
 use std::alloc::{AllocError, Global};
 
-fn is_number(length: usize) -> bool
+/// Whether a number can stand in a text: it is below 2^32.
+pub fn is_number(length: usize) -> bool
     ensures { IsTrue result ↔ IsNumber length }
 {
     length < 1 << 32

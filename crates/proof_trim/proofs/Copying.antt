@@ -6,7 +6,8 @@ use Rattle.std.proofs.lemmas.Grind.{common_steps}
 use Rattle.std.proofs.lemmas.List.{length-map, map-append}
 use Rattle.proof_log.specs.declared.line.Line.{Line}
 use Rattle.proof_trim.specs.Needed.{LooksBack}
-use Rattle.proof_trim.specs.Trimmed.{marked, place_of, renumbered}
+use Rattle.proof_log.specs.Marks.{marked}
+use Rattle.proof_trim.specs.Trimmed.{place_of, renumbered}
 use Rattle.proof_trim.proofs.Looks.{line-agrees}
 use Rattle.proof_trim.proofs.Marks.{before, before-le, marked-no, marked-yes}
 

@@ -32,7 +32,8 @@ module _ (rest : List ℕ) (end : ℕ) (within : end ≤ length rest) (none : No
     | inr all ↦
         let whole : end ≡ length rest = omega (arith, within, all) in
         let nothing : after ≡ [] = ap (λ n. take n (drop end rest)) (let zero : length rest - end ≡ 0 = omega (arith, whole) in zero) in
-        cut-none space rest (subst (Nowhere (Passes (is_byte space) rest) 0) whole none) ∙ ap (λ w. w ∷ []) (sym (take_all end rest (omega (arith, whole)))) ∙ ap (λ a. word ∷ words_after a) (sym nothing)
+        cut-none space rest (subst (Nowhere (Passes (is_byte space) rest) 0) whole none) ∙ ap (λ w. w ∷ []) (sym (take_all end rest (omega (arith, whole))))
+        ∙ ap (λ a. word ∷ words_after a) (sym nothing)
   ]
 
   pub word-bytes : rest ≡ word ++ after

@@ -25,4 +25,10 @@ module _ (lines : List Line) (i : ℕ) (l : Line) (stands : line_at lines (suc i
   ]
 
   pub first-here : (LooksBack (i + 1) l → ⊥) → IsFirstForward lines (i + 1)
-  first-here forward = record { before = λ m k less there. before m k (omega (arith, less)) there; line = l; stands = subst (λ n. line_at lines n ≡ Some l) (let e : suc i ≡ i + 1 = omega arith in e) stands; forward = forward }
+  first-here
+      forward = record {
+        before = λ m k less there. before m k (omega (arith, less)) there;
+        line = l;
+        stands = subst (λ n. line_at lines n ≡ Some l) (let e : suc i ≡ i + 1 = omega arith in e) stands;
+        forward = forward;
+      }

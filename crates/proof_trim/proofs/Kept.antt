@@ -1,6 +1,6 @@
 -- What lines show is shown by those that are left of them.
 use Rattle.std.proofs.Common.{◌≡◌, ◌∙◌, sym, subst, ap, ap₂, refl, inl, inr, ℕ, zero, suc, ◌-◌, ◌<◌, ◌≤◌, Bool, true, false, List, [], ◌∷◌, length, map, take, Option, Some, None, arith}
-use Rattle.std.specs.Prelude.{◌⊎◌, All, Contains, if◌then◌else◌, nat_lt, option_map, slice_get}
+use Rattle.std.specs.Prelude.{◌⊎◌, All, Contains, nat_lt, option_map, slice_get}
 use Rattle.std.proofs.lemmas.Bool.{ltb-true}
 use Rattle.std.proofs.lemmas.Bool.Decides.{nat_tests}
 use Rattle.std.proofs.lemmas.List.{get_or-map, length-map}
@@ -18,9 +18,11 @@ use Rattle.proof_log.specs.declared.line.Line.TheVariants as line
 use Rattle.proof_log.specs.Derivations.{HasClauses, IsEmptyAt, IsShown, NoneWrong, Refutes, RightLine, clause_of_hint, clause_of_line, line_at}
 use Rattle.proof_log.specs.Spelled.{IsSpelled, IsSpelledHint}
 use Rattle.proof_trim.specs.Needed.{IsNeeded, Last, LineNames, Named, Names, NoneForward}
-use Rattle.proof_trim.specs.Trimmed.{EachIsNamed, IsMarked, IsTrimOf, KeepsRefuting, hint_renumbered, marked, place_of, renumbered}
+use Rattle.proof_log.specs.Marks.{marked}
+use Rattle.proof_trim.specs.Trimmed.{EachIsNamed, IsMarked, IsTrimOf, KeepsRefuting, hint_renumbered, place_of, renumbered}
 use Rattle.proof_trim.proofs.Looks.{names-earlier}
 use Rattle.proof_trim.proofs.Marks.{before, before-grows, before-le, before-next, marked-at, marked-from}
+use Rattle.mt_model.proofs.Conflicts.{guarded_some}
 
 -- ---- lines and hints with other numbers
 
@@ -39,7 +41,8 @@ module _ (place : ℕ → ℕ) (low : (n : ℕ) → place n ≤ n) where
 
   spelled-hints : (hints : List Hint) → All IsSpelledHint hints → All IsSpelledHint (map (hint_renumbered place) hints)
   spelled-hints [] each = All-nil IsSpelledHint
-  spelled-hints (h ∷ hs) each = All-cons IsSpelledHint (hint_renumbered place h) (map (hint_renumbered place) hs) (spelled-hint h (each 0 h (omega arith))) (spelled-hints hs (λ k d within. each (suc k) d (omega arith)))
+  spelled-hints (h ∷ hs) each =
+      All-cons IsSpelledHint (hint_renumbered place h) (map (hint_renumbered place) hs) (spelled-hint h (each 0 h (omega arith))) (spelled-hints hs (λ k d within. each (suc k) d (omega arith)))
 
   spelled-line : (l : Line) → IsSpelled l → IsSpelled (renumbered place l)
   spelled-line (line.Cycle steps) is = is
@@ -50,10 +53,6 @@ module _ (place : ℕ → ℕ) (low : (n : ℕ) → place n ≤ n) where
     each_hint = spelled-hints hints is.each_hint;
     once = is.once;
   }
-
-pub guarded : {A : Type 0} (b : Bool) (o : Option A) (y : A) → (if b then o else None) ≡ Some y → (b ≡ true) × (o ≡ Some y)
-guarded false o y is = let never : ⊥ = cc in absurd never
-guarded true o y is = (refl, is)
 
 contains-map : {X Y : Type 0} (f : X → Y) (xs : List X) (x : X) → Contains xs x → Contains (map f xs) (f x)
 contains-map f xs x h =
@@ -83,7 +82,8 @@ module _ (lines trimmed : List Line) (t : IsTrimOf lines trimmed) where
   spelled-left [] ls each = All-nil IsSpelled
   spelled-left (mark ∷ marks) [] each = All-nil IsSpelled
   spelled-left (true ∷ marks) (l ∷ ls) each =
-      All-cons IsSpelled (renumbered place l) (map (renumbered place) (marked marks ls)) (spelled-line place place-low l (each 0 l (omega arith))) (spelled-left marks ls (λ k d within. each (suc k) d (omega arith)))
+      All-cons IsSpelled (renumbered place l) (map (renumbered place) (marked marks ls)) (spelled-line place place-low l (each 0 l (omega arith)))
+      (spelled-left marks ls (λ k d within. each (suc k) d (omega arith)))
   spelled-left (false ∷ marks) (l ∷ ls) each = spelled-left marks ls (λ k d within. each (suc k) d (omega arith))
 
   pub keeps-spelling : All IsSpelled lines → All IsSpelled trimmed
@@ -125,13 +125,14 @@ module _ (lines trimmed : List Line) (t : IsTrimOf lines trimmed) where
   names-marked i m is names some = (t.needed.needed m some).1 (Named (suc i) m ((t.needed.needed (suc i) (omega arith)).0 is) names)
 
   module _ (s : Sought) (i : ℕ) (is : IsMarked t.marks (suc i)) (within : i < length lines) where
-    hint-same : (h : Hint) (c : List Literal) → ((m : ℕ) → h ≡ hint.Line m → 1 ≤ m → IsMarked t.marks m) → clause_of_hint s lines (suc i) h ≡ Some c → clause_of_hint s trimmed (place (suc i)) (hint_renumbered place h) ≡ Some c
+    hint-same : (h : Hint) (c : List Literal) → ((m : ℕ) → h ≡ hint.Line m → 1 ≤ m → IsMarked t.marks m) → clause_of_hint s lines (suc i) h ≡ Some c
+        → clause_of_hint s trimmed (place (suc i)) (hint_renumbered place h) ≡ Some c
     hint-same (hint.Rule r) c named shown = shown
     hint-same (hint.Line zero) c named shown =
-        let none = (guarded (nat_lt 0 (suc i)) (option_map clause_of_line (line_at lines 0)) c shown).1 in
+        let none = (guarded_some (nat_lt 0 (suc i)) (option_map clause_of_line (line_at lines 0)) c shown).1 in
         let never : ⊥ = cc in absurd never
     hint-same (hint.Line (suc j)) c named shown =
-        let g = guarded (nat_lt (suc j) (suc i)) (option_map clause_of_line (line_at lines (suc j))) c shown in
+        let g = guarded_some (nat_lt (suc j) (suc i)) (option_map clause_of_line (line_at lines (suc j))) c shown in
         let less = ltb-true (suc j) (suc i) g.0 in
         let earlier = earlier-place i j is within (omega (arith, less)) in
         let test : nat_lt (place (suc j)) (place (suc i)) ≡ true = grind (arith, nat_tests, earlier) in

@@ -63,7 +63,8 @@ module _ (lines : List Line) where
         go false e = inl (grind (arith, nat_tests))
 
     -- the line is needed, and the lines that it names are marked now
-    pub needed-more : (new : List Bool) (l : Line) → line_at lines i ≡ Some l → LooksBack i l → IsMarked marks i → ((n : ℕ) → LineNames l n → IsMarked new n) → ((n : ℕ) → IsMarked marks n → IsMarked new n)
+    pub needed-more : (new : List Bool) (l : Line) → line_at lines i ≡ Some l → LooksBack i l → IsMarked marks i → ((n : ℕ) → LineNames l n → IsMarked new n)
+        → ((n : ℕ) → IsMarked marks n → IsMarked new n)
         → ((n : ℕ) → IsMarked new n → IsMarked marks n ⊎ LineNames l n) → length new ≡ length marks → NeededAfter lines (i - 1) new
     needed-more new l stands back marked_i named kept only same = record {
       count = same ∙ so_far.count;

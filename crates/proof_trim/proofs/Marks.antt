@@ -3,7 +3,8 @@ use Rattle.std.proofs.Common.{◌≡◌, ◌∙◌, ap, sym, refl, ℕ, zero, su
 use Rattle.std.proofs.lemmas.Option.{get_or_from_slice_get, slice_get-get_or}
 use Rattle.std.specs.Prelude.{◌⊎◌, slice_get, replicate}
 use Rattle.proof_log.specs.declared.line.Line.{Line}
-use Rattle.proof_trim.specs.Trimmed.{IsMarked, marked}
+use Rattle.proof_log.specs.Marks.{marked}
+use Rattle.proof_trim.specs.Trimmed.{IsMarked}
 
 -- how many of the first lines are marked
 abbrev pub before : List Bool → List Line → ℕ → ℕ
@@ -27,7 +28,8 @@ marked-from (true ∷ marks) (l ∷ lines) (suc k) within = let (i, is, at) = ma
 marked-from (false ∷ marks) (l ∷ lines) k within = let (i, is, at) = marked-from marks lines k within in (suc i, is, at)
 
 -- one more is marked
-pub marked-yes : (marks : List Bool) (lines : List Line) (i : ℕ) (l : Line) → slice_get marks i ≡ Some true → slice_get lines i ≡ Some l → marked (take (suc i) marks) lines ≡ marked (take i marks) lines ++ l ∷ []
+pub marked-yes : (marks : List Bool) (lines : List Line) (i : ℕ) (l : Line) → slice_get marks i ≡ Some true → slice_get lines i ≡ Some l
+    → marked (take (suc i) marks) lines ≡ marked (take i marks) lines ++ l ∷ []
 marked-yes [] lines i l is stands = let never : ⊥ = cc in absurd never
 marked-yes (mark ∷ marks) [] i l is stands = let never : ⊥ = cc in absurd never
 marked-yes (true ∷ marks) (k ∷ lines) zero l is stands = ap (λ x. x ∷ []) cc

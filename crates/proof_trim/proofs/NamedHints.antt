@@ -18,12 +18,14 @@ use Rattle.proof_trim.proofs.Marking.{NeededAfter, needed-more}
 -- hints that name earlier lines
 hints-earlier : (number : ℕ) (hs : List Hint) → All (NamesEarlier number) hs → All (IsEarlier number) (filter_map named_by hs)
 hints-earlier number [] all = All-nil (IsEarlier number)
-hints-earlier number (hint.Line n ∷ hs) all = All-cons (IsEarlier number) n (filter_map named_by hs) (All-head (NamesEarlier number) (hint.Line n) hs all) (hints-earlier number hs (All-tail (NamesEarlier number) (hint.Line n) hs all))
+hints-earlier number (hint.Line n ∷ hs) all =
+    All-cons (IsEarlier number) n (filter_map named_by hs) (All-head (NamesEarlier number) (hint.Line n) hs all) (hints-earlier number hs (All-tail (NamesEarlier number) (hint.Line n) hs all))
 hints-earlier number (hint.Rule r ∷ hs) all = hints-earlier number hs (All-tail (NamesEarlier number) (hint.Rule r) hs all)
 
 earlier-hints : (number : ℕ) (hs : List Hint) → All (IsEarlier number) (filter_map named_by hs) → All (NamesEarlier number) hs
 earlier-hints number [] all = All-nil (NamesEarlier number)
-earlier-hints number (hint.Line n ∷ hs) all = All-cons (NamesEarlier number) (hint.Line n) hs (All-head (IsEarlier number) n (filter_map named_by hs) all) (earlier-hints number hs (All-tail (IsEarlier number) n (filter_map named_by hs) all))
+earlier-hints number (hint.Line n ∷ hs) all =
+    All-cons (NamesEarlier number) (hint.Line n) hs (All-head (IsEarlier number) n (filter_map named_by hs) all) (earlier-hints number hs (All-tail (IsEarlier number) n (filter_map named_by hs) all))
 earlier-hints number (hint.Rule r ∷ hs) all = All-cons (NamesEarlier number) (hint.Rule r) hs tt (earlier-hints number hs all)
 
 pub back-earlier : (number : ℕ) (l : Line) → LooksBack number l → All (IsEarlier number) (named_of l)
@@ -76,8 +78,10 @@ looks-at lines forward i l stands =
     subst (λ n. LooksBack n l) same (forward (suc i) l within.1 stands)
 
 -- the lines that a needed line names are marked, by their numbers
-pub needed-named : (lines : List Line) → NoneForward lines → (i j : ℕ) → suc j ≡ i → (l : Line) → line_at lines (suc j) ≡ Some l → (old new : List Bool) → NeededAfter lines i old → IsMarked old i → (numbers : List ℕ) → numbers ≡ named_of l
-    → ((n : ℕ) → Contains numbers n → IsMarked new n) → ((n : ℕ) → IsMarked old n → IsMarked new n) → ((n : ℕ) → IsMarked new n → IsMarked old n ⊎ Contains numbers n) → length new ≡ length old → NeededAfter lines (i - 1) new
+pub needed-named : (lines : List Line) → NoneForward lines → (i j : ℕ) → suc j ≡ i → (l : Line) → line_at lines (suc j) ≡ Some l → (old new : List Bool)
+    → NeededAfter lines i old → IsMarked old i → (numbers : List ℕ) → numbers ≡ named_of l
+    → ((n : ℕ) → Contains numbers n → IsMarked new n) → ((n : ℕ) → IsMarked old n → IsMarked new n)
+    → ((n : ℕ) → IsMarked new n → IsMarked old n ⊎ Contains numbers n) → length new ≡ length old → NeededAfter lines (i - 1) new
 needed-named lines forward i j this l stands old new so_far marked numbers are named kept only same =
     let next : j + 1 ≡ i = omega (arith, this) in
     needed-more lines i old so_far new l (subst (λ n. line_at lines n ≡ Some l) this stands) (subst (λ n. LooksBack n l) next (looks-at lines forward j l stands)) marked

@@ -34,7 +34,8 @@ learn-adds ws (line.Learn lits hints) is are = ap (named_in false) are ∙ learn
 -- a list up to an element and with it
 named-more : (lines : List Line) (n : ℕ) (l : Line) → n < length lines → get_or lines n l ≡ l → flat_map named_of (take (n + 1) lines) ≡ flat_map named_of (take n lines) ++ named_of l
 named-more lines n l low is =
-    ap (flat_map named_of) (take_more lines n l low) ∙ flat_map-append named_of (take n lines) (get_or lines n l ∷ []) ∙ ap (λ k. flat_map named_of (take n lines) ++ (named_of k ++ [])) is ∙ ap (λ t. flat_map named_of (take n lines) ++ t) (append-nil (named_of l))
+    ap (flat_map named_of) (take_more lines n l low) ∙ flat_map-append named_of (take n lines) (get_or lines n l ∷ [])
+    ∙ ap (λ k. flat_map named_of (take n lines) ++ (named_of k ++ [])) is ∙ ap (λ t. flat_map named_of (take n lines) ++ t) (append-nil (named_of l))
 
 -- the numbers of the first lines were found, and the rest is the text of the others
 pub record AreNamedTo (lines : List Line) (numbers ends rest : List ℕ) : Type 0 where
@@ -111,10 +112,18 @@ module _ (lines : List Line) (numbers ends : List ℕ) (are : AreNamed lines num
 
       pub end-within : get_or ends i d ≤ length numbers
       end-within =
-          omega (arith, end-is, ap length split-there, length-append (flat_map named_of (take i lines)) (named_of l ++ flat_map named_of (drop (i + 1) lines)), length-append (named_of l) (flat_map named_of (drop (i + 1) lines)))
+          omega (
+            arith,
+            end-is,
+            ap length split-there,
+            length-append (flat_map named_of (take i lines))
+                (named_of l ++ flat_map named_of (drop (i + 1) lines)),
+            length-append (named_of l) (flat_map named_of (drop (i + 1) lines)),
+          )
 
       pub those-there : take (get_or ends i d - start) (drop start numbers) ≡ named_of l
       those-there =
           let size : get_or ends i d - start ≡ length (named_of l) = omega (arith, end-is) in
-          let left : drop start numbers ≡ named_of l ++ flat_map named_of (drop (i + 1) lines) = ap (drop start) split-there ∙ drop-append_seam (flat_map named_of (take i lines)) (named_of l ++ flat_map named_of (drop (i + 1) lines)) in
+          let left : drop start numbers ≡ named_of l ++ flat_map named_of (drop (i + 1) lines) =
+          ap (drop start) split-there ∙ drop-append_seam (flat_map named_of (take i lines)) (named_of l ++ flat_map named_of (drop (i + 1) lines)) in
           ap (λ k. take k (drop start numbers)) size ∙ ap (take (length (named_of l))) left ∙ take-append_seam (named_of l) (flat_map named_of (drop (i + 1) lines))

@@ -141,5 +141,6 @@ module _ (lits : List Literal) (hints : List Hint) (is : IsSpelledLearn lits hin
       let front : List Word = decimal (length lits) ∷ flat_map literal_words lits in
       let left = flat_map hint_words (map (hint_renumbered place) hints) in
       passed-renamed place front (decimal (length hints) ∷ flat_map hint_words hints) front-passed
-      ∙ ap (λ t. front ++ t) (passed-renamed place (decimal (length hints) ∷ []) (flat_map hint_words hints) count-passed ∙ ap (λ t. decimal (length hints) ∷ t) (hints-renamed place hints is.each_hint)
+      ∙ ap (λ t. front ++ t)
+      (passed-renamed place (decimal (length hints) ∷ []) (flat_map hint_words hints) count-passed ∙ ap (λ t. decimal (length hints) ∷ t) (hints-renamed place hints is.each_hint)
       ∙ ap (λ k. decimal k ∷ left) (sym (length-map hints (hint_renumbered place))))

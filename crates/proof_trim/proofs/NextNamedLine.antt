@@ -20,7 +20,8 @@ pub none-scanned : (words : List ℕ) → IsScannedTo words words
 none-scanned words = record { before = []; words_are = refl; named = refl; renamed = λ place. refl; front = λ is. refl; spaced_rest = λ is. is; shorter = omega arith }
 
 module _ (words rest : List ℕ) (so_far : IsScannedTo words rest) where
-  module _ (word after : List ℕ) (next : words_after rest ≡ word ∷ words_after after) (more : rest ≡ spaced (words_after rest) → after ≡ spaced (words_after after)) (less : length after < length rest) where
+  module _ (word after : List ℕ) (next : words_after rest ≡ word ∷ words_after after)
+      (more : rest ≡ spaced (words_after rest) → after ≡ spaced (words_after after)) (less : length after < length rest) where
     abbrev through : List Word
     through = so_far.before ++ word ∷ []
 
@@ -32,7 +33,8 @@ module _ (words rest : List ℕ) (so_far : IsScannedTo words rest) where
         let left = so_far.spaced_rest is in
         let split : rest ≡ spaced (word ∷ []) ++ after =
         left ∙ ap spaced next ∙ spaced-append (word ∷ []) (words_after after) ∙ ap (λ t. spaced (word ∷ []) ++ t) (sym (more left)) in
-        so_far.front is ∙ ap (λ t. spaced so_far.before ++ t) split ∙ sym (append_assoc (spaced so_far.before) (spaced (word ∷ [])) after) ∙ ap (λ t. t ++ after) (sym (spaced-append so_far.before (word ∷ [])))
+        so_far.front is ∙ ap (λ t. spaced so_far.before ++ t) split ∙ sym (append_assoc (spaced so_far.before) (spaced (word ∷ [])) after)
+        ∙ ap (λ t. t ++ after) (sym (spaced-append so_far.before (word ∷ [])))
 
     -- the next word is not `line`
     pub more-scanned : is_line_word word ≡ false → IsScannedTo words after

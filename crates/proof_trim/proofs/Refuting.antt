@@ -14,17 +14,17 @@ use Rattle.proof_log.specs.declared.line.Line.TheVariants as line
 use Rattle.proof_log.specs.Derivations.{HasClauses, IsEmptyAt, IsShown, Refutes, clause_of_hint, clause_of_line, line_at}
 use Rattle.proof_trim.specs.Needed.{IsFirstForward, LooksBack, NamesEarlier}
 use Rattle.proof_trim.specs.Laws.{RefutingCanBeTrimmed}
-use Rattle.proof_trim.proofs.Kept.{guarded}
 use Rattle.proof_trim.proofs.Looks.{stands-within}
+use Rattle.mt_model.proofs.Conflicts.{guarded_some}
 
 module _ (s : Sought) (lines : List Line) (n : ℕ) where
   hint-earlier : (h : Hint) (c : List Literal) → clause_of_hint s lines n h ≡ Some c → NamesEarlier n h
   hint-earlier (hint.Rule r) c found = tt
   hint-earlier (hint.Line zero) c found =
-      let none = (guarded (nat_lt 0 n) (option_map clause_of_line (line_at lines 0)) c found).1 in
+      let none = (guarded_some (nat_lt 0 n) (option_map clause_of_line (line_at lines 0)) c found).1 in
       let never : ⊥ = cc in absurd never
   hint-earlier (hint.Line (suc j)) c found =
-      let less = ltb-true (suc j) n (guarded (nat_lt (suc j) n) (option_map clause_of_line (line_at lines (suc j))) c found).0 in
+      let less = ltb-true (suc j) n (guarded_some (nat_lt (suc j) n) (option_map clause_of_line (line_at lines (suc j))) c found).0 in
       (omega arith, less)
 
   hints-earlier : (hints : List Hint) (clauses : List (List Literal)) → HasClauses s lines n hints clauses → All (NamesEarlier n) hints

@@ -14,7 +14,8 @@ pub record AreRenamedTo (place : ℕ → ℕ) (number : ℕ) (words old now rest
   pub earlier : All (IsEarlier number) (named_in false (words_after rest))
   pub bytes : rest ≡ spaced (words_after rest)
 
-pub none-renamed : (place : ℕ → ℕ) (number : ℕ) (words old : List ℕ) → All (IsEarlier number) (named_in false (words_after words)) → words ≡ spaced (words_after words) → AreRenamedTo place number words old old words
+pub none-renamed : (place : ℕ → ℕ) (number : ℕ) (words old : List ℕ) → All (IsEarlier number) (named_in false (words_after words))
+    → words ≡ spaced (words_after words) → AreRenamedTo place number words old old words
 none-renamed place number words old earlier bytes = record { text = refl; earlier = earlier; bytes = bytes }
 
 module _ (place : ℕ → ℕ) (number : ℕ) (words old now rest : List ℕ) (so_far : AreRenamedTo place number words old now rest) where
@@ -31,7 +32,8 @@ module _ (place : ℕ → ℕ) (number : ℕ) (words old now rest : List ℕ) (s
         let left = renamed_in place false (words_after after) in
         let copied : two ++ spaced left ≡ now ++ spaced (next.before ++ d ∷ left) =
         ap (λ t. t ++ spaced left) is_two ∙ append_assoc one (spaced (d ∷ [])) (spaced left) ∙ ap (λ t. one ++ t) (sym (spaced-append (d ∷ []) left))
-        ∙ ap (λ t. t ++ spaced (d ∷ left)) (is_one ∙ ap (λ t. now ++ t) (next.front_is so_far.bytes)) ∙ append_assoc now (spaced next.before) (spaced (d ∷ left)) ∙ ap (λ t. now ++ t) (sym (spaced-append next.before (d ∷ left))) in
+        ∙ ap (λ t. t ++ spaced (d ∷ left)) (is_one ∙ ap (λ t. now ++ t) (next.front_is so_far.bytes))
+        ∙ append_assoc now (spaced next.before) (spaced (d ∷ left)) ∙ ap (λ t. now ++ t) (sym (spaced-append next.before (d ∷ left))) in
         record {
           text = so_far.text ∙ ap (λ ws. now ++ spaced ws) (next.renamed place) ∙ sym copied;
           earlier = All-tail (IsEarlier number) line (named_in false (words_after after)) left-earlier;

@@ -14,7 +14,8 @@ module _ {X : Type 0} (f : X → X) where
   set-next (x ∷ xs) (suc i) v less = ap (λ t. f x ∷ t) (set-next xs i v (omega arith))
 
   -- one more is changed
-  pub changed-more : (old now : List X) (i : ℕ) (d v : X) → i < length old → now ≡ map f (take i old) ++ drop i old → v ≡ f (get_or now i d) → set now i v ≡ map f (take (i + 1) old) ++ drop (i + 1) old
+  pub changed-more : (old now : List X) (i : ℕ) (d v : X) → i < length old → now ≡ map f (take i old) ++ drop i old → v ≡ f (get_or now i d)
+      → set now i v ≡ map f (take (i + 1) old) ++ drop (i + 1) old
   changed-more old now i d v less is new =
       let one : suc i ≡ i + 1 = omega arith in
       let value : v ≡ f (get_or old i d) = new ∙ ap f (ap (λ t. get_or t i d) is ∙ at-next old i d less) in

@@ -21,7 +21,8 @@ use Rattle.proof_trim.proofs.NamedHints.{back-earlier}
 use Rattle.proof_trim.proofs.NamedLists.{learn-adds}
 use Rattle.proof_trim.specs.Needed.{LooksBack}
 use Rattle.proof_trim.specs.Placed.{left_of}
-use Rattle.proof_trim.specs.Trimmed.{hint_renumbered, marked, place_of, renumbered}
+use Rattle.proof_log.specs.Marks.{marked}
+use Rattle.proof_trim.specs.Trimmed.{hint_renumbered, place_of, renumbered}
 use Rattle.proof_trim.proofs.NamedWords.{learn-renamed, learn_words}
 use Rattle.proof_trim.proofs.LineTexts.{IsLineAfter, none-after}
 use Rattle.proof_trim.proofs.Copying.{CopiedTo, copied-few, copied-more}
@@ -87,14 +88,17 @@ module _ (marks : List Bool) (lines : List Line) (i : ℕ) (places : List ℕ) (
       record {
         left = more;
         copied = subst (λ n. CopiedTo marks lines (i + 1) (places ++ n ∷ []) more) (sym full) (copied-more marks lines i places so_far.left so_far.copied true l more is stands back refl);
-        text_is = added ∙ ap (λ t. t ++ line_text (copy_of l)) so_far.text_is ∙ ap (λ t. lines_text so_far.left ++ t) (sym (append-nil (line_text (copy_of l)))) ∙ sym (flat_map-append line_text so_far.left (copy_of l ∷ []));
+        text_is =
+            added ∙ ap (λ t. t ++ line_text (copy_of l)) so_far.text_is ∙ ap (λ t. lines_text so_far.left ++ t) (sym (append-nil (line_text (copy_of l))))
+            ∙ sym (flat_map-append line_text so_far.left (copy_of l ∷ []));
         full = full;
       }
   left-more false l new counted is stands back added one =
       let full : counted ≡ length so_far.left = one ∙ so_far.full in
       record {
         left = so_far.left;
-        copied = subst (λ n. CopiedTo marks lines (i + 1) (places ++ n ∷ []) so_far.left) (sym full) (copied-more marks lines i places so_far.left so_far.copied false l so_far.left is stands back refl);
+        copied =
+            subst (λ n. CopiedTo marks lines (i + 1) (places ++ n ∷ []) so_far.left) (sym full) (copied-more marks lines i places so_far.left so_far.copied false l so_far.left is stands back refl);
         text_is = added ∙ so_far.text_is;
         full = full;
       }
@@ -129,7 +133,8 @@ module _ (marks : List Bool) (lines : List Line) (places text : List ℕ) (count
     stands-next = slice_get-get_or lines (length places) l next.low ∙ ap Some next.stands
 
     pub text_left-more : (mark : Bool) (new : List ℕ) (counted : ℕ) (new_places : List ℕ) → slice_get marks (length places) ≡ Some mark → LooksBack (length places + 1) l
-        → new ≡ (if mark then text ++ line_text (renumbered (λ n. get_or places (n - 1) 0) l) else text) → counted ≡ (if mark then count + 1 else count) → new_places ≡ places ++ counted ∷ [] → IsTextLeftTo marks lines new_places new counted after
+        → new ≡ (if mark then text ++ line_text (renumbered (λ n. get_or places (n - 1) 0) l) else text) → counted ≡ (if mark then count + 1 else count)
+        → new_places ≡ places ++ counted ∷ [] → IsTextLeftTo marks lines new_places new counted after
     text_left-more mark new counted new_places is back added one pushed =
         let more = left-more marks lines (length places) places text count so_far.left_to mark l new counted is stands-next back added one in
         let size : length new_places ≡ length places + 1 = ap length pushed ∙ length-append places (counted ∷ []) in

@@ -19,7 +19,8 @@ ends-few text lines numbers ends few is are =
     omega (arith, few, ap length is.text, within, count)
 
 -- the text of the needed lines
-pub trimmed-text : (text : List ℕ) (lines : List Line) → IsTextOf text lines → (marks : List Bool) → AreNeeded lines marks → (bytes : List ℕ) → bytes ≡ lines_text (left_of marks lines) → (count : ℕ) → count ≡ length (left_of marks lines)
+pub trimmed-text : (text : List ℕ) (lines : List Line) → IsTextOf text lines → (marks : List Bool) → AreNeeded lines marks → (bytes : List ℕ)
+    → bytes ≡ lines_text (left_of marks lines) → (count : ℕ) → count ≡ length (left_of marks lines)
     → IsTrimmedText lines bytes count
 trimmed-text text lines is marks needed bytes written count counted =
     let t : IsTrimOf lines (left_of marks lines) = record { marks = marks; needed = needed; left = refl } in

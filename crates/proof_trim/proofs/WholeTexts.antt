@@ -10,7 +10,8 @@ use Rattle.proof_log.specs.LinesOf.{IsTextOf}
 use Rattle.proof_log.specs.LinesText.{lines_text}
 use Rattle.proof_trim.specs.Needed.{NoneForward}
 use Rattle.proof_trim.specs.Placed.{IsTrimmedText, left_of}
-use Rattle.proof_trim.specs.Trimmed.{AreNeeded, hint_renumbered, marked, place_of, renumbered}
+use Rattle.proof_log.specs.Marks.{marked}
+use Rattle.proof_trim.specs.Trimmed.{AreNeeded, hint_renumbered, place_of, renumbered}
 use Rattle.proof_trim.proofs.Looks.{line-agrees}
 use Rattle.proof_trim.proofs.NamedHints.{looks-at}
 use Rattle.proof_trim.proofs.TrimmedLines.{trimmed-text}

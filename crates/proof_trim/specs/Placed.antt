@@ -2,7 +2,8 @@
 use Rattle.std.specs.Prelude.{◌≡◌, ℕ, ◌≤◌, Bool, List, length, map}
 use Rattle.proof_log.specs.declared.line.Line.{Line}
 use Rattle.proof_log.specs.LinesOf.{IsTextOf}
-use Rattle.proof_trim.specs.Trimmed.{IsTrimOf, marked, place_of, renumbered}
+use Rattle.proof_log.specs.Marks.{marked}
+use Rattle.proof_trim.specs.Trimmed.{IsTrimOf, place_of, renumbered}
 
 -- the lines that are marked, in order, with hints that name lines by their places among these
 abbrev pub left_of : List Bool → List Line → List Line

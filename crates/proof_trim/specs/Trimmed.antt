@@ -1,5 +1,5 @@
 -- What is left of lines without those that the last one does not need.
-use Rattle.std.specs.Prelude.{◌≡◌, ◌↔◌, ℕ, zero, suc, ◌<◌, ◌≤◌, Bool, true, false, List, [], ◌∷◌, length, map, take, Option, Some, None, slice_get}
+use Rattle.std.specs.Prelude.{◌≡◌, ◌↔◌, ℕ, zero, suc, ◌<◌, ◌≤◌, Bool, true, List, length, map, take, Option, Some, None, slice_get}
 use Rattle.mt_model.specs.Form.{Form}
 use Rattle.mt_model.specs.Log.{Logged}
 use Rattle.proof_log.specs.declared.line.Hint.{Hint}
@@ -7,14 +7,8 @@ use Rattle.proof_log.specs.declared.line.Hint.TheVariants as hint
 use Rattle.proof_log.specs.declared.line.Line.{Line}
 use Rattle.proof_log.specs.declared.line.Line.TheVariants as line
 use Rattle.proof_log.specs.Derivations.{Refutes}
+use Rattle.proof_log.specs.Marks.{marked}
 use Rattle.proof_trim.specs.Needed.{IsNeeded, Names}
-
--- the lines that are marked, in order
-abbrev pub marked : List Bool → List Line → List Line
-marked [] lines = []
-marked (mark ∷ marks) [] = []
-marked (true ∷ marks) (l ∷ lines) = l ∷ marked marks lines
-marked (false ∷ marks) (l ∷ lines) = marked marks lines
 
 -- the place of line n among those that are marked: how many of the first n lines are
 abbrev pub place_of : List Bool → List Line → ℕ → ℕ

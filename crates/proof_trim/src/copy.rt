@@ -2,7 +2,8 @@
 
 ghost use Rattle.std.specs.Prelude.{◌≡◌, ◌+◌, ◌-◌, ◌<◌, ◌^◌, [], ◌∷◌, ◌++◌, if◌then◌else◌, All, IfOk, OnOk, length, map, slice_index};
 ghost use Rattle.proof_trim.specs.Needed.{LooksBack, NamesEarlier, NoneForward};
-ghost use Rattle.proof_trim.specs.Trimmed.{hint_renumbered, marked, place_of, renumbered};
+ghost use Rattle.proof_log.specs.Marks.{marked};
+ghost use Rattle.proof_trim.specs.Trimmed.{hint_renumbered, place_of, renumbered};
 
 use axiom_rules::Literal;
 use mt_model::{Step, Steps};

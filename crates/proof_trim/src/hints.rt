@@ -1,6 +1,6 @@
 //! The lines that hints name.
 
-ghost use Rattle.std.specs.Prelude.{◌≡◌, ◌↔◌, ◌+◌, ◌<◌, ◌^◌, ℕ, All, IsTrue, MatchOption, length};
+ghost use Rattle.std.specs.Prelude.{◌↔◌, ◌+◌, ◌<◌, ◌^◌, All, IsTrue, MatchOption, length};
 ghost use Rattle.proof_trim.specs.Needed.{IsFirstForward, LooksBack, NamesEarlier, NoneForward};
 
 use proof_log::{Hint, Line};

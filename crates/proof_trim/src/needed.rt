@@ -1,4 +1,4 @@
-ghost use Rattle.std.specs.Prelude.{◌≡◌, ◌⊎◌, ◌+◌, ◌≤◌, ◌<◌, ℕ, All, Contains, IfOk, Some, length, slice_get, true};
+ghost use Rattle.std.specs.Prelude.{◌≡◌, ◌⊎◌, ◌+◌, ◌≤◌, ◌<◌, ℕ, All, Contains, IfOk, length, true};
 ghost use Rattle.proof_log.specs.declared.line.Hint.TheVariants as hint;
 ghost use Rattle.proof_trim.specs.Needed.{LineNames, LooksBack, NamesEarlier, NoneForward};
 ghost use Rattle.proof_trim.specs.Trimmed.{AreNeeded, IsMarked};

@@ -12,9 +12,7 @@ use Rattle.propagate.specs.Watched.{IsTrueAt, IsTrueUpTo}
 use Rattle.propagate.specs.Best.{AreFalseWithin, IsBest, IsLastFalse, IsSeen}
 use Rattle.propagate.proofs.ClauseLemmas.{literal_held}
 use Rattle.propagate.proofs.PlaceLemmas.{at_up_to, same_literal, up_to_more, up_to_top}
-
-some_is : {X : Type 0} {x y : X} → Some x ≡ Some y → x ≡ y
-some_is {X} {x} {y} e = cc
+use Rattle.std.proofs.lemmas.Option.{same_Some}
 
 -- a literal that isn't false is best
 pub open_best : (es : List Entry) (clause : List Lit) (beside : Option Lit) (l : Lit) → Contains clause l → beside ≢ Some l → (Contains (literals es) (negation l) → ⊥) → IsBest es clause beside l
@@ -102,8 +100,8 @@ pub no_two : (clause : List Lit) (l : Lit) → HasVarsOnce clause → All (λ x.
 no_two clause l once same = elim (cases_lt (length clause) 2) [
   | inl short ↦ short
   | inr two ↦
-      let first : l ≡ get_or clause 0 l = some_is (same 0 l (omega (arith, two))) in
-      let second : l ≡ get_or clause 1 l = some_is (same 1 l (omega (arith, two))) in
+      let first : l ≡ get_or clause 0 l = same_Some _ _ (same 0 l (omega (arith, two))) in
+      let second : l ≡ get_or clause 1 l = same_Some _ _ (same 1 l (omega (arith, two))) in
       absurd (once 0 1 l (omega arith) (omega (arith, two)) (ap (λ (x : Lit). x.var) (sym first ∙ second)))
 ]
 

@@ -8,6 +8,7 @@ use Rattle.clause_db.specs.Literals.{negation}
 use Rattle.propagate.specs.declared.entry.Entry.{Entry}
 use Rattle.propagate.specs.Trails.{no_entry, entry_at, literals, IsUnassigned, HasEntry}
 use Rattle.propagate.specs.Clauses.{IsTruth}
+use Rattle.clause_db.proofs.LawLemmas.{lit_same}
 
 -- the literal at a place is one of the literals, and each of them is at a place
 pub literal_held : (xs : List Entry) (k : ℕ) (l : Lit) → k < length xs → (entry_at xs k).lit ≡ l → Contains (literals xs) l
@@ -22,18 +23,13 @@ literal_at xs l h =
 pub unassigned_not_held : (xs : List Entry) (l k : Lit) → IsUnassigned xs l.var → k.var ≡ l.var → Contains (literals xs) k → ⊥
 unassigned_not_held xs l k free same h = let at = literal_at xs k h in free h.0 no_entry at.0 (ap (λ (x : Lit). x.var) at.1 ∙ same)
 
-lit_same : (k l : Lit) → k.var ≡ l.var → k.positive ≡ l.positive → k ≡ l
-lit_same k l var sense =
-    let lit : ℕ → Bool → Lit = λ v b. record { var = v; positive = b } in
-    ap (λ v. lit v k.positive) var ∙ ap (λ b. lit l.var b) sense
-
 senses_differ : (a b : Bool) → (a ≡ b → ⊥) → a ≡ not b
 senses_differ true true other = absurd (other refl)
 senses_differ true false other = refl
 senses_differ false true other = refl
 senses_differ false false other = absurd (other refl)
 
-read_entry : (xs : List Entry) (k : ℕ) (e : Entry) → k < length xs → get_or xs k e ≡ e → entry_at xs k ≡ e
+pub read_entry : (xs : List Entry) (k : ℕ) (e : Entry) → k < length xs → get_or xs k e ≡ e → entry_at xs k ≡ e
 read_entry xs k e within is = sym (get_or_read xs k e within (sym is) no_entry)
 
 -- what a variable's value says of a literal

@@ -1,7 +1,7 @@
 -- Trails whose lower levels leave nothing to propagate.
 use Rattle.std.proofs.Common.{◌≡◌, ◌∙◌, ap, sym, refl, ℕ, suc, ◌+◌, ◌<◌, ◌≤◌, inl, inr, List, [], ◌∷◌, ◌++◌, length, take, drop, get_or, arith, None, Bool, false}
 use Rattle.std.specs.Prelude.{nat_le, filter}
-use Rattle.std.proofs.lemmas.Bool.{cases_Bool}
+use Rattle.std.proofs.lemmas.Bool.{cases_Bool, lt-leb}
 use Rattle.std.proofs.lemmas.Bool.Decides.{nat_tests}
 use Rattle.std.proofs.lemmas.List.{append-nil, get_or-drop, length-drop, length-take, take-append-drop}
 use Rattle.std.proofs.lemmas.List.Elements.{filter-append}
@@ -12,7 +12,7 @@ use Rattle.propagate.specs.Trails.{Assigned, no_entry, entry_at, IsTrail, decide
 use Rattle.propagate.specs.Clauses.{AreSettled}
 use Rattle.propagate.specs.Reach.{IsGrown}
 use Rattle.propagate.specs.Closed.{ClosedAt, Closed}
-use Rattle.propagate.proofs.TrailLemmas.{cases_push, le_false, up_to_top}
+use Rattle.propagate.proofs.TrailLemmas.{cases_push, up_to_top}
 
 -- a filter that keeps nothing
 filter_none : {X : Type 0} (p : X → Bool) (d : X) (xs : List X) → ((k : ℕ) → k < length xs → p (get_or xs k d) ≡ false) → filter p xs ≡ []
@@ -36,7 +36,7 @@ filter_within p q less (x ∷ xs) = elim (cases_Bool (q x)) [
 up_to_push : (m : ℕ) (xs : List Entry) (e : Entry) → m < e.level → up_to m (xs ++ e ∷ []) ≡ up_to m xs
 up_to_push m xs e above =
     let p : Entry → Bool = λ (x : Entry). nat_le x.level m in
-    let none : filter p (e ∷ []) ≡ [] = filter_none p no_entry (e ∷ []) (λ k within. let is : k ≡ 0 = omega (arith, within) in rw is (le_false e.level m above)) in
+    let none : filter p (e ∷ []) ≡ [] = filter_none p no_entry (e ∷ []) (λ k within. let is : k ≡ 0 = omega (arith, within) in rw is (lt-leb e.level m above)) in
     filter-append p xs (e ∷ []) ∙ ap (λ ys. filter p xs ++ ys) none ∙ append-nil (filter p xs)
 
 up_to_grown : (m : ℕ) (old new : Assigned) → m < length old.levels → IsGrown old new → up_to m new.entries ≡ up_to m old.entries
@@ -46,7 +46,7 @@ up_to_grown m old new above grown =
     let none : filter p (drop n new.entries) ≡ [] = filter_none p no_entry (drop n new.entries) (λ k within.
     let more : n + k < length new.entries = omega (arith, within, length-drop n new.entries, grown.longer) in
     let level = (grown.added (n + k) (omega arith) more).0 in
-    rw (get_or-drop n new.entries k no_entry) (le_false (entry_at new.entries (n + k)).level m (omega (arith, level, above)))) in
+    rw (get_or-drop n new.entries k no_entry) (lt-leb (entry_at new.entries (n + k)).level m (omega (arith, level, above)))) in
     ap (λ (ys : List Entry). filter p ys) (sym (take-append-drop n new.entries)) ∙ filter-append p (take n new.entries) (drop n new.entries)
     ∙ ap (λ ys. filter p (take n new.entries) ++ ys) none ∙ append-nil (filter p (take n new.entries)) ∙ ap (λ (ys : List Entry). filter p ys) grown.kept
 

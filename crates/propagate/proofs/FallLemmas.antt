@@ -14,8 +14,9 @@ use Rattle.propagate.specs.Watched.{AreGuarded, AreWatched, IsGuarded, IsTrueAt,
 use Rattle.propagate.specs.Best.{AreBest, AreHighest, AreHighestFrom, AreLastToFall, AreLastToFallFrom, IsBest, IsHighest, IsLastToFall}
 use Rattle.propagate.specs.Visits.{IsAssignedIfUnit, IsNextFalse}
 use Rattle.propagate.proofs.PlaceLemmas.{at_up_to, not_both, up_to_held, up_to_level}
-use Rattle.propagate.proofs.WatchedLemmas.{known_at, some_is, up_to_longer}
+use Rattle.propagate.proofs.WatchedLemmas.{known_at, up_to_longer}
 use Rattle.propagate.proofs.GuardLemmas.{next_false}
+use Rattle.std.proofs.lemmas.Option.{same_Some}
 
 -- a trail that grows at the present level
 module _ (xs ys : List Entry) (present : ℕ) (longer : length xs ≤ length ys) (same : (k : ℕ) → k < length xs → entry_at ys k ≡ entry_at xs k)
@@ -54,7 +55,7 @@ pub last_beside : (t s : Assigned) (clause : List Lit) (f o best : Lit) → IsTr
     → IsLastToFall s.entries (length s.levels) clause o best
 last_beside t s clause f o best before trail next (inl (open_here, same)) has was m below at =
     absurd (elim (All-contains (λ (x : Lit). (Some f ≡ Some x) ⊎ IsTrueUpTo s.entries m (negation x)) clause best (was m below at) has) [
-      | inl that ↦ open_here (rw (some_is that) at (next_false t f before next))
+      | inl that ↦ open_here (rw (same_Some _ _ that) at (next_false t f before next))
       | inr since ↦ open_here (rw same at (up_to_held s.entries m (negation best) since))
     ])
 last_beside t s clause f o best before trail next (inr (made, guarded)) has was m below at = absurd (not_both s o trail made (up_to_held s.entries m (negation o) (at_up_to s.entries (negation o) m m (omega arith) at)))
@@ -82,7 +83,7 @@ module _ (t : Assigned) (clause : List Lit) (trail : IsTrail t) where
     weaker x (inl that) n fell =
         let made = up_to_held t.entries _ other (guarded at.0 at.1 at.2) in
         let denied = up_to_held t.entries n (negation x) (at_up_to t.entries (negation x) n n (omega arith) fell) in
-        absurd (not_both t other trail made (rw (← some_is that) at denied))
+        absurd (not_both t other trail made (rw (← same_Some _ _ that) at denied))
 
   pub both_highest : (p : Watch) → AreGuarded t.entries (length t.entries) p → AreLastToFall t.entries (length t.levels) clause p → AreHighest t.entries (length t.levels) clause p
   both_highest p guards last = record { first = highest p.first p.second guards.first last.first; second = highest p.second p.first guards.second last.second; last = last }

@@ -20,7 +20,8 @@ use Rattle.propagate.specs.Visits.{IsAssignedIfUnit, IsNextFalse}
 use Rattle.propagate.proofs.TrailLemmas.{new_entry}
 use Rattle.propagate.proofs.ClauseLemmas.{literal_at, literal_held, unassigned_not_held}
 use Rattle.propagate.proofs.PlaceLemmas.{negations_same, not_both, same_literal, up_to_held, up_to_here, up_to_there}
-use Rattle.propagate.proofs.WatchedLemmas.{guard_fewer, some_is}
+use Rattle.propagate.proofs.WatchedLemmas.{guard_fewer}
+use Rattle.std.proofs.lemmas.Option.{same_Some}
 
 -- a literal that isn't false needs no companion
 pub guard_open : (es : List Entry) (n : ℕ) (l o : Lit) → n ≤ length es → (Contains (literals es) (negation l) → ⊥) → IsGuarded es n l o
@@ -64,7 +65,7 @@ module _ (t : Assigned) (db : List (List Lit)) (c m : ℕ) (o : Lit) (trail : Is
   module _ (op : m < length t.levels) where
     one_false : (x : Lit) → Contains (clause_at db c) x → (o ≡ x) ⊎ IsTrueUpTo t.entries m (negation x)
     one_false x has = elim (All-contains (λ (y : Lit). (Some o ≡ Some y) ⊎ IsTrueUpTo t.entries m (negation y)) (clause_at db c) x rest has) [
-      | inl is ↦ inl (some_is is)
+      | inl is ↦ inl (same_Some _ _ is)
       | inr since ↦ inr since
     ]
 
@@ -124,7 +125,7 @@ best_leaves es clause l best k has is_best within is = record {
   others_false = All-weaker (λ (x : Lit). (Some l ≡ Some x) ⊎ IsTrueUpTo es (entry_at es k).level (negation x)) (λ (x : Lit). (x ≡ l) ⊎ Contains (literals es) (negation x)) weaker clause (is_best.last k within is);
 } where
   weaker : (x : Lit) → (Some l ≡ Some x) ⊎ IsTrueUpTo es (entry_at es k).level (negation x) → (x ≡ l) ⊎ Contains (literals es) (negation x)
-  weaker x (inl same) = inl (sym (some_is same))
+  weaker x (inl same) = inl (sym (same_Some _ _ same))
   weaker x (inr since) = inr (up_to_held es _ (negation x) since)
 
 -- the best two literals of a clause may be watched
@@ -176,7 +177,7 @@ module _ (t : Assigned) (db : List (List Lit)) (c : ℕ) (f o : Lit) (trail : Is
   pub guards_stay : IsTrueUpTo t.entries (entry_at t.entries t.taken).level o → (p : Watch) → watch_at t.watching c ≡ Some p → AreGuarded t.entries (t.taken + 1) p
   guards_stay since p is =
       let more = next.more in
-      let same : both.0 ≡ p = some_is (sym both.1 ∙ is) in
+      let same : both.0 ≡ p = same_Some _ _ (sym both.1 ∙ is) in
       let here : IsGuarded t.entries (t.taken + 1) f o = guard_here t f trail next o since in
       let there : IsGuarded t.entries (t.taken + 1) o f = guard_true t (t.taken + 1) o f trail (omega (arith, more)) (up_to_held t.entries _ o since) in
       rw (← same) (elim both.2 [

@@ -7,15 +7,10 @@ use Rattle.std.proofs.lemmas.List.{ext_get_or, get_or-map, length-map, length_pu
 use Rattle.std.proofs.lemmas.List.Sums.{sum_by-set}
 use Rattle.neg_cycle.specs.declared.system.Edge.{Edge}
 use Rattle.propagate.specs.LinkPlaces.{ArePlaces, is_free, pair_at}
+use Rattle.std.proofs.lemmas.Option.{same_Some}
 
 abbrev Pair : Type 0
 Pair = Edge × Edge
-
-some_is : {X : Type 0} {x y : X} → Some x ≡ Some y → x ≡ y
-some_is {X} {x} {y} e = cc
-
-none_some : {X : Type 0} {x : X} → None ≡ Some x → ⊥
-none_some e = cc
 
 -- what stands at a place of a list
 pub read_get : (xs : List Pair) (k : ℕ) (r : Pair) → k < length xs → r ≡ get_or xs k r → slice_get xs k ≡ Some r
@@ -76,12 +71,12 @@ module _ (places : List (Option ℕ)) (edges : List Pair) (capacity v : ℕ) (wi
     pub more_places : (more : ℕ) → capacity ≤ more → ArePlaces (set places v (Some (length edges))) (length (edges ++ y ∷ [])) more
     more_places more larger = record {
       below = λ w k is. elim (cases_eq w v) [
-        | inl same ↦ let this = some_is (sym (get_or-set_same places v (Some (length edges)) None within) ∙ ap (λ (u : ℕ). get_or (set places v (Some (length edges))) u None) (sym same) ∙ is) in omega (arith, this, length_push edges y)
+        | inl same ↦ let this = same_Some _ _ (sym (get_or-set_same places v (Some (length edges)) None within) ∙ ap (λ (u : ℕ). get_or (set places v (Some (length edges))) u None) (sym same) ∙ is) in omega (arith, this, length_push edges y)
         | inr other ↦ let less = old.below w k (sym (get_or-set_other places v w (Some (length edges)) None other) ∙ is) in omega (arith, less, length_push edges y)
       ];
       apart = λ w u k is also. elim (cases_eq w v) [
         | inl same ↦
-            let this = some_is (sym (get_or-set_same places v (Some (length edges)) None within) ∙ ap (λ (i : ℕ). get_or (set places v (Some (length edges))) i None) (sym same) ∙ is) in
+            let this = same_Some _ _ (sym (get_or-set_same places v (Some (length edges)) None within) ∙ ap (λ (i : ℕ). get_or (set places v (Some (length edges))) i None) (sym same) ∙ is) in
             elim (cases_eq u v) [
               | inl again ↦ same ∙ sym again
               | inr other ↦ let less = old.below u k (sym (get_or-set_other places v u (Some (length edges)) None other) ∙ also) in absurd (omega (arith, less, this))
@@ -90,7 +85,7 @@ module _ (places : List (Option ℕ)) (edges : List Pair) (capacity v : ℕ) (wi
             let was = sym (get_or-set_other places v w (Some (length edges)) None other) ∙ is in
             elim (cases_eq u v) [
               | inl again ↦
-                  let this = some_is (sym (get_or-set_same places v (Some (length edges)) None within) ∙ ap (λ (i : ℕ). get_or (set places v (Some (length edges))) i None) (sym again) ∙ also) in
+                  let this = same_Some _ _ (sym (get_or-set_same places v (Some (length edges)) None within) ∙ ap (λ (i : ℕ). get_or (set places v (Some (length edges))) i None) (sym again) ∙ also) in
                   let less = old.below w k was in
                   absurd (omega (arith, less, this))
               | inr differ ↦ old.apart w u k was (sym (get_or-set_other places v u (Some (length edges)) None differ) ∙ also)

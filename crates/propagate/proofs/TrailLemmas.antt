@@ -1,9 +1,8 @@
 -- Trails that grow by a literal or a level, and trails that are cut.
 use Rattle.std.proofs.Common.{◌≡◌, ◌≢◌, ◌∙◌, ap, sym, refl, ℕ, zero, suc, ◌+◌, ◌<◌, ◌≤◌, ◌⊎◌, inl, inr, List, [], ◌∷◌, ◌++◌, length, take, min, get_or, map, arith, Some, None, Bool, true, false, eqb}
-use Rattle.std.specs.Prelude.{IsNone, nat_le, filter, ◌||◌}
+use Rattle.std.specs.Prelude.{IsNone, nat_le, filter}
 use Rattle.std.specs.List.{IsDistinct, list_any}
-use Rattle.std.proofs.lemmas.Bool.{cases_lt}
-use Rattle.std.proofs.lemmas.Bool.Decides.{nat_tests}
+use Rattle.std.proofs.lemmas.Bool.{cases_lt, or_cases, ne_eqb, le-leb, lt-leb}
 use Rattle.std.proofs.lemmas.List.{get_or_append_left, get_or_push, length_push, get_or-take, length-take, length-take-le, take_all, length-map, get_or-map}
 use Rattle.std.proofs.lemmas.List.Elements.{All-push, All-take}
 use Rattle.std.proofs.lemmas.List.Quantifiers.{all_pairs_push}
@@ -13,6 +12,7 @@ use Rattle.clause_db.specs.declared.lit.Lit.{Lit}
 use Rattle.propagate.specs.declared.entry.Entry.{Entry}
 use Rattle.propagate.specs.declared.entry.Level.{Level}
 use Rattle.propagate.specs.Trails.{Assigned, no_entry, no_level, entry_at, start_of, mark_of, IsUnassigned, AreLevels, IsTrail, followed, decided, up_to, cut_to}
+use Rattle.mt_list.proofs.Lists.{first_below}
 
 pub cases_push : {X : Type 0} (xs : List X) (e : X) (k : ℕ) → k < length (xs ++ e ∷ []) → (k < length xs) ⊎ (k ≡ length xs)
 cases_push xs e k below = elim (cases_lt k (length xs)) [ inl b ↦ inl b | inr b ↦ inr (omega (arith, length_push xs e)) ]
@@ -153,19 +153,9 @@ few_levels xs (l ∷ ls) old =
     let within = old.within (length ls) op in
     omega (arith, least, within)
 
-any_cases : (p q : Bool) → (p || q) ≡ true → (p ≡ true) ⊎ (q ≡ true)
-any_cases true q e = inl refl
-any_cases false q e = inr e
-
-first_below : {n : ℕ} (q a : ℕ) → a < n → eqb q a ≡ true → q < n
-first_below q a start e = grind (arith, nat_tests)
-
-differ : (a b : ℕ) → (a ≡ b → ⊥) → eqb a b ≡ false
-differ a b apart = grind (arith, nat_tests)
-
 any_below : (n q : ℕ) (es : List Entry) → ((k : ℕ) → k < length es → (entry_at es k).lit.var < n) → list_any (eqb q) (map (λ e. e.lit.var) es) ≡ true → q < n
 any_below n q [] all found = absurd cc
-any_below n q (e ∷ es) all found = elim (any_cases (eqb q e.lit.var) (list_any (eqb q) (map (λ x. x.lit.var) es)) found) [
+any_below n q (e ∷ es) all found = elim (or_cases (eqb q e.lit.var) (list_any (eqb q) (map (λ x. x.lit.var) es)) found) [
   | inl here ↦ first_below q e.lit.var (all 0 (omega arith)) here
   | inr rest ↦ any_below n q es (λ k within. all (suc k) (omega (arith, within))) rest
 ]
@@ -184,7 +174,7 @@ few_literals t old = let most = length-le_from_distinct_below vars t.vars apart 
       let j_below : j < length t.entries = rw (length-map t.entries var_of) at within in
       let i_below : i < length t.entries = omega arith in
       rw (get_or-map var_of t.entries i no_entry d i_below, get_or-map var_of t.entries j no_entry d j_below)
-      (differ (var_of (entry_at t.entries i)) (var_of (entry_at t.entries j)) (old.once i j no_entry less j_below)))
+      (ne_eqb (var_of (entry_at t.entries i)) (var_of (entry_at t.entries j)) (old.once i j no_entry less j_below)))
 
   below : (q : ℕ) → list_any (eqb q) vars ≡ true → q < t.vars
   below q found = any_below t.vars q t.entries (λ k within. old.below k no_entry within) found
@@ -203,16 +193,10 @@ filter_front p d (x ∷ xs) (suc n) front rest =
     let later = filter_front p d xs n (λ k low within. front (suc k) (omega (arith, low)) (omega (arith, within))) (λ k le within. rest (suc k) (omega (arith, le)) (omega (arith, within))) in
     rw here (ap (λ ys. x ∷ ys) later)
 
-le_true : (a b : ℕ) → a ≤ b → nat_le a b ≡ true
-le_true a b le = grind (arith, nat_tests)
-
-pub le_false : (a b : ℕ) → b < a → nat_le a b ≡ false
-le_false a b less = grind (arith, nat_tests)
-
 -- where no level is above m, all entries are of levels up to m
 pub up_to_top : (xs : List Entry) (ls : List Level) (m : ℕ) → AreLevels xs ls → length ls ≤ m → up_to m xs ≡ xs
 up_to_top xs ls m old le =
-    filter_front (λ (e : Entry). nat_le e.level m) no_entry xs (length xs) (λ k _ within. let top = old.top k within in le_true (entry_at xs k).level m (omega (arith, top, le))) (λ k low within. absurd (omega (arith, low, within)))
+    filter_front (λ (e : Entry). nat_le e.level m) no_entry xs (length xs) (λ k _ within. let top = old.top k within in le-leb (entry_at xs k).level m (omega (arith, top, le))) (λ k low within. absurd (omega (arith, low, within)))
     ∙ take_all (length xs) xs (omega arith)
 
 pub cut_at_top : (t : Assigned) (m : ℕ) → IsTrail t → length t.levels ≤ m → cut_to m t ≡ t
@@ -234,8 +218,8 @@ module _ (xs : List Entry) (ls : List Level) (m : ℕ) (op : m < length ls) (old
   ]
 
   pub up_to_start : up_to m xs ≡ take n xs
-  up_to_start = filter_front (λ (e : Entry). nat_le e.level m) no_entry xs n (λ k less within. le_true (entry_at xs k).level m (shallow k less within))
-      (λ k le within. le_false (entry_at xs k).level m ((old.reached m k op within).0 le))
+  up_to_start = filter_front (λ (e : Entry). nat_le e.level m) no_entry xs n (λ k less within. le-leb (entry_at xs k).level m (shallow k less within))
+      (λ k le within. lt-leb (entry_at xs k).level m ((old.reached m k op within).0 le))
 
   few : length (take n xs) ≡ n
   few = let within = old.within m op in length-take-le n xs (omega (arith, within))

@@ -8,12 +8,7 @@ use Rattle.propagate.specs.Trails.{no_entry, entry_at, HasEntry, IsUnassigned}
 use Rattle.propagate.specs.Stored.{AreValues, IsTable, value_of}
 use Rattle.propagate.proofs.TrailLemmas.{cases_push, old_entry, new_entry}
 use Rattle.propagate.proofs.TableLemmas.{place_below, table_none}
-
-none_some : {X : Type 0} {x : X} → None ≡ Some x → ⊥
-none_some e = cc
-
-some_is : {X : Type 0} {x y : X} → Some x ≡ Some y → x ≡ y
-some_is {X} {x} {y} e = cc
+use Rattle.std.proofs.lemmas.Option.{same_Some, none-some}
 
 -- no variable has a value at first
 no_place : (n v : ℕ) → let none : Option ℕ = None in get_or (replicate n none) v none ≡ none
@@ -43,12 +38,12 @@ pub value_tells : (xs : List Entry) (places : List (Option ℕ)) (v : ℕ) (r : 
 value_tells xs places v r table is = by (get_or places v None) refl r is where
   by : (p : Option ℕ) → get_or places v None ≡ p → (r : Option Bool) → r ≡ value_of xs p → (IsNone r ↔ IsUnassigned xs v) × IfSome r (λ b. HasEntry xs v (λ e. e.lit.positive ≡ b))
   by None at None same = ((λ none. table_none xs places v table at, λ free. refl), tt)
-  by None at (Some b) same = absurd (none_some (sym same))
-  by (Some k) at None same = absurd (none_some same)
+  by None at (Some b) same = absurd (none-some _ (sym same))
+  by (Some k) at None same = absurd (none-some _ same)
   by (Some k) at (Some b) same =
       let there = table.there v k at in (
         (λ none. absurd cc, λ free. absurd (free k no_entry there.0 there.1)),
-        (k, entry_at xs k, there.0, get_or_default xs k (entry_at xs k) no_entry there.0, (there.1, sym (some_is same))),
+        (k, entry_at xs k, there.0, get_or_default xs k (entry_at xs k) no_entry there.0, (there.1, sym (same_Some _ _ same))),
       )
 
 module _ (xs : List Entry) (e : Entry) (places : List (Option ℕ)) (values : List (Option Bool)) where

@@ -26,10 +26,11 @@ use Rattle.propagate.proofs.ClauseLemmas.{literal_at, literal_held}
 use Rattle.propagate.proofs.PlaceLemmas.{cases_contains, same_literal, up_to_held, up_to_here, up_to_top}
 use Rattle.propagate.proofs.UnwatchedLemmas.{unwatched_has, unwatched_none, unwatched_below, unwatched_set}
 use Rattle.propagate.proofs.WatchingLemmas.{cases_taken_up, listed_elsewhere, listed_here, listed_more, listed_new, removed_left, removed_length}
-use Rattle.propagate.proofs.WatchedLemmas.{guard_fewer, some_is, watched_again, watched_lists, watched_satisfied, watched_up}
+use Rattle.propagate.proofs.WatchedLemmas.{guard_fewer, watched_again, watched_lists, watched_satisfied, watched_up}
 use Rattle.propagate.proofs.GuardLemmas.{guard_beside, guard_next, guard_open, guard_true, guards_best, other_apart, rule_of_other, two_best}
 use Rattle.propagate.proofs.FallLemmas.{both_last_best}
 use Rattle.propagate.proofs.ReachLemmas.{both_last_grown, grown_entry, progress_rewatched}
+use Rattle.std.proofs.lemmas.Option.{same_Some}
 
 -- the literals stay
 pub held_grown : (t s : Assigned) (l : Lit) → IsGrown t s → Contains (literals t.entries) l → Contains (literals s.entries) l
@@ -164,7 +165,7 @@ progress_two db links a t s g h c p old unmoved assigned_here best is added sati
     let here : c ≡ length t.watching.watches = at ∙ ap (λ (w : Watching). length w.watches) (sym unmoved.watching) in
     let guards = guards_best a t (clause_at db c) p t.taken old.work.trail old.work.trail.taken assigned_here best in
     let last = both_last_grown a t old.grown (clause_at db c) p (both_last_best a.entries (length a.levels) (clause_at db c) p best) in
-    progress_up db links a t s g h (Some p) is added satisfied trail (omega (arith, held, here)) (λ none. absurd (some_none none)) (λ q same. let this : p ≡ q = some_is same in rw (← this, ← here) (two_best a.entries (clause_at db c) p best, guards)) (λ q same. let this : p ≡ q = some_is same in rw (← this, ← here) last) old where
+    progress_up db links a t s g h (Some p) is added satisfied trail (omega (arith, held, here)) (λ none. absurd (some_none none)) (λ q same. let this : p ≡ q = same_Some _ _ same in rw (← this, ← here) (two_best a.entries (clause_at db c) p best, guards)) (λ q same. let this : p ≡ q = same_Some _ _ same in rw (← this, ← here) last) old where
       some_none : {x : Watch} → Some x ≡ None → ⊥
       some_none e = cc
 
@@ -243,7 +244,7 @@ pub visited_moved : (t s u : Assigned) (f : Lit) (c place : ℕ) (p : Watch) →
 visited_moved t s u f c place p taken same is anew moved guards = record {
   taken = ap (λ (x : Assigned). x.taken) is ∙ taken;
   guarded = λ q at.
-      let this : p ≡ q = some_is (sym moved.watch ∙ at) in
+      let this : p ≡ q = same_Some _ _ (sym moved.watch ∙ at) in
       rw (ap (λ (x : Assigned). x.entries) is, ← this) guards;
   others = λ d other. anew.others d other ∙ ap (λ (w : Watching). watch_at w d) same;
   count = let count = moved.count in omega (arith, count, ap (λ (w : Watching). length (watchers_of w f)) same);
@@ -262,7 +263,7 @@ progress_again db links a s u g h c p is trail anew two guards last old =
         | inl same ↦ elim anew.here [
           | inl stays ↦ was d q from (ap (watch_at s.watching) same ∙ sym stays ∙ ap (watch_at u.watching) (sym same) ∙ at)
           | inr moved ↦
-              let this : p ≡ q = some_is (sym moved ∙ ap (watch_at u.watching) (sym same) ∙ at) in
+              let this : p ≡ q = same_Some _ _ (sym moved ∙ ap (watch_at u.watching) (sym same) ∙ at) in
               rw (same, ← this) (last k (omega (arith, from, same)) was)
         ]
         | inr other ↦ was d q from (sym (anew.others d other) ∙ at)
@@ -295,7 +296,7 @@ module _ (w v u x : Watching) (l : Lit) (p : Watch) (c place : ℕ) (within : l.
   moved_unwatched other q is =
       let at : get_or (watchers_of u l) place 0 ≡ c = ap (λ xs. get_or xs place 0) kept_list ∙ here.is in
       let found : Some p ≡ Some q = sym (get_or-set_same w.watches c (Some p) None known) ∙ ap (λ xs. get_or xs c None) (sym watches_now) ∙ ap (λ k. watch_at u k) (sym at) ∙ is in
-      let same : p ≡ q = some_is found in
+      let same : p ≡ q = same_Some _ _ found in
       rw (← same) (apart, other)
 
   module _ (less : x ≡ listing u l (swap_remove (watchers_of u l) place 0)) where

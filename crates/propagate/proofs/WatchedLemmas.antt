@@ -15,15 +15,10 @@ use Rattle.propagate.specs.Visits.{IsRewatched}
 use Rattle.propagate.proofs.TrailLemmas.{cases_push, cut_at, shallow}
 use Rattle.propagate.proofs.UnwatchedLemmas.{unwatched_below, unwatched_stays}
 use Rattle.propagate.proofs.WatchingLemmas.{cases_taken_up}
-
-pub some_is : {X : Type 0} {x y : X} → Some x ≡ Some y → x ≡ y
-some_is {X} {x} {y} e = cc
-
-pub none_some : {X : Type 0} {x : X} → None ≡ Some x → ⊥
-none_some e = cc
+use Rattle.std.proofs.lemmas.Option.{same_Some, none-some}
 
 pub known_at : (xs : List (Option Watch)) (c : ℕ) (p : Watch) → get_or xs c None ≡ Some p → c < length xs
-known_at [] c p is = absurd (none_some is)
+known_at [] c p is = absurd (none-some _ is)
 known_at (x ∷ xs) zero p is = omega arith
 known_at (x ∷ xs) (suc c) p is = let less = known_at xs c p is in omega (arith, less)
 
@@ -162,7 +157,7 @@ watched_again t db v c q anew both guards old = record {
   short = λ d within is. elim (cases_eq d c) [
     | inl same ↦ elim anew.here [
       | inl stays ↦ old.short d (rw anew.count at within) (ap (watch_at t.watching) same ∙ sym stays ∙ ap (watch_at v) (sym same) ∙ is)
-      | inr moved ↦ absurd (none_some (sym is ∙ ap (watch_at v) same ∙ moved))
+      | inr moved ↦ absurd (none-some _ (sym is ∙ ap (watch_at v) same ∙ moved))
     ]
     | inr other ↦ old.short d (rw anew.count at within) (sym (anew.others d other) ∙ is)
   ];
@@ -173,7 +168,7 @@ watched_again t db v c q anew both guards old = record {
   cases d p is = elim (cases_eq d c) [
     | inl same ↦ elim anew.here [
       | inl stays ↦ inl (ap (watch_at t.watching) same ∙ sym stays ∙ ap (watch_at v) (sym same) ∙ is)
-      | inr moved ↦ inr (same, some_is (sym moved ∙ ap (watch_at v) (sym same) ∙ is))
+      | inr moved ↦ inr (same, same_Some _ _ (sym moved ∙ ap (watch_at v) (sym same) ∙ is))
     ]
     | inr other ↦ inl (sym (anew.others d other) ∙ is)
   ]

@@ -7,12 +7,8 @@ use Rattle.std.proofs.lemmas.List.Elements.{Contains-append_left, Contains-push}
 use Rattle.clause_db.specs.declared.lit.Lit.{Lit}
 use Rattle.propagate.specs.declared.watch.Watch.{Watch}
 use Rattle.propagate.specs.Watching.{Watching, watch_at, list_in, with_list, lists_at, watchers_of, listing, watching, IsListed, AreListed, IsUnwatched}
-
-some_is : {X : Type 0} {x y : X} → Some x ≡ Some y → x ≡ y
-some_is {X} {x} {y} e = cc
-
-none_some : {X : Type 0} {x : X} → None ≡ Some x → ⊥
-none_some e = cc
+use Rattle.std.proofs.lemmas.Option.{same_Some, none-some}
+use Rattle.clause_db.proofs.LawLemmas.{lit_same}
 
 -- the list that was put
 list_put : (both : List ℕ × List ℕ) (b : Bool) (cs : List ℕ) → list_in (with_list both b cs) b ≡ cs
@@ -30,11 +26,6 @@ senses true true = inl refl
 senses true false = inr (λ e. absurd cc)
 senses false true = inr (λ e. absurd cc)
 senses false false = inl refl
-
-lit_same : (k l : Lit) → k.var ≡ l.var → k.positive ≡ l.positive → k ≡ l
-lit_same k l var sense =
-    let lit : ℕ → Bool → Lit = λ v b. record { var = v; positive = b } in
-    ap (λ v. lit v k.positive) var ∙ ap (λ b. lit l.var b) sense
 
 -- two literals are the same, or they differ
 pub cases_lit : (k l : Lit) → (k ≡ l) ⊎ (k ≢ l)
@@ -124,7 +115,7 @@ all_listed_less w l i within here unwatched old d p is =
 -- one more clause that is attached
 pub cases_taken_up : (xs : List (Option Watch)) (r : Option Watch) (c : ℕ) (p : Watch) → get_or (xs ++ r ∷ []) c None ≡ Some p → (get_or xs c None ≡ Some p) ⊎ ((c ≡ length xs) × (r ≡ Some p))
 cases_taken_up [] r zero p is = inr (refl, is)
-cases_taken_up [] r (suc c) p is = absurd (none_some is)
+cases_taken_up [] r (suc c) p is = absurd (none-some _ is)
 cases_taken_up (x ∷ xs) r zero p is = inl is
 cases_taken_up (x ∷ xs) r (suc c) p is = elim (cases_taken_up xs r c p is) [
   | inl old ↦ inl old
@@ -140,7 +131,7 @@ all_listed_up w r new old c p is = elim (cases_taken_up w.watches r c p is) [
 -- a clause that is watched at other literals
 pub cases_set : (xs : List (Option Watch)) (c d : ℕ) (q p : Watch) → c < length xs → get_or (set xs c (Some q)) d None ≡ Some p → ((d ≢ c) × (get_or xs d None ≡ Some p)) ⊎ ((d ≡ c) × (q ≡ p))
 cases_set xs c d q p within is = elim (cases_eq d c) [
-  | inl same ↦ inr (same, some_is (sym (get_or-set_same xs c (Some q) None within) ∙ ap (λ n. get_or (set xs c (Some q)) n None) (sym same) ∙ is))
+  | inl same ↦ inr (same, same_Some _ _ (sym (get_or-set_same xs c (Some q) None within) ∙ ap (λ n. get_or (set xs c (Some q)) n None) (sym same) ∙ is))
   | inr other ↦ inl (other, sym (get_or-set_other xs c d (Some q) None other) ∙ is)
 ]
 

@@ -2,7 +2,7 @@
 
 ghost use Rattle.std.specs.Prelude.{◌≡◌, ◌≢◌, ◌<◌, length, true, false, All, Contains, Option, Some, IfSome, IsNone, ◌≤◌, ◌⊎◌};
 ghost use Rattle.clause_db.specs.Literals.{HasVarsOnce, negation};
-ghost use Rattle.propagate.specs.Trails.{IsTrail, literals};
+ghost use Rattle.propagate.specs.Trails.{literals};
 ghost use Rattle.propagate.specs.Best.{AreBest, AreFalseWithin, IsBest};
 
 use crate::Trail;

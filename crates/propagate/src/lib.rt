@@ -8,7 +8,6 @@ mod laws;
 mod levels;
 mod links;
 mod propagation;
-mod room;
 mod stop;
 mod stored;
 mod trail;

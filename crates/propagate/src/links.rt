@@ -3,8 +3,8 @@
 ghost use Rattle.std.specs.Prelude.{◌≡◌, ◌<◌, length, replicate, set, IfOk, Some, None};
 ghost use Rattle.propagate.specs.Links.{edge_of, edges_at};
 
-use crate::room::push_within;
 use clause_db::{Lit, Var};
+use mt_list::push_within;
 use neg_cycle::Edge;
 use std::alloc::{AllocError, Global};
 use std::marker::Model;

@@ -1,20 +1,19 @@
 //! The trail.
 
-ghost use Rattle.std.specs.Prelude.{◌≡◌, ◌↔◌, ℕ, ◌+◌, ◌^◌, ◌<◌, ◌≤◌, [], ◌∷◌, ◌++◌, length, min, take, set, Some, IfOk, OnOk, OnErr, IfSome, IsNone, IsSome, IsTrue, Contains, slice_index_or, vec_capacity};
+ghost use Rattle.std.specs.Prelude.{◌≡◌, ◌↔◌, ◌+◌, ◌^◌, ◌<◌, ◌≤◌, [], ◌∷◌, ◌++◌, length, set, Some, IfOk, OnOk, OnErr, IfSome, IsNone, IsSome, IsTrue, Contains, slice_index_or, vec_capacity};
 ghost use Rattle.std.specs.List.{swap_remove};
 ghost use Rattle.clause_db.specs.Literals.{negation};
 ghost use Rattle.propagate.specs.Watching.{IsListed, IsUnwatched, IsWatcherAt, listing, satisfying, unwatched, watch_at, watchers_of, watching};
-ghost use Rattle.propagate.specs.Trails.{HasEntry, IsAssigned, IsTrail, IsUnassigned, IsUntaken, cut_to, decided, entry_at, followed, literals, mark_of, rewatched, start_of};
+ghost use Rattle.propagate.specs.Trails.{HasEntry, IsAssigned, IsTrail, IsUnassigned, IsUntaken, cut_to, decided, entry_at, followed, literals, mark_of, rewatched};
 ghost use Rattle.propagate.specs.Watched.{IsTrueAt, IsTrueUpTo};
 ghost use Rattle.propagate.specs.Clauses.{IsTruth};
-ghost use Rattle.propagate.specs.Stored.{AreValues, IsTable};
 
 use crate::entry::{Entry, Level};
-use crate::room::push_within;
 use crate::stored::{forget, lesser, no_watchers, present_start};
 use crate::watch::{Watch, Watchers};
 use crate::watches::Watches;
 use clause_db::{ClauseRef, Lit, Var};
+use mt_list::push_within;
 use std::alloc::{AllocError, Global};
 use std::marker::Model;
 

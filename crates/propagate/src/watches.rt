@@ -3,9 +3,9 @@
 ghost use Rattle.std.specs.Prelude.{◌≡◌, ◌+◌, ◌^◌, ◌<◌, ◌≤◌, [], ◌∷◌, ◌++◌, length, set, None, Some, IfSome, IsSome, IsNone, OnOk, OnErr, slice_index_or};
 ghost use Rattle.propagate.specs.Watching.{unwatched};
 
-use crate::room::push_within;
 use crate::watch::Watch;
 use clause_db::ClauseRef;
+use mt_list::push_within;
 use std::alloc::{AllocError, Global};
 use std::marker::Model;
 

@@ -8,9 +8,7 @@ use Rattle.memchr.specs.Find.{is_byte}
 use Rattle.proof_log.specs.LinesText.{newline}
 use Rattle.report_text.specs.ReportOf.{AreLines, LacksNewline}
 use Rattle.report_text.specs.ReportText.{ended}
-
-first_same : (a b : List ℕ) (as_ bs : List (List ℕ)) → a ∷ as_ ≡ b ∷ bs → a ≡ b
-first_same a b as_ bs same = cc
+use Rattle.proof_log.proofs.ReadingLines.{first_same}
 
 -- a line, cut at its newline
 line-cut : (line after : List ℕ) → LacksNewline line → slice_split (is_byte newline) (ended line ++ after) ≡ line ∷ slice_split (is_byte newline) after

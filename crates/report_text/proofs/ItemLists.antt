@@ -16,10 +16,6 @@ use Rattle.report_text.proofs.Cutting.{lines-append}
 use Rattle.report_text.proofs.Lined.{AreLined, AreSpellings, same-front, stopped-first}
 use Rattle.report_text.proofs.Stopping.{GoesOn, stopped-after}
 
-none-left : {X : Type 0} (xs : List X) → length xs ≡ 0 → xs ≡ []
-none-left [] empty = refl
-none-left (x ∷ xs) empty = absurd (omega arith)
-
 module _ {X : Type 0} (Is : X → Type 0) (spelling : X → List ℕ) (are : AreSpellings Is spelling) where
   abbrev text : X → List ℕ
   text x = ended (spelling x)
@@ -81,7 +77,8 @@ module _ {X : Type 0} (Is : X → Type 0) (spelling : X → List ℕ) (are : Are
   all-passed count bytes passed rest before full = record { items = before.items; read = all-read count bytes before.items rest before.read (omega (arith, before.size, full)) }
 
   -- items that were read of the text of as many are these
-  pub items-found : (count : ℕ) (bytes : List ℕ) (found : List X) (rest : List ℕ) → AreRead Is text count bytes found rest → (xs : List X) → length xs ≡ count → All Is xs → flat_map text xs ≡ bytes → found ≡ xs
+  pub items-found : (count : ℕ) (bytes : List ℕ) (found : List X) (rest : List ℕ) → AreRead Is text count bytes found rest → (xs : List X) → length xs ≡ count
+      → All Is xs → flat_map text xs ≡ bytes → found ≡ xs
   items-found count bytes found rest read xs full each is =
       (items-apart found xs rest [] (read.full ∙ sym full) read.each each (sym read.split ∙ sym is ∙ sym (append-nil (flat_map text xs)))).0
 
@@ -120,23 +117,29 @@ module _ {X : Type 0} (Is : X → Type 0) (spelling : X → List ℕ) (are : Are
           are = flat_map-append text xs l.items ∙ ap (λ u. flat_map text xs ++ u) l.are;
         }
 
-        by : (xs ys : List X) (m s u : List ℕ) → All Is xs → length ys ≡ length xs + n → All Is ys → flat_map text ys ≡ m → m ++ s ≡ flat_map text xs ++ u → (t : List ℕ) × AreItems Is text n t × (m ≡ flat_map text xs ++ t)
+        by : (xs ys : List X) (m s u : List ℕ) → All Is xs → length ys ≡ length xs + n → All Is ys → flat_map text ys ≡ m → m ++ s ≡ flat_map text xs ++ u
+            → (t : List ℕ) × AreItems Is text n t × (m ≡ flat_map text xs ++ t)
         by [] ys m s u all_x size all_y is same = (m, record { items = ys; full = omega (arith, size); each = all_y; are = is }, refl)
         by (x ∷ xs) [] m s u all_x size all_y is same = absurd (omega (arith, size))
         by (x ∷ xs) (y ∷ ys) m s u all_x size all_y is same =
-            let texts : text y ++ (flat_map text ys ++ s) ≡ text x ++ (flat_map text xs ++ u) = sym (append_assoc (text y) (flat_map text ys) s) ∙ ap (λ t. t ++ s) is ∙ same ∙ append_assoc (text x) (flat_map text xs) u in
+            let texts : text y ++ (flat_map text ys ++ s) ≡ text x ++ (flat_map text xs ++ u) =
+            sym (append_assoc (text y) (flat_map text ys) s) ∙ ap (λ t. t ++ s) is ∙ same ∙ append_assoc (text x) (flat_map text xs) u in
             let first = same-front Is spelling are y x (flat_map text ys ++ s) (flat_map text xs ++ u) (All-head Is y ys all_y) (All-head Is x xs all_x) texts in
             let rest = by xs ys (flat_map text ys) s u (All-tail Is x xs all_x) (omega (arith, size)) (All-tail Is y ys all_y) refl first.1 in
             (rest.0, rest.1, sym is ∙ ap (λ t. t ++ flat_map text ys) (ap text first.0) ∙ ap (λ t. text x ++ t) rest.2 ∙ sym (append_assoc (text x) (flat_map text xs) rest.0))
 
     -- the next item is missing
-    pub items-stopped : (count : ℕ) (bytes : List ℕ) (items : List X) (rest : List ℕ) → AreReadUpTo count bytes items rest → length items < count → NoFront Is text rest → IsStoppedAt (AreItems Is text count) bytes (length rest)
+    pub items-stopped : (count : ℕ) (bytes : List ℕ) (items : List X) (rest : List ℕ) → AreReadUpTo count bytes items rest → length items < count
+        → NoFront Is text rest → IsStoppedAt (AreItems Is text count) bytes (length rest)
     items-stopped count bytes items rest before more lacking =
         let n = count - length items - 1 in
         let size : length items + suc n ≡ count = omega (arith, more) in
         let stops = stopped-first Is spelling (λ x. AreItems Is text n) (AreItems Is text (suc n)) (items-lined n) rest lacking in
-        let after = stopped-after (flat_map text items) (AreItems Is text (suc n)) (AreItems Is text (length items + suc n)) (items-on items (suc n) before.each) bytes rest (stop.Syntax (length rest)) before.split stops in
+        let after =
+        stopped-after (flat_map text items) (AreItems Is text (suc n)) (AreItems Is text (length items + suc n))
+        (items-on items (suc n) before.each) bytes rest (stop.Syntax (length rest)) before.split stops in
         subst (λ k. IsStoppedAt (AreItems Is text k) bytes (length rest)) size after
 
-    pub passed-stopped : (count : ℕ) (bytes : List ℕ) (passed : ℕ) (rest : List ℕ) → ArePassedUpTo count bytes passed rest → passed < count → NoFront Is text rest → IsStoppedAt (AreItems Is text count) bytes (length rest)
+    pub passed-stopped : (count : ℕ) (bytes : List ℕ) (passed : ℕ) (rest : List ℕ) → ArePassedUpTo count bytes passed rest → passed < count
+        → NoFront Is text rest → IsStoppedAt (AreItems Is text count) bytes (length rest)
     passed-stopped count bytes passed rest before more lacking = items-stopped count bytes before.items rest before.read (omega (arith, before.size, more)) lacking

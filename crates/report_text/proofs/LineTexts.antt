@@ -32,6 +32,7 @@ use Rattle.report_text.specs.ReportOf.{LacksNewline}
 use Rattle.report_text.specs.ReportText.{events_line, last_line, mark, value_word}
 use Rattle.report_text.specs.Spelled.{IsSpelledBound}
 use Rattle.report_text.proofs.Lined.{AreSpellings}
+use Rattle.std.proofs.lemmas.Option.{same_Some}
 
 -- whether no byte is a newline
 abbrev has_none : List ℕ → Bool
@@ -72,9 +73,6 @@ events-spelled = record {
 wider : (t : ℤ) → IsWithin MAX_TIME t → IsWithin MAX_ORDER t
 wider t within = record { low = omega (arith, ints, within.low); high = omega (arith, ints, within.high) }
 
-some_same : {X : Type 0} (a b : X) → Some a ≡ Some b → a ≡ b
-some_same a b same = cc
-
 -- a time that is printed is read
 pub time-printed : (t : ℤ) → IsWithin MAX_TIME t → signed_up_to MAX_TIME (signed_decimal t) ≡ Some t
 time-printed t within = signed-printed MAX_TIME t (omega (arith, ints)) within.low within.high
@@ -86,7 +84,7 @@ times-spelled = record {
 }
   where
     one : (t u : ℤ) → IsWithin MAX_TIME t → IsWithin MAX_TIME u → signed_decimal t ≡ signed_decimal u → t ≡ u
-    one t u is_t is_u same = some_same t u (sym (time-printed t is_t) ∙ ap (signed_up_to MAX_TIME) same ∙ time-printed u is_u)
+    one t u is_t is_u same = same_Some t u (sym (time-printed t is_t) ∙ ap (signed_up_to MAX_TIME) same ∙ time-printed u is_u)
 
 -- bounds
 
@@ -100,7 +98,7 @@ bound-step (step.Extra k) is = is
 bound-step (step.Order e f c) is = absurd is
 
 pair_same : (a b : Step) (x y : List Word) → (let p : Option (Step × List Word) = Some (a, x) in p) ≡ Some (b, y) → a ≡ b
-pair_same a b x y same = ap (λ (r : Step × List Word). r.0) (some_same (a, x) (b, y) same)
+pair_same a b x y same = ap (λ (r : Step × List Word). r.0) (same_Some (a, x) (b, y) same)
 
 step-split : (s : Step) → IsSpelledStep s → slice_split (is_byte space) (step_text s) ≡ step_words s
 step-split s is = ap (slice_split (is_byte space)) (sym (read-alike s)) ∙ by s is

@@ -21,4 +21,5 @@ pub walk-outlined : (events count : ℕ) (text : List ℕ) (r : Report) → IsWa
 walk-outlined events count text r is = ap₂ (λ n rest. ended (codes "inconsistent " ++ decimal n) ++ rest) (sym is.full) (sym is.are) ∙ ap body_text (sym is.is)
 
 pub sections-outlined : (events : ℕ) (t f : SectionOutline) (r : Report) → AreOutlines events t f r → (kind_text true t.kind ++ t.text.now) ++ (kind_text false f.kind ++ f.text.now) ≡ body_text r
-sections-outlined events t f r are = ap₂ (λ one other. one ++ other) (section-outlined true t are.on_true are.outlines_true) (section-outlined false f are.on_false are.outlines_false) ∙ ap body_text (sym are.is)
+sections-outlined events t f r are =
+    ap₂ (λ one other. one ++ other) (section-outlined true t are.on_true are.outlines_true) (section-outlined false f are.on_false are.outlines_false) ∙ ap body_text (sym are.is)

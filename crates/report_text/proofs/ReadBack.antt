@@ -30,7 +30,8 @@ pub lines-found : (text : List ℕ) (found : List Line) → IsTextOfLines text f
 lines-found text found is lines of = tell-apart found lines is.spelled of.spelled (sym is.text ∙ of.text)
 
 -- and reading them finds no fault
-pub lines-go_on : (text : List ℕ) (lines : List Line) → IsTextOfLines text lines → (n : ℕ) → (let f : LineFault = line_fault.Syntax n in f ≡ line_fault.Memory) ⊎ LinesOf text (Err (line_fault.Syntax n)) → ⊥
+pub lines-go_on : (text : List ℕ) (lines : List Line) → IsTextOfLines text lines → (n : ℕ)
+    → (let f : LineFault = line_fault.Syntax n in f ≡ line_fault.Memory) ⊎ LinesOf text (Err (line_fault.Syntax n)) → ⊥
 lines-go_on text lines of n (inl memory) = absurd (cc (memory))
 lines-go_on text lines of n (inr faulty) = let both = one-reading text (Ok lines) (Err (line_fault.Syntax n)) of faulty in absurd (cc (both))
 
@@ -76,7 +77,14 @@ whole-length r =
 
 sections-length : (e : ℕ) (a b : Section) → length (entries_text a) + length (entries_text b) ≤ length (report_text (report.Verdicts e a b))
 sections-length e a b =
-    omega (arith, whole-length (report.Verdicts e a b), length-append (section_text true a) (section_text false b), length-append (ended (section_line true a)) (entries_text a), length-append (ended (section_line false b)) (entries_text b))
+    omega (
+      arith,
+      whole-length (report.Verdicts e a b),
+      length-append (section_text true a) (section_text false b),
+      length-append (ended (section_line true a))
+          (entries_text a),
+      length-append (ended (section_line false b)) (entries_text b),
+    )
 
 -- the sections of an outline that is short
 module _ (bytes : List ℕ) (few : length bytes < 2 ^ 31) (events : ℕ) (on_true on_false : SectionOutline) where

@@ -29,13 +29,18 @@ walk-count m n same = cc
 section-lines : (v : Bool) (a : Section) → AreLines (section_text v a)
 section-lines v a = lines-append (ended (section_line v a)) (entries_text a) (inr (section_line v a, refl)) (entries-lines 0 a)
 
-crossed : (m n : ℕ) (xs : List Step) (c d : Section) (s t : List ℕ) → IsSpelledInconsistent m xs → AreSpelledVerdicts n c d → body_text (report.Inconsistent m xs) ++ s ≡ body_text (report.Verdicts n c d) ++ t → ⊥
+crossed : (m n : ℕ) (xs : List Step) (c d : Section) (s t : List ℕ) → IsSpelledInconsistent m xs → AreSpelledVerdicts n c d
+    → body_text (report.Inconsistent m xs) ++ s ≡ body_text (report.Verdicts n c d) ++ t → ⊥
 crossed m n xs c d s t p q same =
     let line_x = ended (codes "inconsistent " ++ decimal (length xs)) in
     let line_c = ended (kind_line true (kind_of c)) in
     let more = section_text false d ++ t in
-    let texts = sym (append_assoc line_x (flat_map bound_text xs) s) ∙ same ∙ append_assoc (section_text true c) (section_text false d) t ∙ ap (λ u. u ++ more) (text-is n true (kind_of c) c refl) ∙ append_assoc line_c (entries_text c) more in
-    let first = same-front IsOpening opening_line openings-spelled (opening.Inconsistent (length xs)) (opening.OnTrue (kind_of c)) (flat_map bound_text xs ++ s) (entries_text c ++ more) p.walk.count (kind-in_range n c q.true_spelled) texts in
+    let texts =
+    sym (append_assoc line_x (flat_map bound_text xs) s) ∙ same ∙ append_assoc (section_text true c) (section_text false d) t
+    ∙ ap (λ u. u ++ more) (text-is n true (kind_of c) c refl) ∙ append_assoc line_c (entries_text c) more in
+    let first =
+    same-front IsOpening opening_line openings-spelled (opening.Inconsistent (length xs)) (opening.OnTrue (kind_of c)) (flat_map bound_text xs ++ s)
+    (entries_text c ++ more) p.walk.count (kind-in_range n c q.true_spelled) texts in
     let k = first.0 in
     absurd (cc k)
 
@@ -54,7 +59,9 @@ body-apart events x y s t is_x is_y same = by x y is_x.spelled is_y.spelled (is_
         let line_x = ended (codes "inconsistent " ++ decimal (length xs)) in
         let line_y = ended (codes "inconsistent " ++ decimal (length ys)) in
         let texts = sym (append_assoc line_x (flat_map bound_text xs) s) ∙ same ∙ append_assoc line_y (flat_map bound_text ys) t in
-        let first = same-front IsOpening opening_line openings-spelled (opening.Inconsistent (length xs)) (opening.Inconsistent (length ys)) (flat_map bound_text xs ++ s) (flat_map bound_text ys ++ t) p.walk.count q.walk.count texts in
+        let first =
+        same-front IsOpening opening_line openings-spelled (opening.Inconsistent (length xs)) (opening.Inconsistent (length ys))
+        (flat_map bound_text xs ++ s) (flat_map bound_text ys ++ t) p.walk.count q.walk.count texts in
         let rest = items-apart IsSpelledBound step_text bounds-spelled xs ys s t (walk-count (length xs) (length ys) first.0) p.walk.each q.walk.each first.1 in
         (walk m n xs ys events rest.0, rest.1)
     by (report.Inconsistent m xs) (report.Verdicts n c d) p q events same = absurd (crossed m n xs c d s t p q same)
@@ -157,7 +164,8 @@ mark-lined = record {
 -- reports are equal where their texts begin the same bytes
 pub report-apart : (x y : Report) (s t : List ℕ) → IsSpelled x → IsSpelled y → report_text x ++ s ≡ report_text y ++ t → (x ≡ y) × (s ≡ t)
 report-apart x y s t is_x is_y same =
-    let begun : marked_text x ++ s ≡ marked_text y ++ t = append_cancel_left (ended mark) (marked_text x ++ s) (marked_text y ++ t) (sym (append_assoc (ended mark) (marked_text x) s) ∙ same ∙ append_assoc (ended mark) (marked_text y) t) in
+    let begun : marked_text x ++ s ≡ marked_text y ++ t =
+    append_cancel_left (ended mark) (marked_text x ++ s) (marked_text y ++ t) (sym (append_assoc (ended mark) (marked_text x) s) ∙ same ∙ append_assoc (ended mark) (marked_text y) t) in
     let body_x = body_text x ++ ended last_line in
     let body_y = body_text y ++ ended last_line in
     let texts = sym (append_assoc (ended (events_line (events_of x))) body_x s) ∙ begun ∙ append_assoc (ended (events_line (events_of y))) body_y t in

@@ -59,10 +59,12 @@ module _ (events : ℕ) where
 
   module _ (n : ℕ) (few : IsNumber n) where
     pub refuted-forth : (t : List ℕ) → AreItems IsSpelledLine line_text n t → AreEntries events (kind.Refuted n) t
-    refuted-forth t a = record { section = section.Refuted a.items; is = record { spelled = record { count = subst IsNumber (sym a.full) few; each = a.each }; kind = ap kind.Refuted a.full }; text = a.are }
+    refuted-forth t
+        a = record { section = section.Refuted a.items; is = record { spelled = record { count = subst IsNumber (sym a.full) few; each = a.each }; kind = ap kind.Refuted a.full }; text = a.are }
 
     pub unknown-forth : (t : List ℕ) → AreItems IsSpelledLine line_text n t → AreEntries events (kind.Unknown n) t
-    unknown-forth t a = record { section = section.Unknown a.items; is = record { spelled = record { count = subst IsNumber (sym a.full) few; each = a.each }; kind = ap kind.Unknown a.full }; text = a.are }
+    unknown-forth t
+        a = record { section = section.Unknown a.items; is = record { spelled = record { count = subst IsNumber (sym a.full) few; each = a.each }; kind = ap kind.Unknown a.full }; text = a.are }
 
   refuted-same : (m n : ℕ) → kind.Refuted m ≡ kind.Refuted n → m ≡ n
   refuted-same m n same = cc
@@ -87,13 +89,16 @@ module _ (events : ℕ) where
       by (section.Unknown lines) is text = record { items = lines; full = unknown-same (length lines) n is.kind; each = is.spelled.each; are = text }
 
   -- what was read as a section
-  pub witness-front : (bytes : List ℕ) (times : List ℤ) (rest : List ℕ) → AreRead (IsWithin MAX_TIME) time_text events bytes times rest → IsFront (IsOfKind events kind.Witness) entries_text bytes (section.Witness times) rest
+  pub witness-front : (bytes : List ℕ) (times : List ℤ) (rest : List ℕ) → AreRead (IsWithin MAX_TIME) time_text events bytes times rest
+      → IsFront (IsOfKind events kind.Witness) entries_text bytes (section.Witness times) rest
   witness-front bytes times rest r = record { is = record { spelled = record { full = r.full; each = r.each }; kind = refl }; split = r.split }
 
-  pub refuted-front : (n : ℕ) → IsNumber n → (bytes : List ℕ) (lines : List Line) (rest : List ℕ) → AreRead IsSpelledLine line_text n bytes lines rest → IsFront (IsOfKind events (kind.Refuted n)) entries_text bytes (section.Refuted lines) rest
+  pub refuted-front : (n : ℕ) → IsNumber n → (bytes : List ℕ) (lines : List Line) (rest : List ℕ) → AreRead IsSpelledLine line_text n bytes lines rest
+      → IsFront (IsOfKind events (kind.Refuted n)) entries_text bytes (section.Refuted lines) rest
   refuted-front n few bytes lines rest r = record { is = record { spelled = record { count = subst IsNumber (sym r.full) few; each = r.each }; kind = ap kind.Refuted r.full }; split = r.split }
 
-  pub unknown-front : (n : ℕ) → IsNumber n → (bytes : List ℕ) (lines : List Line) (rest : List ℕ) → AreRead IsSpelledLine line_text n bytes lines rest → IsFront (IsOfKind events (kind.Unknown n)) entries_text bytes (section.Unknown lines) rest
+  pub unknown-front : (n : ℕ) → IsNumber n → (bytes : List ℕ) (lines : List Line) (rest : List ℕ) → AreRead IsSpelledLine line_text n bytes lines rest
+      → IsFront (IsOfKind events (kind.Unknown n)) entries_text bytes (section.Unknown lines) rest
   unknown-front n few bytes lines rest r = record { is = record { spelled = record { count = subst IsNumber (sym r.full) few; each = r.each }; kind = ap kind.Unknown r.full }; split = r.split }
 
   -- what follows the lines of a section
@@ -175,10 +180,12 @@ module _ (events : ℕ) where
     some = (section_text v (section.Refuted []), record { section = section.Refuted []; spelled = no-lines; text = refl });
   }
 
-  pub section-front : (v : Bool) (k : Kind) (bytes rest after : List ℕ) (s : Section) → IsFront IsKind (λ k. ended (kind_line v k)) bytes k rest → IsFront (IsOfKind events k) entries_text rest s after → IsFront (IsSpelledSection events) (section_text v) bytes s after
+  pub section-front : (v : Bool) (k : Kind) (bytes rest after : List ℕ) (s : Section) → IsFront IsKind (λ k. ended (kind_line v k)) bytes k rest
+      → IsFront (IsOfKind events k) entries_text rest s after → IsFront (IsSpelledSection events) (section_text v) bytes s after
   section-front v k bytes rest after s first later = record {
     is = later.is.spelled;
-    split = first.split ∙ ap (λ t. ended (kind_line v k) ++ t) later.split ∙ sym (append_assoc (ended (kind_line v k)) (entries_text s) after) ∙ ap (λ t. t ++ after) (sym (text-is v k s later.is.kind));
+    split =
+        first.split ∙ ap (λ t. ended (kind_line v k) ++ t) later.split ∙ sym (append_assoc (ended (kind_line v k)) (entries_text s) after) ∙ ap (λ t. t ++ after) (sym (text-is v k s later.is.kind));
   }
 
   pub section-apart : (v : Bool) (a b : Section) (s t : List ℕ) → IsSpelledSection events a → IsSpelledSection events b → section_text v a ++ s ≡ section_text v b ++ t → (a ≡ b) × (s ≡ t)
@@ -186,7 +193,8 @@ module _ (events : ℕ) where
       let la = text-is v (kind_of a) a refl in
       let lb = text-is v (kind_of b) b refl in
       let texts : ended (kind_line v (kind_of a)) ++ (entries_text a ++ s) ≡ ended (kind_line v (kind_of b)) ++ (entries_text b ++ t) =
-      sym (append_assoc (ended (kind_line v (kind_of a))) (entries_text a) s) ∙ ap (λ u. u ++ s) (sym la) ∙ same ∙ ap (λ u. u ++ t) lb ∙ append_assoc (ended (kind_line v (kind_of b))) (entries_text b) t in
+      sym (append_assoc (ended (kind_line v (kind_of a))) (entries_text a) s) ∙ ap (λ u. u ++ s) (sym la) ∙ same ∙ ap (λ u. u ++ t) lb
+      ∙ append_assoc (ended (kind_line v (kind_of b))) (entries_text b) t in
       let first = same-front IsKind (kind_line v) (kinds-spelled v) (kind_of a) (kind_of b) (entries_text a ++ s) (entries_text b ++ t) (kind-in_range a is_a) (kind-in_range b is_b) texts in
       entries-apart (kind_of b) a b s t (record { spelled = is_a; kind = first.0 }) (record { spelled = is_b; kind = refl }) first.1
 
@@ -213,7 +221,8 @@ module _ (events : ℕ) where
     lines = entries-lines a;
     forth = λ t s. record { on_true = a; on_false = s.section; is = is; spelled = s.spelled; text = ap (λ u. entries_text a ++ u) s.text };
     back = λ m s u v same.
-        let texts : entries_text v.on_true ++ (section_text false v.on_false ++ s) ≡ entries_text a ++ u = sym (append_assoc (entries_text v.on_true) (section_text false v.on_false) s) ∙ ap (λ t. t ++ s) v.text ∙ same in
+        let texts : entries_text v.on_true ++ (section_text false v.on_false ++ s) ≡ entries_text a ++ u =
+        sym (append_assoc (entries_text v.on_true) (section_text false v.on_false) s) ∙ ap (λ t. t ++ s) v.text ∙ same in
         let r = entries-apart k v.on_true a (section_text false v.on_false ++ s) u v.is is texts in
         (section_text false v.on_false, record { section = v.on_false; spelled = v.spelled; text = refl }, sym v.text ∙ ap (λ x. entries_text x ++ section_text false v.on_false) r.0);
   }
@@ -240,7 +249,9 @@ module _ (events : ℕ) where
       forth (opening.OnTrue k) t is v = record {
         report = report.Verdicts events v.on_true v.on_false;
         is = record { spelled = record { few = number; true_spelled = v.is.spelled; false_spelled = v.spelled }; count = refl };
-        text = ap (λ u. u ++ section_text false v.on_false) (text-is true k v.on_true v.is.kind) ∙ append_assoc (ended (kind_line true k)) (entries_text v.on_true) (section_text false v.on_false) ∙ ap (λ u. ended (kind_line true k) ++ u) v.text;
+        text =
+            ap (λ u. u ++ section_text false v.on_false) (text-is true k v.on_true v.is.kind)
+            ∙ append_assoc (ended (kind_line true k)) (entries_text v.on_true) (section_text false v.on_false) ∙ ap (λ u. ended (kind_line true k) ++ u) v.text;
       }
 
       back : (m : List ℕ) (r : Report) → IsOn events r → body_text r ≡ m → (o : Opening) × (t : List ℕ) × IsOpening o × AfterOpening o t × (m ≡ ended (opening_line o) ++ t)

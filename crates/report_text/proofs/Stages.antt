@@ -31,7 +31,8 @@ module _ (events : ℕ) where
   pub section-none : (bytes : List ℕ) → NoFront IsKind (kind_text false) bytes → Stopped (IsSectionText false events) bytes (stop.Syntax (length bytes))
   section-none bytes lacking = stopped-first IsKind (kind_line false) (AreEntries events) (IsSectionText false events) (section-lined events false) bytes lacking
 
-  pub section-stopped : (bytes rest : List ℕ) (k : Kind) (f : Stop) → IsFront IsKind (kind_text false) bytes k rest → Stopped (AreEntries events k) rest f → Stopped (IsSectionText false events) bytes f
+  pub section-stopped : (bytes rest : List ℕ) (k : Kind) (f : Stop) → IsFront IsKind (kind_text false) bytes k rest → Stopped (AreEntries events k) rest f
+      → Stopped (IsSectionText false events) bytes f
   section-stopped bytes rest k f front p = stopped-later IsKind (kind_line false) (AreEntries events) (IsSectionText false events) (section-lined events false) bytes rest k f front p
 
   pub section-outlined : (bytes rest : List ℕ) (k : Kind) (r : Result (SectionOutline × Bor (List ℕ)) Stop) → IsFront IsKind (kind_text false) bytes k rest
@@ -44,10 +45,13 @@ module _ (events : ℕ) where
   pub true-stopped : (k : Kind) (bytes : List ℕ) (f : Stop) → Stopped (AreEntries events k) bytes f → Stopped (AreVerdicts events k) bytes f
   true-stopped k bytes f p = stopped-before (AreEntries events k) (AreVerdicts events k) (entries-first events k) bytes f p
 
-  pub false-stopped : (k : Kind) (a : Section) (bytes rest : List ℕ) (f : Stop) → IsFront (IsOfKind events k) entries_text bytes a rest → Stopped (IsSectionText false events) rest f → Stopped (AreVerdicts events k) bytes f
+  pub false-stopped : (k : Kind) (a : Section) (bytes rest : List ℕ) (f : Stop) → IsFront (IsOfKind events k) entries_text bytes a rest
+      → Stopped (IsSectionText false events) rest f → Stopped (AreVerdicts events k) bytes f
   false-stopped k a bytes rest f front p = stopped-after (entries_text a) (IsSectionText false events) (AreVerdicts events k) (entries-on events k a front.is) bytes rest f front.split p
 
-  pub verdicts-read : (k : Kind) (a b : Section) (r : Report) (bytes rest after : List ℕ) → r ≡ report.Verdicts events a b → IsFront (IsOfKind events k) entries_text bytes a rest → IsFront (IsSpelledSection events) (section_text false) rest b after → AreVerdictsRead events k bytes r after
+  pub verdicts-read : (k : Kind) (a b : Section) (r : Report) (bytes rest after : List ℕ) → r ≡ report.Verdicts events a b
+      → IsFront (IsOfKind events k) entries_text bytes a rest → IsFront (IsSpelledSection events) (section_text false) rest b after
+      → AreVerdictsRead events k bytes r after
   verdicts-read k a b r bytes rest after is first second = record {
     on_true = a;
     on_false = b;
@@ -75,7 +79,8 @@ module _ (events : ℕ) where
               ∙ ap (λ k. (ended (codes "inconsistent " ++ decimal k) ++ flat_map bound_text steps) ++ after) (sym read.full);
         }
 
-    pub verdicts-body : (k : Kind) (r : Report) (bytes rest after : List ℕ) → IsFront IsOpening opening_text bytes (opening.OnTrue k) rest → AreVerdictsRead events k rest r after → IsFront (IsOn events) body_text bytes r after
+    pub verdicts-body : (k : Kind) (r : Report) (bytes rest after : List ℕ) → IsFront IsOpening opening_text bytes (opening.OnTrue k) rest
+        → AreVerdictsRead events k rest r after → IsFront (IsOn events) body_text bytes r after
     verdicts-body k r bytes rest after front read =
         let a = read.on_true in
         let b = read.on_false in
@@ -109,7 +114,8 @@ last-none bytes rest after events r front body lacking =
     let ends = stopped-after (body_text r) IsLast (AfterEvents events) (body-on events r body.is) rest after (stop.Syntax (length after)) body.split none in
     stopped-later IsNumber events_line AfterEvents IsMarked events-lined bytes rest events (stop.Syntax (length after)) front ends
 
-pub marked-read : (bytes rest after end : List ℕ) (events : ℕ) (r : Report) → IsFront IsNumber events_text bytes events rest → IsFront (IsOn events) body_text rest r after → after ≡ ended last_line ++ end
+pub marked-read : (bytes rest after end : List ℕ) (events : ℕ) (r : Report) → IsFront IsNumber events_text bytes events rest
+    → IsFront (IsOn events) body_text rest r after → after ≡ ended last_line ++ end
     → IsFront IsSpelled marked_text bytes r end
 marked-read bytes rest after end events r front body last =
     let line : List ℕ = ended (events_line events) in

@@ -56,7 +56,8 @@ stopped-before L M front bytes (stop.Syntax left) p = record {
         let same : a ++ parts.1 ≡ (p.before ++ ended line) ++ b.after = sym parts.3 ∙ b.begins in
         elim (comparable a parts.1 (p.before ++ ended line) b.after same) [
           | inl (e, longer) ↦ p.faulty line after lacks is (record { text = a; is = parts.2; after = e; begins = longer })
-          | inr (e, shorter) ↦ p.none a (e ++ after) parts.2 (p.split ∙ ap (λ t. p.before ++ t) is ∙ sym (append_assoc p.before (ended line) after) ∙ ap (λ t. t ++ after) shorter ∙ append_assoc a e after)
+          | inr (e, shorter) ↦ p.none a (e ++ after) parts.2
+              (p.split ∙ ap (λ t. p.before ++ t) is ∙ sym (append_assoc p.before (ended line) after) ∙ ap (λ t. t ++ after) shorter ∙ append_assoc a e after)
         ]
 
     none : (text after : List ℕ) → M text → bytes ≡ text ++ after → ⊥

@@ -2,7 +2,7 @@
 use Rattle.std.proofs.Common.{◌≡◌, ◌∙◌, sym, ap, refl, arith, ℕ, ◌+◌, ◌-◌, ◌≤◌, Bool, true, false, List, [], ◌∷◌, ◌++◌, append_assoc, length, length-append, take, inl, inr, Ok, Err}
 use Rattle.std.proofs.Math.Seq.{take-append_seam}
 use Rattle.std.proofs.lemmas.Bool.Decides.{nat_tests}
-use Rattle.std.proofs.lemmas.List.{append-nil, append_cancel_left}
+use Rattle.std.proofs.lemmas.List.{append-nil, append_cancel_left, nil_from_length}
 use Rattle.std.proofs.lemmas.List.Elements.{All-cons, All-nil}
 use Rattle.memchr.specs.Find.{is_byte}
 use Rattle.proof_log.specs.LinesText.{newline}
@@ -46,7 +46,8 @@ faulty-stopped bytes left p = record {
 }
 
 -- bytes after a report
-pub faulty-after : (bytes : List ℕ) (r : Report) (rest : List ℕ) → IsFront IsSpelled report_text bytes r rest → 1 ≤ length rest → IsFaultyAt bytes (lines_in (take (length bytes - length rest) bytes) + 1)
+pub faulty-after : (bytes : List ℕ) (r : Report) (rest : List ℕ) → IsFront IsSpelled report_text bytes r rest → 1 ≤ length rest
+    → IsFaultyAt bytes (lines_in (take (length bytes - length rest) bytes) + 1)
 faulty-after bytes r rest front some = record {
   before = report_text r;
   rest = rest;
@@ -71,13 +72,9 @@ faulty-after bytes r rest front some = record {
         let apart = report-apart x r [] rest is.1.spelled front.is (append-nil (report_text x) ∙ is.1.text ∙ front.split) in
         absurd (omega (arith, some, ap length apart.1))
 
-nothing : (rest : List ℕ) → length rest ≡ 0 → rest ≡ []
-nothing [] empty = refl
-nothing (b ∷ bs) empty = absurd (omega arith)
-
 -- a report and nothing after it
 pub whole-text : (bytes : List ℕ) (r : Report) (rest : List ℕ) → IsFront IsSpelled report_text bytes r rest → length rest ≡ 0 → IsTextOf bytes r
-whole-text bytes r rest front empty = record { spelled = front.is; text = sym (front.split ∙ ap (λ t. report_text r ++ t) (nothing rest empty) ∙ append-nil (report_text r)) }
+whole-text bytes r rest front empty = record { spelled = front.is; text = sym (front.split ∙ ap (λ t. report_text r ++ t) (nil_from_length rest empty) ∙ append-nil (report_text r)) }
 
 -- the end of lines ends a line
 last-ended : (front b e : List ℕ) → ended front ≡ b ++ e → 1 ≤ length e → (f : List ℕ) × (e ≡ ended f)
@@ -115,7 +112,8 @@ none-longer bytes n q before rest e (inr (front, is)) begun split longer some =
     let left : q.rest ≡ e ++ rest = append_cancel_left q.before q.rest (e ++ rest) (sym q.split ∙ split ∙ ap (λ t. t ++ rest) longer ∙ append_assoc q.before e rest) in
     let next : q.rest ≡ ended l.line ++ (l.after ++ rest) = left ∙ ap (λ t. t ++ rest) parts ∙ append_assoc (ended l.line) l.after rest in
     let begins : begun.text ≡ (q.before ++ ended l.line) ++ (l.after ++ begun.after) =
-    begun.begins ∙ ap (λ t. t ++ begun.after) (longer ∙ ap (λ t. q.before ++ t) parts ∙ sym (append_assoc q.before (ended l.line) l.after)) ∙ append_assoc (q.before ++ ended l.line) l.after begun.after in
+    begun.begins ∙ ap (λ t. t ++ begun.after) (longer ∙ ap (λ t. q.before ++ t) parts ∙ sym (append_assoc q.before (ended l.line) l.after))
+    ∙ append_assoc (q.before ++ ended l.line) l.after begun.after in
     q.faulty l.line (l.after ++ rest) l.lacks next (record { text = begun.text; is = begun.is; after = l.after ++ begun.after; begins = begins })
 
 same-front : (bytes : List ℕ) (m n : ℕ) (p : IsFaultyAt bytes m) (q : IsFaultyAt bytes n) (e : List ℕ) → p.before ≡ q.before ++ e → p.before ≡ q.before

@@ -5,7 +5,8 @@ use Rattle.std.proofs.lemmas.List.{append-nil, take_more}
 use Rattle.std.proofs.lemmas.List.Concat.{flat_map-append}
 
 -- one more
-pub item-more : {X : Type 0} (text : X → List ℕ) (old now pushed line : List ℕ) (items : List X) (i : ℕ) (d : X) → i < length items → now ≡ old ++ (line ++ flat_map text (take i items)) → pushed ≡ now ++ text (get_or items i d)
+pub item-more : {X : Type 0} (text : X → List ℕ) (old now pushed line : List ℕ) (items : List X) (i : ℕ) (d : X) → i < length items
+    → now ≡ old ++ (line ++ flat_map text (take i items)) → pushed ≡ now ++ text (get_or items i d)
     → pushed ≡ old ++ (line ++ flat_map text (take (i + 1) items))
 item-more text old now pushed line items i d within before more =
     let so_far = flat_map text (take i items) in

@@ -5,7 +5,7 @@ ghost use Rattle.std.specs.Fmt.{decimal};
 ghost use Rattle.std.specs.List.{flat_map};
 ghost use Rattle.proof_log.specs.LinesText.{lines_text};
 ghost use Rattle.proof_log.specs.Spelled.{IsSpelled as IsSpelledLine};
-ghost use Rattle.report_text.specs.ReportText.{body_text, bound_text, ended, events_of, report_text, section_text, time_text, value_word, walk_text};
+ghost use Rattle.report_text.specs.ReportText.{body_text, bound_text, ended, events_of, report_text, section_text, time_text, walk_text};
 ghost use Rattle.report_text.specs.Spelled.{IsSpelled, IsSpelledSection};
 
 use crate::front::word_of;

@@ -9,14 +9,8 @@ ghost use Rattle.report_text.specs.Spelled.{AreSpelledBounds, AreSpelledLines, A
 use crate::front::is_time;
 use crate::report::{Report, Section};
 use mt_model::Step;
-use proof_log::{Line, has_spelling as has_line_spelling};
+use proof_log::{Line, has_spelling as has_line_spelling, is_number};
 use std::alloc::{AllocError, Global};
-
-fn is_number(length: usize) -> bool
-    ensures { IsTrue result ↔ IsNumber length }
-{
-    length < 1 << 32
-}
 
 fn is_bound(step: Step) -> bool
     ensures { IsTrue result ↔ IsSpelledBound step }

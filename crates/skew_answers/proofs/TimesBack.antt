@@ -1,6 +1,6 @@
 -- Times that were written are read as what they were, and their text is short.
-use Rattle.std.proofs.Common.{◌≡◌, ◌∙◌, ap, ap₂, refl, arith, ℕ, suc, ◌+◌, ◌*◌, ◌-◌, ◌<◌, ◌≤◌, ◌^◌, Bool, true, false, List, [], ◌∷◌, length, take, map, get_or, Some, None, Ok, ℤ, pos, negsuc, ◌==◌}
-use Rattle.std.specs.Prelude.{◌&&◌, All, is_none, slice_index}
+use Rattle.std.proofs.Common.{◌≡◌, ◌∙◌, ap, ap₂, refl, arith, ℕ, suc, ◌+◌, ◌*◌, ◌-◌, ◌<◌, ◌≤◌, ◌^◌, true, false, List, [], ◌∷◌, length, take, map, get_or, Some, None, Ok, ℤ, pos, negsuc, ◌==◌}
+use Rattle.std.specs.Prelude.{All, is_none, slice_index}
 use Rattle.std.specs.Char.{is_ascii_digit}
 use Rattle.std.specs.Fmt.{decimal, signed_decimal}
 use Rattle.std.specs.List.{filter_map, list_all, position_from, slice_split}
@@ -18,10 +18,7 @@ use Rattle.times_read.specs.TimesOf.{first_bad, time_in, times_in}
 use Rattle.times_read.proofs.Lines.{parts_cons}
 use Rattle.skew_answers.specs.Laws.{TimesReadBack}
 use Rattle.skew_answers.specs.Texts.{line, times_text}
-
-both : (a b : Bool) → (a && b) ≡ true → (a ≡ true) × (b ≡ true)
-both true b h = (refl, h)
-both false b h = cc
+use Rattle.std.proofs.lemmas.Bool.{and_parts}
 
 -- no byte ends a line
 abbrev IsClear : List ℕ → Type 0
@@ -30,7 +27,7 @@ IsClear bytes = All (λ b. 45 ≤ b) bytes
 digits-clear : (ds : List ℕ) → list_all is_ascii_digit ds ≡ true → IsClear ds
 digits-clear [] digits = All-nil (λ b. 45 ≤ b)
 digits-clear (b ∷ bs) digits =
-    let parts = both (is_ascii_digit b) (list_all is_ascii_digit bs) digits in
+    let parts = and_parts (is_ascii_digit b) (list_all is_ascii_digit bs) digits in
     let is = parts.0 in
     let digit : 45 ≤ b = grind (arith, nat_tests) in
     All-cons (λ b. 45 ≤ b) b bs digit (digits-clear bs parts.1)

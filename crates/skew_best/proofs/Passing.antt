@@ -24,10 +24,12 @@ use Rattle.skew_commands.specs.Tests.{OnFile, OnFormula, OnHosts, OnLog, OnNodes
 use Rattle.skew_best.specs.SizeTests.{OnSize}
 
 module _ (out : List ℕ) (s : Status) where
-  pub pass-file : (files : Files) (name : Word) (limit : ℕ) (n : Named) (next : List ℕ → List ℕ → Status → Type 0) (file : List ℕ) → file_of files name ≡ Some file → length file ≤ limit → OnFile files name limit n next out s → next file out s
+  pub pass-file : (files : Files) (name : Word) (limit : ℕ) (n : Named) (next : List ℕ → List ℕ → Status → Type 0) (file : List ℕ)
+      → file_of files name ≡ Some file → length file ≤ limit → OnFile files name limit n next out s → next file out s
   pass-file files name limit n next file is within h = let less : nat_lt limit (length file) ≡ false = grind (arith, nat_tests) in rw (is, less) at h
 
-  pub too-long : (files : Files) (name : Word) (limit : ℕ) (n : Named) (next : List ℕ → List ℕ → Status → Type 0) (file : List ℕ) → file_of files name ≡ Some file → limit < length file → OnFile files name limit n next out s → Refuses (refusal.Length n) out s
+  pub too-long : (files : Files) (name : Word) (limit : ℕ) (n : Named) (next : List ℕ → List ℕ → Status → Type 0) (file : List ℕ)
+      → file_of files name ≡ Some file → limit < length file → OnFile files name limit n next out s → Refuses (refusal.Length n) out s
   too-long files name limit n next file is longer h = let more : nat_lt limit (length file) ≡ true = grind (arith, nat_tests) in rw (is, more) at h
 
   pub pass-formula : TextsAreUnambiguous → (text : List ℕ) (next : Form → List ℕ → Status → Type 0) (f : Form) → FormulaOf text (Ok f) → OnFormula text next out s → next f out s
@@ -36,9 +38,13 @@ module _ (out : List ℕ) (s : Status) where
   pub pass-log : (file : List ℕ) (next : Logged → List ℕ → Status → Type 0) (log : Logged) → log_of file ≡ Ok log → OnLog file next out s → next log out s
   pass-log file next log is h = rw is at h
 
-  pub pass-question : TextsAreUnambiguous → (files : Files) (formula log : Word) (next : List ℕ → Form → Logged → List ℕ → Status → Type 0) (text : List ℕ) (f : Form) (l : Logged) → IsQuestion files formula log text f l → OnQuestion files formula log next out s → next text f l out s
+  pub pass-question : TextsAreUnambiguous
+      → (files : Files) (formula log : Word) (next : List ℕ → Form → Logged → List ℕ → Status → Type 0) (text : List ℕ) (f : Form) (l : Logged)
+      → IsQuestion files formula log text f l → OnQuestion files formula log next out s → next text f l out s
   pass-question unambiguous files formula log next text f l q h =
-      let on_text = pass-file files formula FORMULA_LIMIT named.Formula (λ text. OnFormula text (λ f. OnFile files log LOG_LIMIT named.Log (λ file. OnLog file (next text f)))) text q.text_held q.text_within h in
+      let on_text =
+      pass-file files formula FORMULA_LIMIT named.Formula
+      (λ text. OnFormula text (λ f. OnFile files log LOG_LIMIT named.Log (λ file. OnLog file (next text f)))) text q.text_held q.text_within h in
       let on_formula = pass-formula unambiguous text (λ f. OnFile files log LOG_LIMIT named.Log (λ file. OnLog file (next text f))) f q.formula_read on_text in
       let on_file = pass-file files log LOG_LIMIT named.Log (λ file. OnLog file (next text f)) q.file q.file_held q.file_within on_formula in
       pass-log q.file (next text f) l q.log_read on_file

@@ -66,32 +66,39 @@ module _ (out : List ℕ) (s : Status) (verdict : IsVerdict s) where
   not-refused : {P : Type 0} (r : Refusal) → Refuses r out s → P
   not-refused r h = absurd (refuses-no_verdict r out s verdict h)
 
-  pub reach-file : (files : Files) (name : Word) (limit : ℕ) (n : Named) (next : List ℕ → List ℕ → Status → Type 0) → OnFile files name limit n next out s → ReachesFile files name limit (λ file. next file out s)
+  pub reach-file : (files : Files) (name : Word) (limit : ℕ) (n : Named) (next : List ℕ → List ℕ → Status → Type 0) → OnFile files name limit n next out s
+      → ReachesFile files name limit (λ file. next file out s)
   reach-file files name limit n next h = go (file_of files name) refl h
     where
-      held-file : (file : List ℕ) → file_of files name ≡ Some file → (longer : Bool) → nat_lt limit (length file) ≡ longer → MatchBool longer (Refuses (refusal.Length n) out s) (next file out s) → ReachesFile files name limit (λ file. next file out s)
+      held-file : (file : List ℕ) → file_of files name ≡ Some file → (longer : Bool) → nat_lt limit (length file) ≡ longer
+          → MatchBool longer (Refuses (refusal.Length n) out s) (next file out s) → ReachesFile files name limit (λ file. next file out s)
       held-file file is true longer h = not-refused (refusal.Length n) h
       held-file file is false longer h = record { file = file; held = is; within = grind (arith, nat_tests, longer); next = h }
 
-      go : (found : Option (List ℕ)) → file_of files name ≡ found → IsSomeAnd found (λ file. MatchBool (nat_lt limit (length file)) (Refuses (refusal.Length n) out s) (next file out s)) → ReachesFile files name limit (λ file. next file out s)
+      go : (found : Option (List ℕ)) → file_of files name ≡ found
+          → IsSomeAnd found (λ file. MatchBool (nat_lt limit (length file)) (Refuses (refusal.Length n) out s) (next file out s))
+          → ReachesFile files name limit (λ file. next file out s)
       go None is h = absurd h
       go (Some file) is h = held-file file is (nat_lt limit (length file)) refl h
 
   pub reach-formula : (text : List ℕ) (next : Form → List ℕ → Status → Type 0) → OnFormula text next out s → (f : Form) × FormulaOf text (Ok f) × next f out s
   reach-formula text next h = go h.0 h.1 h.2
     where
-      go : (reading : Result Form FormulaFault) → FormulaOf text reading → MatchResult reading (λ f. next f out s) (λ fault. Refuses (refusal.Formula fault) out s) → (f : Form) × FormulaOf text (Ok f) × next f out s
+      go : (reading : Result Form FormulaFault) → FormulaOf text reading
+          → MatchResult reading (λ f. next f out s) (λ fault. Refuses (refusal.Formula fault) out s) → (f : Form) × FormulaOf text (Ok f) × next f out s
       go (Ok f) is h = (f, is, h)
       go (Err fault) is h = not-refused (refusal.Formula fault) h
 
   pub reach-log : (file : List ℕ) (next : Logged → List ℕ → Status → Type 0) → OnLog file next out s → (log : Logged) × (log_of file ≡ Ok log) × next log out s
   reach-log file next h = go (log_of file) refl h
     where
-      go : (reading : Result Logged LogFault) → log_of file ≡ reading → MatchResult reading (λ log. next log out s) (λ fault. Refuses (refusal.Log fault) out s) → (log : Logged) × (log_of file ≡ Ok log) × next log out s
+      go : (reading : Result Logged LogFault) → log_of file ≡ reading → MatchResult reading (λ log. next log out s) (λ fault. Refuses (refusal.Log fault) out s)
+          → (log : Logged) × (log_of file ≡ Ok log) × next log out s
       go (Ok log) is h = (log, is, h)
       go (Err fault) is h = not-refused (refusal.Log fault) h
 
-  pub reach-question : (files : Files) (formula log : Word) (next : List ℕ → Form → Logged → List ℕ → Status → Type 0) → OnQuestion files formula log next out s → ReachesQuestion files formula log (λ text f l. next text f l out s)
+  pub reach-question : (files : Files) (formula log : Word) (next : List ℕ → Form → Logged → List ℕ → Status → Type 0) → OnQuestion files formula log next out s
+      → ReachesQuestion files formula log (λ text f l. next text f l out s)
   reach-question files formula log next h =
       let text = reach-file files formula FORMULA_LIMIT named.Formula (λ text. OnFormula text (λ f. OnFile files log LOG_LIMIT named.Log (λ file. OnLog file (next text f)))) h in
       let f = reach-formula text.file (λ f. OnFile files log LOG_LIMIT named.Log (λ file. OnLog file (next text.file f))) text.next in
@@ -112,7 +119,9 @@ module _ (out : List ℕ) (s : Status) (verdict : IsVerdict s) where
       named-host None h = absurd h
       named-host (Some byte) h = not-refused (refusal.UnknownHost byte) h
 
-      go : (number : Option ℕ) → unknown_host log f ≡ number → MatchOption number (next out s) (λ number. IsSomeAnd (host_byte text number) (λ byte. Refuses (refusal.UnknownHost byte) out s)) → (unknown_host log f ≡ None) × next out s
+      go : (number : Option ℕ) → unknown_host log f ≡ number
+          → MatchOption number (next out s) (λ number. IsSomeAnd (host_byte text number) (λ byte. Refuses (refusal.UnknownHost byte) out s))
+          → (unknown_host log f ≡ None) × next out s
       go None is h = (is, h)
       go (Some number) is h = named-host (host_byte text number) h
 

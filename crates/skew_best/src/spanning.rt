@@ -21,7 +21,7 @@ ghost use Rattle.skew_best.specs.SpanText.{span_text};
 
 use crate::span_text::written_span;
 use log_read::logs_are_plain;
-use mt_model::{EventId, Formula, Log};
+use mt_model::{EventId, Formula, Log, log_is_valid};
 use mt_port::Shelf;
 use skew_answers::Status;
 use skew_commands::{Question, Refusal, Reply, Stop, files, read_question};
@@ -95,8 +95,7 @@ fn greatest_distance(
     ensures read { IsErrOf result Stop.ReadFailed → ⊥ }
     ensures refused { RefusesFor result (TellsLarge (form_of formula.now) log.now) }
 {
-    // What a log is, that it is valid is known with.
-    let _ = log.rows();
+    log_is_valid(log);
     match widest(
         alloc,
         log,

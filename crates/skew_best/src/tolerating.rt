@@ -21,7 +21,7 @@ ghost use Rattle.skew_best.specs.ToleranceText.{tolerance_text};
 use crate::tolerance_text::written_tolerance;
 use least_skew::{Tolerance, ToleranceFault, least};
 use log_read::logs_are_plain;
-use mt_model::{Formula, Log};
+use mt_model::{Formula, Log, log_is_valid};
 use mt_port::Shelf;
 use skew_answers::Status;
 use skew_commands::{Question, Refusal, Reply, Stop, files, read_question};
@@ -73,8 +73,7 @@ fn least_widening(
     ensures read { IsErrOf result Stop.ReadFailed → ⊥ }
     ensures refused { RefusesFor result (TellsLarge (form_of formula.now) (wide max log.now)) }
 {
-    // What a log is, that it is valid is known with.
-    let _ = log.rows();
+    log_is_valid(log);
     match least(alloc, log, formula, value, max, conflicts) {
         Ok(answer) => Ok(answer),
         Err(ToleranceFault::UnknownHost { .. }) => unreachable!(),

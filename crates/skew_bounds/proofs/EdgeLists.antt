@@ -1,9 +1,9 @@
 -- Edges by the nodes where they end, and what holds of all edges.
-use Rattle.std.proofs.Common.{◌≡◌, ◌≢◌, ◌∙◌, ap, refl, sym, arith, ℕ, zero, suc, ◌<◌, inl, inr, List, [], ◌∷◌, ◌++◌, append-nil, length, get_or, set, length-set, get_or-set_other, All, Bool, true, false, cond}
+use Rattle.std.proofs.Common.{◌≡◌, ◌∙◌, ap, refl, sym, arith, ℕ, zero, suc, ◌<◌, inl, inr, List, [], ◌∷◌, ◌++◌, append-nil, length, get_or, set, length-set, get_or-set_other, All, Bool, true, false, cond}
 use Rattle.std.specs.Prelude.{◌==◌, Vec, replicate}
 use Rattle.std.specs.List.{filter}
 use Rattle.std.specs.declared.alloc.Global.{Global}
-use Rattle.std.proofs.lemmas.Bool.{cases_eq}
+use Rattle.std.proofs.lemmas.Bool.{cases_eq, ne_eqb}
 use Rattle.std.proofs.lemmas.Bool.Decides.{nat_tests}
 use Rattle.std.proofs.lemmas.List.{get_or-map, get_or-replicate, get_or-set_same, length-map, length-replicate}
 use Rattle.std.proofs.lemmas.List.Elements.{All-filter, All-head, All-tail, All-weaker, filter-append, filter_passes}
@@ -25,9 +25,6 @@ ends-at v e = e.to == v
 same-end : (a b : ℕ) → a ≡ b → (a == b) ≡ true
 same-end a b same = grind (arith, nat_tests)
 
-other-end : (a b : ℕ) → a ≢ b → (a == b) ≡ false
-other-end a b apart = grind (arith, nat_tests)
-
 equal-ends : (a b : ℕ) → (a == b) ≡ true → a ≡ b
 equal-ends a b same = grind (arith, nat_tests)
 
@@ -44,7 +41,7 @@ incoming-more nodes edges edge old new within are added = record {
         rw (same, added, get_or-set_same old edge.to (ending_at old edge.to ++ edge ∷ []) [] (rw are.count within), filter-append (ends-at edge.to) edges (edge ∷ []), same-end edge.to edge.to refl, are.each edge.to within)
         refl
     | inr apart ↦
-        rw (added, get_or-set_other old edge.to v (ending_at old edge.to ++ edge ∷ []) [] apart, filter-append (ends-at v) edges (edge ∷ []), other-end edge.to v (λ same. apart (sym same)), are.each v below)
+        rw (added, get_or-set_other old edge.to v (ending_at old edge.to ++ edge ∷ []) [] apart, filter-append (ends-at v) edges (edge ∷ []), ne_eqb edge.to v (λ same. apart (sym same)), are.each v below)
         (sym (append-nil (filter (ends-at v) edges)))
   ];
 }

@@ -146,7 +146,7 @@ timing-of law log bounds edges (x ∷ xs) listed are within potential =
     let size : length (map (λ y. y -ℤ x) xs) ≡ length log.rows = let count = potential.count in simp length-map (omega arith) in
     (law log (map (λ y. y -ℤ x) xs)).1 (size, rw listed at met)
 
-count-edges : (log : Logged) (bounds : List Bound) (edges : List SystemEdge) → AreEdges log bounds edges → length edges ≡ length bounds
+pub count-edges : (log : Logged) (bounds : List Bound) (edges : List SystemEdge) → AreEdges log bounds edges → length edges ≡ length bounds
 count-edges log bounds edges are = sym (simp length-map at (ap length are))
 
 -- the edges of a log's bounds are a system within the limits

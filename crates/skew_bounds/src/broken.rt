@@ -1,4 +1,4 @@
-ghost use Rattle.std.specs.Prelude.{◌≡◌, ◌+◌, ◌<◌, ◌≤◌, length, find, All, IsNone, IsSome, ℤ, ◌-ℤ◌};
+ghost use Rattle.std.specs.Prelude.{◌≡◌, ◌+◌, ◌<◌, length, find, All, IsNone, IsSome, ◌-ℤ◌};
 ghost use Rattle.mt_model.specs.Bounds.{bounds_of, breaks, first_broken as first_broken_of, meets};
 ghost use Rattle.mt_model.specs.Log.{IsWithin};
 ghost use Rattle.mt_model.specs.Timing.{Admissible};

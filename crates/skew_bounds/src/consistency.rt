@@ -7,6 +7,7 @@ ghost use Rattle.skew_bounds.specs.Edges.{AreEdges, bound_at};
 ghost use Rattle.skew_bounds.specs.System.{IsSystemOf};
 
 use crate::edges::edge_by;
+use crate::steps::step_of;
 use crate::system::{BoundSystem, system_of};
 use crate::times::times_of;
 use mt_model::{Bound, Log, Step, Steps, Times, bounds_are_admissible};
@@ -38,20 +39,6 @@ pub fn edges_of(alloc: Global, log: &Log, bounds: &[Bound]) -> Result<EdgeList, 
         }
     }
     Ok(edges)
-}
-
-/// A bound as a step of a walk.
-pub fn step_of(bound: Bound) -> Step
-    ensures step { result ≡ step_of_bound bound }
-{
-    match bound {
-        Bound::Low(e) => Step::Low(e.get()),
-        Bound::High(e) => Step::High(e.get()),
-        Bound::Rise(f) => Step::Rise(f.get()),
-        Bound::Message(r) => Step::Message(r.get()),
-        Bound::Late(r) => Step::Late(r.get()),
-        Bound::Extra(k) => Step::Extra(k),
-    }
 }
 
 // The bounds at these places, as steps.

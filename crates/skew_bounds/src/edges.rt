@@ -7,7 +7,7 @@ ghost use Rattle.neg_cycle.specs.Systems.{IsEdge};
 ghost use Rattle.skew_bounds.specs.Edges.{IsSpanAt, edge_in};
 
 use crate::rows::{known_span, local_at, span_at};
-use mt_model::{Bound, EventId, Log, Span};
+use mt_model::{Bound, EventId, Log, Span, log_is_valid};
 use neg_cycle::Edge;
 
 fn node_of(log: &Log, e: usize) -> u32
@@ -15,7 +15,7 @@ fn node_of(log: &Log, e: usize) -> u32
     ensures { result ≡ e + 1 }
 {
     // How many rows a log has at most is known with its rows.
-    let _ = log.rows();
+    log_is_valid(log);
     e as u32 + 1
 }
 

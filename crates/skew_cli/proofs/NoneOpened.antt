@@ -1,5 +1,5 @@
 -- That what opens no file opens none too many.
-use Rattle.std.proofs.Common.{◌+◌, ◌≤◌, ℕ, Option, Some, None, arith}
+use Rattle.std.proofs.Common.{ℕ, Option, Some, None, arith}
 use Rattle.skew_commands.specs.Openings.{OpensAtMost}
 
 -- the count stays

@@ -41,15 +41,19 @@ module _ (held files : Files) (agree : Agree held files) (out : List ℕ) (s : S
   same-order log = same-file held files agree out s log LOG_LIMIT named.Log (λ file. OnLog file OrderOfLog) (λ file. OnLog file OrderOfLog) (λ file h. h)
 
   same-replay : (formula log times : Word) → ReplayOutcome held formula log times out s → ReplayOutcome files formula log times out s
-  same-replay formula log times = same-question held files agree out s formula log (ReplayOfLog held times) (ReplayOfLog files times) (same-third held files agree out s times TIMES_LIMIT named.Times (λ f l file. OnTimes file l (ReplayOfTimes l f)))
+  same-replay formula log times =
+      same-question held files agree out s formula log (ReplayOfLog held times) (ReplayOfLog files times)
+      (same-third held files agree out s times TIMES_LIMIT named.Times (λ f l file. OnTimes file l (ReplayOfTimes l f)))
 
   same-check : (conflicts : ℕ) (formula log : Word) → CheckOutcome held conflicts formula log out s → CheckOutcome files conflicts formula log out s
   same-check conflicts formula log = same-question held files agree out s formula log (CheckOfLog conflicts) (CheckOfLog conflicts) (λ text f l h. h)
 
-  same-tolerance : (conflicts : ℕ) (value : Bool) (max : ℕ) (formula log : Word) → ToleranceOutcome held conflicts value max formula log out s → ToleranceOutcome files conflicts value max formula log out s
+  same-tolerance : (conflicts : ℕ) (value : Bool) (max : ℕ) (formula log : Word) → ToleranceOutcome held conflicts value max formula log out s
+      → ToleranceOutcome files conflicts value max formula log out s
   same-tolerance conflicts value max formula log = same-question held files agree out s formula log (ToleranceOfLog conflicts value max) (ToleranceOfLog conflicts value max) (λ text f l h. h)
 
-  same-span : (conflicts : ℕ) (value : Bool) (from to : ℕ) (formula log : Word) → SpanOutcome held conflicts value from to formula log out s → SpanOutcome files conflicts value from to formula log out s
+  same-span : (conflicts : ℕ) (value : Bool) (from to : ℕ) (formula log : Word) → SpanOutcome held conflicts value from to formula log out s
+      → SpanOutcome files conflicts value from to formula log out s
   same-span conflicts value from to formula log = same-question held files agree out s formula log (SpanOfLog conflicts value from to) (SpanOfLog conflicts value from to) (λ text f l h. h)
 
   same-audit : (conflicts : ℕ) (formula log report : Word) → AuditOutcome held conflicts formula log report out s → AuditOutcome files conflicts formula log report out s
@@ -76,7 +80,8 @@ module _ (held files : Files) (agree : Agree held files) (out : List ℕ) (s : S
   same-command (Demo seed) = λ h. h
 
 -- the outcome of a command, for files that agree with those that are held
-pub Outcome-command : (words : List Word) (c : Command) (held files : Files) (out : List ℕ) (s : Status) → command_of words ≡ Some c → Agree held files → CommandOutcome c held out s → Outcome words files out s
+pub Outcome-command : (words : List Word) (c : Command) (held files : Files) (out : List ℕ) (s : Status) → command_of words ≡ Some c → Agree held files
+    → CommandOutcome c held out s → Outcome words files out s
 Outcome-command words c held files out s is agree h = rw is (same-command held files agree out s c h)
 
 -- an answer has the status that was due with it, since it isn't one of a failed write
@@ -102,7 +107,8 @@ pub IsPossible-words : (words : List Word) → command_of words ≡ None → IsP
 IsPossible-words words none = rw none (refl, refl)
 
 -- what is refused is written, since writing did not fail
-pub refused-written : (text old now : List ℕ) (due s : Status) → (s ≡ due) ⊎ (s ≡ status.WriteFailed) → Ends (λ b t. (b ≡ text) × (t ≡ due)) old now s → IsAnswer due → (IsRefusal due → IsRefusalOf due text) → IsRefusal s
+pub refused-written : (text old now : List ℕ) (due s : Status) → (s ≡ due) ⊎ (s ≡ status.WriteFailed) → Ends (λ b t. (b ≡ text) × (t ≡ due)) old now s
+    → IsAnswer due → (IsRefusal due → IsRefusalOf due text) → IsRefusal s
     → (line : List ℕ) × IsRefusalOf s line × (now ≡ old ++ line)
 refused-written text old now due s (inl is) ends answer told refused =
     let a = ends.answer (subst IsAnswer (sym is) answer) in

@@ -22,14 +22,17 @@ module _ (bytes : List ℕ) (next : Report → List ℕ → Status → Type 0) w
   report-read r out s is h = (Ok r, is, h)
 
 -- what is asked of an answer where the file is known to be this report
-pub pass-report : (out : List ℕ) (s : Status) → BytesAreUnambiguous → (bytes : List ℕ) (next : Report → List ℕ → Status → Type 0) (r : Report) → ReportOf bytes (Ok r) → OnReport bytes next out s → next r out s
+pub pass-report : (out : List ℕ) (s : Status) → BytesAreUnambiguous → (bytes : List ℕ) (next : Report → List ℕ → Status → Type 0) (r : Report)
+    → ReportOf bytes (Ok r) → OnReport bytes next out s → next r out s
 pass-report out s unambiguous bytes next r is h = subst (λ reading. MatchResult reading (λ r. next r out s) (λ fault. RefusesReport fault out s)) (unambiguous bytes h.0 (Ok r) h.1 is) h.2
 
 -- what was read where the answer is no refusal
-pub reach-report : (out : List ℕ) (s : Status) → IsVerdict s → (bytes : List ℕ) (next : Report → List ℕ → Status → Type 0) → OnReport bytes next out s → (r : Report) × ReportOf bytes (Ok r) × next r out s
+pub reach-report : (out : List ℕ) (s : Status) → IsVerdict s → (bytes : List ℕ) (next : Report → List ℕ → Status → Type 0) → OnReport bytes next out s
+    → (r : Report) × ReportOf bytes (Ok r) × next r out s
 reach-report out s verdict bytes next h = go h.0 h.1 h.2
   where
-    go : (reading : Result Report ReportFault) → ReportOf bytes reading → MatchResult reading (λ r. next r out s) (λ fault. RefusesReport fault out s) → (r : Report) × ReportOf bytes (Ok r) × next r out s
+    go : (reading : Result Report ReportFault) → ReportOf bytes reading → MatchResult reading (λ r. next r out s) (λ fault. RefusesReport fault out s)
+        → (r : Report) × ReportOf bytes (Ok r) × next r out s
     go (Ok r) is h = (r, is, h)
     go (Err (report.Syntax number)) is h = absurd (refuses-no_verdict (refusal.Report number) out s verdict h)
     go (Err report.Memory) is h = absurd h

@@ -68,12 +68,20 @@ module _ (log : Logged) (f : Form) (r : Report) (s : Status) where
 
 pub exact-status : (log : Logged) (f : Form) (conflicts : ℕ) (r : Report) (s : Status) → SaysRight log f conflicts r → Claims log f r → IsReportStatus r s → IsStatusOfValues log f r s
 exact-status log f conflicts (report.Inconsistent events steps) s right claims is = inconsistent-status log f (report.Inconsistent events steps) s claims refl is
-exact-status log f conflicts (report.Verdicts events (section.Witness t) (section.Witness u)) s right claims is = two-status log f (report.Verdicts events (section.Witness t) (section.Witness u)) s right.consistent claims.0 claims.1 refl is
-exact-status log f conflicts (report.Verdicts events (section.Witness t) (section.Refuted lines)) s right claims is = zero-status log f (report.Verdicts events (section.Witness t) (section.Refuted lines)) s right.consistent claims.0 claims.1 refl is
-exact-status log f conflicts (report.Verdicts events (section.Witness t) (section.Unknown lines)) s right claims is = unknown-status log f (report.Verdicts events (section.Witness t) (section.Unknown lines)) s right.consistent refl is
-exact-status log f conflicts (report.Verdicts events (section.Refuted lines) (section.Witness t)) s right claims is = one-status log f (report.Verdicts events (section.Refuted lines) (section.Witness t)) s right.consistent claims.0 claims.1 refl is
+exact-status log f conflicts (report.Verdicts events (section.Witness t) (section.Witness u)) s right claims is =
+    two-status log f (report.Verdicts events (section.Witness t) (section.Witness u)) s right.consistent claims.0 claims.1 refl is
+exact-status log f conflicts (report.Verdicts events (section.Witness t) (section.Refuted lines)) s right claims is =
+    zero-status log f (report.Verdicts events (section.Witness t) (section.Refuted lines)) s right.consistent claims.0 claims.1 refl is
+exact-status log f conflicts (report.Verdicts events (section.Witness t) (section.Unknown lines)) s right claims is =
+    unknown-status log f (report.Verdicts events (section.Witness t) (section.Unknown lines)) s right.consistent refl is
+exact-status log f conflicts (report.Verdicts events (section.Refuted lines) (section.Witness t)) s right claims is =
+    one-status log f (report.Verdicts events (section.Refuted lines) (section.Witness t)) s right.consistent claims.0 claims.1 refl is
 exact-status log f conflicts (report.Verdicts events (section.Refuted lines) (section.Refuted others)) s right claims is = absurd is
-exact-status log f conflicts (report.Verdicts events (section.Refuted lines) (section.Unknown others)) s right claims is = unknown-status log f (report.Verdicts events (section.Refuted lines) (section.Unknown others)) s right.consistent refl is
-exact-status log f conflicts (report.Verdicts events (section.Unknown lines) (section.Witness t)) s right claims is = unknown-status log f (report.Verdicts events (section.Unknown lines) (section.Witness t)) s right.consistent refl is
-exact-status log f conflicts (report.Verdicts events (section.Unknown lines) (section.Refuted others)) s right claims is = unknown-status log f (report.Verdicts events (section.Unknown lines) (section.Refuted others)) s right.consistent refl is
-exact-status log f conflicts (report.Verdicts events (section.Unknown lines) (section.Unknown others)) s right claims is = unknown-status log f (report.Verdicts events (section.Unknown lines) (section.Unknown others)) s right.consistent refl is
+exact-status log f conflicts (report.Verdicts events (section.Refuted lines) (section.Unknown others)) s right claims is =
+    unknown-status log f (report.Verdicts events (section.Refuted lines) (section.Unknown others)) s right.consistent refl is
+exact-status log f conflicts (report.Verdicts events (section.Unknown lines) (section.Witness t)) s right claims is =
+    unknown-status log f (report.Verdicts events (section.Unknown lines) (section.Witness t)) s right.consistent refl is
+exact-status log f conflicts (report.Verdicts events (section.Unknown lines) (section.Refuted others)) s right claims is =
+    unknown-status log f (report.Verdicts events (section.Unknown lines) (section.Refuted others)) s right.consistent refl is
+exact-status log f conflicts (report.Verdicts events (section.Unknown lines) (section.Unknown others)) s right claims is =
+    unknown-status log f (report.Verdicts events (section.Unknown lines) (section.Unknown others)) s right.consistent refl is

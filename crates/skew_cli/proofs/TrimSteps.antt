@@ -97,4 +97,5 @@ module _ (file : List ℕ) (within : length file ≤ REPORT_LIMIT) where
 
   pub some-trim-given : (r : Report) (result : Result Reply Stop) → ReportOf file (Ok r) → Gives (TrimOfReport r) result → Gives (OfSomeReport TrimOutcome) result
   some-trim-given r result is h =
-      gives-weaker result (TrimOutcome (only file) []) (OfSomeReport TrimOutcome) (λ out s due. record { files = only file; name = []; due = due }) (trim-given (only file) [] file refl within r result is h)
+      gives-weaker result (TrimOutcome (only file) []) (OfSomeReport TrimOutcome) (λ out s due. record { files = only file; name = []; due = due })
+      (trim-given (only file) [] file refl within r result is h)

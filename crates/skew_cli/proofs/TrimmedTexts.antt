@@ -37,7 +37,8 @@ module _ (events : ℕ) (o : SectionOutline) where
     of-refuted P each (section.Refuted lines) out spelled = each lines (record { spelled = spelled.each; text = sym out.text })
     of-refuted P each (section.Unknown lines) out spelled = let both = out.kind ∙ is in absurd (cc both)
 
-    pub refuted-left : (t : TrimmedText) → ((lines : List Line) → IsTextOf o.text.now lines → IsTrimmedText lines t.text.items t.count) → (s : Section) → IsSectionOutline o s → IsSpelledSection events s
+    pub refuted-left : (t : TrimmedText) → ((lines : List Line) → IsTextOf o.text.now lines → IsTrimmedText lines t.text.items t.count) → (s : Section)
+        → IsSectionOutline o s → IsSpelledSection events s
         → IsSectionLeft events o s (Some t)
     refuted-left t each (section.Witness times) out spelled = let both = out.kind ∙ is in absurd (cc both)
     refuted-left t each (section.Refuted lines) out spelled =
@@ -69,7 +70,8 @@ module _ (events : ℕ) (o : SectionOutline) where
 -- ---- both sections
 
 module _ (events : ℕ) (t f new_t new_f : SectionOutline) (left_t left_f : Option TrimmedText) where
-  pub sections-left : (a b : Section) → IsSectionLeft events t a left_t → IsSectionLeft events f b left_f → new_t.kind ≡ kind_left t left_t → new_t.text.now ≡ text_left t left_t → new_f.kind ≡ kind_left f left_f → new_f.text.now ≡ text_left f left_f
+  pub sections-left : (a b : Section) → IsSectionLeft events t a left_t → IsSectionLeft events f b left_f → new_t.kind ≡ kind_left t left_t
+      → new_t.text.now ≡ text_left t left_t → new_f.kind ≡ kind_left f left_f → new_f.text.now ≡ text_left f left_f
       → (bytes : List ℕ) → ((r : Report) → AreOutlines events new_t new_f r → bytes ≡ report_text r) → IsTrimText (report.Verdicts events a b) bytes
   sections-left a b is_t is_f kind_t text_t kind_f text_f bytes printed =
       let whole = report.Verdicts events is_t.new is_f.new in
@@ -88,13 +90,15 @@ module _ (events : ℕ) (t f new_t new_f : SectionOutline) (left_t left_f : Opti
 -- ---- a whole report
 
 pub walk-left : (events count : ℕ) (text : List ℕ) (r : Report) → IsWalkOutline events count text r → (bytes : List ℕ) → bytes ≡ report_text r → IsTrimText r bytes
-walk-left events count text r out bytes written = subst (λ x. bytes ≡ report_text x → IsTrimText x bytes) (sym out.is) (λ is. record { report = report.Inconsistent events out.steps; trim = refl; text = is }) written
+walk-left events count text r out bytes written =
+    subst (λ x. bytes ≡ report_text x → IsTrimText x bytes) (sym out.is) (λ is. record { report = report.Inconsistent events out.steps; trim = refl; text = is }) written
 
 pub walk-can : (events count : ℕ) (text : List ℕ) (r : Report) → IsWalkOutline events count text r → CanTrim r
 walk-can events count text r out = subst CanTrim (sym out.is) (λ p n untrimmed. untrimmed)
 
 -- what holds of the sections of an outline holds of its report
-pub of-sections : (P : Report → Type 0) (events : ℕ) (t f : SectionOutline) → ((a b : Section) → AreOutlined events t f a b → P (report.Verdicts events a b)) → (r : Report) → AreOutlines events t f r → IsSpelled r → P r
+pub of-sections : (P : Report → Type 0) (events : ℕ) (t f : SectionOutline) → ((a b : Section) → AreOutlined events t f a b → P (report.Verdicts events a b))
+    → (r : Report) → AreOutlines events t f r → IsSpelled r → P r
 of-sections P events t f each r out spelled =
     let both = sections-spelled events r out.on_true out.on_false out.is spelled in
     subst P (sym out.is) (each out.on_true out.on_false (record { outlines_true = out.outlines_true; outlines_false = out.outlines_false; true_spelled = both.0; false_spelled = both.1 }))
@@ -133,11 +137,13 @@ module _ (events : ℕ) (t f : SectionOutline) where
   verdicts-trimmed (Ok x) items each = of-sections (λ whole. IsTrimText whole (items x)) events t f each
   verdicts-trimmed (Err s) items each = tt
 
-  pub verdicts-can : {X : Type 0} (r : Result X Stop) → OnOk r ((a b : Section) → AreOutlined events t f a b → CanTrim (report.Verdicts events a b)) → OnOk r ((whole : Report) → AreOutlines events t f whole → IsSpelled whole → CanTrim whole)
+  pub verdicts-can : {X : Type 0} (r : Result X Stop) → OnOk r ((a b : Section) → AreOutlined events t f a b → CanTrim (report.Verdicts events a b))
+      → OnOk r ((whole : Report) → AreOutlines events t f whole → IsSpelled whole → CanTrim whole)
   verdicts-can (Ok x) each = of-sections CanTrim events t f each
   verdicts-can (Err s) each = tt
 
 -- a refusal at a section is one at the report
-pub verdicts-refused : {X : Type 0} (r : Result X Stop) (events : ℕ) (t f : SectionOutline) → ((a b : Section) → AreOutlined events t f a b → RefusesFor r (TellsUntrimmed (report.Verdicts events a b)))
+pub verdicts-refused : {X : Type 0} (r : Result X Stop) (events : ℕ) (t f : SectionOutline)
+    → ((a b : Section) → AreOutlined events t f a b → RefusesFor r (TellsUntrimmed (report.Verdicts events a b)))
     → (whole : Report) → AreOutlines events t f whole → IsSpelled whole → RefusesFor r (TellsUntrimmed whole)
 verdicts-refused r events t f each = of-sections (λ whole. RefusesFor r (TellsUntrimmed whole)) events t f each

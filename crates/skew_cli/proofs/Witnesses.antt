@@ -1,6 +1,7 @@
 -- The witnesses of a report whose claims are so.
 use Rattle.std.proofs.Common.{◌≡◌, refl, Bool, true, false}
-use Rattle.std.specs.Prelude.{◌||◌, ◌↔◌, IsTrue}
+use Rattle.std.specs.Prelude.{◌↔◌, IsTrue}
+use Rattle.std.proofs.lemmas.Bool.{or_parts}
 use Rattle.mt_model.specs.Form.{Form}
 use Rattle.mt_model.specs.Log.{Logged}
 use Rattle.mt_model.specs.Truth.{IsValue}
@@ -12,14 +13,6 @@ use Rattle.verdict.specs.Claims.{Claims, SectionClaims}
 use Rattle.verdict.specs.Right.{is_unknown, is_witness}
 use Rattle.skew_cli.specs.Laws.{HasExactWitnesses}
 
-left-false : (a b : Bool) → (a || b) ≡ false → a ≡ false
-left-false false b h = refl
-left-false true b h = let never : ⊥ = cc in absurd never
-
-right-false : (a b : Bool) → (a || b) ≡ false → b ≡ false
-right-false false b h = h
-right-false true b h = let never : ⊥ = cc in absurd never
-
 exact-section : (log : Logged) (f : Form) (v : Bool) (s : Section) → SectionClaims log f v s → is_unknown s ≡ false → IsTrue (is_witness s) ↔ IsValue log f v
 exact-section log f v (section.Witness t) claims known = (λ w. claims, λ is. refl)
 exact-section log f v (section.Refuted lines) claims known = (λ w. let never : ⊥ = cc in absurd never, λ is. absurd (claims is))
@@ -27,5 +20,5 @@ exact-section log f v (section.Unknown lines) claims known = let never : ⊥ = c
 
 pub exact-witnesses : (log : Logged) (f : Form) (r : Report) → Claims log f r → HasExactWitnesses log f r
 exact-witnesses log f (report.Inconsistent events steps) claims decided v = (λ w. let never : ⊥ = cc in absurd never, λ is. absurd (claims v is))
-exact-witnesses log f (report.Verdicts events on_true on_false) claims decided true = exact-section log f true on_true claims.0 (left-false (is_unknown on_true) (is_unknown on_false) decided)
-exact-witnesses log f (report.Verdicts events on_true on_false) claims decided false = exact-section log f false on_false claims.1 (right-false (is_unknown on_true) (is_unknown on_false) decided)
+exact-witnesses log f (report.Verdicts events on_true on_false) claims decided true = exact-section log f true on_true claims.0 ((or_parts (is_unknown on_true) (is_unknown on_false) decided).0)
+exact-witnesses log f (report.Verdicts events on_true on_false) claims decided false = exact-section log f false on_false claims.1 ((or_parts (is_unknown on_true) (is_unknown on_false) decided).1)

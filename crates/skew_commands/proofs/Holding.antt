@@ -22,8 +22,10 @@ module _ (files : Files) (formula log : Word) (Next : Form → Logged → Type 0
   -- the formula and the log are held, whatever comes after them
   pub question-held : HoldsQuestion files formula log Next → HoldsQuestion files formula log NoThird
   question-held =
-      some-more (file_of files formula) (λ text. (f : Form) → length text ≤ FORMULA_LIMIT → FormulaOf text (Ok f) → HoldsLog files log Next f) (λ text. (f : Form) → length text ≤ FORMULA_LIMIT → FormulaOf text (Ok f) → HoldsLog files log NoThird f)
-      (λ text h f within reads. some-more (file_of files log) (λ file. (l : Logged) → length file ≤ LOG_LIMIT → log_of file ≡ Ok l → Next f l) (λ file. (l : Logged) → length file ≤ LOG_LIMIT → log_of file ≡ Ok l → NoThird f l) (λ file k l fits is. tt) (h f within reads))
+      some-more (file_of files formula) (λ text. (f : Form) → length text ≤ FORMULA_LIMIT → FormulaOf text (Ok f) → HoldsLog files log Next f)
+      (λ text. (f : Form) → length text ≤ FORMULA_LIMIT → FormulaOf text (Ok f) → HoldsLog files log NoThird f)
+      (λ text h f within reads. some-more (file_of files log) (λ file. (l : Logged) → length file ≤ LOG_LIMIT → log_of file ≡ Ok l → Next f l)
+      (λ file. (l : Logged) → length file ≤ LOG_LIMIT → log_of file ≡ Ok l → NoThird f l) (λ file k l fits is. tt) (h f within reads))
 
   -- what comes after a formula and a log that were read
   pub next-held : (text : List ℕ) (f : Form) (l : Logged) → IsQuestion files formula log text f l → HoldsQuestion files formula log Next → Next f l
@@ -37,7 +39,8 @@ module _ (files : Files) (formula log : Word) (Next : Form → Logged → Type 0
   formula-held = some-only (file_of files formula) (λ text. (f : Form) → length text ≤ FORMULA_LIMIT → FormulaOf text (Ok f) → HoldsLog files log Next f)
 
   -- and the log, once the formula is read
-  pub log-held : (text : List ℕ) (f : Form) → file_of files formula ≡ Some text → length text ≤ FORMULA_LIMIT → FormulaOf text (Ok f) → HoldsQuestion files formula log Next → IsSome (file_of files log)
+  pub log-held : (text : List ℕ) (f : Form) → file_of files formula ≡ Some text → length text ≤ FORMULA_LIMIT → FormulaOf text (Ok f)
+      → HoldsQuestion files formula log Next → IsSome (file_of files log)
   log-held text f is within reads h =
       let on_text : (f : Form) → length text ≤ FORMULA_LIMIT → FormulaOf text (Ok f) → HoldsLog files log Next f = rw is at h in
       some-only (file_of files log) (λ file. (l : Logged) → length file ≤ LOG_LIMIT → log_of file ≡ Ok l → Next f l) (on_text f within reads)

@@ -130,7 +130,9 @@ some-formula-long s h =
     let long = longer FORMULA_LIMIT in
     let files = three long.0 [] [] in
     some-question long.0 [] s
-    (length-refused files formula_name FORMULA_LIMIT named.Formula (λ text. OnFormula text (λ f. OnFile files log_name LOG_LIMIT named.Log (λ file. OnLog file (NoAnswer text f)))) long.0 (formula-held long.0 [] []) long.1 s h)
+    (length-refused files formula_name FORMULA_LIMIT named.Formula
+    (λ text. OnFormula text (λ f. OnFile files log_name LOG_LIMIT named.Log (λ file. OnLog file (NoAnswer text f)))) long.0
+    (formula-held long.0 [] []) long.1 s h)
 
 module _ (text : List ℕ) (within : length text ≤ FORMULA_LIMIT) where
   pub some-formula-faulty : (s : Stop) → HasReason s (TellsFormulaFault text) → HasReason s RefusesSomeQuestion
@@ -151,12 +153,14 @@ module _ (text : List ℕ) (within : length text ≤ FORMULA_LIMIT) where
         (question-log_faulty (three text file []) formula_name log_name NoAnswer text (formula-held text file []) within f reads file s (log-held text file []) fits h)
 
 -- what comes after a formula and a log that were refused is never asked
-pub question-refused : (next : Files → List ℕ → Form → Logged → List ℕ → Status → Type 0) (s : Stop) → HasReason s RefusesSomeQuestion → HasReason s (At (OfSomeQuestion (λ files formula log. OnQuestion files formula log (next files))))
+pub question-refused : (next : Files → List ℕ → Form → Logged → List ℕ → Status → Type 0) (s : Stop) → HasReason s RefusesSomeQuestion
+    → HasReason s (At (OfSomeQuestion (λ files formula log. OnQuestion files formula log (next files))))
 question-refused next s =
     reason-weaker s RefusesSomeQuestion (At (OfSomeQuestion (λ files formula log. OnQuestion files formula log (next files))))
     (λ r h. record { files = h.files; formula = h.formula; log = h.log; due = question-stopped h.files h.formula h.log (next h.files) (stop.Refused r) h.due })
 
-pub third-refused : (next : Files → Word → List ℕ → Form → Logged → List ℕ → Status → Type 0) (s : Stop) → HasReason s RefusesSomeQuestion → HasReason s (At (OfSomeThird (λ files formula log third. OnQuestion files formula log (next files third))))
+pub third-refused : (next : Files → Word → List ℕ → Form → Logged → List ℕ → Status → Type 0) (s : Stop) → HasReason s RefusesSomeQuestion
+    → HasReason s (At (OfSomeThird (λ files formula log third. OnQuestion files formula log (next files third))))
 third-refused next s =
     reason-weaker s RefusesSomeQuestion (At (OfSomeThird (λ files formula log third. OnQuestion files formula log (next files third))))
     (λ r h. record { files = h.files; formula = h.formula; log = h.log; third = []; due = question-stopped h.files h.formula h.log (next h.files []) (stop.Refused r) h.due })
@@ -174,14 +178,17 @@ module _ (text : List ℕ) (f : Form) (l : Logged) (read : AreRead text f l) (re
     log_read = read.log_read;
   }
 
-  pub some-question-given : (next : List ℕ → Form → Logged → List ℕ → Status → Type 0) → Gives (next text f l) result → Gives (OfSomeQuestion (λ files formula log. OnQuestion files formula log next)) result
+  pub some-question-given : (next : List ℕ → Form → Logged → List ℕ → Status → Type 0) → Gives (next text f l) result
+      → Gives (OfSomeQuestion (λ files formula log. OnQuestion files formula log next)) result
   some-question-given next h =
       let files = three text read.file [] in
       gives-weaker result (OnQuestion files formula_name log_name next) (OfSomeQuestion (λ files formula log. OnQuestion files formula log next))
       (λ out s due. record { files = files; formula = formula_name; log = log_name; due = due })
       (question-given files formula_name log_name next text f l result (are-question []) h)
 
-  pub some-third-given : (next : Files → Word → List ℕ → Form → Logged → List ℕ → Status → Type 0) → GivesForSome (λ files third. next files third text f l) result → Gives (OfSomeThird (λ files formula log third. OnQuestion files formula log (next files third))) result
+  pub some-third-given : (next : Files → Word → List ℕ → Form → Logged → List ℕ → Status → Type 0)
+      → GivesForSome (λ files third. next files third text f l) result
+      → Gives (OfSomeThird (λ files formula log third. OnQuestion files formula log (next files third))) result
   some-third-given next h =
       let files = three text read.file h.bytes in
       gives-weaker result (OnQuestion files formula_name log_name (next files third_name)) (OfSomeThird (λ files formula log third. OnQuestion files formula log (next files third)))

@@ -39,7 +39,8 @@ more-bool false P Q R more h = more h
 
 module _ (held files : Files) (agree : Agree held files) (out : List ℕ) (s : Status) where
   -- a file that is held is the same among the others
-  pub same-file : (name : Word) (limit : ℕ) (n : Named) (next next' : List ℕ → List ℕ → Status → Type 0) → ((bytes : List ℕ) → next bytes out s → next' bytes out s) → OnFile held name limit n next out s → OnFile files name limit n next' out s
+  pub same-file : (name : Word) (limit : ℕ) (n : Named) (next next' : List ℕ → List ℕ → Status → Type 0)
+      → ((bytes : List ℕ) → next bytes out s → next' bytes out s) → OnFile held name limit n next out s → OnFile files name limit n next' out s
   same-file name limit n next next' more h = go (file_of held name) (file_of files name) (agree name) h
     where
       go : (a b : Option (List ℕ)) → (IsSome a → b ≡ a)
@@ -49,13 +50,17 @@ module _ (held files : Files) (agree : Agree held files) (out : List ℕ) (s : S
       go (Some file) b same h = rw (same refl) (more-bool (nat_lt limit (length file)) _ _ _ (more file) h)
 
   -- a question that is held is the same among the others
-  pub same-question : (formula log : Word) (next next' : List ℕ → Form → Logged → List ℕ → Status → Type 0) → ((text : List ℕ) (f : Form) (l : Logged) → next text f l out s → next' text f l out s) → OnQuestion held formula log next out s → OnQuestion files formula log next' out s
+  pub same-question : (formula log : Word) (next next' : List ℕ → Form → Logged → List ℕ → Status → Type 0)
+      → ((text : List ℕ) (f : Form) (l : Logged) → next text f l out s → next' text f l out s) → OnQuestion held formula log next out s
+      → OnQuestion files formula log next' out s
   same-question formula log next next' more =
-      same-file formula FORMULA_LIMIT named.Formula (λ text. OnFormula text (λ f. OnFile held log LOG_LIMIT named.Log (λ file. OnLog file (next text f)))) (λ text. OnFormula text (λ f. OnFile files log LOG_LIMIT named.Log (λ file. OnLog file (next' text f))))
+      same-file formula FORMULA_LIMIT named.Formula (λ text. OnFormula text (λ f. OnFile held log LOG_LIMIT named.Log (λ file. OnLog file (next text f))))
+      (λ text. OnFormula text (λ f. OnFile files log LOG_LIMIT named.Log (λ file. OnLog file (next' text f))))
       (λ text h. (
         h.0,
         h.1,
-        more-result h.0 (λ f. OnFile held log LOG_LIMIT named.Log (λ file. OnLog file (next text f)) out s) (λ f. OnFile files log LOG_LIMIT named.Log (λ file. OnLog file (next' text f)) out s) (λ fault. Refuses (refusal.Formula fault) out s)
+        more-result h.0 (λ f. OnFile held log LOG_LIMIT named.Log (λ file. OnLog file (next text f)) out s)
+            (λ f. OnFile files log LOG_LIMIT named.Log (λ file. OnLog file (next' text f)) out s) (λ fault. Refuses (refusal.Formula fault) out s)
             (λ f. same-file log LOG_LIMIT named.Log (λ file. OnLog file (next text f)) (λ file. OnLog file (next' text f))
             (λ file. more-result (log_of file) (λ l. next text f l out s) (λ l. next' text f l out s) (λ fault. Refuses (refusal.Log fault) out s) (more text f))) h.2,
       ))
@@ -78,5 +83,6 @@ module _ (files : Files) (formula log : Word) (next : List ℕ → Form → Logg
       (λ r. same-question files files (λ name is. refl) (line (text_of r)) (status_of r) formula log NoAnswer next (λ text f l h. absurd h))
 
   -- what is given for a formula and a log, once they were read
-  pub question-given : (text : List ℕ) (f : Form) (l : Logged) (result : Result Reply Stop) → IsQuestion files formula log text f l → Gives (next text f l) result → Gives (OnQuestion files formula log next) result
+  pub question-given : (text : List ℕ) (f : Form) (l : Logged) (result : Result Reply Stop) → IsQuestion files formula log text f l
+      → Gives (next text f l) result → Gives (OnQuestion files formula log next) result
   question-given text f l result q = gives-weaker result (next text f l) (OnQuestion files formula log next) (λ out s. question-read files formula log next text f l out s q)

@@ -52,7 +52,8 @@ module _ (files : Files) (name : Word) (limit : ℕ) (named : Named) (next : Lis
   pub file-refused : (r : Refusal) → (r ≡ refusal.Length named) × IsLonger (file_of files name) limit → At (OnFile files name limit named next) r
   file-refused r h = go (file_of files name) h.1
     where
-      go : (file : Option (List ℕ)) → IsLonger file limit → IsSomeAnd file (λ bytes. MatchBool (nat_lt limit (length bytes)) (Refuses (refusal.Length named) (line (text_of r)) (status_of r)) (next bytes (line (text_of r)) (status_of r)))
+      go : (file : Option (List ℕ)) → IsLonger file limit
+          → IsSomeAnd file (λ bytes. MatchBool (nat_lt limit (length bytes)) (Refuses (refusal.Length named) (line (text_of r)) (status_of r)) (next bytes (line (text_of r)) (status_of r)))
       go None longer = absurd longer
       go (Some bytes) longer = let more : nat_lt limit (length bytes) ≡ true = grind (arith, nat_tests) in rw (more, h.0) (refl, refl)
 
@@ -60,7 +61,8 @@ module _ (files : Files) (name : Word) (limit : ℕ) (named : Named) (next : Lis
   file-read bytes out s is within h = let less : nat_lt limit (length bytes) ≡ false = grind (arith, nat_tests) in rw (is, less) h
 
   -- what stops the reading of it
-  pub file-stopped : {Tells : Type 0} → Tells → (s : Stop) → HasReason s (λ r. (r ≡ refusal.Length named) × (Tells → IsLonger (file_of files name) limit)) → HasReason s (At (OnFile files name limit named next))
+  pub file-stopped : {Tells : Type 0} → Tells → (s : Stop) → HasReason s (λ r. (r ≡ refusal.Length named) × (Tells → IsLonger (file_of files name) limit))
+      → HasReason s (At (OnFile files name limit named next))
   file-stopped {Tells} tells s =
       reason-weaker s (λ r. (r ≡ refusal.Length named) × (Tells → IsLonger (file_of files name) limit)) (At (OnFile files name limit named next)) (λ r why. file-refused r (why.0, why.1 tells))
 
@@ -121,14 +123,16 @@ module _ (file : List ℕ) (log : Logged) (next : List ℤ → List ℕ → Stat
   times-read t out s is h = rw is h
 
 -- a third file, which is read where the formula's hosts are known and its nodes are few
-module _ (held : Files) (name : Word) (limit : ℕ) (named : Named) (text : List ℕ) (f : Form) (log : Logged) (next : List ℕ → List ℕ → Status → Type 0) (known : unknown_host log f ≡ None) (few : length (nodes_of f) ≤ MAX_NODES) where
+module _ (held : Files) (name : Word) (limit : ℕ) (named : Named) (text : List ℕ) (f : Form) (log : Logged) (next : List ℕ → List ℕ → Status → Type 0)
+    (known : unknown_host log f ≡ None) (few : length (nodes_of f) ≤ MAX_NODES) where
   third-reached : (out : List ℕ) (s : Status) → OnFile held name limit named next out s → OnHosts text f log (OnNodes f (OnFile held name limit named next)) out s
   third-reached out s h =
       let file = OnFile held name limit named next in
       hosts-known text f log (OnNodes f file) out s known (nodes-few f file out s few h)
 
   -- what stops the reading of it
-  pub third-too_long : {Tells : Type 0} → Tells → (s : Stop) → HasReason s (λ r. (r ≡ refusal.Length named) × (Tells → IsLonger (file_of held name) limit)) → HasReason s (At (OnHosts text f log (OnNodes f (OnFile held name limit named next))))
+  pub third-too_long : {Tells : Type 0} → Tells → (s : Stop) → HasReason s (λ r. (r ≡ refusal.Length named) × (Tells → IsLonger (file_of held name) limit))
+      → HasReason s (At (OnHosts text f log (OnNodes f (OnFile held name limit named next))))
   third-too_long {Tells} tells s =
       reason-weaker s (λ r. (r ≡ refusal.Length named) × (Tells → IsLonger (file_of held name) limit)) (At (OnHosts text f log (OnNodes f (OnFile held name limit named next))))
       (λ r why. third-reached (line (text_of r)) (status_of r) (file-refused held name limit named next r (why.0, why.1 tells)))
@@ -138,7 +142,8 @@ module _ (held : Files) (name : Word) (limit : ℕ) (named : Named) (text : List
   third-answered result = gives-weaker result (OnFile held name limit named next) (OnHosts text f log (OnNodes f (OnFile held name limit named next))) third-reached
 
   -- what is given for it, once it was read
-  pub third-given : (file : List ℕ) (result : Result Reply Stop) → file_of held name ≡ Some file → length file ≤ limit → Gives (next file) result → Gives (OnHosts text f log (OnNodes f (OnFile held name limit named next))) result
+  pub third-given : (file : List ℕ) (result : Result Reply Stop) → file_of held name ≡ Some file → length file ≤ limit → Gives (next file) result
+      → Gives (OnHosts text f log (OnNodes f (OnFile held name limit named next))) result
   third-given file result is within =
       gives-weaker result (next file) (OnHosts text f log (OnNodes f (OnFile held name limit named next)))
       (λ out s h. third-reached out s (file-read held name limit named next file out s is within h))
@@ -158,7 +163,8 @@ unknown-below log f number is = let below = position_from-below _ (propositions_
 
 -- what a formula and a log come to, and what is answered before that
 module _ (files : Files) (formula log : Word) (next : List ℕ → Form → Logged → List ℕ → Status → Type 0) where
-  with-text : (text out : List ℕ) (s : Status) → file_of files formula ≡ Some text → length text ≤ FORMULA_LIMIT → OnFormula text (λ f. OnFile files log LOG_LIMIT named.Log (λ file. OnLog file (next text f))) out s → OnQuestion files formula log next out s
+  with-text : (text out : List ℕ) (s : Status) → file_of files formula ≡ Some text → length text ≤ FORMULA_LIMIT
+      → OnFormula text (λ f. OnFile files log LOG_LIMIT named.Log (λ file. OnLog file (next text f))) out s → OnQuestion files formula log next out s
   with-text text out s = file-read files formula FORMULA_LIMIT named.Formula (λ text. OnFormula text (λ f. OnFile files log LOG_LIMIT named.Log (λ file. OnLog file (next text f)))) text out s
 
   pub question-read : (text : List ℕ) (f : Form) (l : Logged) (out : List ℕ) (s : Status) → IsQuestion files formula log text f l → next text f l out s → OnQuestion files formula log next out s
@@ -181,7 +187,8 @@ module _ (files : Files) (formula log : Word) (next : List ℕ → Form → Logg
           reason-weaker s (λ r. (r ≡ refusal.Length named.Log) × IsLonger (file_of files log) LOG_LIMIT) (At (OnQuestion files formula log next))
           (λ r why. with-formula (line (text_of r)) (status_of r) (file-refused files log LOG_LIMIT named.Log (λ file. OnLog file (next text f)) r why))
 
-      pub question-log_faulty : (file : List ℕ) (s : Stop) → file_of files log ≡ Some file → length file ≤ LOG_LIMIT → HasReason s (TellsLogFault (log_of file)) → HasReason s (At (OnQuestion files formula log next))
+      pub question-log_faulty : (file : List ℕ) (s : Stop) → file_of files log ≡ Some file → length file ≤ LOG_LIMIT → HasReason s (TellsLogFault (log_of file))
+          → HasReason s (At (OnQuestion files formula log next))
       question-log_faulty file s is fits h =
           reason-weaker s (At (OnFile files log LOG_LIMIT named.Log (λ bytes. OnLog bytes (next text f)))) (At (OnQuestion files formula log next))
           (λ r. with-formula (line (text_of r)) (status_of r))

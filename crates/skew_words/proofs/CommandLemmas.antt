@@ -16,7 +16,8 @@ then-some : {X Y : Type 0} (g : X → Option Y) (o : Option X) (b : Bool) → Is
 then-some g (Some x) b some each = each x
 then-some g None b some each = absurd (cc)
 
-tolerance-some : (n : ℕ) (value max formula log : Word) → are_operands (row_of verb.Tolerance).operands (value ∷ max ∷ formula ∷ log ∷ []) ≡ true → is_some (command_from verb.Tolerance n (value ∷ max ∷ formula ∷ log ∷ [])) ≡ true
+tolerance-some : (n : ℕ) (value max formula log : Word) → are_operands (row_of verb.Tolerance).operands (value ∷ max ∷ formula ∷ log ∷ []) ≡ true
+    → is_some (command_from verb.Tolerance n (value ∷ max ∷ formula ∷ log ∷ [])) ≡ true
 tolerance-some n value max formula log fits =
     let first = and_parts _ _ fits in
     let second = and_parts _ _ first.1 in
@@ -39,12 +40,14 @@ command-some verb.Check n ws fits other = let (formula, log, is) = two-is ws (fi
 command-some verb.Audit n ws fits other = let (formula, log, report, is) = three-is ws (fits-length (row_of verb.Audit).operands ws fits) in rw is refl
 command-some verb.Trim n ws fits other = let (report, is) = one-is ws (fits-length (row_of verb.Trim).operands ws fits) in rw is refl
 command-some verb.Json n ws fits other = let (json, is) = one-is ws (fits-length (row_of verb.Json).operands ws fits) in rw is refl
-command-some verb.Tolerance n ws fits other = let (value, max, formula, log, is) = four-is ws (fits-length (row_of verb.Tolerance).operands ws fits) in rw is (sym (tolerance-some n value max formula log (rw is at fits)))
+command-some verb.Tolerance n ws fits other = let (value, max, formula, log, is) = four-is ws (fits-length (row_of verb.Tolerance).operands ws fits) in
+    rw is (sym (tolerance-some n value max formula log (rw is at fits)))
 command-some verb.Span n ws fits other = absurd (other refl)
 command-some verb.Demo n ws fits other = let (seed, is) = one-is ws (fits-length (row_of verb.Demo).operands ws fits) in rw is (sym (demo-some n seed (rw is at fits)))
 
 -- of operands of `span` the two events decide
-pub span-decided : (n : ℕ) (ws : List Word) → are_operands (row_of verb.Span).operands ws ≡ true → is_some (events_of (slice_index_or ws 1 []) (slice_index_or ws 2 [])) ≡ is_some (command_from verb.Span n ws)
+pub span-decided : (n : ℕ) (ws : List Word) → are_operands (row_of verb.Span).operands ws ≡ true
+    → is_some (events_of (slice_index_or ws 1 []) (slice_index_or ws 2 [])) ≡ is_some (command_from verb.Span n ws)
 span-decided n ws fits = let (value, from, to, formula, log, is) = five-is ws (fits-length (row_of verb.Span).operands ws fits) in rw is (sym (span-some n value from to formula log (rw is at fits)))
 
 -- words that give no command

@@ -73,8 +73,10 @@ read-row verb.Check conflicts ws fits some = let (formula, log, is) = two-is ws 
 read-row verb.Audit conflicts ws fits some = let (formula, log, report, is) = three-is ws (fits-length (row_of verb.Audit).operands ws fits) in rw is (read-audit conflicts formula log report)
 read-row verb.Trim None ws fits some = let (report, is) = one-is ws (fits-length (row_of verb.Trim).operands ws fits) in rw is (read-trim report)
 read-row verb.Json None ws fits some = let (json, is) = one-is ws (fits-length (row_of verb.Json).operands ws fits) in rw is (read-json json)
-read-row verb.Tolerance conflicts ws fits some = let (value, max, formula, log, is) = four-is ws (fits-length (row_of verb.Tolerance).operands ws fits) in rw is (read-tolerance conflicts value max formula log)
-read-row verb.Span conflicts ws fits some = let (value, from, to, formula, log, is) = five-is ws (fits-length (row_of verb.Span).operands ws fits) in rw is (read-span conflicts value from to formula log)
+read-row verb.Tolerance conflicts ws fits some = let (value, max, formula, log, is) = four-is ws (fits-length (row_of verb.Tolerance).operands ws fits) in
+    rw is (read-tolerance conflicts value max formula log)
+read-row verb.Span conflicts ws fits some = let (value, from, to, formula, log, is) = five-is ws (fits-length (row_of verb.Span).operands ws fits) in
+    rw is (read-span conflicts value from to formula log)
 read-row verb.Demo None ws fits some = let (seed, is) = one-is ws (fits-length (row_of verb.Demo).operands ws fits) in rw is (read-demo seed)
 read-row verb.Times (Some text) ws fits some = let never : ⊥ = cc in absurd never
 read-row verb.Replay (Some text) ws fits some = let never : ⊥ = cc in absurd never

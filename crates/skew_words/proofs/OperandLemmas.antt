@@ -44,13 +44,17 @@ module _ {X : Type 0} (f : X → Word) (xs : List X) where
         rw more (sym (map-append f (take i xs) (x ∷ [])))
 
     pub read-more : bytes_eq (f x) (codes "--") ≡ false → is_option (f x) ≡ false → ReadUpTo f xs (i + 1)
-    read-more word plain = so_far ∙ rw (rest-is, word, plain) (option_map-twice (map f (take i xs)) (f x) (operands_of (map f (drop (i + 1) xs))) ∙ ap (λ ys. option_map (λ rest. ys ++ rest) (operands_of (map f (drop (i + 1) xs)))) front-is)
+    read-more word plain =
+        so_far
+        ∙ rw (rest-is, word, plain)
+        (option_map-twice (map f (take i xs)) (f x) (operands_of (map f (drop (i + 1) xs))) ∙ ap (λ ys. option_map (λ rest. ys ++ rest) (operands_of (map f (drop (i + 1) xs)))) front-is)
 
   pub read-all : ReadUpTo f xs (length xs) → operands_of (map f xs) ≡ Some (map f (xs ++ []))
   read-all so_far = so_far ∙ rw (drop-length xs, take-length xs, map-append f xs []) refl
 
 -- the words before a mark and those behind it, as the code cuts them, after a front
-pub cut-words : {X : Type 0} (f : X → Word) (front xs : List X) (i : ℕ) → map f (front ++ take i xs ++ take (length xs - (i + 1)) (drop (i + 1) xs)) ≡ map f front ++ map f (take i xs ++ drop (i + 1) xs)
+pub cut-words : {X : Type 0} (f : X → Word) (front xs : List X) (i : ℕ)
+    → map f (front ++ take i xs ++ take (length xs - (i + 1)) (drop (i + 1) xs)) ≡ map f front ++ map f (take i xs ++ drop (i + 1) xs)
 cut-words f front xs i =
     ap (λ ys. map f (front ++ take i xs ++ ys)) (cut-rest xs i) ∙ ap (map f) (append_assoc front (take i xs) (drop (i + 1) xs)) ∙ map-append f front (take i xs ++ drop (i + 1) xs)
 
@@ -94,7 +98,11 @@ module _ {X : Type 0} (f : X → Word) (xs : List X) where
 
     pub given-more : bytes_eq (f x) (codes "--") ≡ false → is_option (f x) ≡ false → GivenUpTo f xs (i + 1)
     given-more word dashed = record {
-      given = so_far.given ∙ rw (rest-starts, word, dashed) (front-twice (map f (take i xs)) (f x) (given_of (map f (drop (i + 1) xs))) ∙ ap (λ ys. option_map (with_front ys) (given_of (map f (drop (i + 1) xs)))) (front-is f xs i x is within so_far.operands));
+      given =
+          so_far.given
+          ∙ rw (rest-starts, word, dashed)
+          (front-twice (map f (take i xs)) (f x) (given_of (map f (drop (i + 1) xs)))
+          ∙ ap (λ ys. option_map (with_front ys) (given_of (map f (drop (i + 1) xs)))) (front-is f xs i x is within so_far.operands));
       operands = read-more f xs i x is within so_far.operands word dashed;
     }
 
@@ -113,7 +121,8 @@ after-none front word lacks = go (bytes_eq (take (length front) word) front) ref
   where
     go : (b : Bool) → bytes_eq (take (length front) word) front ≡ b → after front word ≡ None
     go false e = rw e refl
-    go true e = absurd (lacks (drop (length front) word) (sym (take-append-drop (length front) word) ∙ ap (λ t. t ++ drop (length front) word) ((bytes_eq-Decides (take (length front) word) front).0 e)))
+    go true e =
+        absurd (lacks (drop (length front) word) (sym (take-append-drop (length front) word) ∙ ap (λ t. t ++ drop (length front) word) ((bytes_eq-Decides (take (length front) word) front).0 e)))
 
 pub stripped-after : (front word : Word) (r : Option (Bor Word)) → MatchOption r (FindsTextPrefix front word None) (λ x. StripsPrefix (FindsTextPrefix front) word x.now)
     → option_map (λ text. text.now) r ≡ after front word

@@ -12,7 +12,8 @@ pub find-next : {X : Type 0} (p : X → Bool) (xs : List X) (i : ℕ) (d : X) �
 find-next p xs i d within fails = rw (drop-cons xs i d within, fails, add-one) refl
 
 -- a fold takes one element more
-pub fold-next : {X Y Z : Type 0} (f : Z → Y → Z) (r : X → Y) (z : Z) (xs : List X) (i : ℕ) (d : X) → i < length xs → fold f z (map r (drop i xs)) ≡ fold f (f z (r (get_or xs i d))) (map r (drop (i + 1) xs))
+pub fold-next : {X Y Z : Type 0} (f : Z → Y → Z) (r : X → Y) (z : Z) (xs : List X) (i : ℕ) (d : X) → i < length xs
+    → fold f z (map r (drop i xs)) ≡ fold f (f z (r (get_or xs i d))) (map r (drop (i + 1) xs))
 fold-next f r z xs i d within = rw (drop-cons xs i d within, add-one) refl
 
 -- the operands from here on are still to be read

@@ -3,7 +3,7 @@
 ghost use Rattle.std.specs.Prelude.{◌≡◌, ◌≤◌, IfOk, IfSome, codes, fold, map, option_map, string_bytes, true, false};
 ghost use Rattle.clap.specs.Words.{app_of, first_value, found_of, new_app, rule_of, with_rule};
 ghost use Rattle.skew_words.specs.Called.{HasFewConflicts, HasSmallWidening, HasTwoEvents, command_in};
-ghost use Rattle.skew_words.specs.NormalWords.{Calls, IsNormal, command_said, conflicts_said};
+ghost use Rattle.skew_words.specs.NormalWords.{Calls, IsNormal, conflicts_said};
 ghost use Rattle.skew_words.specs.Matched.{GivesSpoken, app_for, command_matched, conflicts_rule, operand_rule, option_rules};
 ghost use Rattle.skew_words.specs.Table.{name_of};
 ghost use Rattle.skew_words.specs.declared.limits.TheConstants.{MAX_CONFLICTS};

@@ -24,7 +24,8 @@ position_from-append test i (x ∷ xs) ys none = by (test x) (position_from-appe
     same : i + 1 + length xs ≡ i + suc (length xs)
     same = omega arith
 
-    by : (b : Bool) → (position_from test (i + 1) xs ≡ None → position_from test (i + 1) (xs ++ ys) ≡ position_from test (i + 1 + length xs) ys) → cond b (Some i) (position_from test (i + 1) xs) ≡ None
+    by : (b : Bool) → (position_from test (i + 1) xs ≡ None → position_from test (i + 1) (xs ++ ys) ≡ position_from test (i + 1 + length xs) ys)
+        → cond b (Some i) (position_from test (i + 1) xs) ≡ None
         → cond b (Some i) (position_from test (i + 1) (xs ++ ys)) ≡ position_from test (i + suc (length xs)) ys
     by true later none = cc
     by false later none = later none ∙ ap (λ k. position_from test k ys) same

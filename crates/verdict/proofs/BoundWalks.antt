@@ -33,13 +33,15 @@ module _ (log : Logged) (count : ℕ) (text : List ℕ) where
   none_walked walk none room walked = record { count_is = none; room = room; each = λ steps are. record { walked = walked; left = sym are.are } }
 
   module _ (i : ℕ) (rest : List ℕ) (walk : CycleWalk) (low : i < count) (before : BoundsWalked log count text i rest walk) where
-    next : (steps : List Step) → AreBoundsOf count text steps → (d : Step) → (i < length steps) × IsSpelledBound (get_or steps i d) × (rest ≡ bound_text (get_or steps i d) ++ flat_map bound_text (drop (i + 1) steps))
+    next : (steps : List Step) → AreBoundsOf count text steps → (d : Step)
+        → (i < length steps) × IsSpelledBound (get_or steps i d) × (rest ≡ bound_text (get_or steps i d) ++ flat_map bound_text (drop (i + 1) steps))
     next steps are d =
         let below : i < length steps = omega (arith, low, are.full) in
         (below, All-get_or IsSpelledBound steps i d below are.each, (before.each steps are).left ∙ ap (flat_map bound_text) (drop_more steps i d below))
 
     pub more_walked : (s : Step) (after : List ℕ) → ((t : Step) (later : List ℕ) → IsSpelledBound t → rest ≡ bound_text t ++ later → (s ≡ t) × (after ≡ later))
-        → (further : CycleWalk) → further.count ≡ walk.count + 1 → HasRoom further → ((steps : List Step) → HasWalked log steps walk → HasWalked log (steps ++ s ∷ []) further) → BoundsWalked log count text (i + 1) after further
+        → (further : CycleWalk) → further.count ≡ walk.count + 1 → HasRoom further
+        → ((steps : List Step) → HasWalked log steps walk → HasWalked log (steps ++ s ∷ []) further) → BoundsWalked log count text (i + 1) after further
     more_walked s after read further counted room goes = record {
       count_is = omega (arith, counted, before.count_is);
       room = room;

@@ -52,5 +52,7 @@ claims_exact log f v (section.Unknown lines) claims known = absurd (cc)
 
 pub right_exact : AcceptedReportsAreTrue → RightVerdictsAreExact
 right_exact true_law log f conflicts on_true on_false valid right =
-    let claims = true_law log f conflicts (report.Verdicts (length log.rows) on_true on_false) valid (record { events = refl; shown = all_right log f conflicts (report.Verdicts (length log.rows) on_true on_false) right }) in
+    let claims =
+    true_law log f conflicts (report.Verdicts (length log.rows) on_true on_false) valid
+    (record { events = refl; shown = all_right log f conflicts (report.Verdicts (length log.rows) on_true on_false) right }) in
     (claims_exact log f true on_true claims.0, claims_exact log f false on_false claims.1)

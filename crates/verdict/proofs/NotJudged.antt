@@ -12,6 +12,7 @@ use Rattle.verdict.specs.declared.fault.VerdictFault.{VerdictFault}
 use Rattle.verdict.specs.Faults.{IsFault, IsOfArena}
 
 -- where a formula whose hosts are known gets a fault of the arena, the fault says why it isn't judged
-pub of_arena : {X : Type 0} (log : Logged) (f : Form) (r : Result X ArenaFault) (a : ArenaFault) (v : VerdictFault) → r ≡ Err a → unknown_host log f ≡ None → (r ≡ Err arena.TooManyNodes → MAX_NODES < length (nodes_of f)) → IsOfArena a v → IsFault log f v
+pub of_arena : {X : Type 0} (log : Logged) (f : Form) (r : Result X ArenaFault) (a : ArenaFault) (v : VerdictFault) → r ≡ Err a → unknown_host log f ≡ None
+    → (r ≡ Err arena.TooManyNodes → MAX_NODES < length (nodes_of f)) → IsOfArena a v → IsFault log f v
 of_arena log f r arena.TooManyNodes v fault hosts many is = rw is (record { hosts = hosts; many = many fault })
 of_arena log f r arena.Memory v fault hosts many is = rw is tt

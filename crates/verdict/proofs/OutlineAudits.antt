@@ -61,12 +61,14 @@ module _ (log : Logged) (f : Form) (budget : ℕ) (v : Bool) (events : ℕ) (o :
   abbrev Judged : Section → Type 0
   Judged s = IsJudgedAt log f budget v s line
 
-  pub judged_refuted : (n : ℕ) → o.kind ≡ kind.Refuted n → ((lines : List Line) → IsTextOf o.text.now lines → Judged (section.Refuted lines)) → (s : Section) → IsSectionOutline o s → IsSpelledSection events s → Judged s
+  pub judged_refuted : (n : ℕ) → o.kind ≡ kind.Refuted n → ((lines : List Line) → IsTextOf o.text.now lines → Judged (section.Refuted lines)) → (s : Section)
+      → IsSectionOutline o s → IsSpelledSection events s → Judged s
   judged_refuted n is each s out spelled =
       let lines = outlined-refuted events o s out spelled n is in
       subst Judged (found-refuted events o n is lines.0 (λ ls of. lines-found o.text.now lines.0 lines.1 ls of) s out spelled) (each lines.0 lines.1)
 
-  pub judged_unknown : (n : ℕ) → o.kind ≡ kind.Unknown n → ((lines : List Line) → IsTextOf o.text.now lines → Judged (section.Unknown lines)) → (s : Section) → IsSectionOutline o s → IsSpelledSection events s → Judged s
+  pub judged_unknown : (n : ℕ) → o.kind ≡ kind.Unknown n → ((lines : List Line) → IsTextOf o.text.now lines → Judged (section.Unknown lines)) → (s : Section)
+      → IsSectionOutline o s → IsSpelledSection events s → Judged s
   judged_unknown n is each s out spelled =
       let lines = outlined-unknown events o s out spelled n is in
       subst Judged (found-unknown events o n is lines.0 (λ ls of. lines-found o.text.now lines.0 lines.1 ls of) s out spelled) (each lines.0 lines.1)

@@ -91,7 +91,8 @@ module _ (log : Logged) (f : Form) (conflicts : ℕ) where
   same_refusal (report.Verdicts events on_true on_false) part.OnTrue part.OnFalse m n one other = absurd (one.fails other.true_shows)
   same_refusal (report.Verdicts events on_true on_false) part.OnTrue part.Events m n one other = absurd other
   same_refusal (report.Verdicts events on_true on_false) part.OnTrue part.Inconsistent m n one other = absurd other
-  same_refusal (report.Verdicts events on_true on_false) part.OnFalse part.OnFalse m n one other = ap (audit.Refused part.OnFalse) (same_line log f false on_false m n one.false_fails.line other.false_fails.line)
+  same_refusal (report.Verdicts events on_true on_false) part.OnFalse part.OnFalse m n one other =
+      ap (audit.Refused part.OnFalse) (same_line log f false on_false m n one.false_fails.line other.false_fails.line)
   same_refusal (report.Verdicts events on_true on_false) part.OnFalse part.OnTrue m n one other = absurd (other.fails one.true_shows)
   same_refusal (report.Verdicts events on_true on_false) part.OnFalse part.Events m n one other = absurd other
   same_refusal (report.Verdicts events on_true on_false) part.OnFalse part.Inconsistent m n one other = absurd other

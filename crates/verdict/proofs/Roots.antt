@@ -9,7 +9,8 @@ use Rattle.formula_arena.specs.Cores.{core_of}
 use Rattle.formula_arena.specs.Nodes.{nodes_of, tree_at}
 
 -- it is the formula's core
-pub root-is-core : (f : Form) (trees : List Form) (root : ℕ) → trees ≡ nodes_of f → root + 1 ≡ length trees → tree_at (nodes_of f) (length (nodes_of f) - 1) ≡ core_of f → core_of f ≡ tree_at trees root
+pub root-is-core : (f : Form) (trees : List Form) (root : ℕ) → trees ≡ nodes_of f → root + 1 ≡ length trees
+    → tree_at (nodes_of f) (length (nodes_of f) - 1) ≡ core_of f → core_of f ≡ tree_at trees root
 root-is-core f trees root same last law =
     let at : root ≡ length (nodes_of f) - 1 = omega (arith, last, ap length same) in
     rw (same, at) (sym law)

@@ -18,7 +18,7 @@ ghost use Rattle.verdict.specs.Right.{IsRight, IsWitness};
 use crate::given::{Given, prepare, truth_in};
 use crate::laws::{accepted_reports_are_true, audits_are_exact, right_reports_are_accepted};
 use crate::{Audit, Part, VerdictFault};
-use mt_model::{Formula, Log, Step};
+use mt_model::{Formula, Log, Step, log_is_valid};
 use proof_check::{Check, Checker, check_cycle_by};
 use proof_log::Line;
 use report_text::{Report, Section};
@@ -266,7 +266,7 @@ pub fn audit(
     accepted_reports_are_true();
     audits_are_exact();
     right_reports_are_accepted();
-    let _ = log.rows();
+    log_is_valid(log);
     let given = prepare(alloc, log, f)?;
     Ok(audit_of(alloc, log, f, &given, budget, report)?)
 }

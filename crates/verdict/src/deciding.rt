@@ -16,7 +16,7 @@ use crate::VerdictFault;
 use crate::given::{Given, Settled, prepare, truth_in};
 use crate::laws::right_reports_are_true;
 use cdcl_core::{Nodes, Searched, search_value};
-use mt_model::{Formula, Log, Times};
+use mt_model::{Formula, Log, Times, log_is_valid};
 use report_text::{Report, Section};
 use skew_bounds::{BoundSystem, Tight};
 use std::alloc::{AllocError, Global};
@@ -42,8 +42,7 @@ fn searched(
     ensures right { IfOk result (IsRightSection log.now (form_of f.now) budget value) }
     ensures spelled { IfOk result (IsSpelledSection (length log.now.rows)) }
 {
-    // What a log is, that it is valid is known with.
-    let _ = log.rows();
+    log_is_valid(log);
     match search_value(alloc, log, f, nodes, system, tight, value, budget)? {
         Searched::Timing(times) => Ok(Section::Witness(times)),
         Searched::Refuted(lines) => Ok(Section::Refuted(lines)),
@@ -64,7 +63,7 @@ fn value_in(
     requires admissible { Admissible log.now times.now }
     ensures value { IfOk result (λ v. v ≡ truth log.now times.now 0 (form_of f.now)) }
 {
-    let _ = log.rows();
+    log_is_valid(log);
     truth_in(alloc, log, f, nodes, times)
 }
 

@@ -14,7 +14,7 @@ ghost use Rattle.verdict.specs.Given.{IsGiven, IsSettled};
 use crate::VerdictFault;
 use cdcl_core::Nodes;
 use formula_arena::{Arena, nodes_are_subtrees};
-use mt_model::{Formula, Log, Steps, Times, conflict_excludes_timings};
+use mt_model::{Formula, Log, Steps, Times, conflict_excludes_timings, log_is_valid};
 use mtl_encode::{MAX_SIZE, size_of, sizes_are_unique};
 use skew_bounds::{BoundSystem, Consistency, Tight, settle_by, system_of, tight_by};
 use std::alloc::{AllocError, Global};
@@ -92,8 +92,7 @@ fn small_enough(
     ensures fault { IfErr result (IsFault log.now (form_of f.now)) }
 {
     sizes_are_unique();
-    // What a log is, that it is valid is known with.
-    let _ = log.rows();
+    log_is_valid(log);
     let size = size_of(log, &nodes.arena, tight);
     if size <= MAX_SIZE {
         Ok(())

@@ -25,7 +25,7 @@ use crate::bounds::audit_of_bounds;
 use crate::given::{Given, prepare};
 use crate::laws::{accepted_reports_are_true, audits_are_exact, right_reports_are_accepted};
 use crate::{Audit, Part, VerdictFault};
-use mt_model::{Formula, Log};
+use mt_model::{Formula, Log, log_is_valid};
 use proof_check::{Check, Checker, TextCheck};
 use report_text::{Kind, Outline, SectionOutline, times_of};
 use skew_bounds::EdgeTable;
@@ -193,7 +193,7 @@ pub fn audit_outline(
     accepted_reports_are_true();
     audits_are_exact();
     right_reports_are_accepted();
-    let _ = log.rows();
+    log_is_valid(log);
     let given = prepare(alloc, log, f)?;
     Ok(audit_of(alloc, log, f, &given, budget, outline)?)
 }

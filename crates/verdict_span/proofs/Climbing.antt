@@ -26,7 +26,8 @@ module _ (log : Logged) (f : Form) (v : Bool) (e to : ℕ) where
   gives-without c t gives = record { admissible = unspaced log e to c t gives.admissible; value = sym (extras-keep-truth log (the-extra log e to c t) t 0 f) ∙ gives.value }
 
   -- lines that refute for a smaller distance too are as few
-  pub refuted-within : (c d : ℤ) (budget : ℕ) (lines : List Line) → RefutesWithin (spaced e to c log) f v budget lines → Refutes (spaced e to d log) f v lines → RefutesWithin (spaced e to d log) f v budget lines
+  pub refuted-within : (c d : ℤ) (budget : ℕ) (lines : List Line) → RefutesWithin (spaced e to c log) f v budget lines → Refutes (spaced e to d log) f v lines
+      → RefutesWithin (spaced e to d log) f v budget lines
   refuted-within c d budget lines found refutes = record { refutes = refutes; few_lessons = found.few_lessons; few = found.few }
 
   -- the same distance, written in another way
@@ -42,7 +43,8 @@ module _ (log : Logged) (f : Form) (v : Bool) (e to : ℕ) where
   refuted-by-one c budget lines some each one = let none = (each f v).1 in record { refutes = (each f v).0; few_lessons = omega (arith, none, some); few = omega (arith, one, some) }
 
   -- what lines refute beyond a room no timing with the value reaches
-  pub reached : RefutedIsNoValue → (low : ℤ) (room budget : ℕ) (lines : List Line) → IsLog log → CanBeSpaced log e to → IsWithin (MAX_TIME +ℤ MAX_TIME) low → (low +ℤ pos room) ≤ℤ (MAX_TIME +ℤ MAX_TIME)
+  pub reached : RefutedIsNoValue → (low : ℤ) (room budget : ℕ) (lines : List Line) → IsLog log → CanBeSpaced log e to → IsWithin (MAX_TIME +ℤ MAX_TIME) low
+      → (low +ℤ pos room) ≤ℤ (MAX_TIME +ℤ MAX_TIME)
       → RefutesWithin (spaced e to (low +ℤ pos (room + 1)) log) f v budget lines → (t : List ℤ) → GivesValue log f v t → difference t e to ≤ℤ (low +ℤ pos room)
   reached refutes low room budget lines valid pair near top refuted t gives =
       let range = end-within low room near top in

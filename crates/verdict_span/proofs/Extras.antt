@@ -14,16 +14,13 @@ use Rattle.axiom_rules.proofs.ShapeLemmas.{slice-end}
 use Rattle.least_skew.proofs.Sames.{truths}
 use Rattle.verdict_span.specs.Laws.{ExtrasKeepTruth, ExtrasOnlyExclude}
 use Rattle.verdict_span.specs.Spaced.{CanBeSpaced, spaced}
+use Rattle.mt_list.proofs.Lists.{got_last}
 
 -- one more at the end of a list
 got-kept : {X : Type 0} (xs : List X) (x y : X) (k : ℕ) → slice_get xs k ≡ Some y → slice_get (xs ++ x ∷ []) k ≡ Some y
 got-kept [] x y k is = absurd (cc)
 got-kept (z ∷ zs) x y zero is = is
 got-kept (z ∷ zs) x y (suc k) is = got-kept zs x y k is
-
-got-last : {X : Type 0} (xs : List X) (x : X) → slice_get (xs ++ x ∷ []) (length xs) ≡ Some x
-got-last [] x = refl
-got-last (z ∷ zs) x = got-last zs x
 
 module _ (log : Logged) (x : Extra) (t : List ℤ) where
   fewer : Admissible (with_extra log x) t → Admissible log t
@@ -38,7 +35,7 @@ module _ (log : Logged) (x : Extra) (t : List ℤ) where
   }
 
   met : Admissible (with_extra log x) t → (time_of t x.e -ℤ time_of t x.f) ≤ℤ x.c
-  met ok = ok.extra (length log.extras) x (got-last log.extras x)
+  met ok = ok.extra (length log.extras) x (got_last log.extras x)
 
   both : Admissible log t → (time_of t x.e -ℤ time_of t x.f) ≤ℤ x.c → Admissible (with_extra log x) t
   both ok holds = record {
@@ -98,5 +95,6 @@ spaced-valid log e to c valid pair within = record {
   rows = valid.rows;
   resyncs = valid.resyncs;
   extras = All-append (IsExtra (length log.rows)) log.extras (the-extra log e to c [] ∷ []) valid.extras
-      (All-cons (IsExtra (length log.rows)) (the-extra log e to c []) [] (record { e = pair.row; f = pair.other; apart = pair.apart; bound = neg-within c within }) (All-nil (IsExtra (length log.rows))));
+      (All-cons (IsExtra (length log.rows)) (the-extra log e to c []) []
+      (record { e = pair.row; f = pair.other; apart = pair.apart; bound = neg-within c within }) (All-nil (IsExtra (length log.rows))));
 }

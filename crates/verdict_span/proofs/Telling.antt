@@ -41,7 +41,8 @@ next-within : (d : ℤ) → IsWithin (MAX_TIME +ℤ MAX_TIME) d → IsWithin MAX
 next-within d near = record { low = omega (arith, ints, near.low); high = omega (arith, ints, near.high) }
 
 -- lines that refute the value where row `to` comes at least c after row e leave only timings with it in which it comes earlier
-pub below-refuted : RefutedIsNoValue → (log : Logged) (f : Form) (v : Bool) (e to : ℕ) (c : ℤ) (budget : ℕ) (lines : List Line) → IsLog (spaced e to c log) → RefutesWithin (spaced e to c log) f v budget lines
+pub below-refuted : RefutedIsNoValue → (log : Logged) (f : Form) (v : Bool) (e to : ℕ) (c : ℤ) (budget : ℕ) (lines : List Line) → IsLog (spaced e to c log)
+    → RefutesWithin (spaced e to c log) f v budget lines
     → (t : List ℤ) → Admissible log t → truth log t 0 f ≡ v → (difference t e to +ℤ pos 1) ≤ℤ c
 below-refuted refutes log f v e to c budget lines valid refuted t ok value = not-above (difference t e to) c (λ above.
     refutes (spaced e to c log) f v lines valid refuted.refutes

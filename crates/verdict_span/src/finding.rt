@@ -22,7 +22,7 @@ use crate::turn::{Turned, turn};
 use crate::{SpanFault, Widest};
 use cdcl_core::{Nodes, Searched, refuted_by_conflict, search_log};
 use least_skew::{Ground, ground_of, nodes_of};
-use mt_model::{EventId, Formula, Log, Times, conflict_excludes_timings};
+use mt_model::{EventId, Formula, Log, Times, conflict_excludes_timings, log_is_valid};
 use mtl_encode::sizes_fall;
 use proof_log::Lines;
 use skew_bounds::{Consistency, settle};
@@ -64,8 +64,7 @@ fn climb_from(
     requires admissible { Admissible log.now times }
     ensures climb { IfOk result (λ climb. (f : Form) (v : Bool) (budget : ℕ) → 1 ≤ budget → GivesValue log.now f v times → IsClimb log.now f v e to budget climb) }
 {
-    // What a log is, that it is valid is known with.
-    let _ = log.rows();
+    log_is_valid(log);
     let distance = distance(times.as_slice(), e, to);
     let beyond = refuted_above(alloc, log, e, to, top)?;
     Ok(Climb {
@@ -178,8 +177,7 @@ pub fn widest(
     right_spans_are_greatest();
     sizes_fall();
     conflict_excludes_timings();
-    // What a log is, that it is valid is known with.
-    let _ = log.rows();
+    log_is_valid(log);
     let nodes = nodes_of(alloc, log, f)?;
     match ground_of(alloc, log, f, &nodes)? {
         Ground::Conflict(steps) => Ok(Widest::Inconsistent(steps)),

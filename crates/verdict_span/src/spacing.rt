@@ -6,7 +6,7 @@ ghost use Rattle.mt_model.specs.declared.limits.TheConstants.{MAX_EXTRA, MAX_TIM
 ghost use Rattle.skew_bounds.specs.Tight.{difference};
 ghost use Rattle.verdict_span.specs.Spaced.{CanBeSpaced, spaced as spaced_log};
 
-use mt_model::{EventId, Extra, Log};
+use mt_model::{EventId, Extra, Log, log_is_valid};
 use std::alloc::{AllocError, Global};
 
 /// The log with the extra bound that `to` comes at least c after e, in memory of its own.
@@ -15,8 +15,7 @@ pub fn spaced(alloc: Global, log: &Log, e: EventId, to: EventId, c: i128) -> Res
     requires range { IsWithin MAX_EXTRA c }
     ensures spaced { IfOk result (λ l. l ≡ spaced_log e to c log.now) }
 {
-    // What a log is, that it is valid is known with.
-    let _ = log.rows();
+    log_is_valid(log);
     let copy = log.copy(alloc)?;
     match copy.with_extra(Extra { e, f: to, c: -c }) {
         Ok(spaced) => Ok(spaced),

@@ -12,7 +12,7 @@ use crate::climb::Climb;
 use crate::reach::refuted_below;
 use crate::spacing::{distance, spaced};
 use cdcl_core::{Nodes, Searched, search_log};
-use mt_model::{EventId, Formula, Log};
+use mt_model::{EventId, Formula, Log, log_is_valid};
 use proof_check::refuted_is_no_value;
 use proof_log::Lines;
 use std::alloc::{AllocError, Global};
@@ -48,8 +48,7 @@ pub fn turn(
     ensures turned { IfOk result (IsTurned log.now (form_of f.now) value e to budget climb.room) }
 {
     refuted_is_no_value();
-    // What a log is, that it is valid is known with.
-    let _ = log.rows();
+    log_is_valid(log);
     let above = climb.next();
     let c = climb.distance + above as i128;
     let far = spaced(alloc, log, e, to, c)?;

@@ -3,15 +3,16 @@ use Rattle.std.proofs.Common.{◌≡◌, ◌∙◌, sym, ap, refl, ℕ, ◌<◌,
 use Rattle.std.specs.Option.{option_map_or}
 use Rattle.std.specs.List.{list_any, range_with_len}
 use Rattle.std.proofs.lemmas.Int.{ints}
-use Rattle.std.proofs.lemmas.Bool.{and_from, and_parts, cases_Bool}
+use Rattle.std.proofs.lemmas.Bool.{and_from, and_parts, cases_Bool, not-true, not_from_false}
 use Rattle.mt_model.proofs.TruthLemmas.{implies-from, implies-then}
 use Rattle.mt_model.specs.Frame.{Frame, reaches, span}
-use Rattle.mt_model.proofs.Members.{Among, any_same, same_bool, all_each, each_all}
+use Rattle.mt_model.proofs.Members.{Among, any_same, all_each, each_all}
 use Rattle.mt_model.proofs.PositionLemmas.{below, within_has}
 use Rattle.formula_arena.specs.declared.direction.Direction.{Direction}
 use Rattle.formula_arena.specs.declared.direction.Direction.TheVariants.{Ahead, Behind}
 use Rattle.witness_replay.specs.Directions.{rows_from}
 use Rattle.witness_replay.proofs.FirstRows.{IsFirstGap}
+use Rattle.std.specs.Cmp.{both_ways}
 
 -- the order of the rows goes along
 pub along : (d : Direction) (t : List ℤ) (x y z : ℕ) → (rows_from d t).not_after x y ≡ true → (rows_from d t).not_after y z ≡ true → (rows_from d t).not_after x z ≡ true
@@ -21,14 +22,6 @@ along Behind t x y z h k = grind (arith, ints)
 pub points : (d : Direction) (t : List ℤ) → (rows_from d t).points ≡ range_with_len 0 (length t)
 points Ahead t = refl
 points Behind t = refl
-
-not-true : (a : Bool) → not a ≡ true → a ≡ false
-not-true true h = absurd (cc)
-not-true false h = refl
-
-not-false : (a : Bool) → a ≡ false → not a ≡ true
-not-false true h = absurd (cc)
-not-false false h = refl
 
 -- the side holds from row e on up to row y exactly where y is not after the first gap
 module _ (d : Direction) (t : List ℤ) (test : ℕ → Bool) (e : ℕ) (gap : Option ℕ) (first : IsFirstGap (rows_from d t) test e (length t) gap) where
@@ -47,7 +40,9 @@ module _ (d : Direction) (t : List ℤ) (test : ℕ → Bool) (e : ℕ) (gap : O
     | inl is ↦ is
     | inr fails ↦
         let (from_here, broken) = and_parts (G.not_after e g) (not (test g)) some.passed in
-        let holds = implies-then (G.not_after e g && not (G.not_after y g)) (test g) (all_each _ G.points g spans (at_row g some.within)) (and_from (G.not_after e g) (not (G.not_after y g)) from_here (not-false (G.not_after y g) fails)) in
+        let holds =
+        implies-then (G.not_after e g && not (G.not_after y g)) (test g) (all_each _ G.points g spans (at_row g some.within))
+        (and_from (G.not_after e g) (not (G.not_after y g)) from_here (not_from_false (G.not_after y g) fails)) in
         let no = not-true (test g) broken in absurd (cc)
   ]
 
@@ -62,14 +57,14 @@ module _ (d : Direction) (t : List ℤ) (test : ℕ → Bool) (e : ℕ) (gap : O
       no : (g : Option ℕ) → IsFirstGap G test e (length t) g → option_map_or (λ m. G.not_after y m) g true ≡ true
           → (z : ℕ) → z < length t → G.not_after e z ≡ true → G.not_after y z ≡ false → test z ≡ false → ⊥
       no None none before z within from_here less fails =
-          let gap = and_from (G.not_after e z) (not (test z)) from_here (not-false (test z) fails) in
+          let gap = and_from (G.not_after e z) (not (test z)) from_here (not_from_false (test z) fails) in
           let none' = none z within in cc
       no (Some g) some before z within from_here less fails =
-          let gap = and_from (G.not_after e z) (not (test z)) from_here (not-false (test z) fails) in
+          let gap = and_from (G.not_after e z) (not (test z)) from_here (not_from_false (test z) fails) in
           let more = along d t y g z before (some.first z within gap) in cc
 
   span-gap : (y : ℕ) → option_map_or (λ m. G.not_after y m) gap true ≡ span G test e y
-  span-gap y = same_bool _ _ (before-spans y gap first) (spans-before y gap first)
+  span-gap y = both_ways _ _ (before-spans y gap first) (spans-before y gap first)
 
   -- some row from e on that is near and not after the first gap has the right side
   pub reaches-gap : (near : ℕ → ℕ → Bool) (right : ℕ → Bool)

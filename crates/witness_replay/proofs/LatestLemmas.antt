@@ -7,7 +7,6 @@ use Rattle.std.proofs.lemmas.Bool.{and_from, cases_Bool, cases_lt, lt-ltb}
 use Rattle.std.proofs.lemmas.Bool.Decides.{Decides-int_eq}
 use Rattle.std.proofs.lemmas.Int.{ints}
 use Rattle.mt_model.specs.Log.{Logged}
-use Rattle.mt_model.proofs.Members.{same_bool}
 use Rattle.mt_model.proofs.PreviousRows.{last_absent, last_found}
 use Rattle.mt_model.proofs.PulseLemmas.{pulsed-row, row-pulsed}
 use Rattle.mt_model.specs.State.{Change, change_at, is_pulsed, state}
@@ -20,9 +19,11 @@ use Rattle.witness_replay.specs.declared.states.Latest.{Latest}
 use Rattle.witness_replay.specs.declared.timeline.Moment.{Moment}
 use Rattle.witness_replay.proofs.StateLemmas.{state_before, state_before-last, state_before-never}
 use Rattle.witness_replay.proofs.TimelineLemmas.{met-each, timed}
+use Rattle.std.specs.Cmp.{both_ways}
 
 -- where the next place is after an instant, all from it on are
-pub after-rest : (moments : List Moment) (instant : ℤ) (places : ℕ) → AreRising moments (length moments) → (nat_lt places (length moments) && int_le (moment_at moments places).time instant) ≡ false → AreAfter moments instant places
+pub after-rest : (moments : List Moment) (instant : ℤ) (places : ℕ) → AreRising moments (length moments)
+    → (nat_lt places (length moments) && int_le (moment_at moments places).time instant) ≡ false → AreAfter moments instant places
 after-rest moments instant places rising ends = λ k from within. elim (cases_Bool (int_le (moment_at moments places).time instant)) [
   | inl by ↦
       let is = and_from (nat_lt places (length moments)) (int_le (moment_at moments places).time instant) (lt-ltb places (length moments) (omega (arith, from, within))) by in absurd (cc)
@@ -74,7 +75,8 @@ module _ (log : Logged) (t : List ℤ) (moments : List Moment) (count : length t
               absurd (grind (arith, ints))
         ]
 
-    last-state : (r : ℕ) (c : Change) → IsLastOf (is_change log host name) moments latest.places r → change_at log host name r ≡ Some c → state_before log t instant host name (length log.rows) ≡ c.sets
+    last-state : (r : ℕ) (c : Change) → IsLastOf (is_change log host name) moments latest.places r → change_at log host name r ≡ Some c
+        → state_before log t instant host name (length log.rows) ≡ c.sets
     last-state r c some found =
         let place_in : some.place < length t = let low = some.within in omega (arith, timeline.full, within) in
         let (row_in, _) = timed Ahead t moments timeline some.place place_in in
@@ -93,7 +95,9 @@ module _ (log : Logged) (t : List ℤ) (moments : List Moment) (count : length t
     left-latest : IsLastChange log moments host name latest.places latest.row → state_before log t instant host name (length log.rows) ≡ state_after log host name latest.row
     left-latest is = go latest.row is
       where
-        found : (r : ℕ) (made : Option Change) → change_at log host name r ≡ made → is_some made ≡ true → IsLastOf (is_change log host name) moments latest.places r → state_before log t instant host name (length log.rows) ≡ option_map_or (λ c. c.sets) made false
+        found : (r : ℕ) (made : Option Change) → change_at log host name r ≡ made → is_some made ≡ true
+            → IsLastOf (is_change log host name) moments latest.places r
+            → state_before log t instant host name (length log.rows) ≡ option_map_or (λ c. c.sets) made false
         found r None made is some = absurd (cc)
         found r (Some c) made is some = last-state r c some made
 
@@ -143,10 +147,11 @@ module _ (log : Logged) (t : List ℤ) (moments : List Moment) (count : length t
 
     pub state-latest : IsLatest log moments host name latest → state log t instant host name ≡ (is_pulsed_at moments instant latest.pulse || latest.sets)
     state-latest is =
-        let pulsed = same_bool (is_pulsed log t instant host name) (is_pulsed_at moments instant latest.pulse) (pulsed-then latest.pulse is.pulse) (pulsed-from latest.pulse is.pulse) in
+        let pulsed = both_ways (is_pulsed log t instant host name) (is_pulsed_at moments instant latest.pulse) (pulsed-then latest.pulse is.pulse) (pulsed-from latest.pulse is.pulse) in
         ap (λ b. b || state_before log t instant host name (length log.rows)) pulsed ∙ ap (λ b. is_pulsed_at moments instant latest.pulse || b) (left-latest is.change ∙ sym is.sets)
 
 -- the last pulse is at one of the first places
-pub pulse-within : (log : Logged) (moments : List Moment) (host : ℕ) (name : List ℕ) (places : ℕ) (pulse : Option ℕ) → places ≤ length moments → pulse ≡ last_pulse log moments host name places → IfSome pulse (λ p. p < length moments)
+pub pulse-within : (log : Logged) (moments : List Moment) (host : ℕ) (name : List ℕ) (places : ℕ) (pulse : Option ℕ) → places ≤ length moments
+    → pulse ≡ last_pulse log moments host name places → IfSome pulse (λ p. p < length moments)
 pulse-within log moments host name places None within is = tt
 pulse-within log moments host name places (Some p) within is = let low = (last_found (pulses_at log moments host name) places p (sym is)).below in omega arith

@@ -7,7 +7,7 @@ use Rattle.std.proofs.lemmas.Bool.{and_from, and_parts}
 use Rattle.std.proofs.lemmas.Int.{ints}
 use Rattle.mt_model.specs.declared.tree.Interval.{Interval}
 use Rattle.mt_model.specs.Frame.{Frame, is_in}
-use Rattle.mt_model.proofs.Members.{any_some, same_bool, some_any}
+use Rattle.mt_model.proofs.Members.{any_some, some_any}
 use Rattle.mt_model.proofs.PositionLemmas.{below, within_has}
 use Rattle.formula_arena.specs.declared.direction.Direction.{Direction}
 use Rattle.formula_arena.specs.declared.direction.Direction.TheVariants.{Ahead, Behind}
@@ -16,6 +16,7 @@ use Rattle.witness_replay.specs.Directions.{distance_from, is_far, is_near, rows
 use Rattle.witness_replay.proofs.GapLemmas.{along, reaches-gap}
 use Rattle.witness_replay.proofs.TimelineLemmas.{far-on}
 use Rattle.witness_replay.proofs.FirstRows.{IsFirstGap, IsFirstOf, is_candidate}
+use Rattle.std.specs.Cmp.{both_ways}
 
 -- a distance between two that are in an interval, or far enough for it, is in it
 in-between : (I : Interval) (x y : ℤ) → int_le (pos I.low) x ≡ true → int_le x y ≡ true → is_in I y ≡ true → is_in I x ≡ true
@@ -58,7 +59,8 @@ module _ (d : Direction) (t : List ℤ) (I : Interval) (right : ℕ → Bool) (g
       go (Some g) is = along d t w y g before is
 
   module _ (witness : Option ℕ) (first : IsFirstOf F (is_candidate d t I.low right e) (length t) witness) where
-    nearest-some : (witness : Option ℕ) → IsFirstOf F (is_candidate d t I.low right e) (length t) witness → is_reached d t I witness gap e ≡ true → list_any is_witness (range_with_len 0 (length t)) ≡ true
+    nearest-some : (witness : Option ℕ) → IsFirstOf F (is_candidate d t I.low right e) (length t) witness → is_reached d t I witness gap e ≡ true
+        → list_any is_witness (range_with_len 0 (length t)) ≡ true
     nearest-some None first is = absurd (cc)
     nearest-some (Some w) first is =
         let (near, opens) = and_parts (is_near d t I e w) (is_open w) is in
@@ -66,7 +68,8 @@ module _ (d : Direction) (t : List ℤ) (I : Interval) (right : ℕ → Bool) (g
         some_any is_witness (range_with_len 0 (length t)) w (within_has (length t) w first.within)
         (and_from (F.not_after e w) _ (far-on d t I.low e w far) (and_from (is_near d t I e w && right w) (is_open w) (and_from (is_near d t I e w) (right w) near holds) opens))
 
-    some-nearest : (witness : Option ℕ) → IsFirstOf F (is_candidate d t I.low right e) (length t) witness → list_any is_witness (range_with_len 0 (length t)) ≡ true → is_reached d t I witness gap e ≡ true
+    some-nearest : (witness : Option ℕ) → IsFirstOf F (is_candidate d t I.low right e) (length t) witness
+        → list_any is_witness (range_with_len 0 (length t)) ≡ true → is_reached d t I witness gap e ≡ true
     some-nearest witness first some =
         let (y, in_, is) = any_some is_witness (range_with_len 0 (length t)) some in
         let (_, rest) = and_parts (F.not_after e y) _ is in
@@ -74,7 +77,8 @@ module _ (d : Direction) (t : List ℤ) (I : Interval) (right : ℕ → Bool) (g
         let (near, holds) = and_parts (is_near d t I e y) (right y) both in
         go witness first y (below (length t) y in_) near holds opens
       where
-        go : (witness : Option ℕ) → IsFirstOf F (is_candidate d t I.low right e) (length t) witness → (y : ℕ) → y < length t → is_near d t I e y ≡ true → right y ≡ true → is_open y ≡ true → is_reached d t I witness gap e ≡ true
+        go : (witness : Option ℕ) → IsFirstOf F (is_candidate d t I.low right e) (length t) witness → (y : ℕ) → y < length t → is_near d t I e y ≡ true
+            → right y ≡ true → is_open y ≡ true → is_reached d t I witness gap e ≡ true
         go None none y within near holds opens =
             let is = and_from (is_far d t I.low e y) (right y) (near-far y near) holds in
             let no = none y within in absurd (cc)
@@ -85,10 +89,11 @@ module _ (d : Direction) (t : List ℤ) (I : Interval) (right : ℕ → Bool) (g
             and_from (is_near d t I e w) (is_open w) (near-nearer w y far before near) (open-earlier w y before opens)
 
     pub reached-some : is_reached d t I witness gap e ≡ list_any is_witness (range_with_len 0 (length t))
-    reached-some = same_bool _ _ (nearest-some witness first) (some-nearest witness first)
+    reached-some = both_ways _ _ (nearest-some witness first) (some-nearest witness first)
 
 -- the nearest candidate and the first gap decide
-pub reached-reaches : (d : Direction) (t : List ℤ) (I : Interval) (left right : List Bool) (witness gap : Option ℕ) (e : ℕ) → IsFirstOf (rows_from d t) (is_candidate d t I.low (value_at right) e) (length t) witness
+pub reached-reaches : (d : Direction) (t : List ℤ) (I : Interval) (left right : List Bool) (witness gap : Option ℕ) (e : ℕ)
+    → IsFirstOf (rows_from d t) (is_candidate d t I.low (value_at right) e) (length t) witness
     → IsFirstGap (rows_from d t) (value_at left) e (length t) gap → is_reached d t I witness gap e ≡ reaches_from d t I left right e
 reached-reaches d t I left right witness gap e nearest first =
     reached-some d t I (value_at right) gap e witness nearest ∙ reaches-gap d t (value_at left) e gap first (is_near d t I) (value_at right)

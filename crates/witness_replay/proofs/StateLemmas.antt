@@ -5,10 +5,10 @@ use Rattle.std.specs.List.{cons_option, filter_map, range_with_len}
 use Rattle.std.specs.Option.{option_map_or}
 use Rattle.std.proofs.lemmas.Bool.{cases_Bool}
 use Rattle.std.proofs.lemmas.List.{append-nil, reverse-append}
-use Rattle.std.proofs.lemmas.List.Elements.{filter_map-append}
 use Rattle.mt_model.specs.Log.{Logged}
 use Rattle.mt_model.specs.Timing.{host_of, time_of}
 use Rattle.mt_model.specs.State.{Change, change_at, effect_of}
+use Rattle.mt_list.proofs.Lists.{given_more}
 
 -- a change whose true time is at most an instant
 abbrev pub is_by : List ℤ → ℤ → Change → Bool
@@ -31,22 +31,9 @@ change-row log host name k = go (host_of log k == host) (option_and_then (λ r. 
     go true (Some sets) = refl
     go false made = tt
 
-range-more : (a k : ℕ) → range_with_len a (k + 1) ≡ range_with_len a k ++ (a + k) ∷ []
-range-more a zero = let e : a + 0 ≡ a = omega arith in rw e refl
-range-more a (suc k) =
-    let ih = range-more (a + 1) k in
-    let e : a + 1 + k ≡ a + suc k = omega arith in
-    let n : suc k + 1 ≡ suc (k + 1) = omega arith in
-    rw (n, ih, e) refl
-
--- the rows before row k + 1 are those before row k and row k
-changes-more : {X : Type 0} (h : ℕ → Option X) (k : ℕ) → filter_map h (range_with_len 0 (k + 1)) ≡ filter_map h (range_with_len 0 k) ++ cons_option (h k) []
-changes-more h k =
-    let e : 0 + k ≡ k = omega arith in
-    ap (filter_map h) (range-more 0 k) ∙ filter_map-append h (range_with_len 0 k) ((0 + k) ∷ []) ∙ rw e refl
-
 -- the last that passes, with perhaps one more
-last-more : {X : Type 0} (p : X → Bool) (xs : List X) (more : Option X) → find p (reverse (xs ++ cons_option more [])) ≡ option_map_or (λ x. cond (p x) (Some x) (find p (reverse xs))) more (find p (reverse xs))
+last-more : {X : Type 0} (p : X → Bool) (xs : List X) (more : Option X)
+    → find p (reverse (xs ++ cons_option more [])) ≡ option_map_or (λ x. cond (p x) (Some x) (find p (reverse xs))) more (find p (reverse xs))
 last-more p xs None = rw append-nil refl
 last-more p xs (Some x) = rw (reverse-append xs (x ∷ [])) refl
 
@@ -56,7 +43,7 @@ pub state_before-more : (log : Logged) (t : List ℤ) (instant : ℤ) (host : �
     → state_before log t instant host name (k + 1)
     ≡ option_map_or (λ c. c.sets) (option_map_or (λ c. cond (is_by t instant c) (Some c) (last_before log t instant host name k)) found (last_before log t instant host name k)) false
 state_before-more log t instant host name k found is =
-    ap (λ cs. option_map_or (λ c. c.sets) (find (is_by t instant) (reverse cs)) false) (changes-more (change_at log host name) k)
+    ap (λ cs. option_map_or (λ c. c.sets) (find (is_by t instant) (reverse cs)) false) (given_more (change_at log host name) k)
     ∙ rw is (ap (λ c. option_map_or (λ c. c.sets) c false) (last-more (is_by t instant) (filter_map (change_at log host name) (range_with_len 0 k)) found))
 
 module _ (log : Logged) (t : List ℤ) (instant : ℤ) (host : ℕ) (name : List ℕ) where
@@ -94,4 +81,5 @@ module _ (log : Logged) (t : List ℤ) (instant : ℤ) (host : ℕ) (name : List
       ap (state_before log t instant host name) same ∙ state_before-some r c found by
   state_before-last r (suc n) c found by none =
       let more : r + 1 + suc n ≡ r + 1 + n + 1 = omega arith in
-      ap (state_before log t instant host name) more ∙ (state_before-none (r + 1 + n) (none (r + 1 + n) (omega arith) (omega arith)) ∙ state_before-last r n c found by (λ e after less. none e after (omega (arith, less))))
+      ap (state_before log t instant host name) more
+      ∙ (state_before-none (r + 1 + n) (none (r + 1 + n) (omega arith) (omega arith)) ∙ state_before-last r n c found by (λ e after less. none e after (omega (arith, less))))

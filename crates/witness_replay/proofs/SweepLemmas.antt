@@ -51,7 +51,9 @@ module _ (d : Direction) (t : List ℤ) (moments : List Moment) (timeline : IsTi
         | inr after ↦ after
       ]
 
-      go : (hit : Option ℕ) → MatchOption hit ((k : ℕ) → sweep.place ≤ k → k < length t → is_hit d moments value side k ≡ false) (IsFirstHit (is_hit d moments value side) sweep.place (length t)) → IsFirstOf F candidate (length t) (option_map row hit)
+      go : (hit : Option ℕ)
+          → MatchOption hit ((k : ℕ) → sweep.place ≤ k → k < length t → is_hit d moments value side k ≡ false) (IsFirstHit (is_hit d moments value side) sweep.place (length t))
+          → IsFirstOf F candidate (length t) (option_map row hit)
       go None known = λ m within. elim (cases_Bool (candidate m)) [
         | inl is ↦
             let (k, k_in, here) = met-each d t moments timeline m within in
@@ -78,4 +80,5 @@ module _ (d : Direction) (t : List ℤ) (moments : List Moment) (timeline : IsTi
   pub gap-swept : (side : List Bool) (e : ℕ) (sweep : Sweep) → IsSwept (is_hit d moments false side) (length t) sweep
       → AreFar d t moments 0 e sweep.place → AreNear d t moments 0 e sweep.place → IsFirstGap F (value_at side) e (length t) (option_map row sweep.hit)
   gap-swept side e sweep swept far near =
-      first-same (is_candidate d t 0 (has_value false side) e) (is_gap F (value_at side) e) (λ m. rw (far-none d t e m) refl) (option_map row sweep.hit) (first-swept false side 0 e sweep swept far near)
+      first-same (is_candidate d t 0 (has_value false side) e) (is_gap F (value_at side) e) (λ m. rw (far-none d t e m) refl) (option_map row sweep.hit)
+      (first-swept false side 0 e sweep swept far near)

@@ -31,7 +31,8 @@ column-before j k n xs ys len less =
     rw (drop-append-le (j * n) xs ys start) (take-append-le n (drop (j * n) xs) ys room)
 
 -- the columns before node n alone
-pub columns-before : (log : Logged) (t : List ℤ) (trees : List Form) (n : ℕ) (xs rest : List Bool) → length xs ≡ n * length t → ColumnsAreTruths log t trees n (xs ++ rest) → ColumnsAreTruths log t trees n xs
+pub columns-before : (log : Logged) (t : List ℤ) (trees : List Form) (n : ℕ) (xs rest : List Bool) → length xs ≡ n * length t
+    → ColumnsAreTruths log t trees n (xs ++ rest) → ColumnsAreTruths log t trees n xs
 columns-before log t trees n xs rest len truths =
     λ k less. subst (IsColumn (length t) (λ e. truth_of log t e (tree_at trees k))) (column-before k n (length t) xs rest len less) (truths k less)
 
@@ -51,7 +52,9 @@ module _ (d : Direction) (t : List ℤ) (I : Interval) (f g : ℕ → Bool) (lef
   itself = record { into = λ m a. a; onto = λ m a. (m, a, refl); not_after = λ m n a b. refl; instant = λ m a. refl }
 
   reaches-sides : (e : ℕ) → e < length t → reaches_from d t I left right e ≡ reaches F (is_near d t I) f g e
-  reaches-sides e within = reaches_same F F (λ m. m) itself (is_near d t I) (is_near d t I) (λ m n a b. refl) (value_at left) f (λ m a. is_left.each m (among m a)) (value_at right) g (λ m a. is_right.each m (among m a)) e (rw (points d t) (within_has (length t) e within))
+  reaches-sides e within =
+      reaches_same F F (λ m. m) itself (is_near d t I) (is_near d t I) (λ m n a b. refl) (value_at left) f (λ m a. is_left.each m (among m a))
+      (value_at right) g (λ m a. is_right.each m (among m a)) e (rw (points d t) (within_has (length t) e within))
 
   column-reaches : (target : List Bool) → IsColumn (length t) (reaches_from d t I left right) target → IsColumn (length t) (reaches F (is_near d t I) f g) target
   column-reaches target is = record { full = is.full; each = λ e within. is.each e within ∙ reaches-sides e within }

@@ -9,13 +9,13 @@ use Rattle.std.proofs.lemmas.Int.{ints}
 use Rattle.std.proofs.lemmas.List.{get_or_default}
 use Rattle.std.proofs.lemmas.List.Elements.{All-from_get_or, All-get_or}
 use Rattle.std.proofs.lemmas.List.Sorted.{All-permutation, Contains-permutation, sorted_far, ranks_by}
-use Rattle.mt_model.proofs.Members.{same_bool}
 use Rattle.mt_model.specs.Timing.{time_of}
 use Rattle.formula_arena.specs.declared.direction.Direction.{Direction}
 use Rattle.formula_arena.specs.declared.direction.Direction.TheVariants.{Ahead, Behind}
 use Rattle.witness_replay.specs.Directions.{is_far, rows_from}
 use Rattle.witness_replay.specs.Timelines.{IsTimeline, moment_at, moment_of, row_met}
 use Rattle.witness_replay.specs.declared.timeline.Moment.{Moment}
+use Rattle.std.specs.Cmp.{both_ways}
 
 -- the moment that a place past the end has
 abbrev none : Moment
@@ -79,7 +79,7 @@ module _ (d : Direction) (t : List ℤ) where
       go Behind on = grind (arith, ints)
 
   pub far-none : (e m : ℕ) → is_far d t 0 e m ≡ (rows_from d t).not_after e m
-  far-none e m = same_bool _ _ (far-on 0 e m) (on-far e m)
+  far-none e m = both_ways _ _ (far-on 0 e m) (on-far e m)
 
 -- the rows of a timeline in the order in which they are met
 module _ (d : Direction) (t : List ℤ) (moments : List Moment) (timeline : IsTimeline t moments) where

@@ -1,6 +1,6 @@
 //! Truth values for each row, in the order of the rows, from those of an operator's sides.
 
-ghost use Rattle.std.specs.Prelude.{◌≡◌, ◌&&◌, ℕ, not, length, All};
+ghost use Rattle.std.specs.Prelude.{◌≡◌, ◌&&◌, not, length, All};
 ghost use Rattle.mt_model.specs.Log.{IsWithin};
 ghost use Rattle.mt_model.specs.State.{state_named, state as state_of};
 ghost use Rattle.mt_model.specs.Timing.{time_of};

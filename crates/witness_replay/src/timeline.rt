@@ -1,7 +1,6 @@
 //! The rows of a timing in the order of their times.
 
-ghost use Rattle.std.specs.Prelude.{◌≡◌, ◌<◌, ℤ, ℕ, length, IsPermutation};
-ghost use Rattle.mt_model.specs.Timing.{time_of};
+ghost use Rattle.std.specs.Prelude.{◌≡◌, ◌<◌, ℕ, length};
 ghost use Rattle.witness_replay.specs.Timelines.{IsTimeline, moment_at, moment_of, row_met};
 
 use formula_arena::Direction;

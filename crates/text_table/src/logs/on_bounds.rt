@@ -6,11 +6,12 @@
 //!   from the first row to the last one.
 
 use crate::logs::on_timings;
-use crate::logs::steps::{bound_of, step_of, walk_text};
+use crate::logs::steps::{step_of, walk_text};
 use crate::telling::{tell, tell_times};
 use mt_model::{Bound, EventId, Log, Step};
 use skew_bounds::{
-    Consistency, Tight, TightFault, bounds, edge_of, settle, step_of as step_of_bound, tight,
+    Consistency, Tight, TightFault, bound_of, bounds, edge_of, settle, step_of as step_of_bound,
+    tight,
 };
 use std::alloc::Global;
 

@@ -1,7 +1,7 @@
 //! Steps and bounds by their words.
 
 use crate::telling::push_part;
-use mt_model::{Bound, EventId, Step};
+use mt_model::Step;
 use std::alloc::Global;
 use table_case::{number_of, split_word};
 
@@ -31,19 +31,6 @@ pub fn step_of(text: &str) -> Option<Step> {
         "late" => Some(Step::Late(number)),
         "extra" => Some(Step::Extra(number)),
         _ => None,
-    }
-}
-
-/// The bound that a step is.
-pub fn bound_of(step: Step) -> Option<Bound> {
-    match step {
-        Step::Low(e) => Some(Bound::Low(EventId::new(e))),
-        Step::High(e) => Some(Bound::High(EventId::new(e))),
-        Step::Rise(f) => Some(Bound::Rise(EventId::new(f))),
-        Step::Message(r) => Some(Bound::Message(EventId::new(r))),
-        Step::Late(r) => Some(Bound::Late(EventId::new(r))),
-        Step::Extra(k) => Some(Bound::Extra(k)),
-        Step::Order { .. } => None,
     }
 }
 

@@ -20,6 +20,7 @@ returns-in-Some c =
     record {
       here = (
         λ is. (p, has, sym c.level_at.ensures.level ∙ same_is c.level_at.result c.level.result is ∙ c.level.ensures.level),
-        λ some. is_same c.level_at.result c.level.result (c.level_at.ensures.level ∙ greatest_here t c.requires.trail c.args.marked.now.keys p c.requires.in_range has c.in-Some.ensures.all_up_to some ∙ sym c.level.ensures.level),
+        λ some. is_same c.level_at.result c.level.result
+            (c.level_at.ensures.level ∙ greatest_here t c.requires.trail c.args.marked.now.keys p c.requires.in_range has c.in-Some.ensures.all_up_to some ∙ sym c.level.ensures.level),
       );
     }

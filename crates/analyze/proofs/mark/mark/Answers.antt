@@ -15,4 +15,6 @@ loop-lit-preserved c =
     let i = c.loop-lit.lit-index in
     let clause = c.args.clause.now in
     rw (take_more clause i no_lit c.loop-lit-test.true)
-    (marked_more c.args.trail.now c.args.before (take i clause) (get_or clause i no_lit) c.args.marked.now.keys c.loop-lit.marked.keys c.put.new.marked.keys c.loop-lit.invariant (rw c.var.ensures.variable at c.in_ok-put.ensures.put))
+    (marked_more c.args.trail.now c.args.before (take i clause)
+    (get_or clause i no_lit) c.args.marked.now.keys c.loop-lit.marked.keys c.put.new.marked.keys c.loop-lit.invariant
+    (rw c.var.ensures.variable at c.in_ok-put.ensures.put))

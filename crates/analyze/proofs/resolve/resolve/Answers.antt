@@ -21,7 +21,8 @@ pub walk-preserved : goal.walk-preserved
 walk-preserved c =
     let below = below_popped c.in-Some.next c.pop_last.new.self.keys c.in-Some.ensures.all_below in
     c.in_ok-step.ensures.work c.args.conflict
-    (popped c.args.trail.now c.args.db.now c.args.conflict c.walk.place c.in-Some.next c.walk.work.marked.keys c.pop_last.new.self.keys c.walk.work.aside.items (reverse c.walk.work.hints.items) c.in-Some.ensures.removal below c.walk.invariant)
+    (popped c.args.trail.now c.args.db.now c.args.conflict c.walk.place c.in-Some.next c.walk.work.marked.keys c.pop_last.new.self.keys c.walk.work.aside.items
+    (reverse c.walk.work.hints.items) c.in-Some.ensures.removal below c.walk.invariant)
 
 pub returns : goal.returns
 returns c =

@@ -8,5 +8,7 @@ add_new-requires c = part-new c.args.each c.loop-x.x c.loop-x.clause.items c.at.
 pub loop-x-preserved : goal.loop-x-preserved
 loop-x-preserved c = record {
   same = each-more c.args.each c.loop-x.clause.items c.add_new.new.clause.items c.loop-x.x c.args.events c.at.result c.loop-x-test.true c.at.ensures c.in_ok-add_new.ensures ∙ c.loop-x.invariant.same;
-  before = part-added c.args.each c.loop-x.x c.loop-x.clause.items c.add_new.new.clause.items c.at.result c.at.ensures (part-new c.args.each c.loop-x.x c.loop-x.clause.items c.at.result c.at.ensures c.loop-x.invariant.before) c.in_ok-add_new.ensures c.loop-x.invariant.before;
+  before =
+      part-added c.args.each c.loop-x.x c.loop-x.clause.items c.add_new.new.clause.items c.at.result c.at.ensures
+      (part-new c.args.each c.loop-x.x c.loop-x.clause.items c.at.result c.at.ensures c.loop-x.invariant.before) c.in_ok-add_new.ensures c.loop-x.invariant.before;
 }

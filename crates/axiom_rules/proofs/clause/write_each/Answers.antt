@@ -11,4 +11,5 @@ add_each-requires c = others-before c.args.each c.args.parts.now c.clear.new.sel
 
 pub returns : goal.returns
 returns c = subst (λ r. Answers r c.add_each.result c.add_each.new.clause.items)
-    (clause_more c.args.parts.now (map (part_at c.args.each) (range_with_len 0 c.args.events)) c.clear.new.self.items c.add_all.new.clause.items c.clear.ensures.items c.in_ok-add_all.ensures) c.add_each.ensures
+    (clause_more c.args.parts.now (map (part_at c.args.each) (range_with_len 0 c.args.events)) c.clear.new.self.items c.add_all.new.clause.items c.clear.ensures.items c.in_ok-add_all.ensures)
+    c.add_each.ensures

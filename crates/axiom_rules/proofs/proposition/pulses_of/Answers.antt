@@ -6,6 +6,9 @@ use Rattle.axiom_rules.proofs.proposition.pulses_of.Goals as goal
 
 pub loop-e-preserved : goal.loop-e-preserved
 loop-e-preserved c = elim c.if-is_pulse.branch [
-  | then-is_pulse+in_ok-push w ↦ pulses-some (is_pulse_at c.args.log.now c.args.host c.args.name.now) c.loop-e.e c.loop-e.list c.if-is_pulse.list c.loop-e.invariant (sym c.is_pulse.ensures ∙ w.if-is_pulse.true) (w.list-is ∙ w.in_ok-push.ensures.ok)
-  | else-is_pulse w ↦ pulses-none (is_pulse_at c.args.log.now c.args.host c.args.name.now) c.loop-e.e c.loop-e.list c.if-is_pulse.list c.loop-e.invariant (sym c.is_pulse.ensures ∙ w.if-is_pulse.false) w.list-is
+  | then-is_pulse+in_ok-push w ↦ pulses-some
+      (is_pulse_at c.args.log.now c.args.host c.args.name.now) c.loop-e.e c.loop-e.list c.if-is_pulse.list c.loop-e.invariant
+      (sym c.is_pulse.ensures ∙ w.if-is_pulse.true) (w.list-is ∙ w.in_ok-push.ensures.ok)
+  | else-is_pulse w ↦ pulses-none (is_pulse_at c.args.log.now c.args.host c.args.name.now) c.loop-e.e c.loop-e.list c.if-is_pulse.list c.loop-e.invariant
+      (sym c.is_pulse.ensures ∙ w.if-is_pulse.false) w.list-is
 ]

@@ -4,9 +4,10 @@ use Rattle.std.proofs.lemmas.Bool.{cases_eq}
 use Rattle.std.proofs.lemmas.List.{get_or_append_left, get_or_default, get_or_push, length_push}
 use Rattle.propagate.specs.declared.entry.Entry.{Entry}
 use Rattle.propagate.specs.Trails.{Assigned, HasEntry, IsTrail, IsUnassigned, entry_at, no_entry}
-use Rattle.analyze.proofs.Order.{distinct, read_entry}
+use Rattle.analyze.proofs.Order.{distinct}
 use Rattle.mtl_encode.specs.Models.{value_at}
 use Rattle.cdcl_core.proofs.assignment.values_of.Goals as goal
+use Rattle.propagate.proofs.ClauseLemmas.{read_entry}
 
 -- one more value, that of variable v
 value_next : (t : Assigned) (values : List Bool) (v : ℕ) (o : Option Bool) → IsTrail t → length values ≡ v → All (λ e. e.lit.var < v → value_at values e.lit.var ≡ e.lit.positive) t.entries

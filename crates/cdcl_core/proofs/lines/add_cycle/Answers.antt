@@ -64,7 +64,8 @@ returns-clause-derives c =
     let same = rw (c.requires.linked, c.cycle.ensures.cycle) at c.in_ok-steps.ensures.steps in
     let own = c.deref.ensures.value ∙ (rw (c.requires.linked, c.cycle-2.ensures.cycle) at c.in_ok-lits.ensures.clause) in
     of_three _ _ _ _ c.add.result (λ clause cite line log f v base l are stuck old.
-    cycle_recorded log f v c.args.atoms.now c.args.derived.now.db c.args.derived.now.cites c.args.derived.now.lines c.args.bounds.now c.args.links.now base c.args.trail.now c.args.graph.now l c.in_ok-steps.steps
+    cycle_recorded log f v c.args.atoms.now c.args.derived.now.db c.args.derived.now.cites c.args.derived.now.lines c.args.bounds.now c.args.links.now base
+    c.args.trail.now c.args.graph.now l c.in_ok-steps.steps
     old c.len.ensures.once c.requires.links c.requires.vars c.graphs_are_solved.ensures.solution are stuck same
     c.deref.result.now c.add.new.self.db c.add.new.self.cites c.add.new.self.lines (omega (arith, c.requires.line_room)) own clause cite line)
     c.add.ensures.clause c.add.ensures.cite c.add.ensures.line

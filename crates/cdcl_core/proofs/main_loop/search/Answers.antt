@@ -6,7 +6,11 @@ use Rattle.cdcl_core.proofs.Starts.{posed_orders, problem_ready}
 use Rattle.cdcl_core.proofs.main_loop.search.Goals as goal
 
 pub links_of-requires : goal.links_of-requires
-links_of-requires c = record { orders = orders-more c.args.problem.nodes MAX_NODES c.args.problem.atoms c.requires.posed.fits.system.few_nodes (posed_orders c.cores_are_cores.ensures c.nodes_are_subtrees.ensures c.args.problem c.requires.posed) }
+links_of-requires
+    c = record {
+      orders = orders-more c.args.problem.nodes MAX_NODES c.args.problem.atoms c.requires.posed.fits.system.few_nodes
+          (posed_orders c.cores_are_cores.ensures c.nodes_are_subtrees.ensures c.args.problem c.requires.posed);
+    }
 
 pub begin-requires : goal.begin-requires
 begin-requires c = record {

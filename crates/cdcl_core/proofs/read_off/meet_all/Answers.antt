@@ -13,4 +13,6 @@ loop-c-preserved c = λ k low. elim (below_or_last k c.loop-c.c low) [
 ]
 
 pub returns : goal.returns
-returns c = λ yes. All-from_get_or (λ lits. list_any (value_of (value_at c.args.values.now)) lits ≡ true) c.args.db.now [] (λ k below. c.loop-c.invariant k (omega (arith, below, c.loop-c-test.false, c.len-c-end.ensures.count)))
+returns c =
+    λ yes. All-from_get_or (λ lits. list_any (value_of (value_at c.args.values.now)) lits ≡ true) c.args.db.now []
+    (λ k below. c.loop-c.invariant k (omega (arith, below, c.loop-c-test.false, c.len-c-end.ensures.count)))

@@ -6,4 +6,4 @@ use Rattle.cdcl_core.proofs.value.refuted_by_conflict.Goals as goal
 pub returns-clause-refuted : goal.returns-clause-refuted
 returns-clause-refuted c =
     let is : c.push.new.self ≡ line.Cycle c.args.steps ∷ [] = search rules in
-    rw is (conflict_refutes c.args.log.now c.rows.ensures.valid c.args.steps c.requires.conflict)
+    rw is (conflict_refutes c.args.log.now c.log_is_valid.ensures.valid c.args.steps c.requires.conflict)

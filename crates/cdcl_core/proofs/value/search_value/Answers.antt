@@ -12,17 +12,17 @@ encode_by-requires c = record { size = rw c.requires.nodes.arena c.requires.smal
 
 pub search-requires-clause-posed : goal.search-requires-clause-posed
 search-requires-clause-posed c = posed c.bounds_are_admissible.ensures c.args.log.now (form_of c.args.f.now) c.args.value c.in_ok-problem.problem c.requires.consistent.timing
-    c.rows.ensures.valid c.tree.ensures.valid c.requires.consistent.admissible (c.in_ok-problem.ensures.fits (form_of c.args.f.now) c.requires.nodes.arena c.requires.nodes.root)
+    c.log_is_valid.ensures.valid c.tree.ensures.valid c.requires.consistent.admissible (c.in_ok-problem.ensures.fits (form_of c.args.f.now) c.requires.nodes.arena c.requires.nodes.root)
 
 pub times_of-requires : goal.times_of-requires
 times_of-requires c =
     let f = form_of c.args.f.now in
     let fits = c.in_ok-problem.ensures.fits f c.requires.nodes.arena c.requires.nodes.root in
-    let model = rw c.in-Model.is at (c.in_ok-potentials.ensures.found c.args.log.now f c.args.value c.rows.ensures.valid fits) in
+    let model = rw c.in-Model.is at (c.in_ok-potentials.ensures.found c.args.log.now f c.args.value c.log_is_valid.ensures.valid fits) in
     let exact = c.in_ok-problem.ensures.exact f c.requires.nodes.arena c.requires.nodes.root c.in-Model.values c.in-Model.potentials model in
     rw c.as_slice.ensures.items (record {
       some = let count = model.numbers_count in let nodes = fits.nodes in omega (arith, count, nodes);
-      near = times-near c.args.log.now c.rows.ensures.valid (times_of c.in-Model.potentials) exact.0;
+      near = times-near c.args.log.now c.log_is_valid.ensures.valid (times_of c.in-Model.potentials) exact.0;
     })
 
 pub returns-in-Model : goal.returns-in-Model
@@ -30,7 +30,7 @@ returns-in-Model c =
     let log = c.args.log.now in
     let f = form_of c.args.f.now in
     let fits = c.in_ok-problem.ensures.fits f c.requires.nodes.arena c.requires.nodes.root in
-    let model = rw c.in-Model.is at (c.in_ok-potentials.ensures.found log f c.args.value c.rows.ensures.valid fits) in
+    let model = rw c.in-Model.is at (c.in_ok-potentials.ensures.found log f c.args.value c.log_is_valid.ensures.valid fits) in
     let exact = c.in_ok-problem.ensures.exact f c.requires.nodes.arena c.requires.nodes.root c.in-Model.values c.in-Model.potentials model in
     let same = rw c.as_slice.ensures.items at c.in_ok-times_of-in-Model.ensures.times in
     record { found = model_found log f c.args.value c.args.budget c.in-Model.potentials c.in_ok-times_of-in-Model.field-0 same exact.0 exact.1 }
@@ -40,7 +40,7 @@ returns-in-Refuted c =
     let log = c.args.log.now in
     let f = form_of c.args.f.now in
     let fits = c.in_ok-problem.ensures.fits f c.requires.nodes.arena c.requires.nodes.root in
-    let found = rw c.in-Refuted.is at (c.in_ok-potentials.ensures.found log f c.args.value c.rows.ensures.valid fits) in
+    let found = rw c.in-Refuted.is at (c.in_ok-potentials.ensures.found log f c.args.value c.log_is_valid.ensures.valid fits) in
     record { found = refuted_found log f c.args.value c.args.budget c.in-Refuted.lines found.0 found.1 found.2 }
 
 pub returns : goal.returns
@@ -48,7 +48,7 @@ returns c =
     let log = c.args.log.now in
     let f = form_of c.args.f.now in
     let fits = c.in_ok-problem.ensures.fits f c.requires.nodes.arena c.requires.nodes.root in
-    let found = rw c.in-Spent.is at (c.in_ok-potentials.ensures.found log f c.args.value c.rows.ensures.valid fits) in
+    let found = rw c.in-Spent.is at (c.in_ok-potentials.ensures.found log f c.args.value c.log_is_valid.ensures.valid fits) in
     let problem = c.in_ok-problem.problem in
     let rules = problem.rules in
     let kept = c.in_ok-problem.ensures.kept f c.requires.nodes.arena c.requires.nodes.root in

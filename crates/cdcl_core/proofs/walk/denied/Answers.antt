@@ -32,7 +32,8 @@ loop-place-preserved c =
     let at = get_or_default walk i 0 p within in
     elim c.if-place-base.branch [
       | then-place-base+in_ok-push w ↦
-          rw w.lits-is (w.in_ok-push.ensures.items ∙ ap (λ l. c.loop-place.lits.items ++ l ∷ []) w.negated.ensures.other ∙ ap (λ ls. ls ++ negation (lit_at orders (p - base)) ∷ []) c.loop-place.invariant
+          rw w.lits-is
+          (w.in_ok-push.ensures.items ∙ ap (λ l. c.loop-place.lits.items ++ l ∷ []) w.negated.ensures.other ∙ ap (λ ls. ls ++ negation (lit_at orders (p - base)) ∷ []) c.loop-place.invariant
           ∙ sym (denied_more base orders walk i p within at w.if-place-base.true))
       | else-place-base w ↦ rw w.lits-is (c.loop-place.invariant ∙ sym (denied_same base orders walk i p within at w.if-place-base.false))
     ]

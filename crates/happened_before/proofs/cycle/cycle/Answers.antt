@@ -27,4 +27,5 @@ pub back-preserved : goal.back-preserved
 back-preserved c =
     let new = rw c.deref.ensures.value at c.in_default.ensures.none in
     let next = c.awaited-here.ensures in
-    rw (c.in_ok-push.ensures.items, c.new.ensures.number) (path-push c.args.table.now c.args.finished.now c.back.path.items c.back.here c.back.invariant new c.awaited-here.result next.cause next.within next.unfinished)
+    rw (c.in_ok-push.ensures.items, c.new.ensures.number)
+    (path-push c.args.table.now c.args.finished.now c.back.path.items c.back.here c.back.invariant new c.awaited-here.result next.cause next.within next.unfinished)

@@ -18,7 +18,8 @@ returns-in_err-add_host c =
 pub loop-host-preserved : goal.loop-host-preserved
 loop-host-preserved c =
     let added = c.in_ok-add_host.ensures in
-    one-more host_records c.args.hosts.now c.loop-host.host-index c.host-item.result c.loop-host-test.true c.host-item.is c.args.records.now c.loop-host.records c.loop-host.invariant added.0 c.add_host.new.records added.1 added.2
+    one-more host_records c.args.hosts.now c.loop-host.host-index c.host-item.result c.loop-host-test.true c.host-item.is c.args.records.now c.loop-host.records
+    c.loop-host.invariant added.0 c.add_host.new.records added.1 added.2
 
 pub returns : goal.returns
 returns c = all-added host_records c.args.hosts.now c.loop-host.host-index c.args.records.now c.loop-host.records (omega (arith, c.loop-host-test.false)) c.loop-host.invariant

@@ -27,7 +27,11 @@ returns-in-Conflict-clause-inconsistent c =
 pub returns-in-Conflict-clause-asked : goal.returns-in-Conflict-clause-asked
 returns-in-Conflict-clause-asked c =
     let ground = rw (c.in_ok-wide.ensures.wide, c.in-Conflict.is) at c.in_ok-steps.ensures.ground in
-    record { hosts = c.in_ok-nodes.ensures.hosts; few = c.in_ok-nodes.ensures.few; small = conflict-small c.conflict_excludes_timings.ensures (wide c.args.max c.args.log.now) (form_of c.args.f.now) c.in-Conflict.steps ground }
+    record {
+      hosts = c.in_ok-nodes.ensures.hosts;
+      few = c.in_ok-nodes.ensures.few;
+      small = conflict-small c.conflict_excludes_timings.ensures (wide c.args.max c.args.log.now) (form_of c.args.f.now) c.in-Conflict.steps ground;
+    }
 
 pub search_least-requires-clause-small : goal.search_least-requires-clause-small
 search_least-requires-clause-small c =

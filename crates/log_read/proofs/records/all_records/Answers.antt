@@ -30,11 +30,21 @@ loop-row-preserved c =
     let s = rw (c.in-Some.is, c.in-Ok.is) at ((c.next.ensures.steps inv.2 inv.0).0 inv.1) in
     let flexible = rw (c.in-Some.is, c.in-Ok.is) at (c.next.ensures.steps inv.2 inv.0).3 in
     let kept : c.keep.new.list ≡ c.loop-row.list ++ fields_of c.in-Ok.row ∷ [] = c.in_ok-keep-in-Ok.ensures.ok in
-    let m = rows-more (λ (s : Bor (List ℕ)). Some s.now) c.loop-row.row-iterator.rdr c.next.new.self.rdr (fields_of c.in-Ok.row) default_config st.StartRecord (strip_bom c.args.text.now) inv.5 c.loop-row.list inv.3 inv.6 inv.7 s.0 in
+    let m =
+    rows-more (λ (s : Bor (List ℕ)). Some s.now) c.loop-row.row-iterator.rdr c.next.new.self.rdr (fields_of c.in-Ok.row) default_config st.StartRecord
+    (strip_bom c.args.text.now) inv.5 c.loop-row.list inv.3 inv.6 inv.7 s.0 in
     (s.0.3 ∙ inv.0, inl s.1, s.2, s.0.2 ∙ inv.3, flexible ∙ inv.4, m.0, m.1, rw (kept) m.2)
 
 pub returns : goal.returns
 returns c =
     let inv = c.loop-row.invariant in
     let s = rw c.in-None.is at ((c.next.ensures.steps inv.2 inv.0).0 inv.1) in
-    record { records = (c.loop-row.row-iterator.rdr.state, inv.5, inv.7, rows-end (λ (s : Bor (List ℕ)). Some s.now) c.loop-row.row-iterator.rdr c.next.new.self.rdr [] default_config inv.5 inv.3 inv.6 s) }
+    record {
+      records = (
+        c.loop-row.row-iterator.rdr.state,
+        inv.5,
+        inv.7,
+        rows-end
+            (λ (s : Bor (List ℕ)). Some s.now) c.loop-row.row-iterator.rdr c.next.new.self.rdr [] default_config inv.5 inv.3 inv.6 s,
+      );
+    }

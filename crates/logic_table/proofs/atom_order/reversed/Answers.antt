@@ -17,7 +17,9 @@ returns-clause-posed c =
     let places = c.in_ok-places.places.items in
     let are : AreLastFirst (length p.atoms) places = rw c.len.ensures.atoms at c.in_ok-places.ensures in
     let taken : AreTaken p.atoms places c.in_ok-atoms.atoms = rw (c.deref-2.ensures.value, c.in_ok-vars.ensures, c.deref.ensures.value) at c.in_ok-atoms.ensures.atoms in
-    reversed_posed p (record { db = c.renamed.result; rules = p.rules; atoms = c.in_ok-atoms.atoms; bounds = p.bounds; edges = p.edges; nodes = p.nodes }) places are taken (rw c.deref-3.ensures.value at c.renamed.ensures.clauses) refl refl refl refl
+    reversed_posed p
+    (record { db = c.renamed.result; rules = p.rules; atoms = c.in_ok-atoms.atoms; bounds = p.bounds; edges = p.edges; nodes = p.nodes }) places are taken
+    (rw c.deref-3.ensures.value at c.renamed.ensures.clauses) refl refl refl refl
     c.requires.posed
 
 pub returns-clause-reversed : goal.returns-clause-reversed

@@ -9,5 +9,6 @@ pub returns : goal.returns
 returns c =
     let literals = c.args.literals.now in
     let held = c.args.held.now in
-    all_answered (λ l. Contains held (negated l)) (λ _. Unit {0}) _ literals (cases_from_all _ _ _ (λ l. Contains held (negated l)) (λ _. Unit {0}) c.all.ensures.ran (YieldsList-from_slice literals cc)
+    all_answered (λ l. Contains held (negated l)) (λ _. Unit {0}) _ literals
+    (cases_from_all _ _ _ (λ l. Contains held (negated l)) (λ _. Unit {0}) c.all.ensures.ran (YieldsList-from_slice literals cc)
     (λ x q k. search (rules, tests)) (λ x q k. tt {0}))

@@ -4,7 +4,9 @@ use Rattle.logic_table.proofs.searching.searched_nodes.Goals as goal
 
 pub ordered-requires : goal.ordered-requires
 ordered-requires c = record {
-  posed = posed c.bounds_are_admissible.ensures c.args.log.now (form_of c.args.f.now) c.args.asked.value c.in_ok-encoded.encoded c.args.times.now c.rows.ensures.valid c.tree.ensures.valid c.requires.admissible
+  posed =
+      posed c.bounds_are_admissible.ensures c.args.log.now
+      (form_of c.args.f.now) c.args.asked.value c.in_ok-encoded.encoded c.args.times.now c.log_is_valid.ensures.valid c.tree.ensures.valid c.requires.admissible
       (c.in_ok-encoded.ensures.fits (form_of c.args.f.now) c.requires.nodes c.requires.last);
 }
 

@@ -14,5 +14,8 @@ loop-place-preserved c =
     let keeps : Keeps c.loop-place.atoms c.lit_of.new.atoms = rw c.in_ok-lit.ensures.atoms (keeps-atom c.loop-place.atoms _) in
     record {
       atoms = (rw c.loop-place.invariant.atoms at c.in_ok-lit.ensures.atoms) ∙ sym (atoms-more c.args.atoms.now c.args.clause.now c.loop-place.place _ c.loop-place-test.true);
-      read = rw c.in_ok-push.ensures.items (read-more c.loop-place.atoms c.lit_of.new.atoms (c.loop-place.lits).items c.args.clause.now c.loop-place.place _ c.in_ok-lit.lit keeps c.loop-place-test.true c.loop-place.invariant.read c.in_ok-lit.ensures.lit);
+      read =
+          rw c.in_ok-push.ensures.items
+          (read-more c.loop-place.atoms c.lit_of.new.atoms
+          (c.loop-place.lits).items c.args.clause.now c.loop-place.place _ c.in_ok-lit.lit keeps c.loop-place-test.true c.loop-place.invariant.read c.in_ok-lit.ensures.lit);
     }

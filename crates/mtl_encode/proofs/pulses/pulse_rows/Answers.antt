@@ -8,8 +8,10 @@ use Rattle.mtl_encode.proofs.pulses.pulse_rows.Goals as goal
 
 pub loop-e-preserved : goal.loop-e-preserved
 loop-e-preserved c = elim c.if-is_pulse.branch [
-  | then-is_pulse+in_ok-push w ↦ pulses-some (is_pulse_row c.args.rules.now.log) c.loop-e.e c.loop-e.pulses.items c.if-is_pulse.pulses.items c.loop-e.invariant (sym c.is_pulse.ensures.pulse ∙ w.if-is_pulse.true) (ap (λ x. x.items) w.pulses-is ∙ w.in_ok-push.ensures.items)
-  | else-is_pulse w ↦ pulses-none (is_pulse_row c.args.rules.now.log) c.loop-e.e c.loop-e.pulses.items c.if-is_pulse.pulses.items c.loop-e.invariant (sym c.is_pulse.ensures.pulse ∙ w.if-is_pulse.false) (ap (λ x. x.items) w.pulses-is)
+  | then-is_pulse+in_ok-push w ↦ pulses-some (is_pulse_row c.args.rules.now.log) c.loop-e.e c.loop-e.pulses.items c.if-is_pulse.pulses.items c.loop-e.invariant
+      (sym c.is_pulse.ensures.pulse ∙ w.if-is_pulse.true) (ap (λ x. x.items) w.pulses-is ∙ w.in_ok-push.ensures.items)
+  | else-is_pulse w ↦ pulses-none (is_pulse_row c.args.rules.now.log) c.loop-e.e c.loop-e.pulses.items c.if-is_pulse.pulses.items c.loop-e.invariant
+      (sym c.is_pulse.ensures.pulse ∙ w.if-is_pulse.false) (ap (λ x. x.items) w.pulses-is)
 ]
 
 pub returns : goal.returns

@@ -6,4 +6,5 @@ use Rattle.mtl_encode.specs.Needless.{extremes_of, is_live}
 use Rattle.mtl_encode.proofs.size.live_pairs.Given as goal
 
 abbrev pub invariant-loop-i : goal.invariant-loop-i
-invariant-loop-i l = (l.count ≡ sum_by (λ i. count_by (is_live (extremes_of l.tight) l.direction l.interval i) (range_with_len 0 (events_of l.tight))) (range_with_len 0 l.i)) × (l.count ≤ l.i * events_of l.tight)
+invariant-loop-i l =
+    (l.count ≡ sum_by (λ i. count_by (is_live (extremes_of l.tight) l.direction l.interval i) (range_with_len 0 (events_of l.tight))) (range_with_len 0 l.i)) × (l.count ≤ l.i * events_of l.tight)

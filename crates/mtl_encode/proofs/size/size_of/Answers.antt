@@ -9,7 +9,7 @@ returns-in-Some c =
     let is = rw c.in-Some.is at c.requires.tight in
     record {
       size = inr (record {
-        consistent = tight-consistent log c.in-Some.tight.now is c.rows.ensures.valid.some_rows;
+        consistent = tight-consistent log c.in-Some.tight.now is c.log_is_valid.ensures.valid.some_rows;
         extremes = extremes_of c.in-Some.tight.now;
         are = tight-extremes log c.in-Some.tight.now is;
         size = rw (← is.events) c.nodes_size.ensures.size;

@@ -5,4 +5,6 @@ pub returns-clause-only : goal.returns-clause-only
 returns-clause-only c = taken-only c.args.atoms.now c.in_ok-taken.taken c.in_ok-order.order.items c.in_ok-order.ensures (rw c.deref-2.ensures.value at c.in_ok-taken.ensures.atoms)
 
 pub returns-clause-places : goal.returns-clause-places
-returns-clause-places c = taken-moved c.args.atoms.now c.in_ok-taken.taken c.in_ok-order.order.items c.in_ok-places.places.items c.in_ok-order.ensures (rw c.deref.ensures.value at c.in_ok-places.ensures) (rw c.deref-2.ensures.value at c.in_ok-taken.ensures.atoms)
+returns-clause-places c =
+    taken-moved c.args.atoms.now c.in_ok-taken.taken c.in_ok-order.order.items c.in_ok-places.places.items c.in_ok-order.ensures
+    (rw c.deref.ensures.value at c.in_ok-places.ensures) (rw c.deref-2.ensures.value at c.in_ok-taken.ensures.atoms)

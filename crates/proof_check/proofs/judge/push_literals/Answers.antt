@@ -8,7 +8,8 @@ loop-i-init c = no_lits_read c.args.kept.now (words_after c.args.words.now) c.re
 
 pub returns-in_default-clause-literals : goal.returns-in_default-clause-literals
 returns-in_default-clause-literals c = λ lits after spelled is.
-    lits_none c.args.kept.now (words_after c.args.words.now) c.read_count-count.result.0 c.loop-i._i (words_after c.loop-i.rest.now) c.loop-i.kept c.loop-i-test.true c.loop-i.invariant c.in_default.ensures.literal lits after spelled is blank
+    lits_none c.args.kept.now (words_after c.args.words.now) c.read_count-count.result.0 c.loop-i._i
+    (words_after c.loop-i.rest.now) c.loop-i.kept c.loop-i-test.true c.loop-i.invariant c.in_default.ensures.literal lits after spelled is blank
 
 pub loop-i-preserved : goal.loop-i-preserved
 loop-i-preserved c =
@@ -17,4 +18,5 @@ loop-i-preserved c =
 
 pub returns-clause-literals : goal.returns-clause-literals
 returns-clause-literals c = λ lits after spelled is.
-    lits_read c.args.kept.now (words_after c.args.words.now) c.read_count-count.result.0 c.loop-i._i (words_after c.loop-i.rest.now) c.loop-i.kept c.loop-i-test.false c.loop-i.invariant lits after spelled is
+    lits_read c.args.kept.now (words_after c.args.words.now) c.read_count-count.result.0 c.loop-i._i
+    (words_after c.loop-i.rest.now) c.loop-i.kept c.loop-i-test.false c.loop-i.invariant lits after spelled is

@@ -19,7 +19,8 @@ pub loop-i-preserved : goal.loop-i-preserved
 loop-i-preserved c =
     let next : IsNext c.args.rules.now c.loop-i.kept.closed c.index-lines-i.result = search rules in
     let grown : c.takes_line.new.kept ≡ closed_only (c.loop-i.kept.closed ++ clause_of_line c.index-lines-i.result ∷ []) = search rules in (
-      judged_more c.args.rules.now c.args.lines.now c.loop-i.i c.loop-i.kept.closed c.index-lines-i.result c.loop-i-test.true c.index-lines-i.is c.loop-i.invariant.0 next c.takes_line.new.kept.closed (ap (λ (k : Kept). k.closed) grown),
+      judged_more c.args.rules.now c.args.lines.now c.loop-i.i c.loop-i.kept.closed c.index-lines-i.result c.loop-i-test.true c.index-lines-i.is c.loop-i.invariant.0 next c.takes_line.new.kept.closed
+          (ap (λ (k : Kept). k.closed) grown),
       ap (λ (k : Kept). k.pending) grown,
     )
 

@@ -1,9 +1,8 @@
 use Rattle.std.proofs.Common.{◌≡◌, ◌≢◌, ◌+◌, take, codes, rules}
 use Rattle.std.proofs.lemmas.List.{take_rest}
 use Rattle.proof_log.specs.LinesText.{newline}
-use Rattle.proof_log.proofs.CitedHints.{head-at}
 use Rattle.proof_log.proofs.Cuts.{cut-none}
-use Rattle.proof_log.proofs.FrontLines.{none-head}
+use Rattle.proof_log.proofs.HeadLines.{head-at, none-head}
 use Rattle.proof_log.proofs.HandedWords.{cycle-handed, learn-handed, words-spaced}
 use Rattle.proof_log.proofs.ReadingLines.{no-newline}
 use Rattle.proof_log.proofs.parts.next_words.Goals as goal

@@ -11,4 +11,5 @@ returns c =
     by-rest (made line.Cycle reading) (line.Cycle steps) c.in-Some.rest.now (made-back line.Cycle reading steps (words_after c.in-Some.rest.now) is) tt c.is_empty.result c.is_empty.ensures
 
 pub returns-in_default : goal.returns-in_default
-returns-in_default c = (λ no. absurd (cc), λ gives. absurd (none-given (made line.Cycle (counted_in step_in (words_after c.args.words.now))) (no-steps (words_after c.args.words.now) c.in_default.ensures) gives))
+returns-in_default c =
+    (λ no. absurd (cc), λ gives. absurd (none-given (made line.Cycle (counted_in step_in (words_after c.args.words.now))) (no-steps (words_after c.args.words.now) c.in_default.ensures) gives))

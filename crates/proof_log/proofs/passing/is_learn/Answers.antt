@@ -24,7 +24,9 @@ returns-then-is_empty c =
     let (lits, first, held) = rw c.in-Some.is at c.in_ok-after.ensures in
     let (hints, second) = c.in-Some-pass_hints.ensures in
     let empty : length c.in-Some-pass_hints.rest.now ≡ 0 = let test = c.if-is_empty.true in let is = c.is_empty.ensures in grind (arith, nat_tests) in
-    by-atoms ws (words_after c.in-Some.after.now) c.in-Some-pass_hints.rest.now lits hints c.pass_atoms.new.atoms.items c.are_apart.result first second held empty (rw c.deref_mut.ensures.value at c.are_apart.ensures)
+    by-atoms ws
+    (words_after c.in-Some.after.now) c.in-Some-pass_hints.rest.now lits hints c.pass_atoms.new.atoms.items c.are_apart.result first second held empty
+    (rw c.deref_mut.ensures.value at c.are_apart.ensures)
 
 pub returns : goal.returns
 returns c =

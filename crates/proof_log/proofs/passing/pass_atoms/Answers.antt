@@ -10,7 +10,9 @@ loop-rest-init c = none-kept (words_after c.args.words.now) (words_after c.in-So
 pub loop-rest-preserved : goal.loop-rest-preserved
 loop-rest-preserved c =
     let more : length c.loop-rest.atoms.items < c.in-Some.count = search (rules, c.loop-rest-test.true) in
-    one-kept (words_after c.args.words.now) (words_after c.loop-rest.rest.now) c.in-Some.count c.loop-rest.atoms.items c.loop-rest.invariant c.in-Some-next_literal.literal (words_after c.in-Some-next_literal.after.now) _ more c.in-Some-next_literal.ensures c.in_ok-push.ensures.items
+    one-kept (words_after c.args.words.now)
+    (words_after c.loop-rest.rest.now) c.in-Some.count c.loop-rest.atoms.items c.loop-rest.invariant c.in-Some-next_literal.literal
+    (words_after c.in-Some-next_literal.after.now) _ more c.in-Some-next_literal.ensures c.in_ok-push.ensures.items
 
 pub returns : goal.returns
 returns c =

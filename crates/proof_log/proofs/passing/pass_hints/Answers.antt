@@ -1,6 +1,6 @@
 use Rattle.std.proofs.Common.{arith}
 use Rattle.proof_log.specs.Reading.{hint_in, words_after}
-use Rattle.proof_log.proofs.CitedHints.{all-passed, none-left, none-passed, one-passed}
+use Rattle.proof_log.proofs.PassedItems.{all-passed, none-left, none-passed, one-passed}
 use Rattle.proof_log.proofs.Items.{uncounted}
 use Rattle.proof_log.proofs.passing.pass_hints.Goals as goal
 
@@ -9,14 +9,17 @@ loop-passed-init c = none-passed hint_in (words_after c.args.words.now) (words_a
 
 pub loop-passed-preserved : goal.loop-passed-preserved
 loop-passed-preserved c =
-    one-passed hint_in (words_after c.args.words.now) (words_after c.loop-passed.rest.now) c.in-Some.count c.loop-passed.passed c.loop-passed.invariant _ (words_after c.in-Some-next_hint.after.now) c.loop-passed-test.true c.in-Some-next_hint.ensures
+    one-passed hint_in (words_after c.args.words.now) (words_after c.loop-passed.rest.now) c.in-Some.count c.loop-passed.passed c.loop-passed.invariant _
+    (words_after c.in-Some-next_hint.after.now) c.loop-passed-test.true c.in-Some-next_hint.ensures
 
 pub returns : goal.returns
-returns c = all-passed hint_in (words_after c.args.words.now) (words_after c.loop-passed.rest.now) c.in-Some.count c.loop-passed.passed c.loop-passed.invariant (omega (arith, c.loop-passed-test.false))
+returns c =
+    all-passed hint_in (words_after c.args.words.now) (words_after c.loop-passed.rest.now) c.in-Some.count c.loop-passed.passed c.loop-passed.invariant (omega (arith, c.loop-passed-test.false))
 
 pub returns-in_default : goal.returns-in_default
 returns-in_default c = uncounted hint_in (words_after c.args.words.now) c.in_default.ensures
 
 pub returns-in_default-next_hint : goal.returns-in_default-next_hint
 returns-in_default-next_hint c =
-    none-left hint_in (words_after c.args.words.now) (words_after c.loop-passed.rest.now) c.in-Some.count c.loop-passed.passed c.loop-passed.invariant c.loop-passed-test.true c.in_default-next_hint.ensures
+    none-left hint_in (words_after c.args.words.now)
+    (words_after c.loop-passed.rest.now) c.in-Some.count c.loop-passed.passed c.loop-passed.invariant c.loop-passed-test.true c.in_default-next_hint.ensures

@@ -1,6 +1,6 @@
 use Rattle.std.proofs.Common.{◌-◌}
 use Rattle.proof_log.specs.Reading.{literal_in, words_after}
-use Rattle.proof_log.proofs.CitedHints.{ArePassed}
+use Rattle.proof_log.proofs.PassedItems.{ArePassed}
 use Rattle.proof_log.proofs.passing.pass_literals.Given as goal
 
 abbrev pub invariant-loop-passed : goal.invariant-loop-passed

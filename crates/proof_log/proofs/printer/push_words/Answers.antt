@@ -10,7 +10,8 @@ returns-in_ok-extend_from_slice-in-Cycle c =
     let words = decimal (length c.in-Cycle.steps) ∷ flat_map step_words c.in-Cycle.steps in
     let text = c.args.text.now.items in
     let pushed = rw c.as_slice.ensures.items at c.push_steps.ensures in
-    on_ok (c.push_steps.new.text.items ≡ c.extend_from_slice.new.self.items ++ spaced words) (c.push_steps.new.text.items ≡ text ++ join_with_byte space (line_words c.args.line.now)) c.push_steps.result
+    on_ok (c.push_steps.new.text.items ≡ c.extend_from_slice.new.self.items ++ spaced words)
+    (c.push_steps.new.text.items ≡ text ++ join_with_byte space (line_words c.args.line.now)) c.push_steps.result
     (λ more. joined-after text c.extend_from_slice.new.self.items c.push_steps.new.text.items (codes "cycle") words c.in_ok-extend_from_slice-in-Cycle.ensures.items more ∙ ap (λ l. text ++ join_with_byte space (line_words l)) (sym c.in-Cycle.is)) pushed
 
 pub returns-in_ok-push_literals-in-Learn : goal.returns-in_ok-push_literals-in-Learn

@@ -17,4 +17,6 @@ loop-rest-preserved c =
     let end = c.in-Some.end in
     let found = c.in-Some.ensures in
     let line = line-found (take end rest) c.in_ok-line.field-0 c.in-Some-2.line c.in-Some-2.is c.in_ok-line.ensures.line in
-    up-to c.args.bytes.now _ _ _ c.push.new.self (line-more rest end found.0 found.1 c.args.bytes.now c.loop-rest.lines c.loop-rest.invariant c.in-Some-2.line line) c.in_ok-push.ensures.ok (take_rest rest (end + 1))
+    up-to c.args.bytes.now _ _ _ c.push.new.self
+    (line-more rest end found.0 found.1 c.args.bytes.now c.loop-rest.lines c.loop-rest.invariant c.in-Some-2.line line) c.in_ok-push.ensures.ok
+    (take_rest rest (end + 1))

@@ -8,7 +8,8 @@ use Rattle.proof_log.proofs.spelling.is_spelled_learn.Goals as goal
 -- where all else is right, that no atom stands twice decides
 decided : {E : Type 0} (r : Result Bool E) (lits : List Literal) (hints : List Hint) → IsNumber (length lits) → IsNumber (length hints) → All IsSpelledLiteral lits → All IsSpelledHint hints
     → IfOk r (λ b. IsTrue b ↔ AllPairs (λ l m. m.atom ≡ l.atom → ⊥) lits) → IfOk r (λ b. IsTrue b ↔ IsSpelledLearn lits hints)
-decided (Ok b) lits hints few_lits few_hints each_lit each_hint once = (λ is. record { lit_count = few_lits; hint_count = few_hints; each_lit = each_lit; each_hint = each_hint; once = once.0 is }, λ spelled. once.1 spelled.once)
+decided (Ok b) lits hints few_lits few_hints each_lit each_hint once =
+    (λ is. record { lit_count = few_lits; hint_count = few_hints; each_lit = each_lit; each_hint = each_hint; once = once.0 is }, λ spelled. once.1 spelled.once)
 decided (Err e) lits hints few_lits few_hints each_lit each_hint once = tt
 
 pub returns-then-are_spelled_hints : goal.returns-then-are_spelled_hints
@@ -17,7 +18,8 @@ returns-then-are_spelled_hints c =
       | goal.then-is_number w ↦ (c.is_number.ensures.0 w.if-is_number.true, w.is_number-are_numbers.ensures.0 (sym w.are_numbers-is ∙ c.if-are_numbers.true))
       | goal.else-is_number w ↦ absurd (cc (sym w.are_numbers-is ∙ c.if-are_numbers.true))
     ] in
-    decided c.has_atoms_once.result c.args.lits.now c.args.hints.now numbers.0 numbers.1 (c.are_spelled_literals.ensures.0 c.if-are_spelled_literals.true) (c.are_spelled_hints.ensures.0 c.if-are_spelled_hints.true) c.has_atoms_once.ensures.once
+    decided c.has_atoms_once.result c.args.lits.now c.args.hints.now numbers.0 numbers.1 (c.are_spelled_literals.ensures.0 c.if-are_spelled_literals.true)
+    (c.are_spelled_hints.ensures.0 c.if-are_spelled_hints.true) c.has_atoms_once.ensures.once
 
 pub returns-else-are_numbers : goal.returns-else-are_numbers
 returns-else-are_numbers c = (

@@ -15,7 +15,8 @@ loop-words-preserved c = λ lines is.
     let next = line-after lines n c.loop-words.rest.now c.in-Some.after.now c.in-Some.words so_far.rest_is head in
     let new = c.add_line.new.numbers.items in
     let size : c.len.result ≡ length new = search rules in
-    one-named lines c.loop-words.numbers.items ends c.loop-words.rest.now so_far head.line c.in-Some.after.now next new c.push.new.self.items (c.in_ok-add_line.ensures head.line head.spelled head.words) (c.in_ok-push.ensures.items ∙ ap (λ k. ends ++ k ∷ []) size)
+    one-named lines c.loop-words.numbers.items ends c.loop-words.rest.now so_far head.line c.in-Some.after.now next new c.push.new.self.items
+    (c.in_ok-add_line.ensures head.line head.spelled head.words) (c.in_ok-push.ensures.items ∙ ap (λ k. ends ++ k ∷ []) size)
 
 pub loop-words-smaller : goal.loop-words-smaller
 loop-words-smaller c =

@@ -13,7 +13,8 @@ pub loop-words-init : goal.loop-words-init
 loop-words-init c = λ lines is full forward.
     let marks = c.args.marks.now in
     let text = c.args.text.now in
-    subst (λ ps. IsTextLeftTo marks lines ps c.in_ok-left.left.items 0 text) (sym c.in_ok-places.ensures.items) (subst (λ t. IsTextLeftTo marks lines [] t 0 text) (sym c.in_ok-left.ensures.items) (none-text_left marks lines text is))
+    subst (λ ps. IsTextLeftTo marks lines ps c.in_ok-left.left.items 0 text) (sym c.in_ok-places.ensures.items)
+    (subst (λ t. IsTextLeftTo marks lines [] t 0 text) (sym c.in_ok-left.ensures.items) (none-text_left marks lines text is))
 
 pub push_marked-requires : goal.push_marked-requires
 push_marked-requires c =
@@ -54,8 +55,11 @@ loop-words-preserved c = λ lines is full forward.
     let new = c.push_marked.new.left.items in
     let copy = λ (ps : List ℕ). line_text (renumbered (λ n. get_or ps (n - 1) 0) head.line) in
     let pushed = c.in_ok-push_marked.ensures head.line head.spelled head.words in
-    let added = subst (λ (k : ℕ). new ≡ (if get_or marks k false then left ++ copy places else left)) size (subst (λ (ps : List ℕ). new ≡ (if get_or marks c.len.result false then left ++ copy ps else left)) c.deref.ensures.value pushed) in
-    text_left-more marks lines places left c.loop-words.count rest so_far head.line after next _ new c.count_with-count.result c.push.new.self.items mark back added (rw size at c.count_with-count.ensures) c.in_ok-push.ensures.items
+    let added =
+    subst (λ (k : ℕ). new ≡ (if get_or marks k false then left ++ copy places else left)) size
+    (subst (λ (ps : List ℕ). new ≡ (if get_or marks c.len.result false then left ++ copy ps else left)) c.deref.ensures.value pushed) in
+    text_left-more marks lines places left c.loop-words.count rest so_far head.line after next _ new c.count_with-count.result c.push.new.self.items mark back added
+    (rw size at c.count_with-count.ensures) c.in_ok-push.ensures.items
 
 pub loop-words-smaller : goal.loop-words-smaller
 loop-words-smaller c =

@@ -9,7 +9,9 @@ loop-next-init c = none-renamed (λ n. slice_index c.args.places.now (n - 1)) (l
 pub loop-next-preserved : goal.loop-next-preserved
 loop-next-preserved c =
     let next = c.in-Some.next in
-    one-renamed (λ n. slice_index c.args.places.now (n - 1)) (length c.args.places.now + 1) c.args.words.now c.args.left.now.items c.loop-next.left.items c.loop-next.rest.now c.loop-next.invariant next.before.now next.line next.after.now c.in-Some.ensures
+    one-renamed (λ n. slice_index c.args.places.now (n - 1))
+    (length c.args.places.now + 1) c.args.words.now c.args.left.now.items c.loop-next.left.items c.loop-next.rest.now c.loop-next.invariant next.before.now
+    next.line next.after.now c.in-Some.ensures
     c.extend_from_slice.new.self.items c.push_number.new.left.items c.in_ok-extend_from_slice.ensures.items c.in_ok-push_number.ensures
 
 pub loop-next-smaller : goal.loop-next-smaller
@@ -18,5 +20,8 @@ loop-next-smaller c = c.in-Some.ensures.shorter
 pub bounds-places-next : goal.bounds-places-next
 bounds-places-next c =
     let next = c.in-Some.next in
-    let is = line-earlier (λ n. slice_index c.args.places.now (n - 1)) (length c.args.places.now + 1) c.args.words.now c.args.left.now.items c.loop-next.left.items c.loop-next.rest.now c.loop-next.invariant next.before.now next.line next.after.now c.in-Some.ensures in
+    let is =
+    line-earlier (λ n. slice_index c.args.places.now (n - 1))
+    (length c.args.places.now + 1) c.args.words.now c.args.left.now.items c.loop-next.left.items c.loop-next.rest.now c.loop-next.invariant next.before.now
+    next.line next.after.now c.in-Some.ensures in
     omega (arith, is.0, is.1)

@@ -27,13 +27,19 @@ returns-in_ok-extend_from_slice-in-Cycle c =
     let old = c.args.left.now.items in
     let one = c.extend_from_slice.new.self.items in
     let two = c.extend_from_slice-in-Cycle.new.self.items in
-    on_ok (two ≡ one ++ c.in-Cycle.words.now) ((l : Line) → IsSpelled l → AreWordsOf c.args.words l → two ≡ old ++ join_with_byte space (line_words (renumbered (λ n. slice_index c.args.places.now (n - 1)) l))) c.extend_from_slice-in-Cycle.result
-    (λ added l is are. cycle-added c.args.words c.in-Cycle.words l are (λ n. slice_index c.args.places.now (n - 1)) old one two c.in-Cycle.is c.requires.spaced c.in_ok-extend_from_slice-in-Cycle.ensures.items added) (when_ok c.extend_from_slice-in-Cycle.result two one c.in-Cycle.words.now c.extend_from_slice-in-Cycle.ensures.items)
+    on_ok (two ≡ one ++ c.in-Cycle.words.now)
+    ((l : Line) → IsSpelled l → AreWordsOf c.args.words l → two ≡ old ++ join_with_byte space (line_words (renumbered (λ n. slice_index c.args.places.now (n - 1)) l)))
+    c.extend_from_slice-in-Cycle.result
+    (λ added l is are. cycle-added c.args.words c.in-Cycle.words l are
+    (λ n. slice_index c.args.places.now (n - 1)) old one two c.in-Cycle.is c.requires.spaced c.in_ok-extend_from_slice-in-Cycle.ensures.items added)
+    (when_ok c.extend_from_slice-in-Cycle.result two one c.in-Cycle.words.now c.extend_from_slice-in-Cycle.ensures.items)
 
 pub returns-in_ok-extend_from_slice-in-Learn : goal.returns-in_ok-extend_from_slice-in-Learn
 returns-in_ok-extend_from_slice-in-Learn c =
     let old = c.args.left.now.items in
     let one = c.extend_from_slice-in-Learn.new.self.items in
     let two = c.push_renamed.new.left.items in
-    on_ok (two ≡ one ++ spaced (renamed_in (λ n. slice_index c.args.places.now (n - 1)) false (words_after c.in-Learn.words.now))) ((l : Line) → IsSpelled l → AreWordsOf c.args.words l → two ≡ old ++ join_with_byte space (line_words (renumbered (λ n. slice_index c.args.places.now (n - 1)) l))) c.push_renamed.result
-    (λ added l is are. learn-added c.args.words c.in-Learn.words l are is c.in-Learn.is (λ n. slice_index c.args.places.now (n - 1)) old one two c.in_ok-extend_from_slice-in-Learn.ensures.items added) c.push_renamed.ensures
+    on_ok (two ≡ one ++ spaced (renamed_in (λ n. slice_index c.args.places.now (n - 1)) false (words_after c.in-Learn.words.now)))
+    ((l : Line) → IsSpelled l → AreWordsOf c.args.words l → two ≡ old ++ join_with_byte space (line_words (renumbered (λ n. slice_index c.args.places.now (n - 1)) l))) c.push_renamed.result
+    (λ added l is are. learn-added c.args.words c.in-Learn.words l are is c.in-Learn.is (λ n. slice_index c.args.places.now (n - 1)) old one two c.in_ok-extend_from_slice-in-Learn.ensures.items added)
+    c.push_renamed.ensures

@@ -27,4 +27,8 @@ loop-i-preserved c = λ lines are.
     back-more lines i l stands (c.loop-i.invariant lines are) (earlier-back (i + 1) l (subst (All (IsEarlier (i + 1))) same (c.are_earlier.ensures.0 yes)))
 
 pub returns : goal.returns
-returns c = record { first = λ lines are. subst (λ n. LookBackTo lines n) (let last : c.loop-i.i ≡ length lines = omega (arith, are.count, c.loop-i-test.false, c.loop-i.auto.i-end) in last) (c.loop-i.invariant lines are) }
+returns
+    c = record {
+      first = λ lines are. subst (λ n. LookBackTo lines n)
+          (let last : c.loop-i.i ≡ length lines = omega (arith, are.count, c.loop-i-test.false, c.loop-i.auto.i-end) in last) (c.loop-i.invariant lines are);
+    }

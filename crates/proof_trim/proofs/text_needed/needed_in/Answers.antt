@@ -45,14 +45,17 @@ loop-i-preserved-then-index c =
           let (l, stands) = line-here lines c.args.numbers.now c.args.ends.now are (i - 1) within in
           let same = c.numbers_at.ensures.named lines l are stands in
           let this : suc (i - 1) ≡ i = omega arith in
-          subst (NeededAfter lines (i - 1)) (sym back) (needed-named lines forward i (i - 1) this l stands c.deref_mut.result.now new (subst (NeededAfter lines i) (sym value) (c.loop-i.invariant.1 lines are forward)) (subst (λ ms. IsMarked ms i) (sym value) marked)
+          subst (NeededAfter lines (i - 1)) (sym back)
+          (needed-named lines forward i (i - 1) this l stands c.deref_mut.result.now new
+          (subst (NeededAfter lines i) (sym value) (c.loop-i.invariant.1 lines are forward)) (subst (λ ms. IsMarked ms i) (sym value) marked)
           c.numbers_at.result.now same c.mark_numbers.ensures.named c.mark_numbers.ensures.kept c.mark_numbers.ensures.only c.mark_numbers.ensures.count),
     )
 
 pub loop-i-preserved : goal.loop-i-preserved
 loop-i-preserved c = (
   c.loop-i.invariant.0,
-  λ lines are forward. needed-less lines c.loop-i.i c.loop-i.marks.items (c.loop-i.invariant.1 lines are forward) (not-marked c.loop-i.marks.items c.loop-i.i _ (sym c.index.ensures ∙ c.if-index.false)),
+  λ lines are forward. needed-less lines c.loop-i.i c.loop-i.marks.items (c.loop-i.invariant.1 lines are forward)
+      (not-marked c.loop-i.marks.items c.loop-i.i _ (sym c.index.ensures ∙ c.if-index.false)),
 )
 
 pub returns : goal.returns

@@ -1,12 +1,14 @@
 use Rattle.std.proofs.Common.{◌≡◌, Bool, List, map}
 use Rattle.proof_log.specs.declared.line.Line.{Line}
-use Rattle.proof_trim.specs.Trimmed.{AreNeeded, IsTrimOf, marked, place_of, renumbered}
+use Rattle.proof_log.specs.Marks.{marked}
+use Rattle.proof_trim.specs.Trimmed.{AreNeeded, IsTrimOf, place_of, renumbered}
 use Rattle.proof_trim.proofs.Kept.{each-named, keeps-refuting, keeps-spelling, shorter}
 use Rattle.proof_trim.proofs.Looks.{none-first}
 use Rattle.proof_trim.proofs.trimming.trim.Goals as goal
 
 -- what was marked and copied is what is left
-trim-of : (lines : List Line) (marks passed : List Bool) (left : List Line) → AreNeeded lines marks → passed ≡ marks → left ≡ map (renumbered (place_of passed lines)) (marked passed lines) → IsTrimOf lines left
+trim-of : (lines : List Line) (marks passed : List Bool) (left : List Line) → AreNeeded lines marks → passed ≡ marks
+    → left ≡ map (renumbered (place_of passed lines)) (marked passed lines) → IsTrimOf lines left
 trim-of lines marks passed left needed same copied = record { marks = marks; needed = needed; left = rw same at copied }
 
 pub returns-clause-each_named : goal.returns-clause-each_named

@@ -9,4 +9,6 @@ returns-in_err-line c = rw c.from_residual.ensures (uncut IsNumber events_line e
 
 pub returns-in_err-events : goal.returns-in_err-events
 returns-in_err-events c =
-    rw c.from_residual-in_err-events.ensures (unspelled IsNumber events_line events-spelled c.args.bytes.now c.in_ok-line.line.now c.in_ok-line.rest.now c.in_ok-line.ensures (λ n is. c.in_err-events.ensures n (record { number = is.is; text = is.text })))
+    rw c.from_residual-in_err-events.ensures
+    (unspelled IsNumber events_line events-spelled c.args.bytes.now c.in_ok-line.line.now c.in_ok-line.rest.now c.in_ok-line.ensures
+    (λ n is. c.in_err-events.ensures n (record { number = is.is; text = is.text })))

@@ -7,4 +7,5 @@ use Rattle.report_text.proofs.front.next_time.Goals as goal
 
 pub returns-in_err-time : goal.returns-in_err-time
 returns-in_err-time c =
-    rw c.from_residual-in_err-time.ensures (unspelled (IsWithin MAX_TIME) signed_decimal times-spelled c.args.bytes.now c.in_ok-line.line.now c.in_ok-line.rest.now c.in_ok-line.ensures c.in_err-time.ensures)
+    rw c.from_residual-in_err-time.ensures
+    (unspelled (IsWithin MAX_TIME) signed_decimal times-spelled c.args.bytes.now c.in_ok-line.line.now c.in_ok-line.rest.now c.in_ok-line.ensures c.in_err-time.ensures)

@@ -15,4 +15,6 @@ returns-in_default c =
 pub loop-rest-preserved : goal.loop-rest-preserved
 loop-rest-preserved c =
     let more : length c.loop-rest.steps < c.args.count = omega (arith, c.len.ensures.count, c.loop-rest-test.true) in
-    rw c.in_ok-push.ensures.ok (one-more IsSpelledBound step_text bounds-spelled c.args.count c.args.bytes.now c.loop-rest.steps c.loop-rest.rest.now c.in-Some.step c.in-Some.after.now c.loop-rest.invariant more c.in-Some.ensures)
+    rw c.in_ok-push.ensures.ok
+    (one-more IsSpelledBound step_text bounds-spelled c.args.count c.args.bytes.now c.loop-rest.steps c.loop-rest.rest.now c.in-Some.step
+    c.in-Some.after.now c.loop-rest.invariant more c.in-Some.ensures)

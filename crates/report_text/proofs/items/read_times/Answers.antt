@@ -13,11 +13,15 @@ use Rattle.report_text.proofs.items.read_times.Goals as goal
 pub returns-in_default : goal.returns-in_default
 returns-in_default c =
     let more : length c.loop-rest.times < c.args.count = omega (arith, c.len.ensures.count, c.loop-rest-test.true) in
-    items-stopped (IsWithin MAX_TIME) signed_decimal times-spelled (pos 0) zero-time c.args.count c.args.bytes.now c.loop-rest.times c.loop-rest.rest.now c.loop-rest.invariant more c.in_default.ensures
+    items-stopped (IsWithin MAX_TIME) signed_decimal times-spelled
+    (pos 0) zero-time c.args.count c.args.bytes.now c.loop-rest.times c.loop-rest.rest.now c.loop-rest.invariant more c.in_default.ensures
 
 pub loop-rest-preserved : goal.loop-rest-preserved
 loop-rest-preserved c =
     let more : length c.loop-rest.times < c.args.count = omega (arith, c.len.ensures.count, c.loop-rest-test.true) in
     let fits : SFits w128 c.in-Some.time = search (rules, c.in-Some.ensures.is) in
     let pushed : c.push.new.self ≡ c.loop-rest.times ++ c.in-Some.time ∷ [] = c.in_ok-push.ensures.ok ∙ ap (λ t. c.loop-rest.times ++ t ∷ []) (to_z-of_z w128 c.in-Some.time fits) in
-    rw pushed (one-more (IsWithin MAX_TIME) signed_decimal times-spelled c.args.count c.args.bytes.now c.loop-rest.times c.loop-rest.rest.now c.in-Some.time c.in-Some.after.now c.loop-rest.invariant more c.in-Some.ensures)
+    rw pushed
+    (one-more
+    (IsWithin MAX_TIME) signed_decimal times-spelled c.args.count c.args.bytes.now c.loop-rest.times c.loop-rest.rest.now c.in-Some.time
+    c.in-Some.after.now c.loop-rest.invariant more c.in-Some.ensures)

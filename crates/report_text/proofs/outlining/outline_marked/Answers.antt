@@ -12,7 +12,8 @@ returns-in_err-outline c =
 
 pub returns-in_default-after_words : goal.returns-in_default-after_words
 returns-in_default-after_words c =
-    last-none c.args.bytes.now c.in-Some.rest.now c.in_ok-outline.rest.now c.in-Some.events c.in_ok-outline.ensures.value c.in-Some.ensures c.in_ok-outline.ensures.front c.in_default-after_words.ensures
+    last-none c.args.bytes.now c.in-Some.rest.now c.in_ok-outline.rest.now c.in-Some.events c.in_ok-outline.ensures.value c.in-Some.ensures
+    c.in_ok-outline.ensures.front c.in_default-after_words.ensures
 
 pub returns : goal.returns
 returns c =

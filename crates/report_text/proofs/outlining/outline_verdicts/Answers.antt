@@ -12,7 +12,9 @@ returns-in_err-on_true c =
 pub returns-in_err-on_false : goal.returns-in_err-on_false
 returns-in_err-on_false c =
     let p = err_from_is_err_and c.from_residual-in_err-on_false.result c.from_residual-in_err-on_false.ensures.1 in
-    rw (p.1, p.2) (false-stopped c.args.events c.args.kind c.in_ok-on_true.ensures.value c.args.bytes.now c.in_ok-on_true.rest.now c.in_err-on_false.field-0.0 c.in_ok-on_true.ensures.front c.in_err-on_false.ensures)
+    rw (p.1, p.2)
+    (false-stopped c.args.events c.args.kind c.in_ok-on_true.ensures.value c.args.bytes.now c.in_ok-on_true.rest.now c.in_err-on_false.field-0.0
+    c.in_ok-on_true.ensures.front c.in_err-on_false.ensures)
 
 pub returns : goal.returns
 returns c =
@@ -21,5 +23,7 @@ returns c =
     record {
       value = report.Verdicts c.args.events first.value second.value;
       outlined = record { on_true = first.value; on_false = second.value; is = refl; outlines_true = first.outlined; outlines_false = second.outlined };
-      read = verdicts-read c.args.events c.args.kind first.value second.value (report.Verdicts c.args.events first.value second.value) c.args.bytes.now c.in_ok-on_true.rest.now c.in_ok-on_false.rest.now refl first.front second.front;
+      read =
+          verdicts-read c.args.events c.args.kind first.value second.value
+          (report.Verdicts c.args.events first.value second.value) c.args.bytes.now c.in_ok-on_true.rest.now c.in_ok-on_false.rest.now refl first.front second.front;
     }

@@ -9,4 +9,5 @@ pub loop-line-preserved : goal.loop-line-preserved
 loop-line-preserved c =
     let first = ended (c.args.words.now ++ decimal (length c.args.lines.now)) in
     let added = c.in_ok-push_line.ensures.text ∙ ap (λ l. c.loop-line.text.items ++ line_text l) c.line-item.is in
-    item-more line_text c.args.text.now.items c.loop-line.text.items c.push_line.new.text.items first c.args.lines.now c.loop-line.line-index c.line-item.result c.loop-line-test.true c.loop-line.invariant added
+    item-more line_text c.args.text.now.items c.loop-line.text.items c.push_line.new.text.items first c.args.lines.now c.loop-line.line-index c.line-item.result
+    c.loop-line-test.true c.loop-line.invariant added

@@ -12,4 +12,5 @@ loop-event-preserved c =
     let clock = c.clock-clock.ensures.value ∙ ap (clock_of order) c.new.ensures.number in
     let line = c.as_str.ensures.value ∙ c.in_ok-line.ensures ∙ ap (clock_line event) clock in
     let more = flat_map-range (λ e. clock_line e (slice_index_or order.clocks e [])) event in
-    c.in_ok-push_str.ensures.bytes ∙ ap (λ bytes. string_bytes c.loop-event.text ++ bytes) line ∙ ap (λ bytes. bytes ++ clock_line event (slice_index_or order.clocks event [])) c.loop-event.invariant ∙ sym more
+    c.in_ok-push_str.ensures.bytes ∙ ap (λ bytes. string_bytes c.loop-event.text ++ bytes) line
+    ∙ ap (λ bytes. bytes ++ clock_line event (slice_index_or order.clocks event [])) c.loop-event.invariant ∙ sym more

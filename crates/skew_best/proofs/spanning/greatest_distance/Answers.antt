@@ -9,7 +9,8 @@ widest-requires-clause-room c = rw c.requires.plain.no_extras (omega arith)
 
 pub returns-in-Ok-clause-spelled : goal.returns-in-Ok-clause-spelled
 returns-in-Ok-clause-spelled c =
-    widest-spelled c.args.log.now (form_of c.args.formula.now) c.args.value c.new.result c.new-2.result c.args.conflicts c.rows.ensures.valid c.requires.most c.in-Ok.answer c.in-Ok.ensures.right
+    widest-spelled c.args.log.now
+    (form_of c.args.formula.now) c.args.value c.new.result c.new-2.result c.args.conflicts c.log_is_valid.ensures.valid c.requires.most c.in-Ok.answer c.in-Ok.ensures.right
 
 pub unreachable-requires : goal.unreachable-requires
 unreachable-requires c = let unknown = rw c.in-Err-UnknownHost.field-0-is at c.in-Err-UnknownHost.ensures.fault in cc

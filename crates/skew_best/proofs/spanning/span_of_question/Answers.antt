@@ -21,7 +21,9 @@ returns-in_err-few_nodes-clause-outcome c =
     let q = c.args.question.now in
     let f = form_of q.formula in
     let after = OnEvents c.args.e c.args.to q.log (OnSize f q.log (Spanned c.args.conflicts c.args.value c.args.e c.args.to f q.log)) in
-    rw (p.1, p.2) (reason-weaker c.in_err-few_nodes.field-0.0 (λ r. (r ≡ refusal.Nodes) × (MAX_NODES < length (nodes_of f))) (At (SpanOfLog c.args.conflicts c.args.value c.args.e c.args.to q.text.items f q.log))
+    rw (p.1, p.2)
+    (reason-weaker c.in_err-few_nodes.field-0.0 (λ r. (r ≡ refusal.Nodes) × (MAX_NODES < length (nodes_of f)))
+    (At (SpanOfLog c.args.conflicts c.args.value c.args.e c.args.to q.text.items f q.log))
     (λ r why. hosts-known q.text.items f q.log (OnNodes f after) (line (text_of r)) (status_of r) c.in_ok-known_hosts.ensures.known (nodes-refused f after r why))
     c.in_err-few_nodes.ensures.refused)
 
@@ -58,7 +60,14 @@ returns-clause-outcome c =
     let spanned = Spanned c.args.conflicts c.args.value c.args.e c.args.to f q.log in
     let after = OnEvents c.args.e c.args.to q.log (OnSize f q.log spanned) in
     let answered : spanned reply.text.items reply.status =
-    record { answer = c.in_ok-answer.answer; right = c.in_ok-answer.ensures.right; tells = c.in_ok-answer.ensures.tells; inconsistent = c.in_ok-answer.ensures.inconsistent; written = c.in_ok-span_reply.ensures.text; status = c.in_ok-span_reply.ensures.status } in
+    record {
+      answer = c.in_ok-answer.answer;
+      right = c.in_ok-answer.ensures.right;
+      tells = c.in_ok-answer.ensures.tells;
+      inconsistent = c.in_ok-answer.ensures.inconsistent;
+      written = c.in_ok-span_reply.ensures.text;
+      status = c.in_ok-span_reply.ensures.status;
+    } in
     let asked = c.in_ok-answer.ensures.asked in
     hosts-known q.text.items f q.log (OnNodes f after) reply.text.items reply.status c.in_ok-known_hosts.ensures.known
     (nodes-few f after reply.text.items reply.status c.in_ok-few_nodes.ensures.few

@@ -5,7 +5,8 @@ use Rattle.skew_best.proofs.tolerating.least_widening.Goals as goal
 
 pub returns-in-Ok-clause-spelled : goal.returns-in-Ok-clause-spelled
 returns-in-Ok-clause-spelled c =
-    tolerance-spelled c.args.log.now (form_of c.args.formula.now) c.args.value c.args.max c.args.conflicts c.rows.ensures.valid c.requires.skews c.requires.range c.requires.most c.in-Ok.answer c.in-Ok.ensures.right
+    tolerance-spelled c.args.log.now
+    (form_of c.args.formula.now) c.args.value c.args.max c.args.conflicts c.log_is_valid.ensures.valid c.requires.skews c.requires.range c.requires.most c.in-Ok.answer c.in-Ok.ensures.right
 
 pub unreachable-requires : goal.unreachable-requires
 unreachable-requires c = let unknown = rw c.in-Err-UnknownHost.field-0-is at c.in-Err-UnknownHost.ensures.fault in cc

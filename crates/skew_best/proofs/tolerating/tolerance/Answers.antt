@@ -15,13 +15,15 @@ pub returns-in_err-question-clause-outcome : goal.returns-in_err-question-clause
 returns-in_err-question-clause-outcome g c = λ tells.
     let p = err_from_is_err_and c.from_residual.result c.from_residual.ensures.1 in
     let held = g.S.Shelf.files c.args.shelf.now in
-    rw (p.1, p.2) (question-stopped held c.args.formula.now c.args.log.now (ToleranceOfLog c.args.conflicts c.args.value c.args.max) c.in_err-question.field-0.0 (c.in_err-question.ensures.refused tells))
+    rw (p.1, p.2)
+    (question-stopped held c.args.formula.now c.args.log.now (ToleranceOfLog c.args.conflicts c.args.value c.args.max) c.in_err-question.field-0.0 (c.in_err-question.ensures.refused tells))
 
 pub returns-clause-outcome : goal.returns-clause-outcome
 returns-clause-outcome g c = λ tells.
     let held = g.S.Shelf.files c.args.shelf.now in
     let q = c.in_ok-question.question in
-    question-given held c.args.formula.now c.args.log.now (ToleranceOfLog c.args.conflicts c.args.value c.args.max) q.text.items (form_of q.formula) q.log c.tolerance_of_question.result (c.in_ok-question.ensures.read tells)
+    question-given held c.args.formula.now c.args.log.now (ToleranceOfLog c.args.conflicts c.args.value c.args.max) q.text.items
+    (form_of q.formula) q.log c.tolerance_of_question.result (c.in_ok-question.ensures.read tells)
     c.tolerance_of_question.ensures.outcome
 
 pub returns-in_err-question-clause-possible : goal.returns-in_err-question-clause-possible
@@ -32,4 +34,5 @@ returns-in_err-question-clause-possible g c =
 pub returns-clause-possible : goal.returns-clause-possible
 returns-clause-possible g c =
     let q = c.in_ok-question.question in
-    some-question-given q.text.items (form_of q.formula) q.log c.in_ok-question.ensures.some_read c.tolerance_of_question.result (ToleranceOfLog c.args.conflicts c.args.value c.args.max) c.tolerance_of_question.ensures.outcome
+    some-question-given q.text.items (form_of q.formula) q.log c.in_ok-question.ensures.some_read c.tolerance_of_question.result
+    (ToleranceOfLog c.args.conflicts c.args.value c.args.max) c.tolerance_of_question.ensures.outcome

@@ -28,7 +28,14 @@ returns-clause-outcome c =
     let widest = wide c.args.max q.log in
     let reply = c.in_ok-tolerance_reply.field-0 in
     let tolerated : Tolerated c.args.conflicts c.args.value c.args.max f q.log reply.text.items reply.status =
-    record { answer = c.in_ok-answer.answer; right = c.in_ok-answer.ensures.right; tells = c.in_ok-answer.ensures.tells; inconsistent = c.in_ok-answer.ensures.inconsistent; written = c.in_ok-tolerance_reply.ensures.text; status = c.in_ok-tolerance_reply.ensures.status } in
+    record {
+      answer = c.in_ok-answer.answer;
+      right = c.in_ok-answer.ensures.right;
+      tells = c.in_ok-answer.ensures.tells;
+      inconsistent = c.in_ok-answer.ensures.inconsistent;
+      written = c.in_ok-tolerance_reply.ensures.text;
+      status = c.in_ok-tolerance_reply.ensures.status;
+    } in
     let asked = c.in_ok-answer.ensures.asked in
     hosts-known q.text.items f q.log (OnNodes f (OnSize f widest (Tolerated c.args.conflicts c.args.value c.args.max f q.log))) reply.text.items reply.status c.in_ok-known_hosts.ensures.known
     (nodes-few f (OnSize f widest (Tolerated c.args.conflicts c.args.value c.args.max f q.log)) reply.text.items reply.status asked.few

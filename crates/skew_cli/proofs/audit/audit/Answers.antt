@@ -20,7 +20,8 @@ returns-clause-outcome g c = λ tells.
     let held = g.S.Shelf.files c.args.shelf.now in
     let q = c.in_ok-question.question in
     let given = rw c.in_ok-question.ensures.files at (c.audit_of_question.ensures.outcome (c.in_ok-question.ensures.telling ∙ tells)) in
-    question-given held c.args.formula.now c.args.log.now (AuditOfLog held c.args.conflicts c.args.report.now) q.text.items (form_of q.formula) q.log c.audit_of_question.result (c.in_ok-question.ensures.read tells) given
+    question-given held c.args.formula.now c.args.log.now (AuditOfLog held c.args.conflicts c.args.report.now) q.text.items
+    (form_of q.formula) q.log c.audit_of_question.result (c.in_ok-question.ensures.read tells) given
 
 pub returns-in_err-question-clause-never : goal.returns-in_err-question-clause-never
 returns-in_err-question-clause-never g c = λ steady tells holds failed.
@@ -44,7 +45,8 @@ returns-in_err-question-clause-possible g c =
 pub returns-clause-possible : goal.returns-clause-possible
 returns-clause-possible g c =
     let q = c.in_ok-question.question in
-    some-third-given q.text.items (form_of q.formula) q.log c.in_ok-question.ensures.some_read c.audit_of_question.result (λ files. AuditOfLog files c.args.conflicts) c.audit_of_question.ensures.possible
+    some-third-given q.text.items (form_of q.formula) q.log c.in_ok-question.ensures.some_read c.audit_of_question.result
+    (λ files. AuditOfLog files c.args.conflicts) c.audit_of_question.ensures.possible
 
 pub returns-clause-openings : goal.returns-clause-openings
 returns-clause-openings g c = more-opened 2 1 _ _ _ c.in_ok-question.ensures.openings c.audit_of_question.ensures.openings

@@ -22,7 +22,9 @@ returns-in_err-file-clause-outcome g c = λ tells.
     let p = err_from_is_err_and c.from_residual-in_err-file.result c.from_residual-in_err-file.ensures.1 in
     let q = c.args.question.now in
     let f = form_of q.formula in
-    rw (p.1, p.2) (third-too_long (g.S.Shelf.files c.args.shelf.now) c.args.report.now REPORT_LIMIT named.Report q.text.items f q.log (AuditOfFile c.args.conflicts f q.log) c.in_ok-known_hosts.ensures.known c.in_ok-few_nodes.ensures.few
+    rw (p.1, p.2)
+    (third-too_long (g.S.Shelf.files c.args.shelf.now) c.args.report.now REPORT_LIMIT named.Report q.text.items f q.log
+    (AuditOfFile c.args.conflicts f q.log) c.in_ok-known_hosts.ensures.known c.in_ok-few_nodes.ensures.few
     tells c.in_err-file.field-0.0 c.in_err-file.ensures.refused)
 
 pub returns-in_err-outline-clause-outcome : goal.returns-in_err-outline-clause-outcome
@@ -33,7 +35,9 @@ returns-in_err-outline-clause-outcome g c = λ tells.
     let file = c.in_ok-file.file.items in
     let stop = c.in_err-outline.field-0.0 in
     let refused = rw c.deref-2.ensures.value at c.in_err-outline.ensures.refused in
-    rw (p.1, p.2) (third-given (g.S.Shelf.files c.args.shelf.now) c.args.report.now REPORT_LIMIT named.Report q.text.items f q.log (AuditOfFile c.args.conflicts f q.log) c.in_ok-known_hosts.ensures.known c.in_ok-few_nodes.ensures.few
+    rw (p.1, p.2)
+    (third-given (g.S.Shelf.files c.args.shelf.now) c.args.report.now REPORT_LIMIT named.Report q.text.items f q.log
+    (AuditOfFile c.args.conflicts f q.log) c.in_ok-known_hosts.ensures.known c.in_ok-few_nodes.ensures.few
     file (Err stop) (c.in_ok-file.ensures.whole tells) c.in_ok-file.ensures.within
     (reason-weaker stop (TellsFaultyLine file) (At (AuditOfFile c.args.conflicts f q.log file)) (report-refused file (λ r. OnSize f q.log (AuditOfReport c.args.conflicts f q.log r))) refused))
 
@@ -45,7 +49,8 @@ returns-clause-outcome g c = λ tells.
     let o = rw c.deref-2.ensures.value at c.in_ok-outline.ensures.outline in
     let report = o.value in
     let reads = o.is in
-    third-given (g.S.Shelf.files c.args.shelf.now) c.args.report.now REPORT_LIMIT named.Report q.text.items f q.log (AuditOfFile c.args.conflicts f q.log) c.in_ok-known_hosts.ensures.known c.in_ok-few_nodes.ensures.few
+    third-given (g.S.Shelf.files c.args.shelf.now) c.args.report.now REPORT_LIMIT named.Report q.text.items f q.log
+    (AuditOfFile c.args.conflicts f q.log) c.in_ok-known_hosts.ensures.known c.in_ok-few_nodes.ensures.few
     file c.audit_of_report.result (c.in_ok-file.ensures.whole tells) c.in_ok-file.ensures.within
     (gives-weaker c.audit_of_report.result (OnSize f q.log (AuditOfReport c.args.conflicts f q.log report)) (AuditOfFile c.args.conflicts f q.log file)
     (λ out s. report-read file (λ r. OnSize f q.log (AuditOfReport c.args.conflicts f q.log r)) report out s reads) (c.audit_of_report.ensures.outcome report o.outlined o.is.spelled))
@@ -63,14 +68,18 @@ returns-in_err-few_nodes-clause-possible g c =
     let p = err_from_is_err_and c.from_residual-in_err-few_nodes.result c.from_residual-in_err-few_nodes.ensures.1 in
     let q = c.args.question.now in
     let f = form_of q.formula in
-    rw (p.1, p.2) (third-uncounted REPORT_LIMIT named.Report q.text.items f q.log (AuditOfFile c.args.conflicts f q.log) c.in_ok-known_hosts.ensures.known c.in_err-few_nodes.field-0.0 c.in_err-few_nodes.ensures.refused)
+    rw (p.1, p.2)
+    (third-uncounted REPORT_LIMIT named.Report q.text.items f q.log
+    (AuditOfFile c.args.conflicts f q.log) c.in_ok-known_hosts.ensures.known c.in_err-few_nodes.field-0.0 c.in_err-few_nodes.ensures.refused)
 
 pub returns-in_err-file-clause-possible : goal.returns-in_err-file-clause-possible
 returns-in_err-file-clause-possible g c =
     let p = err_from_is_err_and c.from_residual-in_err-file.result c.from_residual-in_err-file.ensures.1 in
     let q = c.args.question.now in
     let f = form_of q.formula in
-    rw (p.1, p.2) (third-long REPORT_LIMIT named.Report q.text.items f q.log (AuditOfFile c.args.conflicts f q.log) c.in_ok-known_hosts.ensures.known c.in_ok-few_nodes.ensures.few c.in_err-file.field-0.0 c.in_err-file.ensures.too_long)
+    rw (p.1, p.2)
+    (third-long REPORT_LIMIT named.Report q.text.items f q.log
+    (AuditOfFile c.args.conflicts f q.log) c.in_ok-known_hosts.ensures.known c.in_ok-few_nodes.ensures.few c.in_err-file.field-0.0 c.in_err-file.ensures.too_long)
 
 pub returns-in_err-outline-clause-possible : goal.returns-in_err-outline-clause-possible
 returns-in_err-outline-clause-possible g c =

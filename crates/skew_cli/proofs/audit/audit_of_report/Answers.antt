@@ -8,7 +8,8 @@ returns-in_ok-accepted-in-Ok-Accepted-clause-outcome c = λ r out spelled.
     let audited = c.in-Ok-Accepted.ensures in
     let is = c.in-Ok-Accepted.field-0-is in
     let made = c.in_ok-accepted-in-Ok-Accepted in
-    rw made.ensures.zero (audit-accepted q.log (form_of q.formula) c.args.conflicts r audited.judged made.field-0.text.items ((audited.accepted r out spelled).0 is) (audited.claims r out spelled is) made.ensures.text)
+    rw made.ensures.zero
+    (audit-accepted q.log (form_of q.formula) c.args.conflicts r audited.judged made.field-0.text.items ((audited.accepted r out spelled).0 is) (audited.claims r out spelled is) made.ensures.text)
 
 pub returns-in-Ok-Refused-clause-outcome : goal.returns-in-Ok-Refused-clause-outcome
 returns-in-Ok-Refused-clause-outcome c = λ r out spelled.

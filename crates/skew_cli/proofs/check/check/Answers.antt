@@ -15,7 +15,8 @@ pub returns-clause-outcome : goal.returns-clause-outcome
 returns-clause-outcome g c = λ tells.
     let held = g.S.Shelf.files c.args.shelf.now in
     let q = c.in_ok-question.question in
-    question-given held c.args.formula.now c.args.log.now (CheckOfLog c.args.conflicts) q.text.items (form_of q.formula) q.log c.check_of_question.result (c.in_ok-question.ensures.read tells) c.check_of_question.ensures.outcome
+    question-given held c.args.formula.now c.args.log.now (CheckOfLog c.args.conflicts) q.text.items (form_of q.formula) q.log c.check_of_question.result
+    (c.in_ok-question.ensures.read tells) c.check_of_question.ensures.outcome
 
 pub returns-in_err-question-clause-possible : goal.returns-in_err-question-clause-possible
 returns-in_err-question-clause-possible g c =

@@ -15,7 +15,8 @@ returns-in_err-report-clause-outcome c =
     let q = c.args.question.now in
     let f = form_of q.formula in
     rw (p.1, p.2) (reason-weaker c.in_err-report.field-0.0 (TellsLarge f q.log) (At (CheckOfLog c.args.conflicts q.text.items f q.log))
-    (λ r told. hosts-known q.text.items f q.log (OnNodes f (OnSize f q.log (Checked c.args.conflicts f q.log))) (line (text_of r)) (status_of r) c.in_ok-known_hosts.ensures.known (large-refused f q.log (Checked c.args.conflicts f q.log) r told))
+    (λ r told. hosts-known q.text.items f q.log (OnNodes f (OnSize f q.log (Checked c.args.conflicts f q.log))) (line (text_of r))
+    (status_of r) c.in_ok-known_hosts.ensures.known (large-refused f q.log (Checked c.args.conflicts f q.log) r told))
     c.in_err-report.ensures.refused)
 
 pub returns-clause-outcome : goal.returns-clause-outcome
@@ -24,7 +25,14 @@ returns-clause-outcome c =
     let f = form_of q.formula in
     let reply = c.in_ok-report_reply.field-0 in
     let checked : Checked c.args.conflicts f q.log reply.text.items reply.status =
-    record { report = c.in_ok-report.report; right = c.in_ok-report.ensures.right; claims = c.in_ok-report.ensures.claims; once = c.in_ok-report.ensures.once; written = c.in_ok-report_reply.ensures.text; status = c.in_ok-report_reply.ensures.status } in
+    record {
+      report = c.in_ok-report.report;
+      right = c.in_ok-report.ensures.right;
+      claims = c.in_ok-report.ensures.claims;
+      once = c.in_ok-report.ensures.once;
+      written = c.in_ok-report_reply.ensures.text;
+      status = c.in_ok-report_reply.ensures.status;
+    } in
     let judged = c.in_ok-report.ensures.judged in
     hosts-known q.text.items f q.log (OnNodes f (OnSize f q.log (Checked c.args.conflicts f q.log))) reply.text.items reply.status c.in_ok-known_hosts.ensures.known
     (nodes-few f (OnSize f q.log (Checked c.args.conflicts f q.log)) reply.text.items reply.status judged.nodes.few

@@ -10,11 +10,13 @@ pub returns-clause-right : goal.returns-clause-right
 returns-clause-right c = right-made c.args.seed c.in_ok-log.log (form_of c.in_ok-formula.formula) c.in_ok-log.ensures.log c.in_ok-formula.ensures.formula c.report_on.result c.report_on.ensures.right
 
 pub returns-clause-claims : goal.returns-clause-claims
-returns-clause-claims c = claims-made c.args.seed c.in_ok-log.log (form_of c.in_ok-formula.formula) c.in_ok-log.ensures.log c.in_ok-formula.ensures.formula c.report_on.result c.report_on.ensures.claims
+returns-clause-claims c =
+    claims-made c.args.seed c.in_ok-log.log (form_of c.in_ok-formula.formula) c.in_ok-log.ensures.log c.in_ok-formula.ensures.formula c.report_on.result c.report_on.ensures.claims
 
 -- no test refuses the demo
 pub returns-clause-refused : goal.returns-clause-refused
-returns-clause-refused c = never-refused c.args.seed c.in_ok-log.log (form_of c.in_ok-formula.formula) c.in_ok-log.ensures.log c.in_ok-formula.ensures.formula c.report_on.result c.report_on.ensures.refused
+returns-clause-refused c =
+    never-refused c.args.seed c.in_ok-log.log (form_of c.in_ok-formula.formula) c.in_ok-log.ensures.log c.in_ok-formula.ensures.formula c.report_on.result c.report_on.ensures.refused
 
 pub returns-in_err-formula-clause-right : goal.returns-in_err-formula-clause-right
 returns-in_err-formula-clause-right c =

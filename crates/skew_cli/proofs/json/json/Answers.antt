@@ -12,7 +12,8 @@ pub returns-clause-outcome : goal.returns-clause-outcome
 returns-clause-outcome g c = λ tells.
     let reply = c.in_ok-converted.field-0 in
     let is = rw c.deref.ensures.value at c.in_ok-log.ensures.log in
-    json-converted (g.S.Shelf.files c.args.shelf.now) c.args.name.now c.in_ok-file.file.items (c.in_ok-file.ensures.whole tells) c.in_ok-file.ensures.within c.in_ok-log.log reply.text.items reply.status is c.in_ok-converted.ensures.outcome
+    json-converted (g.S.Shelf.files c.args.shelf.now) c.args.name.now c.in_ok-file.file.items
+    (c.in_ok-file.ensures.whole tells) c.in_ok-file.ensures.within c.in_ok-log.log reply.text.items reply.status is c.in_ok-converted.ensures.outcome
 
 pub returns-in_err-file-clause-possible : goal.returns-in_err-file-clause-possible
 returns-in_err-file-clause-possible g c =

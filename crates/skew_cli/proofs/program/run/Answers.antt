@@ -15,7 +15,11 @@ returns-in-Ok-reply-clause-outcome g c = λ tells told files agree.
     let called = c.in-Ok-call_of.ensures.command c.in-Some.spoken (sym c.verb.ensures) list in
     let command = rw c.deref.ensures.value at (sym c.in-Some.ensures.command ∙ called) in
     let outcome = c.in-Ok-reply.ensures.outcome tells in
-    Ends-weaker _ _ _ _ _ (λ b s due. rw (due.0, due.1, c.deref-in-Ok-reply.ensures.value) (Outcome-command (map string_bytes c.args.words.now.items) (command_in c.in-Ok-call_of.call) (g.S.Shelf.files c.args.shelf.now) files c.in-Ok-reply.reply.text.items c.in-Ok-reply.reply.status command agree outcome)) (c.finish-in-Ok-reply.ensures.ends told)
+    Ends-weaker _ _ _ _ _
+    (λ b s due. rw (due.0, due.1, c.deref-in-Ok-reply.ensures.value)
+    (Outcome-command (map string_bytes c.args.words.now.items) (command_in c.in-Ok-call_of.call)
+    (g.S.Shelf.files c.args.shelf.now) files c.in-Ok-reply.reply.text.items c.in-Ok-reply.reply.status command agree outcome))
+    (c.finish-in-Ok-reply.ensures.ends told)
 
 pub returns-in-Ok-reply-clause-status : goal.returns-in-Ok-reply-clause-status
 returns-in-Ok-reply-clause-status g c = λ tells answer files agree.
@@ -23,7 +27,9 @@ returns-in-Ok-reply-clause-status g c = λ tells answer files agree.
     let called = c.in-Ok-call_of.ensures.command c.in-Some.spoken (sym c.verb.ensures) list in
     let command = rw c.deref.ensures.value at (sym c.in-Some.ensures.command ∙ called) in
     let reply = c.in-Ok-reply.reply in
-    let outcome = Outcome-command (map string_bytes c.args.words.now.items) (command_in c.in-Ok-call_of.call) (g.S.Shelf.files c.args.shelf.now) files reply.text.items reply.status command agree (c.in-Ok-reply.ensures.outcome tells) in
+    let outcome =
+    Outcome-command (map string_bytes c.args.words.now.items) (command_in c.in-Ok-call_of.call)
+    (g.S.Shelf.files c.args.shelf.now) files reply.text.items reply.status command agree (c.in-Ok-reply.ensures.outcome tells) in
     HasOutcome-answer (map string_bytes c.args.words.now.items) files reply.text.items reply.status c.finish-in-Ok-reply.result c.finish-in-Ok-reply.ensures.status answer outcome
 
 pub returns-in-Ok-reply-clause-possible : goal.returns-in-Ok-reply-clause-possible
@@ -47,7 +53,8 @@ returns-in-Ok-reply-clause-possible_status g c = λ answer.
 pub returns-in-Ok-reply-clause-refused : goal.returns-in-Ok-reply-clause-refused
 returns-in-Ok-reply-clause-refused g c = λ told refused.
     let reply = c.in-Ok-reply.reply in
-    refused-written reply.text.items _ _ reply.status c.finish-in-Ok-reply.result c.finish-in-Ok-reply.ensures.status (rw c.deref-in-Ok-reply.ensures.value at (c.finish-in-Ok-reply.ensures.ends told)) c.in-Ok-reply.ensures.answer
+    refused-written reply.text.items _ _ reply.status c.finish-in-Ok-reply.result c.finish-in-Ok-reply.ensures.status
+    (rw c.deref-in-Ok-reply.ensures.value at (c.finish-in-Ok-reply.ensures.ends told)) c.in-Ok-reply.ensures.answer
     c.in-Ok-reply.ensures.refused refused
 
 pub returns-in_default-clause-status : goal.returns-in_default-clause-status

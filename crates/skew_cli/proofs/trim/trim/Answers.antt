@@ -12,7 +12,8 @@ pub returns-in_err-outline-clause-outcome : goal.returns-in_err-outline-clause-o
 returns-in_err-outline-clause-outcome g c = λ tells.
     let p = err_from_is_err_and c.from_residual-in_err-outline.result c.from_residual-in_err-outline.ensures.1 in
     let refused = rw c.deref.ensures.value at c.in_err-outline.ensures.refused in
-    rw (p.1, p.2) (trim-faulty (g.S.Shelf.files c.args.shelf.now) c.args.report.now c.in_ok-file.file.items (c.in_ok-file.ensures.whole tells) c.in_ok-file.ensures.within c.in_err-outline.field-0.0 refused)
+    rw (p.1, p.2)
+    (trim-faulty (g.S.Shelf.files c.args.shelf.now) c.args.report.now c.in_ok-file.file.items (c.in_ok-file.ensures.whole tells) c.in_ok-file.ensures.within c.in_err-outline.field-0.0 refused)
 
 pub returns-clause-outcome : goal.returns-clause-outcome
 returns-clause-outcome g c = λ tells.

@@ -12,13 +12,17 @@ pub returns-in_err-formula-clause-refused : goal.returns-in_err-formula-clause-r
 returns-in_err-formula-clause-refused g c = λ tells.
     let p = err_from_is_err_and c.from_residual-in_err-formula.result c.from_residual-in_err-formula.ensures.1 in
     let refused = rw c.deref.ensures.value at c.in_err-formula.ensures.refused in
-    rw (p.1, p.2) (question-formula_faulty (g.S.Shelf.files c.args.shelf.now) c.args.formula.now c.args.log.now NoAnswer c.in_ok-text.text.items (c.in_ok-text.ensures.whole tells) c.in_ok-text.ensures.within c.in_err-formula.field-0.0 refused)
+    rw (p.1, p.2)
+    (question-formula_faulty (g.S.Shelf.files c.args.shelf.now) c.args.formula.now c.args.log.now NoAnswer c.in_ok-text.text.items
+    (c.in_ok-text.ensures.whole tells) c.in_ok-text.ensures.within c.in_err-formula.field-0.0 refused)
 
 pub returns-in_err-file-clause-refused : goal.returns-in_err-file-clause-refused
 returns-in_err-file-clause-refused g c = λ tells.
     let p = err_from_is_err_and c.from_residual-in_err-file.result c.from_residual-in_err-file.ensures.1 in
     let reads = rw c.deref.ensures.value at c.in_ok-formula.ensures.formula in
-    rw (p.1, p.2) (question-log_long (g.S.Shelf.files c.args.shelf.now) c.args.formula.now c.args.log.now NoAnswer c.in_ok-text.text.items (c.in_ok-text.ensures.whole tells) c.in_ok-text.ensures.within (form_of c.in_ok-formula.formula) reads c.in_err-file.field-0.0
+    rw (p.1, p.2)
+    (question-log_long (g.S.Shelf.files c.args.shelf.now) c.args.formula.now c.args.log.now NoAnswer c.in_ok-text.text.items
+    (c.in_ok-text.ensures.whole tells) c.in_ok-text.ensures.within (form_of c.in_ok-formula.formula) reads c.in_err-file.field-0.0
     (reason-weaker c.in_err-file.field-0.0 _ _ (λ r why. (why.0, rw c.in_ok-text.ensures.files at (why.1 (c.in_ok-text.ensures.telling ∙ tells)))) c.in_err-file.ensures.refused))
 
 pub returns-in_err-log-clause-refused : goal.returns-in_err-log-clause-refused
@@ -27,7 +31,10 @@ returns-in_err-log-clause-refused g c = λ tells.
     let reads = rw c.deref.ensures.value at c.in_ok-formula.ensures.formula in
     let held = rw c.in_ok-text.ensures.files at (c.in_ok-file.ensures.whole (c.in_ok-text.ensures.telling ∙ tells)) in
     let refused = rw c.deref-2.ensures.value at c.in_err-log.ensures.refused in
-    rw (p.1, p.2) (question-log_faulty (g.S.Shelf.files c.args.shelf.now) c.args.formula.now c.args.log.now NoAnswer c.in_ok-text.text.items (c.in_ok-text.ensures.whole tells) c.in_ok-text.ensures.within (form_of c.in_ok-formula.formula) reads c.in_ok-file.file.items c.in_err-log.field-0.0 held c.in_ok-file.ensures.within refused)
+    rw (p.1, p.2)
+    (question-log_faulty (g.S.Shelf.files c.args.shelf.now) c.args.formula.now c.args.log.now NoAnswer c.in_ok-text.text.items
+    (c.in_ok-text.ensures.whole tells) c.in_ok-text.ensures.within
+    (form_of c.in_ok-formula.formula) reads c.in_ok-file.file.items c.in_err-log.field-0.0 held c.in_ok-file.ensures.within refused)
 
 pub returns-clause-read : goal.returns-clause-read
 returns-clause-read g c = λ tells.
@@ -48,7 +55,9 @@ pub returns-in_err-file-clause-never : goal.returns-in_err-file-clause-never
 returns-in_err-file-clause-never g c = λ steady tells holds failed.
     let p = err_from_is_err_and c.from_residual-in_err-file.result c.from_residual-in_err-file.ensures.1 in
     let reads = rw c.deref.ensures.value at c.in_ok-formula.ensures.formula in
-    let some = log-held (g.S.Shelf.files c.args.shelf.now) c.args.formula.now c.args.log.now NoThird c.in_ok-text.text.items (form_of c.in_ok-formula.formula) (c.in_ok-text.ensures.whole tells) c.in_ok-text.ensures.within reads holds in
+    let some =
+    log-held (g.S.Shelf.files c.args.shelf.now) c.args.formula.now c.args.log.now NoThird c.in_ok-text.text.items (form_of c.in_ok-formula.formula)
+    (c.in_ok-text.ensures.whole tells) c.in_ok-text.ensures.within reads holds in
     c.in_err-file.ensures.never (c.in_ok-text.ensures.steady steady) (c.in_ok-text.ensures.telling ∙ tells) (rw c.in_ok-text.ensures.files some) (cc)
 
 pub returns-in_err-text-clause-some_refused : goal.returns-in_err-text-clause-some_refused
@@ -73,7 +82,9 @@ returns-in_err-log-clause-some_refused g c =
     let p = err_from_is_err_and c.from_residual-in_err-log.result c.from_residual-in_err-log.ensures.1 in
     let reads = rw c.deref.ensures.value at c.in_ok-formula.ensures.formula in
     let refused = rw c.deref-2.ensures.value at c.in_err-log.ensures.refused in
-    rw (p.1, p.2) (some-log_file-faulty c.in_ok-text.text.items c.in_ok-text.ensures.within (form_of c.in_ok-formula.formula) reads c.in_ok-file.file.items c.in_err-log.field-0.0 c.in_ok-file.ensures.within refused)
+    rw (p.1, p.2)
+    (some-log_file-faulty c.in_ok-text.text.items c.in_ok-text.ensures.within
+    (form_of c.in_ok-formula.formula) reads c.in_ok-file.file.items c.in_err-log.field-0.0 c.in_ok-file.ensures.within refused)
 
 pub returns-clause-some_read : goal.returns-clause-some_read
 returns-clause-some_read g c =

@@ -20,7 +20,8 @@ returns-clause-outcome g c = λ tells.
     let held = g.S.Shelf.files c.args.shelf.now in
     let q = c.in_ok-question.question in
     let given = rw c.in_ok-question.ensures.files at (c.replay_of_question.ensures.outcome (c.in_ok-question.ensures.telling ∙ tells)) in
-    question-given held c.args.formula.now c.args.log.now (ReplayOfLog held c.args.times.now) q.text.items (form_of q.formula) q.log c.replay_of_question.result (c.in_ok-question.ensures.read tells) given
+    question-given held c.args.formula.now c.args.log.now (ReplayOfLog held c.args.times.now) q.text.items (form_of q.formula) q.log c.replay_of_question.result
+    (c.in_ok-question.ensures.read tells) given
 
 pub returns-in_err-question-clause-never : goal.returns-in_err-question-clause-never
 returns-in_err-question-clause-never g c = λ steady tells holds failed.

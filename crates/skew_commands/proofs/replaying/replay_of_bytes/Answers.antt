@@ -12,7 +12,9 @@ returns-in_err-timing-clause-outcome c = λ f core.
     let p = err_from_is_err_and c.from_residual.result c.from_residual.ensures.1 in
     let log = c.args.log.now in
     let bytes = c.args.bytes.now in
-    rw (p.1, p.2) (reason-weaker c.in_err-timing.field-0.0 (TellsFault (times_of (length log.rows) bytes)) (At (OnTimes bytes log (ReplayOfTimes log f))) (times-refused bytes log (ReplayOfTimes log f)) c.in_err-timing.ensures.refused)
+    rw (p.1, p.2)
+    (reason-weaker c.in_err-timing.field-0.0 (TellsFault (times_of (length log.rows) bytes)) (At (OnTimes bytes log (ReplayOfTimes log f)))
+    (times-refused bytes log (ReplayOfTimes log f)) c.in_err-timing.ensures.refused)
 
 pub returns-clause-outcome : goal.returns-clause-outcome
 returns-clause-outcome c = λ f core.

@@ -11,13 +11,17 @@ pub returns-in_err-file-clause-outcome : goal.returns-in_err-file-clause-outcome
 returns-in_err-file-clause-outcome g c = λ tells f core.
     let p = err_from_is_err_and c.from_residual.result c.from_residual.ensures.1 in
     let log = c.args.log.now in
-    rw (p.1, p.2) (file-stopped (g.S.Shelf.files c.args.shelf.now) c.args.times.now TIMES_LIMIT named.Times (λ file. OnTimes file log (ReplayOfTimes log f)) tells c.in_err-file.field-0.0 c.in_err-file.ensures.refused)
+    rw (p.1, p.2)
+    (file-stopped (g.S.Shelf.files c.args.shelf.now) c.args.times.now TIMES_LIMIT named.Times
+    (λ file. OnTimes file log (ReplayOfTimes log f)) tells c.in_err-file.field-0.0 c.in_err-file.ensures.refused)
 
 pub returns-clause-outcome : goal.returns-clause-outcome
 returns-clause-outcome g c = λ tells f core.
     let log = c.args.log.now in
     let given = rw c.deref.ensures.value at (c.replay_of_bytes.ensures.outcome f core) in
-    file-given (g.S.Shelf.files c.args.shelf.now) c.args.times.now TIMES_LIMIT named.Times (λ file. OnTimes file log (ReplayOfTimes log f)) c.in_ok-file.file.items c.replay_of_bytes.result (c.in_ok-file.ensures.whole tells) c.in_ok-file.ensures.within given
+    file-given (g.S.Shelf.files c.args.shelf.now) c.args.times.now TIMES_LIMIT named.Times
+    (λ file. OnTimes file log (ReplayOfTimes log f)) c.in_ok-file.file.items c.replay_of_bytes.result
+    (c.in_ok-file.ensures.whole tells) c.in_ok-file.ensures.within given
 
 pub returns-in_err-file-clause-possible : goal.returns-in_err-file-clause-possible
 returns-in_err-file-clause-possible g c = λ f core.
@@ -26,7 +30,9 @@ returns-in_err-file-clause-possible g c = λ f core.
     let long = longer TIMES_LIMIT in
     record {
       bytes = long.0;
-      given = λ files name is. rw (p.1, p.2) (length-refused files name TIMES_LIMIT named.Times (λ file. OnTimes file log (ReplayOfTimes log f)) long.0 is long.1 c.in_err-file.field-0.0 c.in_err-file.ensures.too_long);
+      given =
+          λ files name is. rw (p.1, p.2)
+          (length-refused files name TIMES_LIMIT named.Times (λ file. OnTimes file log (ReplayOfTimes log f)) long.0 is long.1 c.in_err-file.field-0.0 c.in_err-file.ensures.too_long);
     }
 
 pub returns-clause-possible : goal.returns-clause-possible

@@ -12,7 +12,8 @@ pub returns-clause-outcome : goal.returns-clause-outcome
 returns-clause-outcome g c = λ tells.
     let q = c.args.question.now in
     let f = form_of q.formula in
-    third-answered (g.S.Shelf.files c.args.shelf.now) c.args.times.now TIMES_LIMIT named.Times q.text.items f q.log (λ file. OnTimes file q.log (ReplayOfTimes q.log f)) c.in_ok-known_hosts.ensures.known c.in_ok-replayer.ensures.few
+    third-answered (g.S.Shelf.files c.args.shelf.now) c.args.times.now TIMES_LIMIT named.Times q.text.items f q.log
+    (λ file. OnTimes file q.log (ReplayOfTimes q.log f)) c.in_ok-known_hosts.ensures.known c.in_ok-replayer.ensures.few
     c.replay_of_file.result (c.replay_of_file.ensures.outcome tells f (rw c.in_ok-replayer.ensures.core))
 
 pub returns-clause-never : goal.returns-clause-never
@@ -31,7 +32,9 @@ returns-in_err-replayer-clause-possible g c =
     let p = err_from_is_err_and c.from_residual-in_err-replayer.result c.from_residual-in_err-replayer.ensures.1 in
     let q = c.args.question.now in
     let f = form_of q.formula in
-    rw (p.1, p.2) (third-uncounted TIMES_LIMIT named.Times q.text.items f q.log (λ file. OnTimes file q.log (ReplayOfTimes q.log f)) c.in_ok-known_hosts.ensures.known c.in_err-replayer.field-0.0 c.in_err-replayer.ensures.refused)
+    rw (p.1, p.2)
+    (third-uncounted TIMES_LIMIT named.Times q.text.items f q.log
+    (λ file. OnTimes file q.log (ReplayOfTimes q.log f)) c.in_ok-known_hosts.ensures.known c.in_err-replayer.field-0.0 c.in_err-replayer.ensures.refused)
 
 pub returns-clause-possible : goal.returns-clause-possible
 returns-clause-possible g c =
@@ -40,6 +43,8 @@ returns-clause-possible g c =
     let some = c.replay_of_file.ensures.possible f (rw c.in_ok-replayer.ensures.core) in
     record {
       bytes = some.bytes;
-      given = λ files name is. third-answered files name TIMES_LIMIT named.Times q.text.items f q.log (λ file. OnTimes file q.log (ReplayOfTimes q.log f)) c.in_ok-known_hosts.ensures.known c.in_ok-replayer.ensures.few
+      given =
+          λ files name is. third-answered files name TIMES_LIMIT named.Times q.text.items f q.log
+          (λ file. OnTimes file q.log (ReplayOfTimes q.log f)) c.in_ok-known_hosts.ensures.known c.in_ok-replayer.ensures.few
           c.replay_of_file.result (some.given files name is);
     }

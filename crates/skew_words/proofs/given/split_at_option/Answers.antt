@@ -7,13 +7,18 @@ pub loop-i-init : goal.loop-i-init
 loop-i-init c = given-none string_bytes c.args.words.now
 
 pub returns-then-is_mark : goal.returns-then-is_mark
-returns-then-is_mark c = given-mark string_bytes c.args.words.now c.loop-i.i c.index-words-i.result (sym c.index-words-i.is) c.loop-i-test.true c.loop-i.invariant (sym c.is_mark.ensures ∙ c.if-is_mark.true)
+returns-then-is_mark c =
+    given-mark string_bytes c.args.words.now c.loop-i.i c.index-words-i.result (sym c.index-words-i.is) c.loop-i-test.true c.loop-i.invariant (sym c.is_mark.ensures ∙ c.if-is_mark.true)
 
 pub returns-then-is_dashed : goal.returns-then-is_dashed
-returns-then-is_dashed c = given-option string_bytes c.args.words.now c.loop-i.i c.index-words-i.result (sym c.index-words-i.is) c.loop-i-test.true c.loop-i.invariant (sym c.is_mark.ensures ∙ c.if-is_mark.false) (sym c.is_dashed.ensures ∙ c.if-is_dashed.true)
+returns-then-is_dashed c =
+    given-option string_bytes c.args.words.now c.loop-i.i c.index-words-i.result (sym c.index-words-i.is) c.loop-i-test.true c.loop-i.invariant
+    (sym c.is_mark.ensures ∙ c.if-is_mark.false) (sym c.is_dashed.ensures ∙ c.if-is_dashed.true)
 
 pub loop-i-preserved : goal.loop-i-preserved
-loop-i-preserved c = given-more string_bytes c.args.words.now c.loop-i.i c.index-words-i.result (sym c.index-words-i.is) c.loop-i-test.true c.loop-i.invariant (sym c.is_mark.ensures ∙ c.if-is_mark.false) (sym c.is_dashed.ensures ∙ c.if-is_dashed.false)
+loop-i-preserved c =
+    given-more string_bytes c.args.words.now c.loop-i.i c.index-words-i.result (sym c.index-words-i.is) c.loop-i-test.true c.loop-i.invariant
+    (sym c.is_mark.ensures ∙ c.if-is_mark.false) (sym c.is_dashed.ensures ∙ c.if-is_dashed.false)
 
 pub returns : goal.returns
 returns c =

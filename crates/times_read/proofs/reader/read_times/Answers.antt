@@ -13,7 +13,9 @@ use Rattle.times_read.proofs.reader.read_times.Goals as goal
 pub returns-in_default-time-clause-answer : goal.returns-in_default-time-clause-answer
 returns-in_default-time-clause-answer c =
     let none = sym c.time.ensures.value ∙ c.in_default-time.is in
-    inr (bad-is (lines c.args.bytes.now) (lines c.loop-number.rest.now) (lines c.in-Some.after.now) c.in-Some.line.now c.args.count c.loop-number.number c.loop-number.times c.loop-number.invariant.0 c.loop-number-test.true c.in-Some.ensures none)
+    inr
+    (bad-is (lines c.args.bytes.now) (lines c.loop-number.rest.now)
+    (lines c.in-Some.after.now) c.in-Some.line.now c.args.count c.loop-number.number c.loop-number.times c.loop-number.invariant.0 c.loop-number-test.true c.in-Some.ensures none)
 
 pub loop-number-preserved : goal.loop-number-preserved
 loop-number-preserved c =
@@ -21,6 +23,7 @@ loop-number-preserved c =
     let fits : SFits w128 c.in-Some-time.time = search rules in
     let pushed : c.push.new.self ≡ c.loop-number.times ++ c.in-Some-time.time ∷ [] = c.in_ok-push.ensures.ok ∙ ap (λ t. c.loop-number.times ++ t ∷ []) (to_z-of_z fits) in
     rw pushed (
-      read-more (lines c.args.bytes.now) (lines c.loop-number.rest.now) (lines c.in-Some.after.now) c.in-Some.line.now c.loop-number.number c.loop-number.times c.in-Some-time.time c.loop-number.invariant.0 c.in-Some.ensures read,
+      read-more (lines c.args.bytes.now) (lines c.loop-number.rest.now)
+          (lines c.in-Some.after.now) c.in-Some.line.now c.loop-number.number c.loop-number.times c.in-Some-time.time c.loop-number.invariant.0 c.in-Some.ensures read,
       All-push (IsWithin MAX_TIME) c.loop-number.times c.in-Some-time.time c.loop-number.invariant.1 c.in-Some-time.ensures.range,
     )

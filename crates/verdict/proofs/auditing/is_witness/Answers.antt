@@ -7,7 +7,11 @@ use Rattle.verdict.proofs.auditing.is_witness.Goals as goal
 pub returns-in_ok-truth_in : goal.returns-in_ok-truth_in
 returns-in_ok-truth_in c =
     let found = c.in_ok-truth_in.field-0 in
-    record { witness = by_truth c.args.log.now (form_of c.args.f.now) c.args.value c.args.times.now c.admits.result c.admits.ensures (beq found c.args.value) found c.in_ok-truth_in.ensures.value c.if-admits.true refl }
+    record {
+      witness = by_truth c.args.log.now (form_of c.args.f.now) c.args.value c.args.times.now c.admits.result c.admits.ensures
+          (beq found c.args.value) found c.in_ok-truth_in.ensures.value c.if-admits.true refl;
+    }
 
 pub returns-else-admits : goal.returns-else-admits
-returns-else-admits c = record { witness = not_admitted c.args.log.now (form_of c.args.f.now) c.args.value c.args.times.now c.admits.result c.admits.ensures false c.if-admits.false (sym c.if-admits.false) }
+returns-else-admits
+    c = record { witness = not_admitted c.args.log.now (form_of c.args.f.now) c.args.value c.args.times.now c.admits.result c.admits.ensures false c.if-admits.false (sym c.if-admits.false) }

@@ -8,7 +8,8 @@ loop-i-init c = none_walked c.args.log.now c.args.count c.args.text.now c.new-wa
 
 pub returns-in_default : goal.returns-in_default
 returns-in_default c = λ steps full each are.
-    no_more c.args.log.now c.args.count c.args.text.now c.loop-i._i c.loop-i.rest.now c.loop-i.walk c.loop-i-test.true c.loop-i.invariant c.in_default.ensures.bound steps (record { full = full; each = each; are = are }) (step.Low 0)
+    no_more c.args.log.now c.args.count c.args.text.now c.loop-i._i c.loop-i.rest.now c.loop-i.walk c.loop-i-test.true c.loop-i.invariant c.in_default.ensures.bound steps
+    (record { full = full; each = each; are = are }) (step.Low 0)
 
 pub loop-i-preserved : goal.loop-i-preserved
 loop-i-preserved c =

@@ -6,5 +6,5 @@ truth_in-requires c = record {
   few = c.requires.judged.nodes;
   nodes = c.requires.nodes;
   count = c.requires.admissible.count;
-  range = times-near c.args.log.now c.rows.ensures.valid c.args.times.now c.requires.admissible;
+  range = times-near c.args.log.now c.log_is_valid.ensures.valid c.args.times.now c.requires.admissible;
 }

@@ -6,11 +6,11 @@ use Rattle.verdict_span.proofs.Telling.{difference-near}
 use Rattle.verdict_span.proofs.finding.climb_from.Goals as goal
 
 pub distance-distance-requires-clause-near : goal.distance-distance-requires-clause-near
-distance-distance-requires-clause-near c = rw c.as_slice.ensures.items (times-near c.args.log.now c.rows.ensures.valid c.args.times c.requires.admissible)
+distance-distance-requires-clause-near c = rw c.as_slice.ensures.items (times-near c.args.log.now c.log_is_valid.ensures.valid c.args.times c.requires.admissible)
 
 pub gap-requires : goal.gap-requires
 gap-requires c =
-    let near = difference-near c.args.log.now c.args.e c.args.to c.args.times c.rows.ensures.valid c.requires.pair.row c.requires.pair.other c.requires.admissible in
+    let near = difference-near c.args.log.now c.args.e c.args.to c.args.times c.log_is_valid.ensures.valid c.requires.pair.row c.requires.pair.other c.requires.admissible in
     let same = rw c.as_slice.ensures.items at c.distance-distance.ensures.distance in
     let most = c.requires.top.bound c.args.times c.requires.admissible in
     let low = near.low in
@@ -26,7 +26,7 @@ gap-requires c =
 pub returns : goal.returns
 returns c = record {
   climb = λ f v budget some gives.
-      let near = difference-near c.args.log.now c.args.e c.args.to c.args.times c.rows.ensures.valid c.requires.pair.row c.requires.pair.other c.requires.admissible in
+      let near = difference-near c.args.log.now c.args.e c.args.to c.args.times c.log_is_valid.ensures.valid c.requires.pair.row c.requires.pair.other c.requires.admissible in
       let same = rw c.as_slice.ensures.items at c.distance-distance.ensures.distance in
       let low = near.low in
       let high = near.high in

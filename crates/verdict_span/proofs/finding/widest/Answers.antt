@@ -26,7 +26,11 @@ returns-in-Conflict-clause-inconsistent c =
 pub returns-in-Conflict-clause-asked : goal.returns-in-Conflict-clause-asked
 returns-in-Conflict-clause-asked c =
     let ground = rw c.in-Conflict.is at c.in_ok-steps.ensures.ground in
-    record { hosts = c.in_ok-nodes.ensures.hosts; few = c.in_ok-nodes.ensures.few; small = conflict-small c.conflict_excludes_timings.ensures c.args.log.now (form_of c.args.f.now) c.in-Conflict.steps ground }
+    record {
+      hosts = c.in_ok-nodes.ensures.hosts;
+      few = c.in_ok-nodes.ensures.few;
+      small = conflict-small c.conflict_excludes_timings.ensures c.args.log.now (form_of c.args.f.now) c.in-Conflict.steps ground;
+    }
 
 pub greatest-top-requires-clause-e : goal.greatest-top-requires-clause-e
 greatest-top-requires-clause-e c = let ground = rw c.in-Consistent.is at c.in_ok-steps.ensures.ground in rw ground.1.events c.requires.row

@@ -11,4 +11,4 @@ with_extra-requires c =
     let high = c.requires.range.high in
     let bound : to_z w128 (of_z w128 (pos 0 -ℤ to_z w128 (of_z w128 c.args.c))) ≡ neg_ℤ c.args.c = omega (arith, ints, low, high) in
     rw c.in_ok-copy.ensures.same (subst (λ (z : ℤ). IsLog (with_extra c.args.log.now (record { e = c.args.e; f = c.args.to; c = z }))) (sym bound)
-    (spaced-valid c.args.log.now c.args.e c.args.to c.args.c c.rows.ensures.valid c.requires.pair c.requires.range))
+    (spaced-valid c.args.log.now c.args.e c.args.to c.args.c c.log_is_valid.ensures.valid c.requires.pair c.requires.range))

@@ -13,13 +13,13 @@ search_log-requires-clause-small c = rw c.in_ok-far.ensures.spaced (c.requires.s
 pub distance-d-requires-clause-near : goal.distance-d-requires-clause-near
 distance-d-requires-clause-near c =
     let found = rw (c.in_ok-far.ensures.spaced, c.in-Timing.is) at c.in_ok-times.ensures.found in
-    rw c.as_slice.ensures.items (times-near c.args.log.now c.rows.ensures.valid c.in-Timing.times (unspaced c.args.log.now c.args.e c.args.to _ c.in-Timing.times found.admissible))
+    rw c.as_slice.ensures.items (times-near c.args.log.now c.log_is_valid.ensures.valid c.in-Timing.times (unspaced c.args.log.now c.args.e c.args.to _ c.in-Timing.times found.admissible))
 
 pub up_to-requires-clause-from : goal.up_to-requires-clause-from
 up_to-requires-clause-from c =
     let found = rw (c.in_ok-far.ensures.spaced, c.in-Timing.is) at c.in_ok-times.ensures.found in
     let above = far c.args.log.now c.args.e c.args.to _ c.in-Timing.times found.admissible in
-    let near = difference-near c.args.log.now c.args.e c.args.to c.in-Timing.times c.rows.ensures.valid c.requires.pair.row c.requires.pair.other
+    let near = difference-near c.args.log.now c.args.e c.args.to c.in-Timing.times c.log_is_valid.ensures.valid c.requires.pair.row c.requires.pair.other
     (unspaced c.args.log.now c.args.e c.args.to _ c.in-Timing.times found.admissible) in
     let same = rw c.as_slice.ensures.items at c.distance-d.ensures.distance in
     let low = near.low in
@@ -36,8 +36,8 @@ up_to-requires-clause-to c =
     let found = rw (c.in_ok-far.ensures.spaced, c.in-Timing.is) at c.in_ok-times.ensures.found in
     let gives = gives-without c.args.log.now (form_of c.args.f.now) c.args.value c.args.e c.args.to _ c.in-Timing.times found in
     let within = reached c.args.log.now (form_of c.args.f.now) c.args.value c.args.e c.args.to c.refuted_is_no_value.ensures c.args.climb.distance c.args.climb.room c.args.budget c.args.climb.beyond
-    c.rows.ensures.valid c.requires.pair climb.near climb.top climb.refuted c.in-Timing.times gives in
-    let near = difference-near c.args.log.now c.args.e c.args.to c.in-Timing.times c.rows.ensures.valid c.requires.pair.row c.requires.pair.other gives.admissible in
+    c.log_is_valid.ensures.valid c.requires.pair climb.near climb.top climb.refuted c.in-Timing.times gives in
+    let near = difference-near c.args.log.now c.args.e c.args.to c.in-Timing.times c.log_is_valid.ensures.valid c.requires.pair.row c.requires.pair.other gives.admissible in
     let same = rw c.as_slice.ensures.items at c.distance-d.ensures.distance in
     let low = near.low in
     let high = near.high in
@@ -47,7 +47,7 @@ pub returns-in-Timing : goal.returns-in-Timing
 returns-in-Timing c =
     let found = rw (c.in_ok-far.ensures.spaced, c.in-Timing.is) at c.in_ok-times.ensures.found in
     let gives = gives-without c.args.log.now (form_of c.args.f.now) c.args.value c.args.e c.args.to _ c.in-Timing.times found in
-    let near = difference-near c.args.log.now c.args.e c.args.to c.in-Timing.times c.rows.ensures.valid c.requires.pair.row c.requires.pair.other gives.admissible in
+    let near = difference-near c.args.log.now c.args.e c.args.to c.in-Timing.times c.log_is_valid.ensures.valid c.requires.pair.row c.requires.pair.other gives.admissible in
     let same = rw c.as_slice.ensures.items at c.distance-d.ensures.distance in
     let low = near.low in
     let high = near.high in

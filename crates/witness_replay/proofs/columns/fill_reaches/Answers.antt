@@ -27,7 +27,8 @@ loop-place-preserved c =
       gaps_far = λ q less. far-earlier d t ms c.requires.timeline 0 q p c.advanced-gaps.result.place (omega (arith, less)) in_ (rw row at gaps.far);
       witnesses_far = λ q less. far-earlier d t ms c.requires.timeline c.args.interval.now.low q p c.advanced-witnesses.result.place (omega (arith, less)) in_ (rw row at witnesses.far);
       filled = λ k low within. rw row (filled-back (row_met d ms) (reaches_from d t c.args.interval.now c.args.left.now c.args.right.now) p c.loop-place.column c.is_reached.result
-          (let met = met-in d t ms c.requires.timeline p in_ in omega arith) (rw row at value) (length t) (λ k' low' within'. c.loop-place.invariant.filled k' (omega (arith, low')) within') k low within);
+          (let met = met-in d t ms c.requires.timeline p in_ in omega arith) (rw row at value) (length t)
+          (λ k' low' within'. c.loop-place.invariant.filled k' (omega (arith, low')) within') k low within);
     }
 
 pub returns : goal.returns

@@ -10,5 +10,6 @@ invariant-loop-place l = record {
   witnesses : IsSwept (is_hit l.direction l.moments true l.right) (length l.times) l.witnesses;
   gaps_far : (p : ℕ) → p < l.place → AreFar l.direction l.times l.moments 0 (row_met l.direction l.moments p) l.gaps.place;
   witnesses_far : (p : ℕ) → p < l.place → AreFar l.direction l.times l.moments l.interval.low (row_met l.direction l.moments p) l.witnesses.place;
-  filled : (k : ℕ) → l.place ≤ k → k < length l.times → value_at l.column (row_met l.direction l.moments k) ≡ reaches_from l.direction l.times l.interval l.left l.right (row_met l.direction l.moments k);
+  filled : (k : ℕ) → l.place ≤ k → k < length l.times
+      → value_at l.column (row_met l.direction l.moments k) ≡ reaches_from l.direction l.times l.interval l.left l.right (row_met l.direction l.moments k);
 }

@@ -13,5 +13,6 @@ returns-clause-index c =
     let x = slice_index_or c.args.atoms.now c.args.place (Order 0 0 (pos 0)) in
     let at : c.index.result.now ≡ slice_index heads c.bucket-bucket.result = c.index.ensures ∙ get_or_default heads c.bucket-bucket.result _ 0 c.bucket-bucket.ensures.in_range in
     rw (c.in_ok-push.ensures.items, at, c.requires.next)
-    (chains-added c.args.atoms.now heads links x c.bucket-bucket.result c.requires.index (rw (← c.requires.next) (slice_get-get_or c.args.atoms.now c.args.place (Order 0 0 (pos 0)) c.requires.in_range))
+    (chains-added c.args.atoms.now heads links x c.bucket-bucket.result c.requires.index
+    (rw (← c.requires.next) (slice_get-get_or c.args.atoms.now c.args.place (Order 0 0 (pos 0)) c.requires.in_range))
     (omega (arith, c.requires.next, c.requires.in_range)) c.bucket-bucket.ensures.bucket c.bucket-bucket.ensures.in_range)

@@ -8,4 +8,5 @@ use Rattle.axiom_rules.proofs.rules.Rules.shape.Goals as goal
 pub returns : goal.returns
 returns c =
     let are = subst (λ s. AreShapes s.log s.trees (c.self.inside).shapes.items) c.self.view_is c.self.invariant in
-    shape-read c.args.self.now (c.self.inside).shapes.items are c.args.k _ (got-item (c.deref.result).now c.args.k c.get.result (c.get.ensures.lookup.0, c.get.ensures.lookup.1) ∙ ap (λ xs. slice_get xs c.args.k) c.deref.ensures.value)
+    shape-read c.args.self.now (c.self.inside).shapes.items are c.args.k _
+    (got-item (c.deref.result).now c.args.k c.get.result (c.get.ensures.lookup.0, c.get.ensures.lookup.1) ∙ ap (λ xs. slice_get xs c.args.k) c.deref.ensures.value)

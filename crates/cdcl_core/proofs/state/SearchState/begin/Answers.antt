@@ -32,6 +32,8 @@ pub returns : goal.returns
 returns c = record {
   begun = λ problem ready.
       started_ready c.cores_are_cores.ensures c.nodes_are_subtrees.ensures problem c.args.edges.now
-      (record { theory = c.args.theory; trail = c.in_ok-trail.trail; graph = c.in_ok-graph.graph; linked = c.new-linked.result; derived = c.args.derived; strategy = c.in_ok-strategy.strategy }) ready c.new_trail_is_in_step.ensures.law c.new-linked.ensures.none c.new-linked.ensures.unseen c.len-vars.result
-      c.len-vars.ensures.atoms c.in_ok-trail.ensures.vars c.in_ok-trail.ensures.none c.in_ok-trail.ensures.level c.in_ok-trail.ensures.unwatched c.trails_are_in_order.ensures.trail c.in_ok-graph.ensures.nodes c.in_ok-graph.ensures.capacity c.in_ok-graph.ensures.edges;
+      (record { theory = c.args.theory; trail = c.in_ok-trail.trail; graph = c.in_ok-graph.graph; linked = c.new-linked.result; derived = c.args.derived; strategy = c.in_ok-strategy.strategy })
+      ready c.new_trail_is_in_step.ensures.law c.new-linked.ensures.none c.new-linked.ensures.unseen c.len-vars.result
+      c.len-vars.ensures.atoms c.in_ok-trail.ensures.vars c.in_ok-trail.ensures.none c.in_ok-trail.ensures.level c.in_ok-trail.ensures.unwatched
+      c.trails_are_in_order.ensures.trail c.in_ok-graph.ensures.nodes c.in_ok-graph.ensures.capacity c.in_ok-graph.ensures.edges;
 }

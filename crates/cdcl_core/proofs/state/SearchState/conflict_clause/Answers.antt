@@ -27,7 +27,8 @@ add_cycle-requires c =
     }
 
 -- what follows from eight facts of a success
-of_success : {T E : Type 0} (r : Result T E) (A B C D F G : Type 0) (H P : T → Type 0) → ((x : T) → A → B → C → D → H x → F → G → P x) → OnOk r A → OnOk r B → OnOk r C → OnOk r D → IfOk r H → OnOk r F → OnOk r G → IfOk r P
+of_success : {T E : Type 0} (r : Result T E) (A B C D F G : Type 0) (H P : T → Type 0) → ((x : T) → A → B → C → D → H x → F → G → P x) → OnOk r A → OnOk r B
+    → OnOk r C → OnOk r D → IfOk r H → OnOk r F → OnOk r G → IfOk r P
 of_success (Ok x) A B C D F G H P then a b c d h f g = then x a b c d h f g
 of_success (Err e) A B C D F G H P then a b c d h f g = tt
 
@@ -37,7 +38,8 @@ returns-in_ok-take_in-in-Refused c =
     let e = c.add_cycle.ensures in
     record {
       midway = of_success c.add_cycle.result _ _ _ _ _ _ _ _ (λ place clauses kept lines lessons conflicted derives spending p n stopped.
-          midway_cycle p s n place c.in-Refused.field-0 c.take_in.new.self c.add_cycle.new.derived (rw c.in-Refused.is at stopped) c.in_ok-take_in-in-Refused.ensures.all c.in_ok-take_in-in-Refused.ensures.linked clauses kept lines lessons
+          midway_cycle p s n place c.in-Refused.field-0 c.take_in.new.self c.add_cycle.new.derived
+          (rw c.in-Refused.is at stopped) c.in_ok-take_in-in-Refused.ensures.all c.in_ok-take_in-in-Refused.ensures.linked clauses kept lines lessons
           (λ base m count stuck. conflicted base m (count ∙ ap length (sym c.as_slice.ensures.items)) stuck)
           (λ log f v base m are stuck old. derives log f v base m (rw c.as_slice.ensures.items are) stuck old) spending)
           e.clauses e.kept e.lines e.lessons e.conflicted e.derives e.spending;

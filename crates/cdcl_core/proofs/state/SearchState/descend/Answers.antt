@@ -20,7 +20,13 @@ propagate-requires c =
     let w = c.decisions.invariant.under_way in
     let running = search_running w.problem s w.conflicts w.search in
     let run = w.search.run in
-    record { reasons = run.step.reasons; watched = run.step.watched; closed = run.closed; linked = run.step.linked; room = running_room (length s.theory.atoms) s.derived.db s.theory.links s.trail s.graph running }
+    record {
+      reasons = run.step.reasons;
+      watched = run.step.watched;
+      closed = run.closed;
+      linked = run.step.linked;
+      room = running_room (length s.theory.atoms) s.derived.db s.theory.links s.trail s.graph running;
+    }
 
 pub returns-in-ClauseConflict : goal.returns-in-ClauseConflict
 returns-in-ClauseConflict c = record {
@@ -28,7 +34,9 @@ returns-in-ClauseConflict c = record {
       let s = c.decisions.self in
       let in_step = rw c.in-ClauseConflict.is at c.in_ok-reached.ensures.in_step in
       let conflict = rw c.in-ClauseConflict.is at c.in_ok-reached.ensures.clause_conflict in
-      search_false p s n (c.decisions.invariant.search p n old) c.propagate.new.self c.propagate.new.graph s.strategy c.propagate.ensures.grown.vars c.propagate.ensures.edges.limits c.propagate.ensures.grown.kept c.propagate.ensures.grown.longer c.in-ClauseConflict.clause
+      search_false p s n
+      (c.decisions.invariant.search p n old) c.propagate.new.self c.propagate.new.graph s.strategy c.propagate.ensures.grown.vars
+      c.propagate.ensures.edges.limits c.propagate.ensures.grown.kept c.propagate.ensures.grown.longer c.in-ClauseConflict.clause
       c.trails_are_in_order.ensures.trail c.propagate.ensures.closed in_step conflict;
 }
 
@@ -38,7 +46,9 @@ returns-in-TheoryConflict c = record {
       let s = c.decisions.self in
       let theory = rw c.in-TheoryConflict.is at c.in_ok-reached.ensures.theory_conflict in
       let lacks = rw c.in-TheoryConflict.is at c.in_ok-reached.ensures.lacks_last in
-      search_refused p s n (c.decisions.invariant.search p n old) c.propagate.new.self c.propagate.new.graph s.strategy c.propagate.ensures.grown.vars c.propagate.ensures.edges.limits c.propagate.ensures.grown.kept c.propagate.ensures.grown.longer c.in-TheoryConflict.lit
+      search_refused p s n
+      (c.decisions.invariant.search p n old) c.propagate.new.self c.propagate.new.graph s.strategy c.propagate.ensures.grown.vars
+      c.propagate.ensures.edges.limits c.propagate.ensures.grown.kept c.propagate.ensures.grown.longer c.in-TheoryConflict.lit
       c.trails_are_in_order.ensures.trail c.propagate.ensures.closed theory.0 theory.1 lacks;
 }
 
@@ -47,7 +57,10 @@ next-requires c =
     let s = c.decisions.self in
     let w = c.decisions.invariant.under_way in
     let in_step = rw c.in-Quiet.is at c.in_ok-reached.ensures.in_step in
-    let quiet = search_grown w.problem s w.conflicts w.search c.propagate.new.self c.propagate.new.graph s.strategy c.propagate.ensures.grown.vars c.propagate.ensures.edges.limits c.propagate.ensures.grown.kept c.propagate.ensures.grown.longer c.trails_are_in_order.ensures.trail c.propagate.ensures.closed in_step in
+    let quiet =
+    search_grown w.problem s w.conflicts w.search c.propagate.new.self c.propagate.new.graph s.strategy c.propagate.ensures.grown.vars
+    c.propagate.ensures.edges.limits c.propagate.ensures.grown.kept c.propagate.ensures.grown.longer c.trails_are_in_order.ensures.trail
+    c.propagate.ensures.closed in_step in
     let running = search_running w.problem (moved s c.propagate.new.self c.propagate.new.graph s.strategy) w.conflicts quiet in
     record {
       running = rw c.len-vars.ensures.atoms running;
@@ -62,7 +75,8 @@ returns-in-Done c = record {
       let s = c.decisions.self in
       let search = c.decisions.invariant.search p n old in
       let in_step = rw c.in-Quiet.is at c.in_ok-reached.ensures.in_step in (
-        search_grown p s n search c.propagate.new.self c.propagate.new.graph c.next.new.strategy c.propagate.ensures.grown.vars c.propagate.ensures.edges.limits c.propagate.ensures.grown.kept c.propagate.ensures.grown.longer c.trails_are_in_order.ensures.trail c.propagate.ensures.closed in_step,
+        search_grown p s n search c.propagate.new.self c.propagate.new.graph c.next.new.strategy c.propagate.ensures.grown.vars c.propagate.ensures.edges.limits
+            c.propagate.ensures.grown.kept c.propagate.ensures.grown.longer c.trails_are_in_order.ensures.trail c.propagate.ensures.closed in_step,
         rw search.search_for.theory_of.atoms at (rw c.in-Done.is at c.in_ok-values.ensures.done),
       );
 }
@@ -73,7 +87,10 @@ decide-requires-clause-room c =
     let w = c.decisions.invariant.under_way in
     let next = rw c.in-Decide.is at c.in_ok-values.ensures.decides in
     let in_step = rw c.in-Quiet.is at c.in_ok-reached.ensures.in_step in
-    let quiet = search_grown w.problem s w.conflicts w.search c.propagate.new.self c.propagate.new.graph s.strategy c.propagate.ensures.grown.vars c.propagate.ensures.edges.limits c.propagate.ensures.grown.kept c.propagate.ensures.grown.longer c.trails_are_in_order.ensures.trail c.propagate.ensures.closed in_step in
+    let quiet =
+    search_grown w.problem s w.conflicts w.search c.propagate.new.self c.propagate.new.graph s.strategy c.propagate.ensures.grown.vars
+    c.propagate.ensures.edges.limits c.propagate.ensures.grown.kept c.propagate.ensures.grown.longer c.trails_are_in_order.ensures.trail
+    c.propagate.ensures.closed in_step in
     let running = search_running w.problem (moved s c.propagate.new.self c.propagate.new.graph s.strategy) w.conflicts quiet in
     running_next (length s.theory.atoms) s.derived.db s.theory.links c.propagate.new.self c.propagate.new.graph running c.in-Decide.lit.var (rw c.len-vars.ensures.atoms at next.within) next.unassigned
 
@@ -110,8 +127,12 @@ decisions-preserved c =
     let closed_at = rw c.in-Quiet.is at c.in_ok-reached.ensures.closed_at in
     let longer : length u.entries ≤ length c.decide.new.self.entries = rw c.decide.ensures.trail (decided_longer u lit mark) in
     let keeps = λ (p : Problem) (n : ℕ) (search : IsSearch p s n).
-    search_decided p (moved s u h y) n (search_grown p s n search u h y c.propagate.ensures.grown.vars c.propagate.ensures.edges.limits c.propagate.ensures.grown.kept c.propagate.ensures.grown.longer c.trails_are_in_order.ensures.trail c.propagate.ensures.closed in_step) c.decide.new.self c.decide.new.graph y
-    (ap (λ (x : Assigned). x.vars) c.decide.ensures.trail) c.decide.ensures.limits (rw c.decide.ensures.trail (decided_kept u lit mark)) longer trail c.decide.ensures.closed closed_at c.in-Kept.ensures.in_step in
+    search_decided p (moved s u h y) n
+    (search_grown p s n search u h y c.propagate.ensures.grown.vars c.propagate.ensures.edges.limits c.propagate.ensures.grown.kept
+    c.propagate.ensures.grown.longer c.trails_are_in_order.ensures.trail c.propagate.ensures.closed in_step)
+    c.decide.new.self c.decide.new.graph y
+    (ap (λ (x : Assigned). x.vars) c.decide.ensures.trail) c.decide.ensures.limits
+    (rw c.decide.ensures.trail (decided_kept u lit mark)) longer trail c.decide.ensures.closed closed_at c.in-Kept.ensures.in_step in
     record {
       under_way = record { problem = w.problem; conflicts = w.conflicts; few = w.few; search = keeps w.problem w.conflicts w.search };
       before = λ v less free.
@@ -140,7 +161,10 @@ returns-in-Cycle c = record {
       let in_step = rw c.in-Quiet.is at c.in_ok-reached.ensures.in_step in
       let closed_at = rw c.in-Quiet.is at c.in_ok-reached.ensures.closed_at in
       let longer : length u.entries ≤ length c.decide.new.self.entries = rw c.decide.ensures.trail (decided_longer u lit mark) in
-      let quiet = search_grown p s n search u h y c.propagate.ensures.grown.vars c.propagate.ensures.edges.limits c.propagate.ensures.grown.kept c.propagate.ensures.grown.longer c.trails_are_in_order.ensures.trail c.propagate.ensures.closed in_step in
-      search_refused p (moved s u h y) n quiet c.decide.new.self c.decide.new.graph y (ap (λ (x : Assigned). x.vars) c.decide.ensures.trail) c.decide.ensures.limits (rw c.decide.ensures.trail (decided_kept u lit mark)) longer lit trail
+      let quiet =
+      search_grown p s n search u h y c.propagate.ensures.grown.vars c.propagate.ensures.edges.limits c.propagate.ensures.grown.kept
+      c.propagate.ensures.grown.longer c.trails_are_in_order.ensures.trail c.propagate.ensures.closed in_step in
+      search_refused p (moved s u h y) n quiet c.decide.new.self c.decide.new.graph y
+      (ap (λ (x : Assigned). x.vars) c.decide.ensures.trail) c.decide.ensures.limits (rw c.decide.ensures.trail (decided_kept u lit mark)) longer lit trail
       (λ closed. c.decide.ensures.closed s.derived.db closed closed_at) last c.in-Cycle.ensures.refused (λ b step. c.in-Cycle.ensures.lacks_last s.derived.db b step);
 }

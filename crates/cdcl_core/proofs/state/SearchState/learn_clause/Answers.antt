@@ -73,26 +73,34 @@ returns c = record {
       let room = line_room w.problem s w.midway.search_for w.conflicts 1 w.midway.known w.few (omega arith) w.midway.spent in
       let run : IsRun c.add.new.self.db s.theory.links p.edges c.back_to.new.self c.back_to.new.graph =
       rw (c.in_ok-add.ensures.clause, c.as_slice-lits.ensures.items)
-      (back_run s.derived.db s.trail s.graph c.args.conflict c.in_ok-learned.learned.lits c.in_ok-learned.learned.jump c.level_after.result c.back_to.new.self c.back_to.new.graph c.requires.level c.level_after.ensures
+      (back_run s.derived.db s.trail s.graph c.args.conflict c.in_ok-learned.learned.lits c.in_ok-learned.learned.jump c.level_after.result c.back_to.new.self
+      c.back_to.new.graph c.requires.level c.level_after.ensures
       c.in_ok-learned.ensures.asserting c.in_ok-learned.ensures.jump c.in_ok-learned.ensures.variables c.in_ok-learned.ensures.two_above c.trails_are_in_order.ensures.trail
       c.back_to.ensures.in_step c.back_to.ensures.after_refusal c.back_to.ensures.closed s.theory.links p.edges mid.conflicted) in
       let entries : c.back_to.new.self.entries ≡ up_to c.level_after.result s.trail.entries = ap (λ (x : Assigned). x.entries) c.back_to.ensures.trail in
       let front : c.back_to.new.self.entries ≡ take (length c.back_to.new.self.entries) s.trail.entries = rw entries (up_to_front s.trail c.level_after.result mid.conflicted.trail) in
       let held : c.saturating_sub-held.result ≡ length (linked s.theory.links (literals c.back_to.new.self.entries)) =
-      held_count s.theory.links p.edges c.back_to.new.graph.edges (literals c.back_to.new.self.entries) c.saturating_sub-held.result (length s.theory.bounds) run.step.edges (edges_count p s own) (grind (arith, c.saturating_sub-held.ensures, c.mark-edges.ensures.count, c.len-base.ensures.count)) in
+      held_count s.theory.links p.edges c.back_to.new.graph.edges (literals c.back_to.new.self.entries) c.saturating_sub-held.result
+      (length s.theory.bounds) run.step.edges (edges_count p s own)
+      (grind (arith, c.saturating_sub-held.ensures, c.mark-edges.ensures.count, c.len-base.ensures.count)) in
       let are = linked_cut s.theory.links s.trail.entries s.linked own.linked c.back_to.new.self.entries c.saturating_sub-held.result c.cut.new.self front held
       (rw c.len-2.ensures.count at c.cut.ensures.shorter) (rw c.len-2.ensures.count at c.cut.ensures.same) in
-      learned p s n c.args.conflict c.back_to.new.self c.back_to.new.graph c.cut.new.self c.add.new.self c.cut-2.new.self mid (ap (λ (x : Assigned). x.vars) c.back_to.ensures.trail) c.back_to.ensures.limits are run
+      learned p s n c.args.conflict c.back_to.new.self c.back_to.new.graph c.cut.new.self c.add.new.self c.cut-2.new.self mid
+      (ap (λ (x : Assigned). x.vars) c.back_to.ensures.trail) c.back_to.ensures.limits are run
       (lits ∷ [], c.in_ok-add.ensures.clause)
       (rw c.in_ok-add.ensures.clause (length_push s.derived.db lits))
       (rw c.in_ok-add.ensures.line (length_push s.derived.lines c.in_ok-line.line))
-      (rw c.in_ok-add.ensures.line (one_lesson s.derived.lines (read_clause atoms lits) (map (cite_at s.derived.cites) refs) c.in_ok-line.line c.in_ok-line.ensures.line (omega (arith, some, length-map lits (read_lit atoms)))))
+      (rw c.in_ok-add.ensures.line
+      (one_lesson s.derived.lines (read_clause atoms lits) (map (cite_at s.derived.cites) refs) c.in_ok-line.line c.in_ok-line.ensures.line
+      (omega (arith, some, length-map lits (read_lit atoms)))))
       (λ log f v old. rw (c.in_ok-add.ensures.clause, c.in_ok-add.ensures.cite, c.in_ok-add.ensures.line)
-      (record_learned log f v atoms s.derived.db s.derived.cites s.derived.lines old c.len.ensures.once (few_atoms p s own) low lits refs c.in_ok-line.line (rw (c.as_slice-lits.ensures.items, ← vars) c.in_ok-learned.ensures.variables)
+      (record_learned log f v atoms s.derived.db s.derived.cites s.derived.lines old c.len.ensures.once (few_atoms p s own) low lits refs c.in_ok-line.line
+      (rw (c.as_slice-lits.ensures.items, ← vars) c.in_ok-learned.ensures.variables)
       (rw c.as_slice-lits.ensures.items c.in_ok-learned.ensures.once) some (rw (c.as_slice-lits.ensures.items, c.as_slice.ensures.items) c.in_ok-learned.ensures.refute) c.in_ok-line.ensures.line
       (omega (arith, room))))
       (λ log f v rules known quiet record_ old. rw (c.in_ok-add.ensures.clause, c.in_ok-add.ensures.cite, c.in_ok-add.ensures.line)
-      (spending_learned log f v rules atoms known s.derived.db s.derived.cites s.derived.lines s.trail old record_ quiet mid.conflicted.trail c.requires.level c.len.ensures.once low lits refs c.in_ok-line.line
+      (spending_learned log f v rules atoms known s.derived.db s.derived.cites s.derived.lines s.trail old record_ quiet mid.conflicted.trail c.requires.level
+      c.len.ensures.once low lits refs c.in_ok-line.line
       (rw (c.as_slice-lits.ensures.items, ← vars) c.in_ok-learned.ensures.variables) (rw c.as_slice-lits.ensures.items c.in_ok-learned.ensures.below)
       (rw (c.as_slice-lits.ensures.items, c.as_slice.ensures.items) c.in_ok-learned.ensures.used) c.in_ok-line.ensures.line));
 }

@@ -32,7 +32,8 @@ returns c = record {
       let same = own.theory_of.atoms in
       let lines : c.take_lines.result ≡ c.push.new.self = c.take_lines.ensures.lines in
       let count : length c.take_lines.result ≡ length s.derived.lines + 1 = rw (lines, c.in_ok-push.ensures.ok) (length_push s.derived.lines c.in_ok-line.line) in
-      let lessons_are : lessons c.take_lines.result ≡ lessons s.derived.lines = rw (lines, c.in_ok-push.ensures.ok) (no_lesson s.derived.lines (map (cite_at s.derived.cites) c.deref.result.now) c.in_ok-line.line c.in_ok-line.ensures.line) in
+      let lessons_are : lessons c.take_lines.result ≡ lessons s.derived.lines =
+      rw (lines, c.in_ok-push.ensures.ok) (no_lesson s.derived.lines (map (cite_at s.derived.cites) c.deref.result.now) c.in_ok-line.line c.in_ok-line.ensures.line) in
       refutation p s n c.args.conflict c.take_lines.result mid count lessons_are (λ log f v old.
       rw (lines, c.in_ok-push.ensures.ok)
       (record_refuted log f v s.theory.atoms s.derived.db s.derived.cites s.derived.lines (rw same old) c.len.ensures.once (few_atoms p s own)

@@ -23,7 +23,9 @@ returns-in-Met c = record {
   answer = λ p start.
       let met = (rw c.in-Met.is at c.in_ok-values.ensures.turned) p c.conflicts._conflict (c.conflicts.invariant.search p start) in
       record {
-        found_is = λ log f v valid fits. model_found p c.take_turn.new.self c.conflicts._conflict c.in-Met.values c.in_ok-potentials-in-Met.potentials met.0 met.1 c.graphs_are_solved.ensures.solution c.in_ok-potentials-in-Met.ensures.potentials;
+        found_is =
+            λ log f v valid fits. model_found p c.take_turn.new.self c.conflicts._conflict c.in-Met.values c.in_ok-potentials-in-Met.potentials met.0 met.1
+            c.graphs_are_solved.ensures.solution c.in_ok-potentials-in-Met.ensures.potentials;
         bounded = tt;
         refuted_by_rules = tt;
       };

@@ -1,5 +1,6 @@
 use Rattle.std.proofs.Common.{length, arith, ap}
-use Rattle.clause_db.proofs.FlatLemmas.{held_end, span}
+use Rattle.hint_refutation.proofs.Pieces.{held_end}
+use Rattle.clause_db.proofs.FlatLemmas.{span}
 use Rattle.clause_db.proofs.db.Db.lits.Goals as goal
 
 pub start_of-start-requires : goal.start_of-start-requires

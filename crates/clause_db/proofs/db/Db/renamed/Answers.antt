@@ -4,7 +4,8 @@ use Rattle.std.specs.declared.alloc.Global.{Global}
 use Rattle.std.specs.Vec.{with_items}
 use Rattle.std.proofs.lemmas.List.{length-map, with_items_is}
 use Rattle.clause_db.specs.declared.lit.Lit.{Lit}
-use Rattle.clause_db.specs.Flat.{clauses_from, IsFlat}
+use Rattle.hint_refutation.specs.Pieces.{pieces_from}
+use Rattle.clause_db.specs.Flat.{IsFlat}
 use Rattle.clause_db.specs.Renaming.{moved}
 use Rattle.clause_db.proofs.RenamingLemmas.{clauses_changed, flat_moved, lits_below}
 use Rattle.clause_db.proofs.db.Db.renamed.Goals as goal
@@ -29,7 +30,7 @@ pub returns : goal.returns
 returns c =
     let is = written (moved c.args.places.now) c.self.inside.lits c.deref_mut.result.now c.rename.new.lits c.self.inside.lits.ok.0 c.deref_mut.ensures.value c.rename.ensures.literals in
     record {
-      clauses = ap (λ (xs : List Lit). clauses_from 0 xs c.self.inside.ends.items) is
+      clauses = ap (λ (xs : List Lit). pieces_from 0 xs c.self.inside.ends.items) is
           ∙ clauses_changed (moved c.args.places.now) 0 c.self.inside.lits.items c.self.inside.ends.items
           ∙ ap (map (map (moved c.args.places.now))) c.self.view_is;
     }

@@ -1,5 +1,6 @@
 use Rattle.std.proofs.Common.{arith}
-use Rattle.clause_db.proofs.FlatLemmas.{held_end, span, span_length}
+use Rattle.hint_refutation.proofs.Pieces.{held_end}
+use Rattle.clause_db.proofs.FlatLemmas.{span, span_length}
 use Rattle.clause_db.proofs.db.Db.width.Goals as goal
 
 pub start_of-start-requires : goal.start_of-start-requires

@@ -1,4 +1,3 @@
-use Rattle.std.proofs.Common.{◌↔◌}
 use Rattle.difference_graph.proofs.GraphLemmas.{met_less}
 use Rattle.difference_graph.proofs.graph.Graph.meets.Goals as goal
 

@@ -38,7 +38,8 @@ few_of : (new all : List Form) → new ≡ all → length new ≤ MAX_NODES → 
 few_of new all e few = omega (arith, ap length e)
 
 pub returns-clause-enough : goal.returns-clause-enough
-returns-clause-enough c = on_ok_weaker c.walk-node.result (λ e. few_of _ _ (e ∙ walked c.args.self.now c.tree.result.now c.args.f.now c.tree.ensures.same) c.len.ensures.arena.few) c.walk-node.ensures.nodes
+returns-clause-enough c =
+    on_ok_weaker c.walk-node.result (λ e. few_of _ _ (e ∙ walked c.args.self.now c.tree.result.now c.args.f.now c.tree.ensures.same) c.len.ensures.arena.few) c.walk-node.ensures.nodes
 
 pub returns-clause-too_many : goal.returns-clause-too_many
 returns-clause-too_many c = λ e. subst (λ l. MAX_NODES < length l) (walked c.args.self.now c.tree.result.now c.args.f.now c.tree.ensures.same) (c.walk-node.ensures.too_many e)

@@ -5,7 +5,8 @@ use Rattle.formula_arena.proofs.Walked.{expanded, taken_task}
 use Rattle.formula_arena.proofs.arena.Arena.take.Goals as goal
 
 pub returns-in_ok-push_tasks-in-Tree : goal.returns-in_ok-push_tasks-in-Tree
-returns-in_ok-push_tasks-in-Tree c = expanded c.args.task (form_of c.in-Tree.tree.now) _ _ c.args.self.now c.args.waiting.now.items (ap step_in c.in-Tree.is) c.in_ok-push_tasks-in-Tree.ensures.steps c.requires.held
+returns-in_ok-push_tasks-in-Tree c =
+    expanded c.args.task (form_of c.in-Tree.tree.now) _ _ c.args.self.now c.args.waiting.now.items (ap step_in c.in-Tree.is) c.in_ok-push_tasks-in-Tree.ensures.steps c.requires.held
 
 pub returns-in-True : goal.returns-in-True
 returns-in-True c = taken_task _ c.in-True.is (λ trees. refl) refl c.make.ensures

@@ -23,7 +23,8 @@ pub cycle-requires-clause-whole : goal.cycle-requires-clause-whole
 cycle-requires-clause-whole c = rw (c.deref-in-Some.ensures.value, c.in_ok-table.ensures) (causes-whole c.args.log.now c.previous_row_is_last.ensures)
 
 -- the clocks are those of the log's rows, and all are finished
-made : (c : In-None) → AreClocks (length c.args.log.now.hosts) (map (λ r. r.host) c.args.log.now.rows) (causes_of_rows c.args.log.now) c.in_ok-progress.progress.finished.items c.in_ok-progress.progress.clocks.items
+made : (c : In-None)
+    → AreClocks (length c.args.log.now.hosts) (map (λ r. r.host) c.args.log.now.rows) (causes_of_rows c.args.log.now) c.in_ok-progress.progress.finished.items c.in_ok-progress.progress.clocks.items
 made c = rw (c.hosts.ensures.same, c.deref.ensures.value, c.in_ok-hosts.ensures, c.deref-2.ensures.value, c.in_ok-table.ensures) at c.in_ok-progress.ensures.progress
 
 all : (c : In-None) → All (λ f. f ≡ true) c.in_ok-progress.progress.finished.items

@@ -10,5 +10,6 @@ returns c = record {
       let row : c.args.e < length log.rows = omega (arith, c.requires.second, is.events) in
       let host : c.host-host.result ≡ host_of log c.args.e = c.host-host.ensures.host ∙ ap (λ hs. slice_index hs c.args.e) is.hosts ∙ hosts-at log.rows c.args.e in
       let low : c.host-host.result < length c.clock.result.now = rw c.clock.ensures.value (c.host-host.ensures.within c.args.e c.requires.second) in
-      told-by_clocks c.previous_row_is_last.ensures log c.args.e c.args.f row c.clock.result.now c.clock-2.result.now c.host-host.result host low (c.clock.ensures.clock log is) (c.clock-2.ensures.clock log is);
+      told-by_clocks c.previous_row_is_last.ensures log c.args.e c.args.f row c.clock.result.now c.clock-2.result.now c.host-host.result host low
+      (c.clock.ensures.clock log is) (c.clock-2.ensures.clock log is);
 }

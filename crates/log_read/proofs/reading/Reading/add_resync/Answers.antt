@@ -4,4 +4,7 @@ use Rattle.log_read.proofs.reading.Reading.add_resync.Goals as goal
 pub invariant_of-self-2 : goal.invariant_of-self-2
 invariant_of-self-2 c =
     let entry = rw (c.as_slice-hosts.ensures.items, c.len.ensures.count) at c.in_ok-resync.ensures.entry in
-    rw c.in_ok-push.ensures.ok (begun_resync (record { hosts = c.self.inside.hosts; rows = c.self.inside.rows; resyncs = c.self.inside.resyncs; latencies = c.self.inside.latencies }) c.in_ok-resync.resync c.args.host.now c.args.skew.now c.args.gap.now c.self.invariant entry.1)
+    rw c.in_ok-push.ensures.ok
+    (begun_resync
+    (record { hosts = c.self.inside.hosts; rows = c.self.inside.rows; resyncs = c.self.inside.resyncs; latencies = c.self.inside.latencies })
+    c.in_ok-resync.resync c.args.host.now c.args.skew.now c.args.gap.now c.self.invariant entry.1)

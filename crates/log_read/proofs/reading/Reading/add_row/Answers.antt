@@ -4,4 +4,7 @@ use Rattle.log_read.proofs.reading.Reading.add_row.Goals as goal
 pub invariant_of-self-2 : goal.invariant_of-self-2
 invariant_of-self-2 c =
     let entry = rw (c.as_slice-hosts.ensures.items, c.as_slice.ensures.items) at c.in_ok-row.ensures.entry in
-    rw c.in_ok-push.ensures.ok (begun_row c.args.place (record { hosts = c.self.inside.hosts; rows = c.self.inside.rows; resyncs = c.self.inside.resyncs; latencies = c.self.inside.latencies }) c.in_ok-row.row c.args.kind c.args.host.now c.args.local.now c.args.name.now c.self.invariant entry.0 entry.1)
+    rw c.in_ok-push.ensures.ok
+    (begun_row c.args.place
+    (record { hosts = c.self.inside.hosts; rows = c.self.inside.rows; resyncs = c.self.inside.resyncs; latencies = c.self.inside.latencies })
+    c.in_ok-row.row c.args.kind c.args.host.now c.args.local.now c.args.name.now c.self.invariant entry.0 entry.1)

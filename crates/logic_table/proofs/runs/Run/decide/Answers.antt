@@ -5,7 +5,8 @@ use Rattle.logic_table.proofs.runs.Run.decide.Goals as goal
 pub decide-requires-clause-room : goal.decide-requires-clause-room
 decide-requires-clause-room c =
     c.room_for_all_is_room.ensures.law.next c.args.self.now.trail c.args.db.now c.args.self.now.links [] c.args.self.now.graph c.var.result c.trails_are_in_order.ensures.trail c.requires.ready.step
-    (let room = c.requires.ready.room in omega (arith, room)) (let low = c.requires.in_range in let var = c.var.ensures.variable in omega (arith, low, var)) (c.value.ensures.unassigned.0 (search rules))
+    (let room = c.requires.ready.room in omega (arith, room)) (let low = c.requires.in_range in let var = c.var.ensures.variable in omega (arith, low, var))
+    (c.value.ensures.unassigned.0 (search rules))
 
 pub propagate-requires : goal.propagate-requires
 propagate-requires c =

@@ -11,7 +11,8 @@ use Rattle.mtl_encode.specs.Seconds.{AreCounts}
 use Rattle.mtl_encode.proofs.clauses.Clauses.add_number.Goals as goal
 
 -- the rules of a number whose arguments are of these kinds
-number-of : (s : Sought) (out : Rule → Bool) (number : ℕ) (arguments : List Argument) (counts : List ℕ) → Some arguments ≡ option_map (λ row. row.arguments) (row_of number) → counts ≡ map (count_of s) arguments
+number-of : (s : Sought) (out : Rule → Bool) (number : ℕ) (arguments : List Argument) (counts : List ℕ)
+    → Some arguments ≡ option_map (λ row. row.arguments) (row_of number) → counts ≡ map (count_of s) arguments
     → with_none s out number counts ≡ of_number s out number
 number-of s out number arguments counts is are = go (row_of number) is
   where
@@ -19,7 +20,8 @@ number-of s out number arguments counts is are = go (row_of number) is
     go None is = absurd (cc)
     go (Some row) is = let same : arguments ≡ row.arguments = cc in ap (with_none s out number) (are ∙ ap (map (count_of s)) same)
 
-counts-of : (s : Sought) (number : ℕ) (arguments : List Argument) (counts : List ℕ) → Some arguments ≡ option_map (λ row. row.arguments) (row_of number) → counts ≡ map (count_of s) arguments → AreCounts s number counts
+counts-of : (s : Sought) (number : ℕ) (arguments : List Argument) (counts : List ℕ) → Some arguments ≡ option_map (λ row. row.arguments) (row_of number)
+    → counts ≡ map (count_of s) arguments → AreCounts s number counts
 counts-of s number arguments counts is are = go (row_of number) is
   where
     go : (o : Option Row) → Some arguments ≡ option_map (λ row. row.arguments) o → Some counts ≡ option_map (λ row. map (count_of s) row.arguments) o
@@ -31,8 +33,13 @@ add_with_none-requires-clause-counts c = counts-of c.args.rules.now c.args.numbe
 
 pub add_with_none-requires-clause-room : goal.add_with_none-requires-clause-room
 add_with_none-requires-clause-room c = subst (λ rules. HasRoom c.args.rules.now (c.args.self.now.rules ++ rules))
-    (sym (number-of c.args.rules.now (out_by c.args.tight.now c.args.rules.now) c.args.number c.in-Some.arguments c.counts_of-counts.result (sym c.in-Some.is ∙ c.arguments_of.ensures) c.counts_of-counts.ensures)) c.requires.room
+    (sym
+    (number-of c.args.rules.now (out_by c.args.tight.now c.args.rules.now) c.args.number c.in-Some.arguments c.counts_of-counts.result
+    (sym c.in-Some.is ∙ c.arguments_of.ensures) c.counts_of-counts.ensures))
+    c.requires.room
 
 pub returns-in-Some : goal.returns-in-Some
 returns-in-Some c = subst (λ rules. OnOk c.add_with_none.result (Gains c.args.rules.now c.args.self.now c.add_with_none.new.self rules))
-    (number-of c.args.rules.now (out_by c.args.tight.now c.args.rules.now) c.args.number c.in-Some.arguments c.counts_of-counts.result (sym c.in-Some.is ∙ c.arguments_of.ensures) c.counts_of-counts.ensures) c.add_with_none.ensures
+    (number-of c.args.rules.now (out_by c.args.tight.now c.args.rules.now) c.args.number c.in-Some.arguments c.counts_of-counts.result
+    (sym c.in-Some.is ∙ c.arguments_of.ensures) c.counts_of-counts.ensures)
+    c.add_with_none.ensures

@@ -10,14 +10,21 @@ on-ok (Ok x) A B f a = f a
 on-ok (Err e) A B f a = tt
 
 pub write_lits-requires : goal.write_lits-requires
-write_lits-requires c = omega (arith, c.requires.clauses.few, c.requires.room, literals-one c.args.rules.now c.args.self.now.rules c.args.rule, few-in c.args.rules.now c.args.rule c.args.clause.now c.requires.clause)
+write_lits-requires c =
+    omega (arith, c.requires.clauses.few, c.requires.room, literals-one c.args.rules.now c.args.self.now.rules c.args.rule, few-in c.args.rules.now c.args.rule c.args.clause.now c.requires.clause)
 
 pub add-requires-clause-room : goal.add-requires-clause-room
 add-requires-clause-room c = omega (arith, c.requires.clauses.count, c.requires.room, few-rules c.args.rules.now c.args.self.now.rules, literals-one c.args.rules.now c.args.self.now.rules c.args.rule)
 
 pub add-requires-clause-once : goal.add-requires-clause-once
-add-requires-clause-once c = rw c.deref.ensures.value (vars-once c.write_lits.new.atoms (c.write_lits.new.lits).items c.args.clause.now c.in_ok-write_lits.ensures.lits (c.clauses_have_atoms_once.ensures c.args.rules.now c.args.rule c.args.clause.now c.requires.clause))
+add-requires-clause-once c =
+    rw c.deref.ensures.value
+    (vars-once c.write_lits.new.atoms (c.write_lits.new.lits).items c.args.clause.now c.in_ok-write_lits.ensures.lits
+    (c.clauses_have_atoms_once.ensures c.args.rules.now c.args.rule c.args.clause.now c.requires.clause))
 
 pub returns : goal.returns
-returns c = on-ok c.push.result _ _ (λ rules. gains-one c.args.rules.now c.args.self.now (record { db = c.add.new.self; rules = c.push.new.self; atoms = c.write_lits.new.atoms }) c.args.rule c.args.clause.now (c.write_lits.new.lits).items
+returns c =
+    on-ok c.push.result _ _
+    (λ rules. gains-one c.args.rules.now c.args.self.now
+    (record { db = c.add.new.self; rules = c.push.new.self; atoms = c.write_lits.new.atoms }) c.args.rule c.args.clause.now (c.write_lits.new.lits).items
     c.requires.clauses c.requires.clause c.in_ok-write_lits.ensures.atoms c.in_ok-write_lits.ensures.lits (rw c.deref.ensures.value at c.in_ok-add.ensures.ok) rules) c.push.ensures.ok

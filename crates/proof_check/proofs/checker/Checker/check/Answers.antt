@@ -22,4 +22,4 @@ pub returns-clause-excludes : goal.returns-clause-excludes
 returns-clause-excludes c = answered c.self.inside.rules c.args.self.now c.self.view_is c.args.lines.now c.check_lines.result c.check_lines.ensures
     (λ log f v found. found ≡ check.Refutes → IsValue log f v → ⊥)
     (λ log f v found sought answer refutes value.
-    c.refuted_is_no_value.ensures log f v c.args.lines.now (subst IsLog (ap (λ s. s.log) (c.self.view_is ∙ sought)) c.log_is_valid.ensures) (answer.refutes.0 refutes) value)
+    c.refuted_is_no_value.ensures log f v c.args.lines.now (subst IsLog (ap (λ s. s.log) (c.self.view_is ∙ sought)) c.rules_have_a_log.ensures) (answer.refutes.0 refutes) value)

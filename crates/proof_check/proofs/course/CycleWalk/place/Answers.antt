@@ -25,7 +25,11 @@ returns-then-is_negative_cycle-clause-excludes c = λ log steps come none t ok.
     c.conflict_excludes_timings.ensures log steps t is.bounds is.conflict ok
 
 pub returns-in-Along-clause-accepted : goal.returns-in-Along-clause-accepted
-returns-in-Along-clause-accepted c = λ log steps come. (λ none. absurd (cc), λ is. absurd (no_cycle log steps come c.is_negative_cycle.result (c.is_negative_cycle.ensures (bound_edge_of log) steps come) c.if-is_negative_cycle.false is))
+returns-in-Along-clause-accepted c =
+    λ log steps
+    come. (λ none. absurd (cc), λ is. absurd (no_cycle log steps come c.is_negative_cycle.result (c.is_negative_cycle.ensures (bound_edge_of log) steps come) c.if-is_negative_cycle.false is))
 
 pub returns-in-Stopped-clause-accepted : goal.returns-in-Stopped-clause-accepted
-returns-in-Stopped-clause-accepted c = λ log steps come. (λ none. absurd (cc), λ is. absurd (no_cycle log steps come c.is_negative_cycle.result (c.is_negative_cycle.ensures (bound_edge_of log) steps come) c.if-is_negative_cycle.false is))
+returns-in-Stopped-clause-accepted c =
+    λ log steps
+    come. (λ none. absurd (cc), λ is. absurd (no_cycle log steps come c.is_negative_cycle.result (c.is_negative_cycle.ensures (bound_edge_of log) steps come) c.if-is_negative_cycle.false is))

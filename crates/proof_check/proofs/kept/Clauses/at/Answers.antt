@@ -1,5 +1,5 @@
 use Rattle.std.proofs.Common.{length, arith, ap}
-use Rattle.proof_check.proofs.Pieces.{held_end, span}
+use Rattle.hint_refutation.proofs.Pieces.{held_end, span}
 use Rattle.proof_check.specs.Keeping.{Kept}
 use Rattle.proof_check.proofs.kept.Clauses.at.Goals as goal
 
@@ -15,25 +15,35 @@ index-requires c =
 
 pub offset_bounds-deref-start : goal.offset_bounds-deref-start
 offset_bounds-deref-start c =
-    let s = span _ _ _ _ c.args.place _ _ (ap (λ (k : Kept). k.closed) c.self.view_is) c.self.invariant c.requires c.deref.ensures.value c.start_of-start.ensures.first c.start_of-start.ensures.later c.index.ensures in
+    let s =
+    span _ _ _ _ c.args.place _ _
+    (ap (λ (k : Kept). k.closed) c.self.view_is) c.self.invariant c.requires c.deref.ensures.value c.start_of-start.ensures.first c.start_of-start.ensures.later c.index.ensures in
     omega (arith, s.rising, s.within, c.deref-2.type_inv.1, ap length c.deref-2.ensures.value)
 
 pub slice_bounds-result-count : goal.slice_bounds-result-count
 slice_bounds-result-count c =
-    let s = span _ _ _ _ c.args.place _ _ (ap (λ (k : Kept). k.closed) c.self.view_is) c.self.invariant c.requires c.deref.ensures.value c.start_of-start.ensures.first c.start_of-start.ensures.later c.index.ensures in
+    let s =
+    span _ _ _ _ c.args.place _ _
+    (ap (λ (k : Kept). k.closed) c.self.view_is) c.self.invariant c.requires c.deref.ensures.value c.start_of-start.ensures.first c.start_of-start.ensures.later c.index.ensures in
     s.rising
 
 pub slice_bounds-result-start : goal.slice_bounds-result-start
 slice_bounds-result-start c =
-    let s = span _ _ _ _ c.args.place _ _ (ap (λ (k : Kept). k.closed) c.self.view_is) c.self.invariant c.requires c.deref.ensures.value c.start_of-start.ensures.first c.start_of-start.ensures.later c.index.ensures in
+    let s =
+    span _ _ _ _ c.args.place _ _
+    (ap (λ (k : Kept). k.closed) c.self.view_is) c.self.invariant c.requires c.deref.ensures.value c.start_of-start.ensures.first c.start_of-start.ensures.later c.index.ensures in
     s.rising
 
 pub slice_bounds-result-end : goal.slice_bounds-result-end
 slice_bounds-result-end c =
-    let s = span _ _ _ _ c.args.place _ _ (ap (λ (k : Kept). k.closed) c.self.view_is) c.self.invariant c.requires c.deref.ensures.value c.start_of-start.ensures.first c.start_of-start.ensures.later c.index.ensures in
+    let s =
+    span _ _ _ _ c.args.place _ _
+    (ap (λ (k : Kept). k.closed) c.self.view_is) c.self.invariant c.requires c.deref.ensures.value c.start_of-start.ensures.first c.start_of-start.ensures.later c.index.ensures in
     omega (arith, s.within, ap length c.deref-2.ensures.value)
 
 pub returns : goal.returns
 returns c =
-    let s = span _ _ _ _ c.args.place _ _ (ap (λ (k : Kept). k.closed) c.self.view_is) c.self.invariant c.requires c.deref.ensures.value c.start_of-start.ensures.first c.start_of-start.ensures.later c.index.ensures in
+    let s =
+    span _ _ _ _ c.args.place _ _
+    (ap (λ (k : Kept). k.closed) c.self.view_is) c.self.invariant c.requires c.deref.ensures.value c.start_of-start.ensures.first c.start_of-start.ensures.later c.index.ensures in
     record { clause = rw c.deref-2.ensures.value s.is }

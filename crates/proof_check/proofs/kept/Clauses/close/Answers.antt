@@ -1,5 +1,6 @@
 use Rattle.std.proofs.Common.{◌≡◌, arith, length}
-use Rattle.proof_check.proofs.Pieces.{kept_close, rise_push}
+use Rattle.hint_refutation.proofs.Pieces.{rise_push}
+use Rattle.proof_check.proofs.KeptPieces.{kept_close}
 use Rattle.proof_check.proofs.kept.Clauses.close.Goals as goal
 
 pub invariant_of-self-2 : goal.invariant_of-self-2

@@ -1,5 +1,5 @@
 use Rattle.std.proofs.Common.{rules}
-use Rattle.proof_check.proofs.Pieces.{pieces_count}
+use Rattle.hint_refutation.proofs.Pieces.{pieces_count}
 use Rattle.proof_check.proofs.kept.Clauses.len.Goals as goal
 
 pub returns : goal.returns

@@ -1,7 +1,9 @@
 use Rattle.std.proofs.Common.{◌∙◌, ◌-◌, ap, arith, drop, get_or, length}
 use Rattle.std.proofs.lemmas.List.{length-drop, take_all}
-use Rattle.proof_check.specs.Keeping.{Kept, last_end}
-use Rattle.proof_check.proofs.Pieces.{last_read, last_within}
+use Rattle.hint_refutation.specs.Pieces.{last_end}
+use Rattle.proof_check.specs.Keeping.{Kept}
+use Rattle.hint_refutation.proofs.Pieces.{last_within}
+use Rattle.proof_check.proofs.KeptPieces.{last_read}
 use Rattle.proof_check.proofs.kept.Clauses.pending.Goals as goal
 
 pub offset_bounds-deref-start : goal.offset_bounds-deref-start
@@ -39,5 +41,6 @@ returns c =
     (λ some. c.start_of-start.ensures.later (omega (arith, c.len.ensures, some)) ∙ ap (λ k. get_or c.deref.result.now (k - 1) 0) (omega (arith, c.len.ensures))) in
     record {
       literals = rw (c.deref-2.ensures.value, start) (
-          take_all (c.len-end.result - last_end 0 ends) (drop (last_end 0 ends) lits) (omega (arith, c.len-end.ensures, length-drop (last_end 0 ends) lits)) ∙ ap (λ (k : Kept). k.pending) c.self.view_is);
+          take_all (c.len-end.result - last_end 0 ends) (drop (last_end 0 ends) lits) (omega (arith, c.len-end.ensures, length-drop (last_end 0 ends) lits))
+          ∙ ap (λ (k : Kept). k.pending) c.self.view_is);
     }

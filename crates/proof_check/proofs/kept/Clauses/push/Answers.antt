@@ -1,5 +1,6 @@
 use Rattle.std.proofs.Common.{[], ◌∷◌, arith, length, length-append}
-use Rattle.proof_check.proofs.Pieces.{kept_push, rise_more}
+use Rattle.hint_refutation.proofs.Pieces.{rise_more}
+use Rattle.proof_check.proofs.KeptPieces.{kept_push}
 use Rattle.proof_check.proofs.kept.Clauses.push.Goals as goal
 
 pub invariant_of-self-2 : goal.invariant_of-self-2

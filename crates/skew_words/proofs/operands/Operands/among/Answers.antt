@@ -8,16 +8,23 @@ loop-i-init c = read-none string_bytes c.args.words.now
 
 pub returns-then-is_mark : goal.returns-then-is_mark
 returns-then-is_mark c =
-    let operands = read-mark string_bytes c.args.words.now c.loop-i.i c.index-words-i.result (sym c.index-words-i.is) c.loop-i-test.true c.loop-i.invariant (sym c.is_mark.ensures ∙ c.if-is_mark.true) in
+    let operands =
+    read-mark string_bytes c.args.words.now c.loop-i.i c.index-words-i.result (sym c.index-words-i.is) c.loop-i-test.true c.loop-i.invariant (sym c.is_mark.ensures ∙ c.if-is_mark.true) in
     record { operands = rw operands (ap Some (cut-words string_bytes c.args.front.now c.args.words.now c.loop-i.i)) }
 
 pub returns-then-is_dashed : goal.returns-then-is_dashed
 returns-then-is_dashed c = record {
-  operands = rw (read-option string_bytes c.args.words.now c.loop-i.i c.index-words-i.result (sym c.index-words-i.is) c.loop-i-test.true c.loop-i.invariant (sym c.is_mark.ensures ∙ c.if-is_mark.false) (sym c.is_dashed.ensures ∙ c.if-is_dashed.true)) refl;
+  operands =
+      rw
+      (read-option string_bytes c.args.words.now c.loop-i.i c.index-words-i.result (sym c.index-words-i.is) c.loop-i-test.true c.loop-i.invariant
+      (sym c.is_mark.ensures ∙ c.if-is_mark.false) (sym c.is_dashed.ensures ∙ c.if-is_dashed.true))
+      refl;
 }
 
 pub loop-i-preserved : goal.loop-i-preserved
-loop-i-preserved c = read-more string_bytes c.args.words.now c.loop-i.i c.index-words-i.result (sym c.index-words-i.is) c.loop-i-test.true c.loop-i.invariant (sym c.is_mark.ensures ∙ c.if-is_mark.false) (sym c.is_dashed.ensures ∙ c.if-is_dashed.false)
+loop-i-preserved c =
+    read-more string_bytes c.args.words.now c.loop-i.i c.index-words-i.result (sym c.index-words-i.is) c.loop-i-test.true c.loop-i.invariant
+    (sym c.is_mark.ensures ∙ c.if-is_mark.false) (sym c.is_dashed.ensures ∙ c.if-is_dashed.false)
 
 pub returns : goal.returns
 returns c =

@@ -4,4 +4,5 @@ use Rattle.witness_replay.proofs.LatestLemmas.{after-rest}
 use Rattle.witness_replay.proofs.states.Latest.advanced.Goals as goal
 
 pub returns-clause-after : goal.returns-clause-after
-returns-clause-after c = after-rest c.args.moments.now (moment_at c.args.moments.now c.args.place).time c.loop-latest.latest.places c.requires.rising (sym c.has_more.ensures ∙ c.loop-latest-test.false)
+returns-clause-after c =
+    after-rest c.args.moments.now (moment_at c.args.moments.now c.args.place).time c.loop-latest.latest.places c.requires.rising (sym c.has_more.ensures ∙ c.loop-latest-test.false)

@@ -1,15 +1,10 @@
--- Pieces of one list, and what follows them.
-use Rattle.std.proofs.Common.{◌≡◌, ◌∙◌, ap, sym, refl, subst, ℕ, zero, suc, ◌-◌, ◌<◌, ◌≤◌, List, [], ◌∷◌, ◌++◌, length, length-append, get_or, take, drop, take-append-drop, arith}
+-- Pieces of one list: more of them, and where each lies.
+use Rattle.std.proofs.Common.{◌≡◌, ◌∙◌, ap, sym, refl, ℕ, zero, suc, ◌+◌, ◌-◌, ◌<◌, ◌≤◌, List, [], ◌∷◌, ◌++◌, length, get_or, take, drop, arith}
 use Rattle.std.specs.Prelude.{slice_range}
-use Rattle.std.proofs.lemmas.List.{get_or_read, take_all, take-append-le, drop-append-le, drop_all, drop_at, length-drop, length-take-le}
-use Rattle.axiom_rules.specs.declared.literal.Literal.{Literal}
-use Rattle.proof_check.specs.Keeping.{Kept, Rise, closed_only, kept_in, last_end, pieces_from}
+use Rattle.std.proofs.lemmas.List.{get_or_read, take_all, take-append-le, drop-append-le, length-drop}
+use Rattle.hint_refutation.specs.Pieces.{Rise, last_end, pieces_from}
 
--- a part of a list is the same part of a longer one
-part_of_longer : {X : Type 0} (xs ys : List X) (a b : ℕ) → a ≤ b → b ≤ length xs → slice_range (xs ++ ys) a b ≡ slice_range xs a b
-part_of_longer xs ys a b rising within =
-    let fits : b - a ≤ length (drop a xs) = omega (arith, length-drop a xs) in
-    ap (λ zs. take (b - a) zs) (drop-append-le a xs ys (omega arith)) ∙ take-append-le (b - a) (drop a xs) ys fits
+-- Ends.
 
 rise_below : (start : ℕ) (ends : List ℕ) (whole : ℕ) → Rise start ends whole → start ≤ whole
 rise_below start [] whole rise = rise
@@ -31,63 +26,35 @@ pub rise_push : (start : ℕ) (ends : List ℕ) (whole : ℕ) → Rise start end
 rise_push start [] whole rise = (rise, omega arith)
 rise_push start (end ∷ ends) whole (first, rest) = (first, rise_push end ends whole rest)
 
-last_push : (start : ℕ) (ends : List ℕ) (whole : ℕ) → last_end start (ends ++ whole ∷ []) ≡ whole
+pub last_push : (start : ℕ) (ends : List ℕ) (whole : ℕ) → last_end start (ends ++ whole ∷ []) ≡ whole
 last_push start [] whole = refl
 last_push start (end ∷ ends) whole = last_push end ends whole
 
+-- More behind the pieces.
+
+-- a part of a list is the same part of a longer one
+part_of_longer : {X : Type 0} (xs ys : List X) (a b : ℕ) → a ≤ b → b ≤ length xs → slice_range (xs ++ ys) a b ≡ slice_range xs a b
+part_of_longer xs ys a b rising within =
+    let fits : b - a ≤ length (drop a xs) = omega (arith, length-drop a xs) in
+    ap (λ zs. take (b - a) zs) (drop-append-le a xs ys (omega arith)) ∙ take-append-le (b - a) (drop a xs) ys fits
+
 -- pieces don't change by what is added behind them
-pieces_more : {X : Type 0} (start : ℕ) (xs ys : List X) (ends : List ℕ) → Rise start ends (length xs) → pieces_from start (xs ++ ys) ends ≡ pieces_from start xs ends
+pub pieces_more : {X : Type 0} (start : ℕ) (xs ys : List X) (ends : List ℕ) → Rise start ends (length xs) → pieces_from start (xs ++ ys) ends ≡ pieces_from start xs ends
 pieces_more start xs ys [] rise = refl
 pieces_more start xs ys (end ∷ ends) (first, rest) =
     ap (λ c. c ∷ pieces_from end (xs ++ ys) ends) (part_of_longer xs ys start end first (rise_below end ends (length xs) rest))
     ∙ ap (λ cs. slice_range xs start end ∷ cs) (pieces_more end xs ys ends rest)
 
 -- what stands behind the last end is one piece more
-pieces_push : {X : Type 0} (start : ℕ) (xs : List X) (ends : List ℕ) → pieces_from start xs (ends ++ length xs ∷ []) ≡ pieces_from start xs ends ++ drop (last_end start ends) xs ∷ []
+pub pieces_push : {X : Type 0} (start : ℕ) (xs : List X) (ends : List ℕ) → pieces_from start xs (ends ++ length xs ∷ []) ≡ pieces_from start xs ends ++ drop (last_end start ends) xs ∷ []
 pieces_push start xs [] = ap (λ c. c ∷ []) (take_all (length xs - start) (drop start xs) (omega (arith, length-drop start xs)))
 pieces_push start xs (end ∷ ends) = ap (λ cs. slice_range xs start end ∷ cs) (pieces_push end xs ends)
-
-pub both : (clauses others : List (List Literal)) (lits some : List Literal) → clauses ≡ others → lits ≡ some → (let k : Kept = record { closed = clauses; pending = lits } in k) ≡ record { closed = others; pending = some }
-both clauses others lits some same alike = ap (λ cs. let k : Kept = record { closed = cs; pending = lits } in k) same ∙ ap (λ ls. let k : Kept = record { closed = others; pending = ls } in k) alike
-
--- a literal more that is pending
-pub kept_push : (lits : List Literal) (ends : List ℕ) (l : Literal) → Rise 0 ends (length lits) → kept_in (lits ++ l ∷ []) ends ≡ record { closed = pieces_from 0 lits ends; pending = drop (last_end 0 ends) lits ++ l ∷ [] }
-kept_push lits ends l rise = both _ _ _ _ (pieces_more 0 lits (l ∷ []) ends rise) (drop-append-le (last_end 0 ends) lits (l ∷ []) (last_within 0 ends (length lits) rise))
-
--- what is pending is closed
-pub kept_close : (lits : List Literal) (ends : List ℕ) → kept_in lits (ends ++ length lits ∷ []) ≡ closed_only (pieces_from 0 lits ends ++ drop (last_end 0 ends) lits ∷ [])
-kept_close lits ends = both _ _ _ _ (pieces_push 0 lits ends) (drop_all (last_end 0 (ends ++ length lits ∷ [])) lits (omega (arith, last_push 0 ends (length lits))))
-
--- other literals are pending
-pub kept_else : (lits others : List Literal) (ends : List ℕ) → Rise 0 ends (length lits) → kept_in (take (last_end 0 ends) lits ++ others) ends ≡ record { closed = pieces_from 0 lits ends; pending = others }
-kept_else lits others ends rise =
-    let last = last_end 0 ends in
-    let size : length (take last lits) ≡ last = length-take-le last lits (last_within 0 ends (length lits) rise) in
-    let front : Rise 0 ends (length (take last lits)) = subst (Rise 0 ends) (sym size) (rise_last 0 ends (length lits) rise) in
-    both _ _ _ _ (pieces_more 0 (take last lits) others ends front ∙ sym (pieces_more 0 (take last lits) (drop last lits) ends front) ∙ ap (λ ls. pieces_from 0 ls ends) (take-append-drop last lits))
-    (drop_at (take last lits) others last size)
-
-pub rise_else : (lits others : List Literal) (ends : List ℕ) → Rise 0 ends (length lits) → Rise 0 ends (length (take (last_end 0 ends) lits ++ others))
-rise_else lits others ends rise =
-    let last = last_end 0 ends in
-    let size : length (take last lits) ≡ last = length-take-le last lits (last_within 0 ends (length lits) rise) in
-    rise_more 0 ends last (length (take last lits ++ others)) (rise_last 0 ends (length lits) rise) (omega (arith, size, length-append (take last lits) others))
-
--- where the pending clause starts
-pub last_read : (start : ℕ) (ends read : List ℕ) (a : ℕ) → read ≡ ends → (length ends ≡ 0 → a ≡ start) → (0 < length ends → a ≡ get_or read (length ends - 1) 0) → a ≡ last_end start ends
-last_read start ends read a same first later = go start ends a first (λ some. later some ∙ ap (λ es. get_or es (length ends - 1) 0) same)
-  where
-    go : (start : ℕ) (ends : List ℕ) (a : ℕ) → (length ends ≡ 0 → a ≡ start) → (0 < length ends → a ≡ get_or ends (length ends - 1) 0) → a ≡ last_end start ends
-    go start [] a first later = first refl
-    go start (end ∷ []) a first later = later (omega arith)
-    go start (end ∷ other ∷ ends) a first later =
-        let less : suc (suc (length ends)) - 1 ≡ suc (length ends) = omega arith in
-        let last : suc (length ends) - 1 ≡ length ends = omega arith in
-        go end (other ∷ ends) a (λ none. absurd (omega (arith, none))) (λ _. rw last (rw less at (later (omega arith))))
 
 pub pieces_count : {X : Type 0} (start : ℕ) (xs : List X) (ends : List ℕ) → length (pieces_from start xs ends) ≡ length ends
 pieces_count start xs [] = refl
 pieces_count start xs (end ∷ ends) = ap suc (pieces_count end xs ends)
+
+-- Where a piece lies.
 
 -- where a piece begins
 record IsStart (start : ℕ) (ends : List ℕ) (k a : ℕ) : Type 0 where
