@@ -223,6 +223,22 @@ def one_line():
     yield trim("16 MiB of bounds low 0, to trim", walk, 0, TITLE[:-1], most)
 
 
+def giving_hints():
+    """One line of 17 MiB whose hints each give another literal, for which at most six times its length is asked."""
+    rows = range(1_000)
+    log = log_of(b"host,a,0,0", *[b"%s,a,%d,p" % (b"set" if time % 2 else b"clear", time) for time in rows])
+    times = b"\n".join(b"%d" % time for time in rows)
+    literals = b"".join(b" +first %d" % row for row in rows) + b"".join(b" +node 1 %d" % row for row in rows)
+    number = len(rows) ** 2
+    for order, step in (("in their order", 1), ("in another order", 618_033)):
+        places = (step * place % number for place in range(number))
+        hints = b"".join(b" rule 14 2 %d %d" % divmod(place, len(rows)) for place in places)
+        line = b"learn %d%s %d%s rule 11" % (2 * len(rows), literals, number + 1, hints)
+        report = report_of(line, events=b"%d" % len(rows), time=times)
+        title = f"17 MiB of one line, hints that each give another literal, {order}"
+        yield audit(title, report, 5, at(b"false", 0), b"F[0,1] a.p", log, most=6)
+
+
 def distinct_lists():
     """A walk of distinct steps, and lines of distinct literals that would share a hash."""
     pairs = 33_000
@@ -294,5 +310,5 @@ def longest():
 def cases():
     """All cases of reports but those of a gibibyte."""
     for some in (numbers_of_lists, numbers_in_lines, times_of_witnesses, long_lists, many_lines, many_lines_to_trim,
-                 one_line, distinct_lists, odd_bytes):
+                 one_line, giving_hints, distinct_lists, odd_bytes):
         yield from some()

@@ -17,7 +17,7 @@ use Rattle.proof_log.specs.Spelled.{AreSpelledHints, IsSpelledHint}
 use Rattle.proof_check.specs.declared.refutation.Taken.TheVariants as taken
 use Rattle.proof_check.specs.Judging.{AreRefuting, IsHintTaken}
 use Rattle.proof_check.proofs.HintLemmas.{ends_false, ends_none, ends_stuck, goes_on, learnt}
-use Rattle.proof_check.proofs.TakeLemmas.{those_same}
+use Rattle.proof_check.proofs.ThoseLemmas.{those_same}
 
 module _ (s : Sought) (lines : List Line) (n : ℕ) (start : List Literal) (words : List Word) (count : ℕ) where
   -- these are hints of which the words are given

@@ -1,5 +1,7 @@
 mod Standing
+mod ThoseLemmas
 mod TakeLemmas
+mod AtomLemmas
 mod GivenLemmas
 pub mod StepLemmas
 mod KeptPieces

@@ -1,25 +1,24 @@
 -- What is left of a clause as it is read, and what is assumed.
-use Rattle.std.proofs.Common.{◌≡◌, ◌≢◌, ◌∙◌, sym, ap, refl, subst, ℕ, ◌+◌, ◌<◌, ◌≤◌, true, false, ◌↔◌, ◌⊎◌, inl, inr, List, [], ◌∷◌, ◌++◌, length, get_or, map, take, drop, take-append-drop, not, true≢false, Bool, Option, Some, None, arith}
+use Rattle.std.proofs.Common.{◌≡◌, ◌≢◌, ◌∙◌, sym, ap, refl, subst, ℕ, ◌+◌, ◌<◌, ◌≤◌, true, false, ◌⊎◌, inl, inr, List, [], ◌∷◌, ◌++◌, length, get_or, map, take, drop, take-append-drop, not, true≢false, Bool, Option, Some, None, arith}
 use Rattle.std.specs.Prelude.{Contains}
-use Rattle.std.specs.BTreeSet.{BTreeSet, Updates}
 use Rattle.std.specs.Ordering.{is_eq}
 use Rattle.std.proofs.lemmas.Bool.{cases_Bool}
 use Rattle.std.proofs.Math.Seq.{take-length}
 use Rattle.std.proofs.lemmas.List.{take_more}
-use Rattle.std.proofs.lemmas.List.Elements.{All-contains, All-push, Contains-append_cases, Contains-append_left, Contains-append_right, Contains-get_or, Contains-push}
+use Rattle.std.proofs.lemmas.List.Elements.{All-push, Contains-append_left, Contains-get_or, Contains-push}
 use Rattle.std.proofs.lemmas.Map.Lookups.{CmpEqualImpliesEq}
 use Rattle.hint_refutation.specs.Hints.{Gives, IsFalseUnder}
 use Rattle.hint_refutation.proofs.Hinted.{is_false, left_or_false}
-use Rattle.hint_refutation.proofs.Lists.{all_from, contains_cases, contains_first, contains_later, contains_map, contains_unmap}
+use Rattle.hint_refutation.proofs.Lists.{all_from, contains_map, contains_unmap}
 use Rattle.axiom_rules.specs.declared.literal.Literal.{Literal}
 use Rattle.axiom_rules.specs.contracts.literal.LiteralOrd.TheImpl.{cmp-value as literal_cmp}
-use Rattle.axiom_rules.specs.contracts.literal.LiteralOrd.TheImpl.Laws.{matches_eq-law, total-law}
+use Rattle.axiom_rules.specs.contracts.literal.LiteralOrd.TheImpl.Laws.{matches_eq-law}
 use Rattle.axiom_rules.specs.contracts.literal.LiteralPartialEq.TheImpl.{eq-value as literal_eq}
 use Rattle.axiom_rules.specs.Literals.{negated, same_literal}
 use Rattle.axiom_rules.proofs.AddingLemmas.{literal-itself, negated-twice}
 use Rattle.axiom_rules.proofs.PartLemmas.{literals_same}
-use Rattle.proof_log.proofs.OrderedSets.{has_more}
 use Rattle.proof_check.specs.Refutation.{AreThose, GivesNext, IsNeither}
+use Rattle.proof_check.proofs.ThoseLemmas.{those_behind}
 
 -- the comparison of literals is that of the definition
 literal_is : (l m : Literal) → literal_eq.it l m ≡ same_literal l m
@@ -49,41 +48,6 @@ agree l m b is equal = elim (cases_Bool (literal_eq.it l m)) [
   | inl same ↦ sym (literals_same l m (sym (literal_is l m) ∙ same))
   | inr other ↦ absurd (true≢false (sym (is ∙ ap not other) ∙ equal))
 ]
-
--- the literals of a set that gets one more
-pub assumed_more : (old new : BTreeSet Literal) (l : Literal) → Updates literal_cmp.it old new l true → AreThose (l ∷ old.keys) new.keys
-assumed_more old new l updates = record {
-  has = all_from (Contains new.keys) (l ∷ old.keys) (λ m has. (grown m).1 (elim (contains_cases l m old.keys has) [ inl same ↦ inr same | inr before ↦ inl before ]));
-  only = all_from (Contains (l ∷ old.keys)) new.keys (λ m has. elim ((grown m).0 has) [
-    | inl before ↦ contains_later l m old.keys before
-    | inr same ↦ subst (λ (k : Literal). Contains (l ∷ old.keys) k) same (contains_first l old.keys)
-  ]);
-}
-  where
-    grown : (m : Literal) → Contains new.keys m ↔ (Contains old.keys m ⊎ (l ≡ m))
-    grown m = has_more total-law literals_told old new l updates m
-
--- the same beside others
-pub those_behind : (front these those : List Literal) (l : Literal) → AreThose (l ∷ these) those → AreThose (l ∷ (front ++ these)) (front ++ those)
-those_behind front these those l same = record {
-  has = all_from (Contains (front ++ those)) (l ∷ (front ++ these)) (λ m has. elim (contains_cases l m (front ++ these) has) [
-    | inl here ↦ Contains-append_right front those m (All-contains (Contains those) (l ∷ these) m same.has (subst (λ (k : Literal). Contains (l ∷ these) k) here (contains_first l these)))
-    | inr there ↦ elim (Contains-append_cases front these m there) [
-      | inl before ↦ Contains-append_left front those m before
-      | inr behind ↦ Contains-append_right front those m (All-contains (Contains those) (l ∷ these) m same.has (contains_later l m these behind))
-    ]
-  ]);
-  only = all_from (Contains (l ∷ (front ++ these))) (front ++ those) (λ m has. elim (Contains-append_cases front those m has) [
-    | inl before ↦ contains_later l m (front ++ these) (Contains-append_left front these m before)
-    | inr behind ↦ elim (contains_cases l m these (All-contains (Contains (l ∷ these)) those m same.only behind)) [
-      | inl here ↦ subst (λ (k : Literal). Contains (l ∷ (front ++ these)) k) here (contains_first l (front ++ these))
-      | inr there ↦ contains_later l m (front ++ these) (Contains-append_right front these m there)
-    ]
-  ]);
-}
-
-pub those_same : (these those : List Literal) → those ≡ these → AreThose these those
-those_same these those same = subst (AreThose these) (sym same) (record { has = all_from (Contains these) these (λ m has. has); only = all_from (Contains these) these (λ m has. has) })
 
 -- a literal is denied where its negation stands in the clause
 pub denied_has : (lits : List Literal) (l : Literal) → Contains lits (negated l) → Contains (map negated lits) l

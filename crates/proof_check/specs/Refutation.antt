@@ -8,8 +8,8 @@ use Rattle.proof_check.specs.declared.refutation.Left.TheVariants as left
 use Rattle.proof_check.specs.declared.refutation.Taken.{Taken}
 use Rattle.proof_check.specs.declared.refutation.Taken.TheVariants as taken
 
--- the same literals stand in both lists
-pub record AreThose (these those : List Literal) : Type 0 where
+-- the same elements stand in both lists
+pub record AreThose {X : Type 0} (these those : List X) : Type 0 where
   pub has : All (Contains those) these
   pub only : All (Contains these) those
 

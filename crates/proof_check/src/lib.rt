@@ -1,6 +1,7 @@
 //! What right lines of derivations show, which lines are right, and which steps exclude every timing.
 #![tactic(auto)]
 
+mod atoms;
 mod check;
 mod checker;
 mod clauses;

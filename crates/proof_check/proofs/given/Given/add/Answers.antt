@@ -1,14 +1,14 @@
-use Rattle.std.proofs.Common.{◌∷◌, ◌++◌}
-use Rattle.proof_check.proofs.GivenLemmas.{added_behind, those_moved}
+use Rattle.std.proofs.lemmas.Result.{on_ok_weaker}
+use Rattle.proof_check.proofs.GivenLemmas.{no_added, yes_added}
 use Rattle.proof_check.proofs.given.Given.add.Goals as goal
 
-pub returns-in_ok-merge : goal.returns-in_ok-merge
-returns-in_ok-merge c =
-    let sorted = c.self.inside.sorted.items in
-    let added = added_behind sorted c.self.inside.recent.keys c.args.self.now c.add_recent.new.recent.keys c.args.literal c.self.view_is c.in_ok-add_recent.ensures in
-    record { added = those_moved (c.args.literal ∷ c.args.self.now) (sorted ++ c.add_recent.new.recent.keys) (c.merge.new.sorted.items ++ c.merge.new.recent.keys) added c.in_ok-merge.ensures.moved }
+pub returns-then-literal : goal.returns-then-literal
+returns-then-literal c = record {
+  added = on_ok_weaker c.add.result (yes_added c.self.inside.positive c.self.inside.negative c.args.literal c.args.self.now c.self.view_is c.add.new.self c.if-literal.true) c.add.ensures.added;
+}
 
-pub returns-else-are_many : goal.returns-else-are_many
-returns-else-are_many c = record {
-  added = added_behind c.self.inside.sorted.items c.self.inside.recent.keys c.args.self.now c.add_recent.new.recent.keys c.args.literal c.self.view_is c.in_ok-add_recent.ensures;
+pub returns-else-literal : goal.returns-else-literal
+returns-else-literal c = record {
+  added = on_ok_weaker c.add-else-literal.result (no_added c.self.inside.positive c.self.inside.negative c.args.literal c.args.self.now c.self.view_is c.add-else-literal.new.self c.if-literal.false)
+      c.add-else-literal.ensures.added;
 }

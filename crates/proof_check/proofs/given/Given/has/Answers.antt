@@ -1,26 +1,10 @@
-use Rattle.std.proofs.Common.{refl, subst, sym, inl, inr}
-use Rattle.std.specs.Prelude.{Contains}
-use Rattle.std.proofs.lemmas.List.Elements.{Contains-append_cases, Contains-append_left, Contains-append_right}
-use Rattle.std.proofs.lemmas.Bool.{iff_false}
+use Rattle.proof_check.proofs.GivenLemmas.{no_told, yes_told}
 use Rattle.proof_check.proofs.given.Given.has.Goals as goal
 
-pub returns-then-is_recent : goal.returns-then-is_recent
-returns-then-is_recent c =
-    let l = c.args.literal.now in
-    let there = Contains-append_right c.self.inside.sorted.items c.self.inside.recent.keys l (c.is_recent.ensures.0 c.if-is_recent.true) in
-    record { stands = (λ _. subst (λ ls. Contains ls l) c.self.view_is there, λ _. refl) }
+pub returns-then-literal : goal.returns-then-literal
+returns-then-literal c = record { stands = yes_told c.self.inside.positive c.self.inside.negative c.args.literal.now c.args.self.now c.self.view_is c.has.result c.if-literal.true c.has.ensures.stands }
 
-pub returns : goal.returns
-returns c =
-    let sorted = c.self.inside.sorted.items in
-    let keys = c.self.inside.recent.keys in
-    let l = c.args.literal.now in
-    record {
-      stands = (
-        λ yes. subst (λ ls. Contains ls l) c.self.view_is (Contains-append_left sorted keys l (subst (λ ls. Contains ls l) c.deref.ensures.value (c.is_among.ensures.0 yes))),
-        λ has. elim (Contains-append_cases sorted keys l (rw c.self.view_is has)) [
-          | inl there ↦ c.is_among.ensures.1 (subst (λ ls. Contains ls l) (sym c.deref.ensures.value) there)
-          | inr there ↦ absurd (iff_false c.is_recent.ensures c.if-is_recent.false there)
-        ],
-      );
-    }
+pub returns-else-literal : goal.returns-else-literal
+returns-else-literal c = record {
+  stands = no_told c.self.inside.positive c.self.inside.negative c.args.literal.now c.args.self.now c.self.view_is c.has-else-literal.result c.if-literal.false c.has-else-literal.ensures.stands;
+}
