@@ -1,5 +1,5 @@
 -- What a search has at its start.
-use Rattle.std.proofs.Common.{◌≡◌, ◌∙◌, sym, ap, refl, subst, inl, inr, ℕ, ◌+◌, ◌<◌, Bool, true, false, List, [], length, map, get_or, Option, None, arith, ℤ, pos, ◌-ℤ◌, neg_ℤ, append-nil}
+use Rattle.std.proofs.Common.{◌≡◌, ◌∙◌, sym, ap, refl, subst, inl, inr, ℕ, ◌+◌, ◌<◌, ◌≤◌, Bool, true, false, List, [], length, map, get_or, Option, None, arith, ℤ, pos, ◌-ℤ◌, neg_ℤ, append-nil}
 use Rattle.std.specs.Prelude.{All, IfSome}
 use Rattle.std.proofs.lemmas.Bool.{cases_lt}
 use Rattle.std.proofs.lemmas.Int.{ints}
@@ -26,13 +26,12 @@ use Rattle.axiom_rules.specs.Sought.{Sought, sought_of}
 use Rattle.proof_log.specs.declared.line.Hint.TheVariants as hint
 use Rattle.mtl_encode.specs.declared.problem.Problem.{Problem}
 use Rattle.mtl_encode.specs.Problems.{Fits}
-use Rattle.cdcl_core.specs.declared.derived.Derived.{Derived}
 use Rattle.cdcl_core.specs.declared.state.SearchState.{SearchState}
 use Rattle.cdcl_core.specs.Founds.{IsPosed}
 use Rattle.cdcl_core.specs.Orders.{AreLinks, IsOrderAmong, atom_at, order_edges}
 use Rattle.cdcl_core.specs.Recording.{AreOfLog, IsRecord, IsRuleInRange}
-use Rattle.cdcl_core.specs.Searching.{IsSearch, IsTheoryOf}
-use Rattle.cdcl_core.specs.Turns.{IsReady}
+use Rattle.cdcl_core.specs.Running.{IsRun}
+use Rattle.cdcl_core.specs.Searching.{IsSearch}
 use Rattle.cdcl_core.proofs.Pairs.{atom_there}
 use Rattle.cdcl_core.proofs.ProblemAtoms.{atoms-in-range, orders-among, orders-more}
 use Rattle.cdcl_core.proofs.Records.{begun, rules_spelled}
@@ -100,66 +99,44 @@ module _ (cores : CoresAreCores) (nodes_law : NodesAreSubtrees) (p : Problem) (p
   recorded : All IsRuleInRange p.rules → (log : Logged) (f : Form) (v : Bool) → IsLog log → Fits (sought_of log f v) p → IsRecord log f v p.atoms p.db (map hint.Rule p.rules) []
   recorded ranges log f v valid fits = begun log f v p (of_log log f v valid fits) fits (rules_spelled (sought_of log f v) p fits ranges)
 
-  -- the search before the first conflict
-  pub started : NewTrailIsInStep → (s : SearchState) → IsTheoryOf p s.theory → s.linked.lits.items ≡ [] → s.linked.seen ≡ 0 → s.trail.vars ≡ length p.atoms
-      → s.trail.entries ≡ [] → s.trail.levels ≡ [] → s.trail.watching.watches ≡ [] → IsTrail s.trail
-      → s.graph.nodes ≡ p.nodes → s.graph.capacity ≡ length p.edges + length p.atoms → s.graph.edges ≡ p.edges → s.derived.db ≡ p.db
-      → s.derived.cites ≡ map hint.Rule p.rules → s.derived.lines ≡ [] → All IsRuleInRange p.rules
-      → IsSearch p s 0
-  started law s theory_of unlinked unseen assigned none flat unwatched trail same room held own cites lines ranges =
-      let linked : AreLinks p.atoms s.theory.links = rw theory_of.atoms at theory_of.links_are in
-      record {
-        search_for = record {
-          theory_of = theory_of;
-          assigned = assigned;
-          nodes = same;
-          room = omega (arith, room);
-          linked = record { within = omega (arith, unseen); lits = unlinked ∙ rw unseen refl };
-          clauses = ([], own ∙ sym (append-nil p.db));
-          derives = λ log f v valid fits. rw (own, cites, lines) (recorded ranges log f v valid fits);
-        };
-        spent = record {
-          few_clauses = let size : length s.derived.db ≡ length p.db = ap length own in omega (arith, size);
-          few_lines = let size : length s.derived.lines ≡ 0 = ap length lines in omega (arith, size);
-          lesson_count = rw lines refl;
-          spending = λ log f v valid fits. rw (own, cites, lines) (spending_begun log f v p fits);
-        };
-        run = record {
-          trail = trail;
-          step = law s.trail s.derived.db s.theory.links p.edges s.graph none flat unwatched
-              (subst (λ (n : ℕ). All (All (λ (l : Lit). l.var < n)) s.derived.db) (sym assigned) (rw own (fits_within (sought_of posed.log posed.form posed.value) p posed.fits)))
-              (links_fit s.trail s.graph p.atoms s.theory.links assigned (rw same posed_orders) linked) held;
-          closed = λ m deep. absurd (let levels : length s.trail.levels ≡ 0 = ap length flat in omega (arith, deep, levels));
-        };
-      }
+  -- the empty trail and the edges of the problem
+  pub run_begun : NewTrailIsInStep → (links : List (Option (Edge × Edge))) (t : Assigned) (g : Constraints) → AreLinks p.atoms links → t.vars ≡ length p.atoms
+      → t.entries ≡ [] → t.levels ≡ [] → t.watching.watches ≡ [] → IsTrail t → g.nodes ≡ p.nodes → g.edges ≡ p.edges → IsRun p.db links p.edges t g
+  run_begun law links t g linked assigned none flat unwatched trail same held = record {
+    trail = trail;
+    step = law t p.db links p.edges g none flat unwatched
+        (subst (λ (n : ℕ). All (All (λ (l : Lit). l.var < n)) p.db) (sym assigned) (fits_within (sought_of posed.log posed.form posed.value) p posed.fits))
+        (links_fit t g p.atoms links assigned (rw same posed_orders) linked) held;
+    closed = λ m deep. absurd (let levels : length t.levels ≡ 0 = ap length flat in omega (arith, deep, levels));
+  }
 
--- a posed problem is ready
-pub problem_ready : CoresAreCores → NodesAreSubtrees → (p : Problem) → IsPosed p → (links : List (Option (Edge × Edge))) (edges : List Edge) (d : Derived)
-    → AreLinks p.atoms links → edges ≡ p.edges → d.db ≡ p.db → d.cites ≡ map hint.Rule p.rules
-    → d.lines ≡ [] → All IsRuleInRange p.rules → IsReady p (record { bounds = p.bounds; atoms = p.atoms; links = links; nodes = p.nodes }) edges d
-problem_ready cores nodes_law p posed links edges d linked same own cites lines ranges = record {
-  theory_of = record {
-    posed = posed;
-    bounds = refl;
-    atoms = refl;
-    nodes = refl;
-    orders = orders-more p.nodes MAX_NODES p.atoms posed.fits.system.few_nodes (posed_orders cores nodes_law p posed);
-    links_are = linked;
-  };
-  edges_are = same;
-  clauses = own;
-  cites = cites;
-  none = lines;
-  in_range = ranges;
-}
-
--- the search before the first conflict, for what is ready
-pub started_ready : (cores : CoresAreCores) (nodes_law : NodesAreSubtrees) (p : Problem) (edges : List Edge) (s : SearchState)
-    → IsReady p s.theory edges s.derived → NewTrailIsInStep → s.linked.lits.items ≡ [] → s.linked.seen ≡ 0 → (vars : ℕ) → vars ≡ length s.theory.atoms
-    → s.trail.vars ≡ vars → s.trail.entries ≡ [] → s.trail.levels ≡ [] → s.trail.watching.watches ≡ [] → IsTrail s.trail → s.graph.nodes ≡ s.theory.nodes
-    → s.graph.capacity ≡ length edges + vars → s.graph.edges ≡ edges → IsSearch p s 0
-started_ready cores nodes_law p edges s ready law unlinked unseen vars count assigned none flat unwatched trail same room held =
-    let atoms = count ∙ ap length ready.theory_of.atoms in
-    started cores nodes_law p ready.theory_of.posed law s ready.theory_of unlinked unseen (assigned ∙ atoms) none flat unwatched trail
-    (same ∙ ready.theory_of.nodes) (rw (ready.edges_are, atoms) at room) (held ∙ ready.edges_are)
-    ready.clauses ready.cites ready.none ready.in_range
+  -- the search before the first conflict, of the parts of the problem and a run over its clauses
+  pub started : (s : SearchState) → s.theory.bounds ≡ p.bounds → s.theory.atoms ≡ p.atoms → s.theory.nodes ≡ p.nodes → AreLinks p.atoms s.theory.links
+      → s.linked.lits.items ≡ [] → s.linked.seen ≡ 0 → s.trail.vars ≡ length p.atoms → s.graph.nodes ≡ p.nodes → length p.edges + length p.atoms ≤ s.graph.capacity
+      → s.derived.db ≡ p.db → s.derived.cites ≡ map hint.Rule p.rules → s.derived.lines ≡ [] → All IsRuleInRange p.rules
+      → IsRun p.db s.theory.links p.edges s.trail s.graph → IsSearch p s 0
+  started s bounds atoms nodes linked unlinked unseen assigned same room own cites lines ranges run = record {
+    search_for = record {
+      theory_of = record {
+        posed = posed;
+        bounds = bounds;
+        atoms = atoms;
+        nodes = nodes;
+        orders = rw atoms (orders-more p.nodes MAX_NODES p.atoms posed.fits.system.few_nodes posed_orders);
+        links_are = rw atoms linked;
+      };
+      assigned = assigned;
+      nodes = same;
+      room = room;
+      linked = record { within = omega (arith, unseen); lits = unlinked ∙ rw unseen refl };
+      clauses = ([], own ∙ sym (append-nil p.db));
+      derives = λ log f v valid fits. rw (own, cites, lines) (recorded ranges log f v valid fits);
+    };
+    spent = record {
+      few_clauses = let size : length s.derived.db ≡ length p.db = ap length own in omega (arith, size);
+      few_lines = let size : length s.derived.lines ≡ 0 = ap length lines in omega (arith, size);
+      lesson_count = rw lines refl;
+      spending = λ log f v valid fits. rw (own, cites, lines) (spending_begun log f v p fits);
+    };
+    run = rw own run;
+  }

@@ -1,17 +1,13 @@
 -- What a search has from turn to turn, and what it answers.
-use Rattle.std.specs.Prelude.{◌≡◌, ℕ, ◌+◌, ◌*◌, ◌^◌, ◌<◌, ◌≤◌, List, [], length, map, All, Bool}
+use Rattle.std.specs.Prelude.{◌≡◌, ℕ, ◌+◌, ◌*◌, ◌^◌, ◌<◌, ◌≤◌, List, [], length, Bool}
 use Rattle.mt_model.specs.Form.{Form}
 use Rattle.mt_model.specs.Log.{Logged, IsLog}
-use Rattle.neg_cycle.specs.declared.system.Edge.{Edge}
 use Rattle.axiom_rules.specs.Sought.{sought_of}
-use Rattle.proof_log.specs.declared.line.Hint.TheVariants as hint
 use Rattle.proof_log.specs.declared.line.Line.{Line}
 use Rattle.proof_log.specs.Derivations.{Refutes}
 use Rattle.proof_log.specs.FreshLaws.{IsRefutedByRules}
 use Rattle.mtl_encode.specs.declared.problem.Problem.{Problem}
 use Rattle.mtl_encode.specs.Problems.{Fits}
-use Rattle.cdcl_core.specs.declared.conflict.Theory.{Theory}
-use Rattle.cdcl_core.specs.declared.derived.Derived.{Derived}
 use Rattle.cdcl_core.specs.declared.descent.Conflict.{Conflict}
 use Rattle.cdcl_core.specs.declared.descent.Descent.{Descent}
 use Rattle.cdcl_core.specs.declared.descent.Descent.TheVariants as descent
@@ -21,17 +17,7 @@ use Rattle.cdcl_core.specs.declared.turn.Turn.{Turn}
 use Rattle.cdcl_core.specs.declared.turn.Turn.TheVariants as turn
 use Rattle.cdcl_core.specs.Assignments.{IsSatisfying}
 use Rattle.cdcl_core.specs.Founds.{IfSpent, IsFound, lessons}
-use Rattle.cdcl_core.specs.Recording.{IsRuleInRange}
-use Rattle.cdcl_core.specs.Searching.{IsMidway, IsSearch, IsStopped, IsTheoryOf}
-
--- the theory and the edges are those of the problem, its clauses are cited by its rules, and nothing is derived
-pub record IsReady (p : Problem) (theory : Theory) (edges : List Edge) (d : Derived) : Type 0 where
-  pub theory_of : IsTheoryOf p theory
-  pub edges_are : edges ≡ p.edges
-  pub clauses : d.db ≡ p.db
-  pub cites : d.cites ≡ map hint.Rule p.rules
-  pub none : d.lines ≡ []
-  pub in_range : All IsRuleInRange p.rules
+use Rattle.cdcl_core.specs.Searching.{IsMidway, IsSearch, IsStopped}
 
 -- a search for some problem, after less than a million conflicts
 pub record IsUnderWay (s : SearchState) : Type 0 where

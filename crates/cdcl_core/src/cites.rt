@@ -58,11 +58,6 @@ impl Cites {
         }
     }
 
-    /// The rules by which clauses are cited.
-    pub fn rules(&self) -> &[Rule] {
-        self.rules.as_slice()
-    }
-
     /// Adds a clause that is cited by its line.
     pub fn push(&mut self, line: u32) -> Result<(), AllocError>
         ensures ok { OnOk result (self.new ≡ self.old ++ hint.Line line ∷ []) }

@@ -6,7 +6,7 @@ ghost use Rattle.cdcl_core.specs.Searching.{IsMidway, IsSearch, IsStopped};
 ghost use Rattle.cdcl_core.specs.Turns.{AreRefuting, HasStoppedIn, IsFalseIn};
 
 use crate::descent::Conflict;
-use crate::lines::{add_cycle, learnt};
+use crate::lines::{add_cycle, add_learned, learnt};
 use crate::state::SearchState;
 use analyze::{learn, refute};
 use axiom_rules::AtomTable;
@@ -71,24 +71,14 @@ impl SearchState {
         // Each atom has one variable.
         let _ = self.theory.atoms.len();
         let learned = learn(alloc, &self.trail, &self.derived.db, conflict)?;
-        let lits = learned.lits.as_slice();
-        let line = learnt(
-            alloc,
-            &self.theory.atoms,
-            &self.derived,
-            lits,
-            learned.hints.as_slice(),
-        )?;
         let anew = self
             .strategy
             .conflict(&self.derived.db, learned.hints.as_slice())?;
-        self.derived.add(lits, line)?;
+        add_learned(alloc, &self.theory.atoms, &learned, &mut self.derived)?;
         self.trail
             .back_to(level_after(anew, learned.jump), &mut self.graph);
-        let base = self.theory.bounds.len();
-        let edges = self.graph.mark() as usize;
-        let held = edges.saturating_sub(base);
-        self.linked.cut(self.trail.len(), held);
+        self.linked
+            .go_back(&self.trail, &self.graph, self.theory.bounds.len());
         self.strategy.cut(self.trail.len());
         trails_are_in_order(&self.trail);
         Ok(())

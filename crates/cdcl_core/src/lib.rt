@@ -20,6 +20,7 @@ mod read_off;
 mod restarts;
 mod scores;
 mod sight;
+mod start;
 mod state;
 mod strategy;
 mod turn;

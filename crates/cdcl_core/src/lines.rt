@@ -1,11 +1,14 @@
 //! Lines with their clauses.
 
-ghost use Rattle.std.specs.Prelude.{◌≡◌, ◌+◌, ◌-◌, ◌^◌, ◌<◌, Bool, List, length, map, All, IfOk, OnOk};
+ghost use Rattle.std.specs.Prelude.{◌≡◌, ◌+◌, ◌-◌, ◌^◌, ◌<◌, [], ◌∷◌, ◌++◌, Bool, List, length, map, All, IfOk, OnOk};
 ghost use Rattle.mt_model.specs.Form.{Form};
 ghost use Rattle.mt_model.specs.Log.{Logged};
 ghost use Rattle.neg_cycle.specs.declared.system.Edge.{Edge};
 ghost use Rattle.neg_cycle.specs.declared.system.TheConstants.{MAX_NODES};
 ghost use Rattle.clause_db.specs.declared.lit.Lit.{Lit};
+ghost use Rattle.clause_db.specs.Literals.{HasVarsOnce};
+ghost use Rattle.proof_log.specs.declared.line.Hint.TheVariants as hint;
+ghost use Rattle.proof_log.specs.declared.line.Line.{Line};
 ghost use Rattle.skew_bounds.specs.Edges.{AreEdges};
 ghost use Rattle.axiom_rules.specs.declared.literal.Atom.{Atom};
 ghost use Rattle.axiom_rules.specs.declared.rule.Rule.{Rule};
@@ -19,6 +22,7 @@ ghost use Rattle.cdcl_core.specs.Spending.{IsSpending};
 
 use crate::derived::{Derived, read_hints, read_lits};
 use crate::walk::{denied, steps_of};
+use analyze::Learned;
 use axiom_rules::AtomTable;
 use clause_db::{ClauseRef, Lit};
 use difference_graph::{Graph, graphs_are_solved};
@@ -80,4 +84,26 @@ pub fn learnt(
         lits: read_lits(alloc, atoms, lits)?,
         hints: read_hints(alloc, &derived.cites, refs)?,
     })
+}
+
+/// Adds a learned clause with its line.
+pub fn add_learned(
+    alloc: Global,
+    atoms: &AtomTable,
+    learned: &Learned,
+    derived: &mut Derived,
+) -> Result<(), AllocError>
+    requires lits { All (λ l. l.var < length atoms.now) learned.now.lits }
+    requires refs { All (λ c. c < length derived.old.cites) learned.now.hints }
+    requires once { HasVarsOnce learned.now.lits }
+    requires clause_room { length derived.old.db < 2 ^ 32 - 1 }
+    requires line_room { length derived.old.lines < 2 ^ 32 - 1 }
+    ensures clause { OnOk result (derived.new.db ≡ derived.old.db ++ learned.now.lits ∷ []) }
+    ensures cite { OnOk result (derived.new.cites ≡ derived.old.cites ++ hint.Line (length derived.old.lines + 1) ∷ []) }
+    ensures line { OnOk result ((line : Line) × IsLearnLine (read_clause atoms.now learned.now.lits) (map (cite_at derived.old.cites) learned.now.hints) line × (derived.new.lines ≡ derived.old.lines ++ line ∷ [])) }
+{
+    let lits = learned.lits.as_slice();
+    let line = learnt(alloc, atoms, derived, lits, learned.hints.as_slice())?;
+    derived.add(lits, line)?;
+    Ok(())
 }

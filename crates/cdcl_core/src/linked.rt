@@ -1,10 +1,11 @@
 //! The literals of a trail that have edges.
 
-ghost use Rattle.std.specs.Prelude.{◌≡◌, ◌<◌, ◌≤◌, [], length, take, OnOk};
+ghost use Rattle.std.specs.Prelude.{◌≡◌, ◌-◌, ◌<◌, ◌≤◌, [], length, take, OnOk};
 ghost use Rattle.propagate.specs.Trails.{literals};
 ghost use Rattle.cdcl_core.specs.Orders.{linked};
 
 use clause_db::Lit;
+use difference_graph::Graph;
 use propagate::{Links, Trail};
 use std::alloc::{AllocError, Global};
 
@@ -56,5 +57,15 @@ impl LinkedLits {
             self.lits.truncate(held);
             self.seen = len;
         }
+    }
+
+    /// Leaves those of a trail that went back, of which the graph holds the edges behind so many of the base.
+    pub fn go_back(&mut self, trail: &Trail, graph: &Graph, base: usize)
+        ensures shorter { length trail.now.entries < self.old.seen → (self.new.seen ≡ length trail.now.entries)
+            × (self.new.lits.items ≡ take (length graph.now.edges - base) self.old.lits.items) }
+        ensures same { self.old.seen ≤ length trail.now.entries → (self.new.seen ≡ self.old.seen) × (self.new.lits.items ≡ self.old.lits.items) }
+    {
+        let edges = graph.mark() as usize;
+        self.cut(trail.len(), edges.saturating_sub(base));
     }
 }

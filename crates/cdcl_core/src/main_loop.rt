@@ -9,22 +9,14 @@ ghost use Rattle.mtl_encode.specs.Problems.{Fits};
 ghost use Rattle.mtl_encode.specs.declared.problem.Problem.{Problem};
 ghost use Rattle.cdcl_core.specs.Founds.{IfSpent, IsFound, IsPosed};
 ghost use Rattle.cdcl_core.specs.Searching.{IsSearch};
-ghost use Rattle.cdcl_core.specs.Turns.{IsAnswer, IsReady};
+ghost use Rattle.cdcl_core.specs.Turns.{IsAnswer};
 
 use crate::Found;
 use crate::assignment::potentials_of;
-use crate::conflict::Theory;
-use crate::derived::Derived;
-use crate::difference::{graph_of, links_of};
-use crate::linked::LinkedLits;
 use crate::state::SearchState;
-use crate::strategy::Strategy;
 use crate::turn::Turn;
 use difference_graph::graphs_are_solved;
-use formula_arena::{cores_are_cores, nodes_are_subtrees};
 use mtl_encode::Problem;
-use neg_cycle::Edge;
-use propagate::{Trail, new_trail_is_in_step, trails_are_in_order};
 use std::alloc::{AllocError, Global};
 
 /// A model of the problem, lines that refute it with fewer clauses learnt than the budget, or lines that
@@ -42,67 +34,11 @@ pub fn search(alloc: Global, problem: Problem, budget: u32) -> Result<Found, All
     ensures bounded { IfOk result (λ found. IfSpent found (budget < 3 ^ length problem.atoms)) }
     ensures refuted_by_rules { IfOk result (λ found. IfSpent found ((log : Logged) (f : Form) (v : Bool) → IsLog log → Fits (sought_of log f v) problem → IsRefutedByRules (sought_of log f v) problem.rules → ⊥)) }
 {
-    // The nodes of a formula name each other, so the atoms of the rules are in range.
-    cores_are_cores();
-    nodes_are_subtrees();
-    let Problem {
-        db,
-        rules,
-        atoms,
-        bounds,
-        edges,
-        nodes,
-    } = problem;
-    let links = links_of(alloc, &atoms)?;
-    let derived = Derived::begin(alloc, db, rules);
-    let theory = Theory {
-        bounds,
-        atoms,
-        links,
-        nodes,
-    };
-    let mut state = SearchState::begin(alloc, theory, edges.as_slice(), derived)?;
+    let mut state = SearchState::begin(alloc, problem)?;
     state.run(alloc, budget)
 }
 
 impl SearchState {
-    // With an empty trail and the edges of the bounds.
-    fn begin(
-        alloc: Global,
-        theory: Theory,
-        edges: &[Edge],
-        derived: Derived,
-    ) -> Result<SearchState, AllocError>
-        requires ready { (problem : Problem) × IsReady problem theory edges.now derived }
-        ensures begun { IfOk result (λ s. (problem : Problem) → IsReady problem theory edges.now derived → IsSearch problem s 0) }
-    {
-        // The nodes of a formula name each other, so the atoms of the rules are in range.
-        cores_are_cores();
-        nodes_are_subtrees();
-        new_trail_is_in_step();
-        let vars = theory.atoms.len();
-        let graph = graph_of(alloc, theory.nodes, edges, vars)?;
-        let trail = Trail::new(alloc, vars)?;
-        trails_are_in_order(&trail);
-        let strategy = Strategy::new(
-            alloc,
-            &derived,
-            &theory.atoms,
-            &theory.links,
-            vars,
-            theory.nodes,
-        )?;
-        let linked = LinkedLits::new(alloc);
-        Ok(SearchState {
-            theory,
-            trail,
-            graph,
-            linked,
-            derived,
-            strategy,
-        })
-    }
-
     // Goes on from conflict to conflict until there is an answer or the budget is spent.
     fn run(&mut self, alloc: Global, budget: u32) -> Result<Found, AllocError>
         requires some { 1 ≤ budget }

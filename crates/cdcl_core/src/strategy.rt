@@ -4,9 +4,6 @@
 //! it the value that they need. So what is decided is a literal of a clause that has to hold and doesn't; where there
 //! is no such clause, the values of all atoms can be read off the timing.
 
-ghost use Rattle.std.specs.Prelude.{◌≡◌, length};
-
-use crate::derived::Derived;
 use crate::heads::Heads;
 use crate::needs::Needs;
 use crate::ratings::Ratings;
@@ -15,7 +12,7 @@ use crate::scores::Scores;
 use crate::sight::Sight;
 use axiom_rules::{Atom, AtomTable, Rule};
 use clause_db::{ClauseRef, Db, Lit, Var};
-use propagate::Links;
+use mtl_encode::Problem;
 use std::alloc::{AllocError, Global};
 
 /// What a search knows when it chooses. None of it is needed for what an answer says.
@@ -42,15 +39,14 @@ fn root_of(rules: &[Rule]) -> Option<ClauseRef> {
 }
 
 // How many of the first variables are orders.
-fn orders_in(links: &Links, vars: u32) -> u32
-    requires linked { length links.now ≡ vars }
-{
-    for v in 0..vars {
-        if links.get(Var::new(v)).is_none() {
-            return v;
+fn orders_in(atoms: &AtomTable) -> u32 {
+    for v in 0..atoms.len() {
+        match atoms.atom(Var::new(v)) {
+            Atom::Order { .. } => {}
+            _ => return v,
         }
     }
-    vars
+    atoms.len()
 }
 
 // How many of the first variables are about times alone: orders, and pairs of events at one instant.
@@ -66,24 +62,16 @@ fn timed_in(atoms: &AtomTable) -> u32 {
 
 impl Strategy {
     /// Before the first decision on a problem.
-    pub fn new(
-        alloc: Global,
-        derived: &Derived,
-        atoms: &AtomTable,
-        links: &Links,
-        vars: u32,
-        nodes: u32,
-    ) -> Result<Strategy, AllocError>
-        requires linked { length links.now ≡ vars }
-    {
-        let db = &derived.db;
+    pub fn new(alloc: Global, problem: &Problem) -> Result<Strategy, AllocError> {
+        let (db, atoms) = (&problem.db, &problem.atoms);
+        let vars = atoms.len();
         Ok(Strategy {
-            heads: Heads::new(alloc, db, vars, orders_in(links, vars), timed_in(atoms))?,
+            heads: Heads::new(alloc, db, vars, orders_in(atoms), timed_in(atoms))?,
             needs: Needs::new(alloc),
-            ratings: Ratings::new(alloc, vars, nodes, db.len())?,
+            ratings: Ratings::new(alloc, vars, problem.nodes, db.len())?,
             scores: Scores::new(alloc, vars)?,
             restarts: Restarts::new(),
-            root: root_of(derived.cites.rules()),
+            root: root_of(problem.rules.as_slice()),
             fills: false,
         })
     }

@@ -1,7 +1,7 @@
 //! The search for a timing in which a formula has a value.
 
-ghost use Rattle.std.specs.Prelude.{◌≡◌, ◌≤◌, length, IfOk};
-ghost use Rattle.mt_model.specs.Form.{form_of};
+ghost use Rattle.std.specs.Prelude.{◌≡◌, ℕ, ◌≤◌, Bool, length, IfOk};
+ghost use Rattle.mt_model.specs.Form.{Form, form_of};
 ghost use Rattle.skew_bounds.specs.Consistency.{IsConflict};
 ghost use Rattle.skew_bounds.specs.System.{IsSystemOf};
 ghost use Rattle.skew_bounds.specs.Tight.{IsConsistent, IsTight};
@@ -90,14 +90,21 @@ pub fn search_log(
 {
     let system = system_of(alloc, log)?;
     match settle_by(alloc, log, &system)? {
-        Consistency::Conflict(steps) => {
-            Ok(Searched::Refuted(refuted_by_conflict(alloc, log, steps)?))
-        }
+        Consistency::Conflict(steps) => refuted(alloc, log, steps),
         Consistency::Timing(times) => {
             let tight = tight_by(alloc, log, &system, times.as_slice())?;
             search_value(alloc, log, f, nodes, system, &tight, value, budget)
         }
     }
+}
+
+// A search for any value of any formula, where bounds of a log are in conflict.
+fn refuted(alloc: Global, log: &Log, steps: Steps) -> Result<Searched, AllocError>
+    requires conflict { IsConflict log.now steps }
+    ensures found { IfOk result (λ searched. (f : Form) (v : Bool) (budget : ℕ) → 1 ≤ budget → IsSearched log.now f v budget searched) }
+{
+    let lines = refuted_by_conflict(alloc, log, steps)?;
+    Ok(Searched::Refuted(lines))
 }
 
 /// The one line that refutes every value of every formula, where bounds of a log are in conflict. An error is want of

@@ -1,5 +1,5 @@
 -- What the calls of learning ask for, and where the search is after it.
-use Rattle.std.proofs.Common.{◌≡◌, subst, ap, ◌<◌, ◌∷◌, [], length, take, map, arith}
+use Rattle.std.proofs.Common.{◌≡◌, refl, subst, ap, ℕ, ◌-◌, ◌<◌, ◌∷◌, [], length, take, map, arith}
 use Rattle.std.specs.Prelude.{All}
 use Rattle.std.proofs.lemmas.List.{length-map, length_push}
 use Rattle.clause_db.specs.declared.lit.Lit.{Lit}
@@ -28,23 +28,16 @@ learn-requires c =
       here = conflicted.here c.requires.level;
     }
 
-pub learnt-requires : goal.learnt-requires
-learnt-requires c =
-    let s = c.args.self.now in
-    let w = c.requires.conflicted in
-    let vars = trail_vars w.problem s w.midway.search_for in
-    record {
-      lits = rw (c.as_slice-lits.ensures.items, ← vars) c.in_ok-learned.ensures.variables;
-      refs = rw (c.as_slice.ensures.items, cites_count w.problem s w.midway.search_for) c.in_ok-learned.ensures.refute.held;
-    }
-
-pub add-requires : goal.add-requires
-add-requires c =
+pub add_learned-requires : goal.add_learned-requires
+add_learned-requires c =
     let s = c.args.self.now in
     let w = c.requires.conflicted in
     let own = w.midway.search_for in
+    let vars = trail_vars w.problem s own in
     record {
-      once = rw c.as_slice-lits.ensures.items c.in_ok-learned.ensures.once;
+      lits = rw (← vars) c.in_ok-learned.ensures.variables;
+      refs = rw (cites_count w.problem s own) c.in_ok-learned.ensures.refute.held;
+      once = c.in_ok-learned.ensures.once;
       clause_room = clause_room w.problem s own w.conflicts 1 w.midway.known w.few (omega arith) w.midway.spent;
       line_room = line_room w.problem s own w.conflicts 1 w.midway.known w.few (omega arith) w.midway.spent;
     }
@@ -64,43 +57,46 @@ returns c = record {
       let own = mid.search_for in
       let vars = trail_vars p s own in
       let atoms = s.theory.atoms in
-      let lits = c.as_slice-lits.result.now in
-      let refs = c.as_slice.result.now in
+      let lits = c.in_ok-learned.learned.lits in
+      let refs = c.in_ok-learned.learned.hints in
+      let line = c.in_ok-add_learned.ensures.line.0 in
+      let line_is = c.in_ok-add_learned.ensures.line.1 in
+      let line_added = c.in_ok-add_learned.ensures.line.2 in
       let reasons = conflict_reasons s.derived.db s.theory.links p.edges s.trail s.graph c.args.conflict mid.conflicted in
       let low = subst (λ m. All (All (λ (l : Lit). l.var < m)) s.derived.db) vars reasons.variables in
-      let some : 0 < length lits = rw c.as_slice-lits.ensures.items (asserting_some s.derived.db s.trail s.graph c.args.conflict c.in_ok-learned.learned.lits c.in_ok-learned.ensures.asserting) in
+      let some : 0 < length lits = asserting_some s.derived.db s.trail s.graph c.args.conflict lits c.in_ok-learned.ensures.asserting in
       let w = c.requires.conflicted in
       let room = line_room w.problem s w.midway.search_for w.conflicts 1 w.midway.known w.few (omega arith) w.midway.spent in
-      let run : IsRun c.add.new.self.db s.theory.links p.edges c.back_to.new.self c.back_to.new.graph =
-      rw (c.in_ok-add.ensures.clause, c.as_slice-lits.ensures.items)
+      let run : IsRun c.add_learned.new.derived.db s.theory.links p.edges c.back_to.new.self c.back_to.new.graph =
+      rw c.in_ok-add_learned.ensures.clause
       (back_run s.derived.db s.trail s.graph c.args.conflict c.in_ok-learned.learned.lits c.in_ok-learned.learned.jump c.level_after.result c.back_to.new.self
       c.back_to.new.graph c.requires.level c.level_after.ensures
       c.in_ok-learned.ensures.asserting c.in_ok-learned.ensures.jump c.in_ok-learned.ensures.variables c.in_ok-learned.ensures.two_above c.trails_are_in_order.ensures.trail
       c.back_to.ensures.in_step c.back_to.ensures.after_refusal c.back_to.ensures.closed s.theory.links p.edges mid.conflicted) in
       let entries : c.back_to.new.self.entries ≡ up_to c.level_after.result s.trail.entries = ap (λ (x : Assigned). x.entries) c.back_to.ensures.trail in
       let front : c.back_to.new.self.entries ≡ take (length c.back_to.new.self.entries) s.trail.entries = rw entries (up_to_front s.trail c.level_after.result mid.conflicted.trail) in
-      let held : c.saturating_sub-held.result ≡ length (linked s.theory.links (literals c.back_to.new.self.entries)) =
-      held_count s.theory.links p.edges c.back_to.new.graph.edges (literals c.back_to.new.self.entries) c.saturating_sub-held.result
-      (length s.theory.bounds) run.step.edges (edges_count p s own)
-      (grind (arith, c.saturating_sub-held.ensures, c.mark-edges.ensures.count, c.len-base.ensures.count)) in
-      let are = linked_cut s.theory.links s.trail.entries s.linked own.linked c.back_to.new.self.entries c.saturating_sub-held.result c.cut.new.self front held
-      (rw c.len-2.ensures.count at c.cut.ensures.shorter) (rw c.len-2.ensures.count at c.cut.ensures.same) in
-      learned p s n c.args.conflict c.back_to.new.self c.back_to.new.graph c.cut.new.self c.add.new.self c.cut-2.new.self mid
+      let behind : ℕ = length c.back_to.new.graph.edges - c.len-2.result in
+      let held : behind ≡ length (linked s.theory.links (literals c.back_to.new.self.entries)) =
+      held_count s.theory.links p.edges c.back_to.new.graph.edges (literals c.back_to.new.self.entries) behind
+      (length s.theory.bounds) run.step.edges (edges_count p s own) (rw c.len-2.ensures.count refl) in
+      let are = linked_cut s.theory.links s.trail.entries s.linked own.linked c.back_to.new.self.entries behind c.go_back.new.self front held
+      c.go_back.ensures.shorter c.go_back.ensures.same in
+      learned p s n c.args.conflict c.back_to.new.self c.back_to.new.graph c.go_back.new.self c.add_learned.new.derived c.cut.new.self mid
       (ap (λ (x : Assigned). x.vars) c.back_to.ensures.trail) c.back_to.ensures.limits are run
-      (lits ∷ [], c.in_ok-add.ensures.clause)
-      (rw c.in_ok-add.ensures.clause (length_push s.derived.db lits))
-      (rw c.in_ok-add.ensures.line (length_push s.derived.lines c.in_ok-line.line))
-      (rw c.in_ok-add.ensures.line
-      (one_lesson s.derived.lines (read_clause atoms lits) (map (cite_at s.derived.cites) refs) c.in_ok-line.line c.in_ok-line.ensures.line
+      (lits ∷ [], c.in_ok-add_learned.ensures.clause)
+      (rw c.in_ok-add_learned.ensures.clause (length_push s.derived.db lits))
+      (rw line_added (length_push s.derived.lines line))
+      (rw line_added
+      (one_lesson s.derived.lines (read_clause atoms lits) (map (cite_at s.derived.cites) refs) line line_is
       (omega (arith, some, length-map lits (read_lit atoms)))))
-      (λ log f v old. rw (c.in_ok-add.ensures.clause, c.in_ok-add.ensures.cite, c.in_ok-add.ensures.line)
-      (record_learned log f v atoms s.derived.db s.derived.cites s.derived.lines old c.len.ensures.once (few_atoms p s own) low lits refs c.in_ok-line.line
-      (rw (c.as_slice-lits.ensures.items, ← vars) c.in_ok-learned.ensures.variables)
-      (rw c.as_slice-lits.ensures.items c.in_ok-learned.ensures.once) some (rw (c.as_slice-lits.ensures.items, c.as_slice.ensures.items) c.in_ok-learned.ensures.refute) c.in_ok-line.ensures.line
+      (λ log f v old. rw (c.in_ok-add_learned.ensures.clause, c.in_ok-add_learned.ensures.cite, line_added)
+      (record_learned log f v atoms s.derived.db s.derived.cites s.derived.lines old c.len.ensures.once (few_atoms p s own) low lits refs line
+      (rw (← vars) c.in_ok-learned.ensures.variables)
+      c.in_ok-learned.ensures.once some c.in_ok-learned.ensures.refute line_is
       (omega (arith, room))))
-      (λ log f v rules known quiet record_ old. rw (c.in_ok-add.ensures.clause, c.in_ok-add.ensures.cite, c.in_ok-add.ensures.line)
+      (λ log f v rules known quiet record_ old. rw (c.in_ok-add_learned.ensures.clause, c.in_ok-add_learned.ensures.cite, line_added)
       (spending_learned log f v rules atoms known s.derived.db s.derived.cites s.derived.lines s.trail old record_ quiet mid.conflicted.trail c.requires.level
-      c.len.ensures.once low lits refs c.in_ok-line.line
-      (rw (c.as_slice-lits.ensures.items, ← vars) c.in_ok-learned.ensures.variables) (rw c.as_slice-lits.ensures.items c.in_ok-learned.ensures.below)
-      (rw (c.as_slice-lits.ensures.items, c.as_slice.ensures.items) c.in_ok-learned.ensures.used) c.in_ok-line.ensures.line));
+      c.len.ensures.once low lits refs line
+      (rw (← vars) c.in_ok-learned.ensures.variables) c.in_ok-learned.ensures.below
+      c.in_ok-learned.ensures.used line_is));
 }
