@@ -15,8 +15,7 @@ abbrev pub IsSettled : Logged → Settled → Type 0
 IsSettled log (settled.Timing times tight) = Admissible log times × IsTight log tight
 IsSettled log (settled.Conflict steps) = IsConflict log steps
 
--- the nodes of the formula, the bounds of the log with their edges, and whether they can be met
+-- the nodes of the formula, and the bounds of the log with their edges
 pub record IsGiven (log : Logged) (f : Form) (g : Given) : Type 0 where
   pub nodes : AreNodesOf f g.nodes
   pub system : IsSystemOf log g.system
-  pub settled : IsSettled log g.settled

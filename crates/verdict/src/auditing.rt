@@ -15,7 +15,7 @@ ghost use Rattle.verdict.specs.Faults.{HasFewNodes, IsFault, IsJudged};
 ghost use Rattle.verdict.specs.Given.{IsGiven};
 ghost use Rattle.verdict.specs.Right.{IsRight, IsWitness};
 
-use crate::given::{Given, prepare, truth_in};
+use crate::given::{Given, given_of, truth_in};
 use crate::laws::{accepted_reports_are_true, audits_are_exact, right_reports_are_accepted};
 use crate::{Audit, Part, VerdictFault};
 use mt_model::{Formula, Log, Step, log_is_valid};
@@ -267,6 +267,6 @@ pub fn audit(
     audits_are_exact();
     right_reports_are_accepted();
     log_is_valid(log);
-    let given = prepare(alloc, log, f)?;
+    let given = given_of(alloc, log, f)?;
     Ok(audit_of(alloc, log, f, &given, budget, report)?)
 }

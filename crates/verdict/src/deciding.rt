@@ -124,11 +124,7 @@ pub fn decide(alloc: Global, log: &Log, f: &Formula, budget: u32) -> Result<Repo
 {
     right_reports_are_true();
     let events = log.rows().len() as u32;
-    let Given {
-        nodes,
-        system,
-        settled,
-    } = prepare(alloc, log, f)?;
+    let (Given { nodes, system }, settled) = prepare(alloc, log, f)?;
     match settled {
         Settled::Conflict(steps) => Ok(Report::Inconsistent { events, steps }),
         Settled::Timing { times, tight } => {

@@ -22,7 +22,7 @@ ghost use Rattle.report_text.specs.declared.report.Report.TheVariants as report;
 
 use crate::auditing::is_witness;
 use crate::bounds::audit_of_bounds;
-use crate::given::{Given, prepare};
+use crate::given::{Given, given_of};
 use crate::laws::{accepted_reports_are_true, audits_are_exact, right_reports_are_accepted};
 use crate::{Audit, Part, VerdictFault};
 use mt_model::{Formula, Log, log_is_valid};
@@ -173,8 +173,8 @@ fn audit_of(
     }
 }
 
-/// What `audit` says of the report of an outline. Beside the outline's text memory is taken for the clauses of one
-/// derivation, and for the places of one line's literals.
+/// What `audit` says of the report of an outline. Beside the outline's text memory is taken for the differences of the
+/// log's rows, which are let go, and then for the clauses of one derivation and for the places of one line's literals.
 pub fn audit_outline(
     alloc: Global,
     log: &Log,
@@ -194,6 +194,6 @@ pub fn audit_outline(
     audits_are_exact();
     right_reports_are_accepted();
     log_is_valid(log);
-    let given = prepare(alloc, log, f)?;
+    let given = given_of(alloc, log, f)?;
     Ok(audit_of(alloc, log, f, &given, budget, outline)?)
 }
