@@ -24,7 +24,7 @@ pub type ClauseRefList = ListOf<ClauseRef>;
 
 /// A clause, the level to go back to, and the clauses that imply it, in order. Its first literal is
 /// the one that follows there.
-#[derive(Debug, Drop)]
+#[derive(Drop)]
 pub struct Learned {
     pub lits: LitList,
     pub jump: u32,

@@ -10,7 +10,7 @@ use std::alloc::{AllocError, Global};
 
 /// Where the first atoms of a list stand, as many of them as there are links: hashing with separate chaining (Knuth,
 /// The Art of Computer Programming 3, 6.4). A link is one more than a place, or 0 at the end of a chain.
-#[derive(Debug, Drop)]
+#[derive(Drop)]
 pub struct AtomIndex {
     /// To the last atom of each bucket.
     heads: Vec<u32>,

@@ -11,7 +11,7 @@ use std::marker::Model;
 /// Atoms with a variable each, which contracts see as a list: the variable of an atom is its place.
 ///
 /// Look-ups hash without random state.
-#[derive(Debug, Drop)]
+#[derive(Drop)]
 pub struct AtomTable {
     atoms: Vec<Atom>,
     index: AtomIndex,

@@ -5,7 +5,7 @@ ghost use Rattle.axiom_rules.specs.Literals.{negated as negated_literal, one_ins
 use mt_model::MAX_ORDER;
 
 /// A statement about a timing. Nodes and events count from 0; `t_e` is the true time of event e.
-#[derive(Clone, Copy, Debug, PartialEq, Eq, PartialOrd, Ord)]
+#[derive(Clone, Copy, PartialEq, Eq, PartialOrd, Ord)]
 pub enum Atom {
     /// `t_e - t_f <= c`, where e is the smaller event.
     Order { e: u32, f: u32, c: i128 },
@@ -27,7 +27,7 @@ pub enum Atom {
 }
 
 /// An atom, or that it doesn't hold.
-#[derive(Clone, Copy, Debug, PartialEq, Eq, PartialOrd, Ord)]
+#[derive(Clone, Copy, PartialEq, Eq, PartialOrd, Ord)]
 pub struct Literal {
     pub atom: Atom,
     pub positive: bool,

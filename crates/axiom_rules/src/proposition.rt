@@ -10,7 +10,7 @@ use std::alloc::{AllocError, Global};
 use std::marker::Model;
 
 /// A row that changes a proposition, by its place in the log, and whether it sets it.
-#[derive(Clone, Copy, Debug)]
+#[derive(Clone, Copy)]
 pub struct ChangeRow {
     row: u32,
     sets: bool,
@@ -49,7 +49,7 @@ pub type ChangeList = ListOf<ChangeRow>;
 pub type PulseList = ListOf<u32>;
 
 /// The rows that tell of a proposition of a host.
-#[derive(Debug, Drop)]
+#[derive(Drop)]
 pub struct PropositionRows {
     pub changes: ChangeList,
     pub pulses: PulseList,

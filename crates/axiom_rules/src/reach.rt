@@ -10,7 +10,7 @@ use formula_arena::Direction;
 use mt_model::{Interval, MAX_ORDER};
 
 /// An until node, which looks ahead, or a since node, which looks behind.
-#[derive(Clone, Copy, Debug)]
+#[derive(Clone, Copy)]
 pub struct Reach {
     pub direction: Direction,
     pub interval: Interval,

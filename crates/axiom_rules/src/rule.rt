@@ -4,7 +4,7 @@ ghost use Rattle.axiom_rules.specs.Clauses.{argument_count as argument_count_of,
 use mt_list::ListOf;
 
 /// An instance of a rule: the rule's number and its arguments in order. Those that aren't used are 0.
-#[derive(Clone, Copy, Debug, PartialEq, Eq)]
+#[derive(Clone, Copy, PartialEq, Eq)]
 pub struct Rule {
     pub number: u8,
     pub args: [u32; 4],
@@ -14,7 +14,7 @@ pub struct Rule {
 pub type RuleList = ListOf<Rule>;
 
 /// What an argument of a rule is.
-#[derive(Clone, Copy, Debug, PartialEq, Eq)]
+#[derive(Clone, Copy, PartialEq, Eq)]
 pub enum Argument {
     ANode,
     AnEvent,

@@ -26,7 +26,7 @@ use std::marker::Model;
 
 /// The rules for one log, the nodes of one formula and a truth value. Contracts see the log, the nodes'
 /// trees, the root and the value, of which it keeps copies.
-#[derive(Debug, Drop)]
+#[derive(Drop)]
 pub struct Rules {
     log: Log,
     shapes: Vec<Shape>,

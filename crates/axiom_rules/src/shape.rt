@@ -10,7 +10,7 @@ use mt_model::{Log, Name, NodeId};
 use std::alloc::{AllocError, Global};
 
 /// A node, over the numbers of its children.
-#[derive(Debug, Drop)]
+#[derive(Drop)]
 pub enum Shape {
     True,
     /// A proposition of a host, with the rows that tell of it.

@@ -15,7 +15,7 @@ use propagate::{Reached, trails_are_in_order};
 use std::alloc::{AllocError, Global};
 
 /// What keeps a descent from going on.
-#[derive(Clone, Copy, Debug, PartialEq, Eq)]
+#[derive(Clone, Copy, PartialEq, Eq)]
 pub enum Conflict {
     /// This clause is false.
     False(ClauseRef),

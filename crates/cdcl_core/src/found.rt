@@ -2,7 +2,7 @@ use mt_model::{Bits, Times};
 use proof_log::Lines;
 
 /// What a search found.
-#[derive(Debug, Drop)]
+#[derive(Drop)]
 pub enum Found {
     /// A truth value for each atom and a number for each node, which satisfy the problem.
     Model { values: Bits, potentials: Times },

@@ -18,14 +18,14 @@ use skew_bounds::{BoundSystem, Consistency, Tight, settle_by, system_of, tight_b
 use std::alloc::{AllocError, Global};
 
 /// The nodes of one formula, of which the root is the last.
-#[derive(Debug, Drop)]
+#[derive(Drop)]
 pub struct Nodes {
     pub arena: Arena,
     pub root: NodeId,
 }
 
 /// What a search for a value found.
-#[derive(Debug, Drop)]
+#[derive(Drop)]
 pub enum Searched {
     /// A timing that the log admits, in which the formula has the value.
     Timing(Times),

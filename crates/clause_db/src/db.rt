@@ -10,7 +10,7 @@ use std::marker::Model;
 
 /// Clauses in the order in which they were added, which contracts see as a list of lists of
 /// literals. In no clause does a variable stand twice.
-#[derive(Debug, Drop)]
+#[derive(Drop)]
 pub struct Db {
     lits: Vec<Lit>,
     ends: Vec<u32>,

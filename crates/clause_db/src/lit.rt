@@ -4,7 +4,7 @@ ghost use Rattle.clause_db.specs.Literals.{negation};
 use crate::Var;
 
 /// A literal: a variable with a sense.
-#[derive(Clone, Copy, Debug, PartialEq, Eq, PartialOrd, Ord, Hash)]
+#[derive(Clone, Copy, PartialEq, Eq, PartialOrd, Ord, Hash)]
 pub struct Lit {
     var: u32,
     positive: bool,

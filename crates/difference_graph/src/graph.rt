@@ -21,7 +21,7 @@ use std::marker::Model;
 ///
 /// Contracts see how many nodes there are, how many edges there is room for, the held edges, the
 /// numbers, and the walk of the last refused edge.
-#[derive(Debug, Drop)]
+#[derive(Drop)]
 pub struct Graph {
     held: Held,
     limit: u32,

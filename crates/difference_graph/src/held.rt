@@ -12,7 +12,7 @@ use std::alloc::{AllocError, Global};
 ///
 /// A mark is so many edges from the first on. The mark of the last edge that ends at a node counts
 /// that edge too, and is 0 where none does.
-#[derive(Debug, Drop)]
+#[derive(Drop)]
 pub struct Held {
     /// The edges.
     pub edges: Vec<Edge>,

@@ -1,7 +1,7 @@
 //! What adding an edge did.
 
 /// Whether the edge is held now.
-#[derive(Clone, Copy, Debug, PartialEq, Eq)]
+#[derive(Clone, Copy, PartialEq, Eq)]
 pub enum Push {
     /// It is held, after the others.
     Kept,

@@ -7,7 +7,7 @@ ghost use Rattle.difference_graph.specs.Queues.{IsOrdered};
 use std::collections::BinaryHeap;
 
 /// An edge that numbers missed when it was put among those that wait.
-#[derive(Debug, PartialEq, Eq, PartialOrd, Ord, Drop)]
+#[derive(PartialEq, Eq, PartialOrd, Ord, Drop)]
 pub struct Missed {
     /// By how much they missed it.
     pub by: i128,

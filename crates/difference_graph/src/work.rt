@@ -9,7 +9,7 @@ use std::alloc::{AllocError, Global};
 use std::collections::BinaryHeap;
 
 /// What a push works on. None of it matters between two calls but the walk.
-#[derive(Debug, Drop)]
+#[derive(Drop)]
 pub struct Work {
     /// The edges that wait.
     pub waiting: BinaryHeap<Missed>,

@@ -25,7 +25,7 @@ pub const MAX_NODES: u32 = 512;
 ///
 /// The core of a formula says the same in `true`, propositions, not, and, until and since alone. Look-ups
 /// hash without random state, which the limit on nodes makes harmless.
-#[derive(Debug, Drop)]
+#[derive(Drop)]
 pub struct Arena {
     alloc: Global,
     nodes: IndexSet<Core>,

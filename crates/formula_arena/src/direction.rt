@@ -1,5 +1,5 @@
 /// Where an operator looks from an event.
-#[derive(Clone, Copy, Debug, PartialEq, Eq)]
+#[derive(Clone, Copy, PartialEq, Eq)]
 pub enum Direction {
     /// At its instant and after it, as an until does.
     Ahead,

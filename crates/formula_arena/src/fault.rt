@@ -2,7 +2,7 @@ use std::alloc::AllocError;
 use thiserror::Error;
 
 /// Why a formula has no node.
-#[derive(Clone, Copy, Debug, PartialEq, Eq, Error)]
+#[derive(Clone, Copy, Debug, Error)]
 pub enum ArenaFault {
     /// The arena would hold more than 512 nodes.
     #[error("more than 512 nodes")]

@@ -4,7 +4,7 @@ ghost use Rattle.formula_arena.specs.Operators.{node_over};
 use mt_model::{Interval, Name, NodeId, PropId};
 
 /// A node of an arena: an operator of core trees over nodes of smaller numbers.
-#[derive(Clone, Copy, Debug, PartialEq, Eq, Hash)]
+#[derive(Clone, Copy, PartialEq, Eq, Hash)]
 pub enum Core {
     True,
     Prop(PropId),
@@ -36,7 +36,7 @@ impl Operator {
 }
 
 /// A proposition of a host.
-#[derive(Debug, Drop, PartialEq, Eq, Hash)]
+#[derive(Drop, PartialEq, Eq, Hash)]
 pub struct Proposition {
     pub host: Name,
     pub name: Name,

@@ -13,7 +13,7 @@ use std::alloc::{AllocError, Global};
 use std::marker::Model;
 
 /// Why a log's events have no order.
-#[derive(Debug, Drop)]
+#[derive(Drop)]
 pub enum OrderFault {
     /// Events, each directly before the next and the last directly before the first, none of them
     /// twice. Directly before an event are the previous one of its host, and the send of the message
@@ -25,7 +25,7 @@ pub enum OrderFault {
 
 /// The happened-before order of a log's events (Lamport 1978), told by their vector clocks (Fidge
 /// 1988, Mattern 1989).
-#[derive(Debug, Drop)]
+#[derive(Drop)]
 pub struct Order {
     hosts: Vec<HostId>,
     clocks: Vec<Clock>,

@@ -3,7 +3,7 @@ use std::alloc::AllocError;
 use thiserror::Error;
 
 /// Why a JSON file is no log, or want of memory.
-#[derive(Clone, Copy, Debug, PartialEq, Eq, Error)]
+#[derive(Clone, Copy, Debug, Error)]
 pub enum JsonFault {
     #[error("the file is not one JSON value")]
     Syntax,

@@ -6,7 +6,7 @@ use thiserror::Error;
 
 /// What is wrong with a log file, or want of memory. A `place` is the number of the faulty record,
 /// from 1, the header included.
-#[derive(Clone, Copy, Debug, PartialEq, Eq, Error)]
+#[derive(Clone, Copy, Debug, Error)]
 pub enum LogFault {
     #[error("record {place} is neither the header `kind,host,time,name` nor `skewlog2,host,time,name`")]
     Header { place: u32 },

@@ -5,7 +5,7 @@ use std::alloc::{AllocError, Global};
 use std::marker::Model;
 
 /// One field of a record, which contracts see as its bytes.
-#[derive(Debug, Drop)]
+#[derive(Drop)]
 pub struct Field {
     bytes: Vec<u8>,
 }
@@ -37,7 +37,7 @@ impl Field {
 }
 
 /// One record, which contracts see as a list of byte strings.
-#[derive(Debug, Drop)]
+#[derive(Drop)]
 pub struct Fields {
     fields: Vec<Field>,
 }

@@ -6,7 +6,7 @@ use std::marker::Model;
 /// A list of items in order, over a `Vec`, which contracts see as a list.
 ///
 /// Crates give it a name for each kind of item, as `HostList` for `ListOf<Host>`.
-#[derive(Debug, Drop)]
+#[derive(Drop)]
 pub struct ListOf<T> {
     items: Vec<T>,
 }

@@ -2,7 +2,7 @@ use crate::EventId;
 use mt_list::ListOf;
 
 /// A bound that a log sets to the true times of its rows.
-#[derive(Clone, Copy, Debug, PartialEq, Eq)]
+#[derive(Clone, Copy, PartialEq, Eq)]
 pub enum Bound {
     /// A row's true time is at least its local time less its skew.
     Low(EventId),

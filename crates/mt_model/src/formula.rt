@@ -12,7 +12,7 @@ use std::marker::Model;
 ///
 /// Its height is at most 200, where a leaf has height 1, it has fewer than 2^31 propositions, no host
 /// of them is called `true`, `false` or `inf`, and no interval is empty or has a bound above 10^18.
-#[derive(Debug, Drop)]
+#[derive(Drop)]
 pub struct Formula {
     tree: Tree,
 }

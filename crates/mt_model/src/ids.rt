@@ -3,7 +3,7 @@ ghost use Rattle.std.specs.Prelude.{◌≡◌};
 use std::marker::Model;
 
 /// A host of a log, by its place among the hosts from 0.
-#[derive(Clone, Copy, Debug, PartialEq, Eq, PartialOrd, Ord, Hash)]
+#[derive(Clone, Copy, PartialEq, Eq)]
 pub struct HostId(u32);
 
 impl Model for HostId {
@@ -33,7 +33,7 @@ impl HostId {
 }
 
 /// An event, which is a row of a log, by its place among the rows from 0.
-#[derive(Clone, Copy, Debug, PartialEq, Eq, PartialOrd, Ord, Hash)]
+#[derive(Clone, Copy, PartialEq, Eq, PartialOrd, Ord)]
 pub struct EventId(u32);
 
 impl Model for EventId {
@@ -63,7 +63,7 @@ impl EventId {
 }
 
 /// A proposition of a formula's nodes, by its number from 0.
-#[derive(Clone, Copy, Debug, PartialEq, Eq, PartialOrd, Ord, Hash)]
+#[derive(Clone, Copy, PartialEq, Eq, Hash)]
 pub struct PropId(u32);
 
 impl Model for PropId {
@@ -93,7 +93,7 @@ impl PropId {
 }
 
 /// A node of a formula, by its number from 0.
-#[derive(Clone, Copy, Debug, PartialEq, Eq, PartialOrd, Ord, Hash)]
+#[derive(Clone, Copy, PartialEq, Eq, PartialOrd, Ord, Hash)]
 pub struct NodeId(u32);
 
 impl Model for NodeId {

@@ -12,7 +12,7 @@ use std::marker::Model;
 /// A host of a log: its clock may be off by the skew, and two of its rows on end are at least the
 /// gap apart, until it is resynchronised. A message that it receives took at least the least delay
 /// and, where there is a greatest, at most that. All are in the log's unit of time.
-#[derive(Debug, Drop)]
+#[derive(Drop)]
 pub struct Host {
     pub name: Name,
     pub skew: i128,
@@ -22,7 +22,7 @@ pub struct Host {
 }
 
 /// What happened at a row.
-#[derive(Debug, Drop)]
+#[derive(Drop)]
 pub enum Act {
     /// A proposition of the host becomes true.
     Set(Name),
@@ -39,7 +39,7 @@ pub enum Act {
 }
 
 /// One event of a log: on which host, at what time by its clock, and what happened.
-#[derive(Debug, Drop)]
+#[derive(Drop)]
 pub struct Row {
     pub host: HostId,
     pub local: i128,
@@ -47,7 +47,7 @@ pub struct Row {
 }
 
 /// The extra bound `t_e - t_f <= c` on the true times of two rows.
-#[derive(Clone, Copy, Debug, PartialEq, Eq)]
+#[derive(Clone, Copy, PartialEq, Eq)]
 pub struct Extra {
     pub e: EventId,
     pub f: EventId,
@@ -69,7 +69,7 @@ pub type ExtraList = ListOf<Extra>;
 /// of them. No message is sent twice, and each one that is received is sent. The places of resyncs do
 /// not fall. Skews, gaps, delays, local times and extra bounds are in the ranges that this crate's
 /// constants state.
-#[derive(Debug, Drop)]
+#[derive(Drop)]
 pub struct Log {
     hosts: HostList,
     rows: RowList,

@@ -9,7 +9,7 @@ use std::marker::Model;
 
 /// A name of a host, a proposition or a message: 1 to 32 bytes, the first of them `a` to `z`, the
 /// others `a` to `z`, `0` to `9` or `_`. Contracts see it as its bytes.
-#[derive(Debug, Drop)]
+#[derive(Drop)]
 pub struct Name {
     bytes: Vec<u8>,
 }

@@ -9,7 +9,7 @@ use mt_list::ListOf;
 /// A change of a host's clock: from the row at this place on, the clock may be off by this skew and two
 /// of the host's rows on end are at least this gap apart, both in the log's unit of time. The place is
 /// the number of rows that stand before the resync.
-#[derive(Clone, Copy, Debug, PartialEq, Eq)]
+#[derive(Clone, Copy, PartialEq, Eq)]
 pub struct Resync {
     pub place: u32,
     pub host: HostId,

@@ -11,7 +11,7 @@ use std::alloc::{AllocError, Global};
 
 /// What holds of a row's clock: how far it may be off, and how long after the row before it on its host
 /// the row comes at least, both in the log's unit of time.
-#[derive(Clone, Copy, Debug, PartialEq, Eq)]
+#[derive(Clone, Copy, PartialEq, Eq)]
 pub struct Span {
     pub skew: i128,
     pub gap: i128,

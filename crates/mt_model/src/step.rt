@@ -2,7 +2,7 @@ use mt_list::ListOf;
 use std::fmt;
 
 /// A step of a walk from a node x to a node y, which says `x - y <= c`. Rows and extras count from 0.
-#[derive(Clone, Copy, Debug, PartialEq, Eq)]
+#[derive(Clone, Copy, PartialEq, Eq)]
 pub enum Step {
     /// The true time of a row is at least its local time less its skew.
     Low(u32),

@@ -4,7 +4,7 @@ use crate::Name;
 
 /// Distances in time, in the log's unit: from `low` on up to `high`, both of them in it. Where `high`
 /// is None, there is no upper bound.
-#[derive(Clone, Copy, Debug, PartialEq, Eq, Hash)]
+#[derive(Clone, Copy, PartialEq, Eq, Hash)]
 pub struct Interval {
     pub low: u64,
     pub high: Option<u64>,
@@ -14,7 +14,7 @@ pub struct Interval {
 ///
 /// Until and since are non-strict: the left side is asked at the position itself and not at the one
 /// where the right side holds.
-#[derive(Debug, Drop)]
+#[derive(Drop)]
 pub enum Tree {
     True,
     False,

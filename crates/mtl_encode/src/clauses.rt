@@ -17,7 +17,7 @@ use skew_bounds::Tight;
 use std::alloc::{AllocError, Global};
 
 /// Clauses, the rule of each, and the atoms in them.
-#[derive(Debug, Drop)]
+#[derive(Drop)]
 pub struct Clauses {
     pub db: Db,
     pub rules: RuleList,

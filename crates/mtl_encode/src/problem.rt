@@ -5,7 +5,7 @@ use neg_cycle::EdgeList;
 
 /// What is to be solved: truth values of atoms that make a literal of each clause true, with numbers of nodes
 /// that meet each edge, and each order atom in the sense of its value.
-#[derive(Debug, Drop)]
+#[derive(Drop)]
 pub struct Problem {
     /// The clauses, over the variables of the atoms.
     pub db: Db,

@@ -14,7 +14,7 @@ use std::alloc::{AllocError, Global};
 
 /// An order: those come first, since they decide what the timing is, and of them those whose events are near in local
 /// time, since the log leaves open which of these comes first.
-#[derive(Clone, Copy, Debug, PartialEq, Eq, PartialOrd, Ord)]
+#[derive(Clone, Copy, PartialEq, Eq, PartialOrd, Ord)]
 pub struct RankedOrder {
     pub apart: u64,
     pub var: u32,
@@ -22,7 +22,7 @@ pub struct RankedOrder {
 
 /// What follows from the orders: which events are at one instant, what atoms say of nodes, of which each comes after its
 /// parts, and then which events are first ones.
-#[derive(Clone, Copy, Debug, PartialEq, Eq, PartialOrd, Ord)]
+#[derive(Clone, Copy, PartialEq, Eq, PartialOrd, Ord)]
 pub enum Subject {
     OneInstant,
     OfNode(u32),
@@ -30,7 +30,7 @@ pub enum Subject {
 }
 
 /// What an atom says of a node: that it is true follows from the others.
-#[derive(Clone, Copy, Debug, PartialEq, Eq, PartialOrd, Ord)]
+#[derive(Clone, Copy, PartialEq, Eq, PartialOrd, Ord)]
 pub enum Part {
     Span,
     Gap,
@@ -39,7 +39,7 @@ pub enum Part {
 }
 
 /// An atom that is no order.
-#[derive(Clone, Copy, Debug, PartialEq, Eq, PartialOrd, Ord)]
+#[derive(Clone, Copy, PartialEq, Eq, PartialOrd, Ord)]
 pub struct RankedOther {
     pub subject: Subject,
     pub part: Part,

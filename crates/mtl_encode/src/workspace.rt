@@ -10,7 +10,7 @@ pub const GUESSES: usize = 8;
 
 /// Which variable the atom at a place of a clause may have: as far from that of the clause before as that was from its own.
 /// Clauses of a rule come in the order of its arguments, and the variables of their atoms mostly do too.
-#[derive(Clone, Copy, Debug)]
+#[derive(Clone, Copy)]
 pub struct Guess {
     last: u32,
     step: u32,

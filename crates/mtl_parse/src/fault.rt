@@ -5,7 +5,7 @@ use std::alloc::AllocError;
 use thiserror::Error;
 
 /// What is wrong with a formula's text, with the byte of it, from 0; or want of memory.
-#[derive(Clone, Copy, Debug, PartialEq, Eq, Error)]
+#[derive(Clone, Copy, Debug, Error)]
 pub enum FormulaFault {
     /// A byte begins no token, or a word is longer than 32 bytes.
     #[error("no token at byte {byte}")]

@@ -9,7 +9,7 @@ pub type Numbers = ListOf<i128>;
 pub type Places = ListOf<u32>;
 
 /// A solution of a system, or why it has none.
-#[derive(Debug, Drop)]
+#[derive(Drop)]
 pub enum Outcome {
     /// A number for each node that meets every edge.
     Potential(Numbers),

@@ -16,7 +16,7 @@ pub const MAX_BOUND: i128 = 1 << 90;
 
 /// The constraint `x_from - x_to <= bound`, over nodes that count from 0. It is also a step of a
 /// walk, which goes from `from` to `to`.
-#[derive(Clone, Copy, Debug, PartialEq, Eq)]
+#[derive(Clone, Copy, PartialEq, Eq)]
 pub struct Edge {
     /// The node whose number is the minuend, where the step begins.
     pub from: u32,

@@ -17,7 +17,7 @@ const FEW: usize = 1_024;
 ///
 /// Where there are many, all but an eighth stand in one list, since the set takes almost three times the room. They are
 /// compared, not hashed, since atoms could be chosen that share a hash.
-#[derive(Debug, Drop)]
+#[derive(Drop)]
 pub struct Atoms {
     sorted: Vec<Atom>,
     recent: BTreeSet<Atom>,

@@ -1,5 +1,5 @@
 /// What lines of a derivation are.
-#[derive(Clone, Copy, Debug, PartialEq, Eq)]
+#[derive(Clone, Copy, PartialEq, Eq)]
 pub enum Check {
     /// All lines are right, and the clause of the last one is empty.
     Refutes,
@@ -10,7 +10,7 @@ pub enum Check {
 }
 
 /// What the lines of a text are, and how many of those that were read are Learn lines.
-#[derive(Clone, Copy, Debug, PartialEq, Eq)]
+#[derive(Clone, Copy, PartialEq, Eq)]
 pub struct TextCheck {
     pub check: Check,
     pub learn_lines: u32,

@@ -25,7 +25,7 @@ use std::marker::Model;
 
 /// Checks derivations for one log, one formula and one value that is sought of it. Contracts see what is sought, of which
 /// it keeps copies.
-#[derive(Debug, Drop)]
+#[derive(Drop)]
 pub struct Checker {
     alloc: Global,
     rules: Rules,

@@ -16,7 +16,7 @@ use neg_cycle::Edge;
 use skew_bounds::EdgeTable;
 
 // How far steps lead.
-#[derive(Clone, Copy, Debug)]
+#[derive(Clone, Copy)]
 enum Course {
     // There is no step yet.
     Start,
@@ -70,7 +70,7 @@ impl Course {
 }
 
 /// A walk over steps that are given one at a time, of which it keeps none.
-#[derive(Clone, Copy, Debug)]
+#[derive(Clone, Copy)]
 pub struct CycleWalk {
     // How many steps were given.
     count: u32,

@@ -11,7 +11,7 @@ use std::marker::Model;
 /// Literals that were given. Contracts see a list whose order says nothing.
 ///
 /// The atoms of each sense stand apart: a literal takes half as much room again as its atom.
-#[derive(Debug, Drop)]
+#[derive(Drop)]
 pub struct Given {
     positive: Atoms,
     negative: Atoms,

@@ -11,7 +11,7 @@ use std::marker::Model;
 ///
 /// All literals stand in one list: a list for each clause would take several times their room, and a literal that is
 /// pending needn't move.
-#[derive(Debug, Drop)]
+#[derive(Drop)]
 pub struct Clauses {
     literals: Vec<Literal>,
     // The place after the last literal of each clause that is closed.

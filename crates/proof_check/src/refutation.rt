@@ -12,7 +12,7 @@ use std::alloc::{AllocError, Global};
 use std::marker::Model;
 
 /// What the literals that are assumed make of a clause.
-#[derive(Clone, Copy, Debug, PartialEq, Eq)]
+#[derive(Clone, Copy, PartialEq, Eq)]
 pub enum Taken {
     /// It left one literal open, which is assumed from now on.
     Gives,
@@ -23,7 +23,7 @@ pub enum Taken {
 }
 
 // What is left of a clause without its false literals.
-#[derive(Clone, Copy, Debug)]
+#[derive(Clone, Copy)]
 enum Left {
     Nothing,
     Only(Literal),
@@ -36,7 +36,7 @@ enum Left {
 ///
 /// The clause stays where it stands, and is looked up by its places in the order of its literals. A look-up compares and
 /// doesn't hash, since literals could be chosen that share a hash.
-#[derive(Debug, Drop)]
+#[derive(Drop)]
 pub struct Assumed<'a> {
     denied: &'a [Literal],
     places: Vec<u32>,

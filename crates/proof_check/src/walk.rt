@@ -12,7 +12,7 @@ use neg_cycle::Edge;
 use skew_bounds::{EdgeTable, bound_of, edge_of};
 
 /// The node at which a walk begins, the one at which it has come to, and the sum of its steps' bounds.
-#[derive(Clone, Copy, Debug)]
+#[derive(Clone, Copy)]
 pub struct Walk {
     start: u32,
     end: u32,

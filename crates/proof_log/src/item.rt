@@ -12,7 +12,7 @@ use decimal::{number, signed_number};
 use mt_model::{MAX_ORDER, Step};
 
 /// `t_e - t_f <= c`.
-#[derive(Clone, Copy, Debug)]
+#[derive(Clone, Copy)]
 pub struct Constraint {
     pub e: u32,
     pub f: u32,

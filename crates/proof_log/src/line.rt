@@ -3,7 +3,7 @@ use mt_list::ListOf;
 use mt_model::Steps;
 
 /// A clause that a line cites.
-#[derive(Clone, Copy, Debug, PartialEq, Eq)]
+#[derive(Clone, Copy, PartialEq, Eq)]
 pub enum Hint {
     /// The clause of an earlier line, counted from 1.
     Line(u32),
@@ -18,7 +18,7 @@ pub type Lits = ListOf<Literal>;
 pub type Hints = ListOf<Hint>;
 
 /// A line of a derivation.
-#[derive(Debug, Drop)]
+#[derive(Drop)]
 pub enum Line {
     /// A closed walk of negative sum. Its clause says that not all of its order steps hold.
     Cycle(Steps),

@@ -13,7 +13,7 @@ use crate::text_needed::{first_forward_in, needed_in};
 use std::alloc::{AllocError, Global};
 
 /// The text of lines, and how many they are.
-#[derive(Debug, Drop)]
+#[derive(Drop)]
 pub struct TrimmedText {
     pub text: Vec<u8>,
     pub count: u32,

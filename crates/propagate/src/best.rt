@@ -11,14 +11,14 @@ use crate::watch::Watch;
 use clause_db::Lit;
 
 // A false literal, and the level at which it became so.
-#[derive(Clone, Copy, Debug)]
+#[derive(Clone, Copy)]
 pub struct Falsified {
     pub lit: Lit,
     pub level: u32,
 }
 
 // A literal of a clause, and its place there.
-#[derive(Clone, Copy, Debug)]
+#[derive(Clone, Copy)]
 pub struct Found {
     pub lit: Lit,
     pub place: usize,

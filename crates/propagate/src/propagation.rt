@@ -19,7 +19,7 @@ use difference_graph::Graph;
 use std::alloc::AllocError;
 
 /// Where propagation ended.
-#[derive(Clone, Copy, Debug, PartialEq, Eq)]
+#[derive(Clone, Copy, PartialEq, Eq)]
 pub enum Reached {
     /// No clause is false or unit, and the edge of each assigned literal is held.
     Quiet,

@@ -10,7 +10,7 @@ use clause_db::{ClauseRef, Lit};
 use std::alloc::AllocError;
 
 // Why propagation stopped before it came to rest: this clause is false, the edge of this literal was refused, or memory is wanted.
-#[derive(Clone, Copy, Debug)]
+#[derive(Clone, Copy)]
 pub enum Stop {
     Clause(ClauseRef),
     Theory(Lit),

@@ -15,7 +15,7 @@ use difference_graph::Graph;
 use std::alloc::AllocError;
 
 // Where the visit of a clause ended: it stayed among the watchers or left them.
-#[derive(Clone, Copy, Debug)]
+#[derive(Clone, Copy)]
 pub enum Visit {
     Stayed,
     Moved,

@@ -1,7 +1,7 @@
 //! The lines that say what follows them.
 
 /// What the first line of a section says.
-#[derive(Clone, Copy, Debug, PartialEq, Eq)]
+#[derive(Clone, Copy, PartialEq, Eq)]
 pub enum Kind {
     Witness,
     /// With the number of its lines.

@@ -2,7 +2,7 @@ use mt_model::{Steps, Times};
 use proof_log::Lines;
 
 /// What a report says of a truth value.
-#[derive(Debug, Drop)]
+#[derive(Drop)]
 pub enum Section {
     /// A timing in which the formula has the value: a time for each event, in the log's unit.
     Witness(Times),
@@ -13,7 +13,7 @@ pub enum Section {
 }
 
 /// What is said of a log and a formula.
-#[derive(Debug, Drop)]
+#[derive(Drop)]
 pub enum Report {
     /// No timing is admissible: the bounds of a closed walk of negative sum.
     Inconsistent {

@@ -15,7 +15,7 @@ use neg_cycle::{EdgeList, Outcome, solve};
 use std::alloc::{AllocError, Global};
 
 /// Whether the bounds of a log can be met, with the witness of it.
-#[derive(Debug, Drop)]
+#[derive(Drop)]
 pub enum Consistency {
     /// An admissible timing: a true time for each row, in the order of the rows and the log's unit of time.
     Timing(Times),

@@ -13,7 +13,7 @@ use std::marker::Model;
 /// How long after one row of a log another comes at least and at most, over all timings that the log
 /// admits, in the log's unit of time: the minimal network of its bounds (Dechter, Meiri and Pearl,
 /// Temporal constraint networks, 1991). Where the other row comes first, the time is below 0.
-#[derive(Debug, Drop)]
+#[derive(Drop)]
 pub struct Tight {
     table: Matrix,
     /// The table with rows for its columns: so both differences of a row to each other one stand side by side in memory.

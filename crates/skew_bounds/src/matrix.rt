@@ -15,7 +15,7 @@ pub const FAR: i128 = 2 * MAX_TIME;
 /// For each pair of nodes, which count from 0, the most that the number of the first may be above that
 /// of the second: a difference bound matrix (Dill, Timing assumptions and verification of finite-state
 /// concurrent systems, 1989).
-#[derive(Debug, Drop)]
+#[derive(Drop)]
 pub struct Matrix {
     nodes: usize,
     entries: Vec<i128>,

@@ -15,7 +15,7 @@ use std::alloc::{AllocError, Global};
 use std::marker::Model;
 
 /// The edges of the bounds of a row, each where the log has it.
-#[derive(Clone, Copy, Debug)]
+#[derive(Clone, Copy)]
 pub struct RowEdges {
     pub low: Option<Edge>,
     pub high: Option<Edge>,
@@ -26,7 +26,7 @@ pub struct RowEdges {
 
 /// The edges of the bounds of all rows of a log. To look one up takes no search for the row before, for a send or for a
 /// resync, of which a log may have many.
-#[derive(Debug, Drop)]
+#[derive(Drop)]
 pub struct EdgeTable {
     rows: Vec<RowEdges>,
 }

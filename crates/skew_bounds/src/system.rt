@@ -10,7 +10,7 @@ use neg_cycle::EdgeList;
 use std::alloc::{AllocError, Global};
 
 /// The bounds of a log, and the edge of each at the same place.
-#[derive(Debug, Drop)]
+#[derive(Drop)]
 pub struct BoundSystem {
     pub bounds: BoundList,
     pub edges: EdgeList,

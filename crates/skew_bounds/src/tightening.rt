@@ -10,7 +10,7 @@ use mt_model::{Log, Steps, conflict_excludes_timings};
 use std::alloc::{AllocError, Global};
 
 /// Why a log has no least and greatest differences, or want of memory.
-#[derive(Debug, Drop)]
+#[derive(Drop)]
 pub enum TightFault {
     /// No timing is admissible: bounds of the log whose edges form a closed walk of negative sum, in the
     /// order of the walk, which visits no node twice.

@@ -5,7 +5,7 @@ use std::alloc::AllocError;
 use thiserror::Error;
 
 /// What is wrong with a times file, or want of memory. Lines count from 1.
-#[derive(Clone, Copy, Debug, PartialEq, Eq, Error)]
+#[derive(Clone, Copy, Debug, Error)]
 pub enum TimesFault {
     #[error("line {line} is no number from -10^19 to 10^19")]
     Number { line: u32 },

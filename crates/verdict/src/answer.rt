@@ -1,5 +1,5 @@
 /// A part of a report.
-#[derive(Clone, Copy, Debug, PartialEq, Eq)]
+#[derive(Clone, Copy, PartialEq, Eq)]
 pub enum Part {
     /// The number of events.
     Events,
@@ -12,7 +12,7 @@ pub enum Part {
 }
 
 /// What an audit says of a report.
-#[derive(Clone, Copy, Debug, PartialEq, Eq)]
+#[derive(Clone, Copy, PartialEq, Eq)]
 pub enum Audit {
     /// The report shows what it claims.
     Accepted,

@@ -21,7 +21,7 @@ use std::alloc::{AllocError, Global};
 use witness_replay::truth_by;
 
 /// Whether the bounds of a log can be met.
-#[derive(Debug, Drop)]
+#[derive(Drop)]
 pub enum Settled {
     /// By this timing; and how far apart the log's events are in all that it admits.
     Timing { times: Times, tight: Tight },
@@ -30,7 +30,7 @@ pub enum Settled {
 }
 
 /// The nodes of a formula, and the bounds of a log with their edges.
-#[derive(Debug, Drop)]
+#[derive(Drop)]
 pub struct Given {
     pub nodes: Nodes,
     pub system: BoundSystem,

@@ -18,7 +18,7 @@ use proof_log::Lines;
 const FIRST_TURNS: u32 = 3;
 
 /// The greatest distance with a value is from `distance` on, and not above it by more than `room`.
-#[derive(Debug, Drop)]
+#[derive(Drop)]
 pub struct Climb {
     /// The greatest distance that is known to have the value,
     pub distance: i128,

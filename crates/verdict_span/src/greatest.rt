@@ -3,7 +3,7 @@ use proof_log::Lines;
 
 /// How long after one event another comes at most, in the log's unit of time, in the timings that give a formula a value.
 /// Where the other event comes first, it is below 0.
-#[derive(Debug, Drop)]
+#[derive(Drop)]
 pub enum Widest {
     /// At most d: the timing gives the value with this distance, and the lines refute the value where the other event comes at
     /// least d + 1 after the one.

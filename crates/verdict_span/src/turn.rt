@@ -18,7 +18,7 @@ use proof_log::Lines;
 use std::alloc::{AllocError, Global};
 
 /// What a search at a distance of a climb gives.
-#[derive(Debug, Drop)]
+#[derive(Drop)]
 pub enum Turned {
     /// There is less room.
     Narrowed(Climb),
