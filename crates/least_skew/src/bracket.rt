@@ -16,7 +16,7 @@ use proof_log::Lines;
 const FIRST_TURNS: u32 = 3;
 
 /// The least widening with a value is from `low` on, and not above `high`.
-#[derive(Debug, Drop)]
+#[derive(Drop)]
 pub struct Bracket {
     /// The value is excluded below this widening,
     pub low: u64,

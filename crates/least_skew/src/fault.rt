@@ -3,7 +3,7 @@ use std::alloc::AllocError;
 use thiserror::Error;
 
 /// Why no widening is looked for.
-#[derive(Clone, Copy, Debug, PartialEq, Eq, Error)]
+#[derive(Clone, Copy, Debug, Error)]
 pub enum ToleranceFault {
     /// The number, from 0 and from left to right, of the first proposition whose host isn't in the log.
     #[error("the host of proposition {index} isn't in the log")]

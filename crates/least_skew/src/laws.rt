@@ -1,5 +1,7 @@
+ghost use Rattle.std.specs.Prelude.{◌≡◌};
 ghost use Rattle.least_skew.specs.Laws.{RightTolerancesAreLeast, SkewsMayGrow, ValuesMayGrow};
 
+use crate::MAX_WIDENING;
 use mt_model::conflict_excludes_timings;
 use proof_check::refuted_is_no_value;
 use proof_log::{refuted_by_rules_is_not_spent, spent_is_bounded};
@@ -23,3 +25,8 @@ pub fn right_tolerances_are_least()
     refuted_by_rules_is_not_spent();
     conflict_excludes_timings();
 }
+
+/// The number that limits widenings.
+pub fn limit_is_a_number()
+    ensures widening { MAX_WIDENING ≡ 1000000000000000000 }
+{}

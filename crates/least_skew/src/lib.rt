@@ -14,7 +14,7 @@ mod widening;
 
 pub use fault::ToleranceFault;
 pub use finding::least;
-pub use laws::{right_tolerances_are_least, skews_may_grow, values_may_grow};
+pub use laws::{limit_is_a_number, right_tolerances_are_least, skews_may_grow, values_may_grow};
 pub use nodes::{Ground, ground_of, nodes_of};
 pub use reach::walk_slack;
 pub use tolerance::Tolerance;

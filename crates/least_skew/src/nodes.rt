@@ -18,7 +18,7 @@ use skew_bounds::{Consistency, Tight, settle_by, system_of, tight_by};
 use std::alloc::Global;
 
 /// Whether a log admits a timing.
-#[derive(Debug, Drop)]
+#[derive(Drop)]
 pub enum Ground {
     /// It does, and its events are so far apart.
     Consistent(Tight),

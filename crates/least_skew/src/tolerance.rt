@@ -2,7 +2,7 @@ use mt_model::{Steps, Times};
 use proof_log::Lines;
 
 /// By how much all skews of a log have to grow at least, in the log's unit of time, so that a formula can have a value.
-#[derive(Debug, Drop)]
+#[derive(Drop)]
 pub enum Tolerance {
     /// By s: the timing shows that the formula can then have the value, and the lines that it can't where the skews grow
     /// by s - 1. There are no lines where s is 0.

@@ -19,7 +19,7 @@ use proof_log::Lines;
 use std::alloc::{AllocError, Global};
 
 /// What a search between the ends of a bracket gives.
-#[derive(Debug, Drop)]
+#[derive(Drop)]
 pub enum Turned {
     /// The bracket is narrower.
     Narrowed(Bracket),
