@@ -208,7 +208,16 @@ module _ (x : Extremes) (s : Sought) (same : (f g : Form) → (same_form f g ≡
               (
                 of-two 18 refl
                     (λ a b c d. omega arith),
-                (of-span 19 refl (λ a b c d. omega arith) (λ k i j m free. within-needless x s k i j free m), (of-gaps, (of-span 21 refl (λ a b c d. omega arith) (λ k i j m free. past-needless x s k i j free m), (of-two 22 refl (λ a b c d. omega arith), (of-two 23 refl (λ a b c d. omega arith), last-few))))),
+                (
+                  of-span 19 refl (λ a b c d. omega arith) (λ k i j m free. within-needless x s k i j free m),
+                  (
+                    of-gaps,
+                    (
+                      of-span 21 refl (λ a b c d. omega arith) (λ k i j m free. past-needless x s k i j free m),
+                      (of-two 22 refl (λ a b c d. omega arith), (of-two 23 refl (λ a b c d. omega arith), last-few)),
+                    ),
+                  ),
+                ),
               ),
             ),
           ),

@@ -63,7 +63,8 @@ module _ (s : Sought) where
   first-most : (k e : ℕ) (rows : PropositionRows) (p q : Part) → proposition_in (shape_at s k) ≡ Some rows → HasAtMost (pulse_count s k + 5) (Ok (p ∷ q ∷ at_pulses rows.pulses e))
   first-most k e rows p q is = at-most (pulse_count s k + 5) (p ∷ q ∷ at_pulses rows.pulses e) (omega (arith, rows-counted (shape_at s k) rows is, at-pulses-count rows.pulses e))
 
-  second-most : (k e : ℕ) (rows : PropositionRows) (sets : Bool) (p q r : Part) → proposition_in (shape_at s k) ≡ Some rows → HasAtMost (pulse_count s k + 5) (Ok (p ∷ q ∷ r ∷ at_pulses (if sets then [] else rows.pulses) e))
+  second-most : (k e : ℕ) (rows : PropositionRows) (sets : Bool) (p q r : Part) → proposition_in (shape_at s k) ≡ Some rows
+      → HasAtMost (pulse_count s k + 5) (Ok (p ∷ q ∷ r ∷ at_pulses (if sets then [] else rows.pulses) e))
   second-most k e rows true p q r is = at-most (pulse_count s k + 5) (p ∷ q ∷ r ∷ []) (omega arith)
   second-most k e rows false p q r is = at-most (pulse_count s k + 5) (p ∷ q ∷ r ∷ at_pulses rows.pulses e) (omega (arith, rows-counted (shape_at s k) rows is, at-pulses-count rows.pulses e))
 

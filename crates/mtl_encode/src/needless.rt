@@ -5,6 +5,7 @@ ghost use Rattle.std.specs.Option.{option_map_or};
 ghost use Rattle.mt_model.specs.Log.{IsWithin};
 ghost use Rattle.mt_model.specs.declared.limits.TheConstants.{MAX_TIME};
 ghost use Rattle.mtl_encode.specs.Needless as needless;
+ghost use Rattle.mtl_encode.specs.declared.needless.Needless.TheVariants.{Reaches};
 
 use axiom_rules::{MAX_RULE, Reach, Rule, Rules};
 use formula_arena::Direction;
@@ -13,7 +14,7 @@ use skew_bounds::Tight;
 
 /// Where an instance of a rule on an until or a since is left out. What is said of an until is said of a since with
 /// the events met the other way round.
-#[derive(Clone, Copy, Debug, PartialEq, Eq)]
+#[derive(Clone, Copy, PartialEq, Eq)]
 pub enum OfReach {
     /// The pair is always in reach from below, or is dead and may be in reach from below.
     AlwaysFrom,
@@ -34,7 +35,7 @@ pub enum OfReach {
 }
 
 /// Where an instance of a rule is left out, since its clause is true in each timing that the log admits, or serves nothing.
-#[derive(Clone, Copy, Debug, PartialEq, Eq)]
+#[derive(Clone, Copy, PartialEq, Eq)]
 pub enum Needless {
     /// Nowhere.
     Never,
@@ -243,6 +244,17 @@ fn leaves_out_reach(rules: &Rules, tight: &Tight, test: OfReach, u: &Reach, args
     }
 }
 
+// Whether a test of an until or a since leaves the instance of these arguments out, the first of which is its node.
+fn leaves_out_at(rules: &Rules, tight: &Tight, test: OfReach, args: [u32; 4]) -> bool
+    ensures { result ≡ needless.leaves_out (needless.extremes_of tight.now) rules.now (Reaches test) args }
+{
+    let [k, ..] = args;
+    match rules.reach_at(k) {
+        Some(u) => leaves_out_reach(rules, tight, test, &u, args),
+        None => false,
+    }
+}
+
 // Whether a test leaves the instance of these arguments out.
 fn leaves_out(rules: &Rules, tight: &Tight, test: Needless, args: [u32; 4]) -> bool
     ensures { result ≡ needless.leaves_out (needless.extremes_of tight.now) rules.now test args }
@@ -252,10 +264,7 @@ fn leaves_out(rules: &Rules, tight: &Tight, test: Needless, args: [u32; 4]) -> b
         Needless::Never => false,
         Needless::NeverLater => 0 <= least(tight, k, i),
         Needless::NeverFirst => is_never_first(tight, rules.events(), k),
-        Needless::Reaches(test) => match rules.reach_at(k) {
-            Some(u) => leaves_out_reach(rules, tight, test, &u, args),
-            None => false,
-        },
+        Needless::Reaches(test) => leaves_out_at(rules, tight, test, args),
     }
 }
 

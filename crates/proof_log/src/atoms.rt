@@ -1,6 +1,6 @@
 //! Whether atoms differ.
 
-ghost use Rattle.std.specs.Prelude.{◌≡◌, ◌≢◌, ◌↔◌, AllPairs, IfOk, IsTrue};
+ghost use Rattle.std.specs.Prelude.{◌≡◌, ◌≢◌, ◌↔◌, AllPairs, IfOk, IsTrue, map};
 
 use axiom_rules::{Atom, Literal};
 use std::alloc::{AllocError, Global};
@@ -18,6 +18,17 @@ pub fn are_apart(atoms: &mut [Atom]) -> bool
     true
 }
 
+// The atoms of literals, in their order.
+fn atoms_of(alloc: Global, lits: &[Literal]) -> Result<Vec<Atom>, AllocError>
+    ensures { IfOk result (λ atoms. atoms.items ≡ map (λ l. l.atom) lits.now) }
+{
+    let mut atoms = Vec::with_capacity(alloc, lits.len())?;
+    for literal in lits {
+        atoms.push(literal.atom)?;
+    }
+    Ok(atoms)
+}
+
 /// Whether no atom stands twice. The error only says that memory ran out.
 ///
 /// The atoms are compared, not hashed, since atoms could be chosen that share a hash.
@@ -27,9 +38,6 @@ pub fn has_atoms_once(alloc: Global, lits: &[Literal]) -> Result<bool, AllocErro
     if lits.len() < 2 {
         return Ok(true);
     }
-    let mut atoms = Vec::with_capacity(alloc, lits.len())?;
-    for literal in lits {
-        atoms.push(literal.atom)?;
-    }
+    let mut atoms = atoms_of(alloc, lits)?;
     Ok(are_apart(&mut atoms))
 }
