@@ -32,11 +32,14 @@ written-by s rule c is = go (row_of rule.number) refl is
     parts-of row at there (Ok parts) written is = record { row = row; at = at; there = there; parts = parts; written = written; clause = is }
     parts-of row at there (Err fault) written is = absurd (cc)
 
-    arguments : (row : Row) → row_of rule.number ≡ Some row → (b : Bool) → are_there s row.arguments rule.args ≡ b → (if b then clause_of_written (row.writes s rule.args) else Err Range) ≡ Ok c → IsWrittenBy s rule c
+    arguments : (row : Row) → row_of rule.number ≡ Some row → (b : Bool) → are_there s row.arguments rule.args ≡ b
+        → (if b then clause_of_written (row.writes s rule.args) else Err Range) ≡ Ok c → IsWrittenBy s rule c
     arguments row at true there is = parts-of row at there (row.writes s rule.args) refl is
     arguments row at false there is = absurd (cc)
 
-    go : (o : Option Row) → row_of rule.number ≡ o → option_map_or (λ row. if are_there s row.arguments rule.args then clause_of_written (row.writes s rule.args) else Err Range) o (Err NoRule) ≡ Ok c → IsWrittenBy s rule c
+    go : (o : Option Row) → row_of rule.number ≡ o
+        → option_map_or (λ row. if are_there s row.arguments rule.args then clause_of_written (row.writes s rule.args) else Err Range) o (Err NoRule) ≡ Ok c
+        → IsWrittenBy s rule c
     go None at is = absurd (cc)
     go (Some row) at is = arguments row at (are_there s row.arguments rule.args) refl is
 

@@ -142,32 +142,51 @@ module _ (log : Logged) (t : List ℤ) (trees : List Form) (root : ℕ) (value :
         go None at is = absurd (cc)
         go (Some g) at is = get_or_from_slice_get trees k g True at ∙ tree g is
 
-    by_not : (k : ℕ) (write : ℕ → Written) → k < length trees → ((f : Form) (a : ℕ) → tree_at trees k ≡ Not f → tree_at trees a ≡ f → Right (write a)) → Right (of_kind (operand_in (shape_at s k)) write)
+    by_not : (k : ℕ) (write : ℕ → Written) → k < length trees
+        → ((f : Form) (a : ℕ) → tree_at trees k ≡ Not f → tree_at trees a ≡ f → Right (write a))
+        → Right (of_kind (operand_in (shape_at s k)) write)
     by_not k write low h = subst (λ o. Right (of_kind (operand_in o) write)) (shape-there k low) (go (tree_at trees k) refl)
       where
         go : (tree : Form) → tree_at trees k ≡ tree → Right (of_kind (operand_in (shape_of log trees tree)) write)
         go (Not f) at = h f (number_of trees f) at (child-number same trees children_first k 0 (Not f) f low at (omega arith) refl)
         go _ at = tt
 
-    by_and : (k : ℕ) (write : ℕ × ℕ → Written) → k < length trees → ((f g : Form) (a b : ℕ) → tree_at trees k ≡ And f g → tree_at trees a ≡ f → tree_at trees b ≡ g → Right (write (a, b))) → Right (of_kind (sides_in (shape_at s k)) write)
+    by_and : (k : ℕ) (write : ℕ × ℕ → Written) → k < length trees
+        → ((f g : Form) (a b : ℕ) → tree_at trees k ≡ And f g → tree_at trees a ≡ f → tree_at trees b ≡ g → Right (write (a, b)))
+        → Right (of_kind (sides_in (shape_at s k)) write)
     by_and k write low h = subst (λ o. Right (of_kind (sides_in o) write)) (shape-there k low) (go (tree_at trees k) refl)
       where
         go : (tree : Form) → tree_at trees k ≡ tree → Right (of_kind (sides_in (shape_of log trees tree)) write)
-        go (And f g) at = h f g (number_of trees f) (number_of trees g) at (child-number same trees children_first k 0 (And f g) f low at (omega arith) refl) (child-number same trees children_first k 1 (And f g) g low at (omega arith) refl)
+        go (And f g) at =
+            h f g (number_of trees f) (number_of trees g) at
+            (child-number same trees children_first k 0 (And f g) f low at (omega arith) refl)
+            (child-number same trees children_first k 1 (And f g) g low at (omega arith) refl)
         go _ at = tt
 
     by_reach : (k : ℕ) (write : Reach → Written) → k < length trees
-        → ((direction : Direction) (I : Interval) (f g : Form) (l r : ℕ) → tree_at trees k ≡ reach_over direction I f g → tree_at trees l ≡ f → tree_at trees r ≡ g → Right (write (record { direction = direction; interval = I; left = l; right = r }))) → Right (of_kind (reach_in (shape_at s k)) write)
+        → ((direction : Direction) (I : Interval) (f g : Form) (l r : ℕ) → tree_at trees k ≡ reach_over direction I f g
+        → tree_at trees l ≡ f → tree_at trees r ≡ g
+        → Right (write (record { direction = direction; interval = I; left = l; right = r })))
+        → Right (of_kind (reach_in (shape_at s k)) write)
     by_reach k write low h = subst (λ o. Right (of_kind (reach_in o) write)) (shape-there k low) (go (tree_at trees k) refl)
       where
         go : (tree : Form) → tree_at trees k ≡ tree → Right (of_kind (reach_in (shape_of log trees tree)) write)
-        go (Until I f g) at = h Ahead I f g (number_of trees f) (number_of trees g) at (child-number same trees children_first k 0 (Until I f g) f low at (omega arith) refl) (child-number same trees children_first k 1 (Until I f g) g low at (omega arith) refl)
-        go (Since I f g) at = h Behind I f g (number_of trees f) (number_of trees g) at (child-number same trees children_first k 0 (Since I f g) f low at (omega arith) refl) (child-number same trees children_first k 1 (Since I f g) g low at (omega arith) refl)
+        go (Until I f g) at =
+            h Ahead I f g (number_of trees f) (number_of trees g) at
+            (child-number same trees children_first k 0 (Until I f g) f low at (omega arith) refl)
+            (child-number same trees children_first k 1 (Until I f g) g low at (omega arith) refl)
+        go (Since I f g) at =
+            h Behind I f g (number_of trees f) (number_of trees g) at
+            (child-number same trees children_first k 0 (Since I f g) f low at (omega arith) refl)
+            (child-number same trees children_first k 1 (Since I f g) g low at (omega arith) refl)
         go _ at = tt
 
     -- a part for each event holds where it does for one
     some-event : (part : ℕ → Part) (e : ℕ) → e < length t → part_holds M (part e) ≡ true → list_any (part_holds M) (for_each_event s part) ≡ true
-    some-event part e low h = any-map (part_holds M) part (range_with_len 0 (length log.rows)) ∙ some_any (λ x. part_holds M (part x)) (range_with_len 0 (length log.rows)) e (within_has (length log.rows) e (omega (arith, low, count))) h
+    some-event part e low h =
+        any-map (part_holds M) part (range_with_len 0 (length log.rows))
+        ∙ some_any (λ x. part_holds M (part x)) (range_with_len 0 (length log.rows)) e
+        (within_has (length log.rows) e (omega (arith, low, count))) h
 
     node-is : (k e : ℕ) (f : Form) → e < length t → tree_at trees k ≡ f → M (Node k e) ≡ told log t trees f e
     node-is k e f low at = means-node log t trees k e low ∙ ap (λ tree. told log t trees tree e) at
@@ -180,22 +199,35 @@ module _ (log : Logged) (t : List ℤ) (trees : List Form) (root : ℕ) (value :
         go _ at = tt
 
     right_4 : (k e : ℕ) → k < length trees → e < length t → Right (rule.rule_4 s k e)
-    right_4 k e low in_ = by_not k (λ a. Ok (is_not (Node k e) ∷ is_not (Node a e) ∷ [])) low (λ f a at child. negation-not_both (M (Node k e)) (M (Node a e)) (node-is k e (Not f) in_ at ∙ ap not (sym (node-is a e f in_ child))))
+    right_4 k e low in_ =
+        by_not k (λ a. Ok (is_not (Node k e) ∷ is_not (Node a e) ∷ [])) low
+        (λ f a at child. negation-not_both (M (Node k e)) (M (Node a e))
+        (node-is k e (Not f) in_ at ∙ ap not (sym (node-is a e f in_ child))))
 
     right_5 : (k e : ℕ) → k < length trees → e < length t → Right (rule.rule_5 s k e)
-    right_5 k e low in_ = by_not k (λ a. Ok (is (Node k e) ∷ is (Node a e) ∷ [])) low (λ f a at child. negation-one (M (Node k e)) (M (Node a e)) (node-is k e (Not f) in_ at ∙ ap not (sym (node-is a e f in_ child))))
+    right_5 k e low in_ =
+        by_not k (λ a. Ok (is (Node k e) ∷ is (Node a e) ∷ [])) low
+        (λ f a at child. negation-one (M (Node k e)) (M (Node a e)) (node-is k e (Not f) in_ at ∙ ap not (sym (node-is a e f in_ child))))
 
     and-is : (k e a b : ℕ) (f g : Form) → e < length t → tree_at trees k ≡ And f g → tree_at trees a ≡ f → tree_at trees b ≡ g → M (Node k e) ≡ (M (Node a e) && M (Node b e))
-    and-is k e a b f g in_ at left right = node-is k e (And f g) in_ at ∙ (ap (λ x. x && told log t trees g e) (sym (node-is a e f in_ left)) ∙ ap (λ y. M (Node a e) && y) (sym (node-is b e g in_ right)))
+    and-is k e a b f g in_ at left right =
+        node-is k e (And f g) in_ at ∙ (ap (λ x. x && told log t trees g e) (sym (node-is a e f in_ left))
+        ∙ ap (λ y. M (Node a e) && y) (sym (node-is b e g in_ right)))
 
     right_6 : (k e : ℕ) → k < length trees → e < length t → Right (rule.rule_6 s k e)
-    right_6 k e low in_ = by_and k (λ sides. Ok (is_not (Node k e) ∷ is (Node sides.0 e) ∷ [])) low (λ f g a b at left right. and-left (M (Node k e)) (M (Node a e)) (M (Node b e)) (and-is k e a b f g in_ at left right))
+    right_6 k e low in_ =
+        by_and k (λ sides. Ok (is_not (Node k e) ∷ is (Node sides.0 e) ∷ [])) low
+        (λ f g a b at left right. and-left (M (Node k e)) (M (Node a e)) (M (Node b e)) (and-is k e a b f g in_ at left right))
 
     right_7 : (k e : ℕ) → k < length trees → e < length t → Right (rule.rule_7 s k e)
-    right_7 k e low in_ = by_and k (λ sides. Ok (is_not (Node k e) ∷ is (Node sides.1 e) ∷ [])) low (λ f g a b at left right. and-right (M (Node k e)) (M (Node a e)) (M (Node b e)) (and-is k e a b f g in_ at left right))
+    right_7 k e low in_ =
+        by_and k (λ sides. Ok (is_not (Node k e) ∷ is (Node sides.1 e) ∷ [])) low
+        (λ f g a b at left right. and-right (M (Node k e)) (M (Node a e)) (M (Node b e)) (and-is k e a b f g in_ at left right))
 
     right_8 : (k e : ℕ) → k < length trees → e < length t → Right (rule.rule_8 s k e)
-    right_8 k e low in_ = by_and k (λ sides. Ok (is (Node k e) ∷ is_not (Node sides.0 e) ∷ is_not (Node sides.1 e) ∷ [])) low (λ f g a b at left right. and-both (M (Node k e)) (M (Node a e)) (M (Node b e)) (and-is k e a b f g in_ at left right))
+    right_8 k e low in_ =
+        by_and k (λ sides. Ok (is (Node k e) ∷ is_not (Node sides.0 e) ∷ is_not (Node sides.1 e) ∷ [])) low
+        (λ f g a b at left right. and-both (M (Node k e)) (M (Node a e)) (M (Node b e)) (and-is k e a b f g in_ at left right))
 
     not_after-says : (e f : ℕ) → part_holds M (not_after e f) ≡ int_le (time_of t e) (time_of t f)
     not_after-says e f = order-says M (time_of t) (λ e f c. refl) e f (pos 0) ∙ not_after_is (time_of t e) (time_of t f)
@@ -254,7 +286,8 @@ module _ (log : Logged) (t : List ℤ) (trees : List Form) (root : ℕ) (value :
             let near_it = sym (near-parts log t trees direction I i j) ∙ (wit-parts i j a b (not-false _ no)).0 in
             is_from-says log t trees direction I i j ∙ (and_parts (from log t trees direction I i j) (up_to log t trees direction I.high i j) near_it).0)
 
-        parts_13 : (i j : ℕ) → i < length t → j < length t → (high : Option ℕ) → I.high ≡ high → Right (option_map_or (λ b. Ok (is_not (Wit k i j) ∷ rule.is_up_to direction b i j ∷ [])) high (Err NoRule))
+        parts_13 : (i j : ℕ) → i < length t → j < length t → (high : Option ℕ) → I.high ≡ high
+            → Right (option_map_or (λ b. Ok (is_not (Wit k i j) ∷ rule.is_up_to direction b i j ∷ [])) high (Err NoRule))
         parts_13 i j a b None none = tt
         parts_13 i j a b (Some bound) some = any_2 _ _ (λ no.
             let near_it = sym (near-parts log t trees direction I i j) ∙ (wit-parts i j a b (not-false _ no)).0 in
@@ -272,7 +305,9 @@ module _ (log : Logged) (t : List ℤ) (trees : List Form) (root : ℕ) (value :
         far_part i j (Some bound) fails = not-false _ (sym (is_not_up_to-says log t trees direction bound i j) ∙ fails)
 
         parts_16 : (i j : ℕ) → i < length t → j < length t
-            → list_any (part_holds M) (is (Wit k i j) ∷ rule.is_not_from direction I i j ∷ option_map_or (λ b. is_not_up_to direction b i j) I.high (Known false) ∷ is_not (Node r j) ∷ is_not (Span k i j) ∷ []) ≡ true
+            → list_any (part_holds M) (is (Wit k i j) ∷ rule.is_not_from direction I i j
+            ∷ option_map_or (λ b. is_not_up_to direction b i j) I.high (Known false) ∷ is_not (Node r j) ∷ is_not (Span k i j) ∷ [])
+            ≡ true
         parts_16 i j a b = any_5 _ _ _ _ _ (λ none low_ok high_ok right_ok. elim (cases_Bool (M (Span k i j))) [
           | inr fails ↦ not_from_false _ fails
           | inl spans ↦
@@ -285,7 +320,8 @@ module _ (log : Logged) (t : List ℤ) (trees : List Form) (root : ℕ) (value :
         ])
 
         parts_28 : (i j : ℕ) → i < length t → j < length t → (constant : Bool) → is_constant (shape_at s l) ≡ constant
-            → Right (if constant then Ok (is (Wit k i j) ∷ rule.is_not_from direction I i j ∷ option_map_or (λ b. is_not_up_to direction b i j) I.high (Known false) ∷ is_not (Node r j) ∷ []) else Err Kind)
+            → Right (if constant then Ok (is (Wit k i j) ∷ rule.is_not_from direction I i j
+            ∷ option_map_or (λ b. is_not_up_to direction b i j) I.high (Known false) ∷ is_not (Node r j) ∷ []) else Err Kind)
         parts_28 i j a b false is = tt
         parts_28 i j a b true is = any_4 _ _ _ _ (λ none low_ok high_ok. elim (cases_Bool (M (Node r j))) [
           | inr fails ↦ not_from_false _ fails
@@ -316,7 +352,8 @@ module _ (log : Logged) (t : List ℤ) (trees : List Form) (root : ℕ) (value :
               absurd (apart (M (Node k i)) reaching no)
         ])
 
-        parts_19 : (i j m : ℕ) → i < length t → j < length t → m < length t → list_any (part_holds M) (is_not (Span k i j) ∷ rule.met_after direction i m ∷ rule.not_met_after direction j m ∷ is (Node l m) ∷ []) ≡ true
+        parts_19 : (i j m : ℕ) → i < length t → j < length t → m < length t
+            → list_any (part_holds M) (is_not (Span k i j) ∷ rule.met_after direction i m ∷ rule.not_met_after direction j m ∷ is (Node l m) ∷ []) ≡ true
         parts_19 i j m a b c = any_4 _ _ _ _ (λ no early late.
             let spans = sym (is-span i j a b) ∙ not-false _ no in
             let begun : O.not_after i m ≡ true = not-false _ (sym (met_after-says log t trees direction i m) ∙ early) in
@@ -341,10 +378,14 @@ module _ (log : Logged) (t : List ℤ) (trees : List Form) (root : ℕ) (value :
         parts_23 i m a c = any_2 _ _ (λ no. not_from_false _ (node-is l m f c left ∙ (gap_parts O L i m (the-gap i m a c (not-false _ no))).1))
 
     right_12 : (k i j : ℕ) → k < length trees → i < length t → j < length t → Right (rule.rule_12 s k i j)
-    right_12 k i j low a b = by_reach k (λ u. Ok (is_not (Wit k i j) ∷ rule.is_from u.direction u.interval i j ∷ [])) low (λ direction I f g l r at left right. parts_12 k low direction I f g l r at left right i j a b)
+    right_12 k i j low a b =
+        by_reach k (λ u. Ok (is_not (Wit k i j) ∷ rule.is_from u.direction u.interval i j ∷ [])) low
+        (λ direction I f g l r at left right. parts_12 k low direction I f g l r at left right i j a b)
 
     right_13 : (k i j : ℕ) → k < length trees → i < length t → j < length t → Right (rule.rule_13 s k i j)
-    right_13 k i j low a b = by_reach k (λ u. option_map_or (λ b. Ok (is_not (Wit k i j) ∷ rule.is_up_to u.direction b i j ∷ [])) u.interval.high (Err NoRule)) low (λ direction I f g l r at left right. parts_13 k low direction I f g l r at left right i j a b I.high refl)
+    right_13 k i j low a b =
+        by_reach k (λ u. option_map_or (λ b. Ok (is_not (Wit k i j) ∷ rule.is_up_to u.direction b i j ∷ [])) u.interval.high (Err NoRule))
+        low (λ direction I f g l r at left right. parts_13 k low direction I f g l r at left right i j a b I.high refl)
 
     right_14 : (k i j : ℕ) → k < length trees → i < length t → j < length t → Right (rule.rule_14 s k i j)
     right_14 k i j low a b = by_reach k (λ u. Ok (is_not (Wit k i j) ∷ is (Node u.right j) ∷ [])) low (λ direction I f g l r at left right. parts_14 k low direction I f g l r at left right i j a b)
@@ -353,29 +394,46 @@ module _ (log : Logged) (t : List ℤ) (trees : List Form) (root : ℕ) (value :
     right_15 k i j low a b = by_reach k (λ u. Ok (is_not (Wit k i j) ∷ is (Span k i j) ∷ [])) low (λ direction I f g l r at left right. parts_15 k low direction I f g l r at left right i j a b)
 
     right_16 : (k i j : ℕ) → k < length trees → i < length t → j < length t → Right (rule.rule_16 s k i j)
-    right_16 k i j low a b = by_reach k (λ u. Ok (is (Wit k i j) ∷ rule.is_not_from u.direction u.interval i j ∷ option_map_or (λ b. is_not_up_to u.direction b i j) u.interval.high (Known false) ∷ is_not (Node u.right j) ∷ is_not (Span k i j) ∷ [])) low (λ direction I f g l r at left right. parts_16 k low direction I f g l r at left right i j a b)
+    right_16 k i j low a b =
+        by_reach k (λ u. Ok (is (Wit k i j) ∷ rule.is_not_from u.direction u.interval i j
+        ∷ option_map_or (λ b. is_not_up_to u.direction b i j) u.interval.high (Known false) ∷ is_not (Node u.right j)
+        ∷ is_not (Span k i j) ∷ [])) low (λ direction I f g l r at left right. parts_16 k low direction I f g l r at left right i j a b)
 
     right_28 : (k i j : ℕ) → k < length trees → i < length t → j < length t → Right (rule.rule_28 s k i j)
-    right_28 k i j low a b = by_reach k (λ u. if is_constant (shape_at s u.left) then Ok (is (Wit k i j) ∷ rule.is_not_from u.direction u.interval i j ∷ option_map_or (λ b. is_not_up_to u.direction b i j) u.interval.high (Known false) ∷ is_not (Node u.right j) ∷ []) else Err Kind) low
+    right_28 k i j low a b =
+        by_reach k (λ u. if is_constant (shape_at s u.left) then Ok
+        (is (Wit k i j) ∷ rule.is_not_from u.direction u.interval i j
+        ∷ option_map_or (λ b. is_not_up_to u.direction b i j) u.interval.high (Known false) ∷ is_not (Node u.right j) ∷ []) else Err
+        Kind) low
         (λ direction I f g l r at left right. parts_28 k low direction I f g l r at left right i j a b (is_constant (shape_at s l)) refl)
 
     right_17 : (k i : ℕ) → k < length trees → i < length t → Right (rule.rule_17 s k i)
-    right_17 k i low a = by_reach k (λ u. Ok (is_not (Node k i) ∷ for_each_event s (λ j. is (Wit k i j)))) low (λ direction I f g l r at left right. parts_17 k low direction I f g l r at left right i a)
+    right_17 k i low a =
+        by_reach k (λ u. Ok (is_not (Node k i) ∷ for_each_event s (λ j. is (Wit k i j)))) low
+        (λ direction I f g l r at left right. parts_17 k low direction I f g l r at left right i a)
 
     right_18 : (k i j : ℕ) → k < length trees → i < length t → j < length t → Right (rule.rule_18 s k i j)
     right_18 k i j low a b = by_reach k (λ u. Ok (is (Node k i) ∷ is_not (Wit k i j) ∷ [])) low (λ direction I f g l r at left right. parts_18 k low direction I f g l r at left right i j a b)
 
     right_19 : (k i j m : ℕ) → k < length trees → i < length t → j < length t → m < length t → Right (rule.rule_19 s k i j m)
-    right_19 k i j m low a b c = by_reach k (λ u. Ok (is_not (Span k i j) ∷ rule.met_after u.direction i m ∷ rule.not_met_after u.direction j m ∷ is (Node u.left m) ∷ [])) low (λ direction I f g l r at left right. parts_19 k low direction I f g l r at left right i j m a b c)
+    right_19 k i j m low a b c =
+        by_reach k (λ u. Ok (is_not (Span k i j) ∷ rule.met_after u.direction i m ∷ rule.not_met_after u.direction j m ∷ is (Node u.left m)
+        ∷ [])) low (λ direction I f g l r at left right. parts_19 k low direction I f g l r at left right i j m a b c)
 
     right_20 : (k i j : ℕ) → k < length trees → i < length t → j < length t → Right (rule.rule_20 s k i j)
-    right_20 k i j low a b = by_reach k (λ u. Ok (is (Span k i j) ∷ for_each_event s (λ m. is (Gap k i m)))) low (λ direction I f g l r at left right. parts_20 k low direction I f g l r at left right i j a b)
+    right_20 k i j low a b =
+        by_reach k (λ u. Ok (is (Span k i j) ∷ for_each_event s (λ m. is (Gap k i m)))) low
+        (λ direction I f g l r at left right. parts_20 k low direction I f g l r at left right i j a b)
 
     right_21 : (k i j m : ℕ) → k < length trees → i < length t → j < length t → m < length t → Right (rule.rule_21 s k i j m)
-    right_21 k i j m low a b c = by_reach k (λ u. Ok (is_not (Gap k i m) ∷ rule.met_after u.direction j m ∷ is (Span k i j) ∷ [])) low (λ direction I f g l r at left right. parts_21 k low direction I f g l r at left right i j m a b c)
+    right_21 k i j m low a b c =
+        by_reach k (λ u. Ok (is_not (Gap k i m) ∷ rule.met_after u.direction j m ∷ is (Span k i j) ∷ [])) low
+        (λ direction I f g l r at left right. parts_21 k low direction I f g l r at left right i j m a b c)
 
     right_22 : (k i m : ℕ) → k < length trees → i < length t → m < length t → Right (rule.rule_22 s k i m)
-    right_22 k i m low a c = by_reach k (λ u. Ok (is_not (Gap k i m) ∷ rule.not_met_after u.direction i m ∷ [])) low (λ direction I f g l r at left right. parts_22 k low direction I f g l r at left right i m a c)
+    right_22 k i m low a c =
+        by_reach k (λ u. Ok (is_not (Gap k i m) ∷ rule.not_met_after u.direction i m ∷ [])) low
+        (λ direction I f g l r at left right. parts_22 k low direction I f g l r at left right i m a c)
 
     right_23 : (k i m : ℕ) → k < length trees → i < length t → m < length t → Right (rule.rule_23 s k i m)
     right_23 k i m low a c = by_reach k (λ u. Ok (is_not (Gap k i m) ∷ is_not (Node u.left m) ∷ [])) low (λ direction I f g l r at left right. parts_23 k low direction I f g l r at left right i m a c)
@@ -416,19 +474,25 @@ module _ (log : Logged) (t : List ℤ) (trees : List Form) (root : ℕ) (value :
     pulses-say us e = any-map (part_holds M) (λ u. part.same u e) us ∙ any-agrees (λ u. part_holds M (part.same u e)) (λ u. int_eq (time_of t u) (time_of t e)) us (λ u. same-at u e)
 
     right_27 : (k e place : ℕ) → k < length trees → e < length t → Right (rule.rule_27 s k e place)
-    right_27 k e place low in_ = subst (λ o. Right (of_kind (proposition_in o) (λ rows. option_map_or (λ u. Ok (part.not_same u e ∷ is (Node k e) ∷ [])) (slice_get rows.pulses place) (Err Range)))) (shape-there k low) (go (tree_at trees k) refl)
+    right_27 k e place low in_ =
+        subst (λ o. Right (of_kind (proposition_in o) (λ rows. option_map_or (λ u. Ok (part.not_same u e ∷ is (Node k e) ∷ []))
+        (slice_get rows.pulses place) (Err Range)))) (shape-there k low) (go (tree_at trees k) refl)
       where
-        at_pulse : (h : ℕ) (name : List ℕ) → M (Node k e) ≡ (pulsed e h name || changed e h name) → (o : Option ℕ) → slice_get (pulses_of log h name) place ≡ o → Right (option_map_or (λ u. Ok (part.not_same u e ∷ is (Node k e) ∷ [])) o (Err Range))
+        at_pulse : (h : ℕ) (name : List ℕ) → M (Node k e) ≡ (pulsed e h name || changed e h name) → (o : Option ℕ)
+            → slice_get (pulses_of log h name) place ≡ o
+            → Right (option_map_or (λ u. Ok (part.not_same u e ∷ is (Node k e) ∷ [])) o (Err Range))
         at_pulse h name state None there = tt
         at_pulse h name state (Some u) there = any_2 _ _ (λ no.
             let here : int_eq (time_of t u) (time_of t e) ≡ true = not-false _ (sym (not_same-at u e) ∙ no) in
             state ∙ or_left (pulsed e h name) (changed e h name) (passes-at (λ u. int_eq (time_of t u) (time_of t e)) (pulses_of log h name) place u there here))
 
-        named : (name : List ℕ) (h : Option ℕ) → M (Node k e) ≡ stated e name h → Right (option_map_or (λ u. Ok (part.not_same u e ∷ is (Node k e) ∷ [])) (slice_get (option_map_or (λ h. pulses_of log h name) h []) place) (Err Range))
+        named : (name : List ℕ) (h : Option ℕ) → M (Node k e) ≡ stated e name h
+            → Right (option_map_or (λ u. Ok (part.not_same u e ∷ is (Node k e) ∷ [])) (slice_get (option_map_or (λ h. pulses_of log h name) h []) place) (Err Range))
         named name None state = tt
         named name (Some h) state = at_pulse h name state (slice_get (pulses_of log h name) place) refl
 
-        go : (tree : Form) → tree_at trees k ≡ tree → Right (of_kind (proposition_in (shape_of log trees tree)) (λ rows. option_map_or (λ u. Ok (part.not_same u e ∷ is (Node k e) ∷ [])) (slice_get rows.pulses place) (Err Range)))
+        go : (tree : Form) → tree_at trees k ≡ tree
+            → Right (of_kind (proposition_in (shape_of log trees tree)) (λ rows. option_map_or (λ u. Ok (part.not_same u e ∷ is (Node k e) ∷ [])) (slice_get rows.pulses place) (Err Range)))
         go (Prop host name) at = named name (host_named log host) (node-is k e (Prop host name) in_ at)
         go _ at = tt
 
@@ -444,16 +508,20 @@ module _ (log : Logged) (t : List ℤ) (trees : List Form) (root : ℕ) (value :
           go (Some c) = not_after-says c.row e
 
       right_1 : (k e : ℕ) → k < length trees → e < length t → Right (rule.rule_1 s k e)
-      right_1 k e low in_ = subst (λ o. Right (of_kind (proposition_in o) (λ rows. Ok (is_not (Node k e) ∷ has_come rows.changes 0 e ∷ at_pulses rows.pulses e)))) (shape-there k low) (go (tree_at trees k) refl)
+      right_1 k e low in_ =
+          subst (λ o. Right (of_kind (proposition_in o) (λ rows. Ok
+          (is_not (Node k e) ∷ has_come rows.changes 0 e ∷ at_pulses rows.pulses e)))) (shape-there k low) (go (tree_at trees k) refl)
         where
-          named : (name : List ℕ) (h : Option ℕ) → M (Node k e) ≡ stated e name h → list_any (part_holds M) (is_not (Node k e) ∷ has_come (option_map_or (λ h. changes_of log h name) h []) 0 e ∷ at_pulses (option_map_or (λ h. pulses_of log h name) h []) e) ≡ true
+          named : (name : List ℕ) (h : Option ℕ) → M (Node k e) ≡ stated e name h
+              → list_any (part_holds M) (is_not (Node k e) ∷ has_come (option_map_or (λ h. changes_of log h name) h []) 0 e ∷ at_pulses (option_map_or (λ h. pulses_of log h name) h []) e) ≡ true
           named name None state = any_rest (not (M (Node k e))) _ (λ no. absurd (apart (M (Node k e)) (not-false _ no) state))
           named name (Some h) state = any_rest (not (M (Node k e))) _ (λ no. any_rest (part_holds M (has_come (changes_of log h name) 0 e)) _ (λ none.
               let first : first_passes (is_by t (time_of t e)) (changes_of log h name) ≡ false = sym (has_come-says (changes_of log h name) 0 e) ∙ none in
               let nothing = first-none (is_by t (time_of t e)) (changes_of log h name) (falls h name (time_of t e)) first in
               pulses-say (pulses_of log h name) e ∙ only-pulsed (M (Node k e)) (pulsed e h name) (changed e h name) (not-false _ no) state (ap (λ o. option_map_or (λ (c : Change). c.sets) o false) nothing)))
 
-          go : (tree : Form) → tree_at trees k ≡ tree → Right (of_kind (proposition_in (shape_of log trees tree)) (λ rows. Ok (is_not (Node k e) ∷ has_come rows.changes 0 e ∷ at_pulses rows.pulses e)))
+          go : (tree : Form) → tree_at trees k ≡ tree
+              → Right (of_kind (proposition_in (shape_of log trees tree)) (λ rows. Ok (is_not (Node k e) ∷ has_come rows.changes 0 e ∷ at_pulses rows.pulses e)))
           go (Prop host name) at = named name (host_named log host) (node-is k e (Prop host name) in_ at)
           go _ at = tt
 
@@ -461,12 +529,17 @@ module _ (log : Logged) (t : List ℤ) (trees : List Form) (root : ℕ) (value :
       right_2 k e place low in_ = subst (λ o. Right (of_kind (proposition_in o) (λ rows. option_map_or (λ c. Ok (after c.row e ∷ has_come rows.changes (place + 1) e ∷ Says (record { atom = Node k e; positive = c.sets }) ∷ at_pulses (if c.sets then [] else rows.pulses) e)) (slice_get rows.changes place) (Err Range)))) (shape-there k low) (go (tree_at trees k) refl)
         where
           -- what the change makes of the proposition, or a pulse where it clears it
-          made : (h : ℕ) (name : List ℕ) (sets : Bool) → M (Node k e) ≡ (pulsed e h name || changed e h name) → changed e h name ≡ sets → list_any (part_holds M) (Says (record { atom = Node k e; positive = sets }) ∷ at_pulses (if sets then [] else pulses_of log h name) e) ≡ true
+          made : (h : ℕ) (name : List ℕ) (sets : Bool) → M (Node k e) ≡ (pulsed e h name || changed e h name) → changed e h name ≡ sets
+              → list_any (part_holds M) (Says (record { atom = Node k e; positive = sets }) ∷ at_pulses (if sets then [] else pulses_of log h name) e) ≡ true
           made h name true state is = any_1 (M (Node k e)) (state ∙ or_right (pulsed e h name) (changed e h name) is)
-          made h name false state is = any_rest (not (M (Node k e))) _ (λ no. pulses-say (pulses_of log h name) e ∙ only-pulsed (M (Node k e)) (pulsed e h name) (changed e h name) (not-false _ no) state is)
+          made h name false state is =
+              any_rest (not (M (Node k e))) _ (λ no. pulses-say (pulses_of log h name) e
+              ∙ only-pulsed (M (Node k e)) (pulsed e h name) (changed e h name) (not-false _ no) state is)
 
           at_change : (h : ℕ) (name : List ℕ) → M (Node k e) ≡ (pulsed e h name || changed e h name) → (o : Option Change) → slice_get (changes_of log h name) place ≡ o
-              → Right (option_map_or (λ c. Ok (after c.row e ∷ has_come (changes_of log h name) (place + 1) e ∷ Says (record { atom = Node k e; positive = c.sets }) ∷ at_pulses (if c.sets then [] else pulses_of log h name) e)) o (Err Range))
+              → Right (option_map_or (λ c. Ok (after c.row e ∷ has_come (changes_of log h name) (place + 1) e
+              ∷ Says (record { atom = Node k e; positive = c.sets }) ∷ at_pulses (if c.sets then [] else pulses_of log h name) e)) o
+              (Err Range))
           at_change h name state None there = tt
           at_change h name state (Some c) there = any_rest (part_holds M (after c.row e)) _ (λ begun. any_rest (part_holds M (has_come (changes_of log h name) (place + 1) e)) _ (λ next.
               let by : int_le (time_of t c.row) (time_of t e) ≡ true = not-false _ (sym (after-says c.row e) ∙ begun) in
@@ -474,7 +547,10 @@ module _ (log : Logged) (t : List ℤ) (trees : List Form) (root : ℕ) (value :
               made h name c.sets state (ap (λ o. option_map_or (λ (c : Change). c.sets) o false) last)))
 
           named : (name : List ℕ) (h : Option ℕ) → M (Node k e) ≡ stated e name h
-              → Right (option_map_or (λ c. Ok (after c.row e ∷ has_come (option_map_or (λ h. changes_of log h name) h []) (place + 1) e ∷ Says (record { atom = Node k e; positive = c.sets }) ∷ at_pulses (if c.sets then [] else option_map_or (λ h. pulses_of log h name) h []) e)) (slice_get (option_map_or (λ h. changes_of log h name) h []) place) (Err Range))
+              → Right (option_map_or (λ c. Ok (after c.row e ∷ has_come (option_map_or (λ h. changes_of log h name) h []) (place + 1) e
+              ∷ Says (record { atom = Node k e; positive = c.sets })
+              ∷ at_pulses (if c.sets then [] else option_map_or (λ h. pulses_of log h name) h []) e))
+              (slice_get (option_map_or (λ h. changes_of log h name) h []) place) (Err Range))
           named name None state = tt
           named name (Some h) state = at_change h name state (slice_get (changes_of log h name) place) refl
 
@@ -506,7 +582,9 @@ module _ (log : Logged) (t : List ℤ) (trees : List Form) (root : ℕ) (value :
       node_events : (write : Sought → ℕ → ℕ → ℕ → Written) → ((k i j : ℕ) → k < length trees → i < length t → j < length t → Right (write s k i j)) → RowHolds (of_node_events write)
       node_events write h = row-of-two s Right write (λ k i j low-k low-i low-j. h k i j low-k (in-timing i low-i) (in-timing j low-j))
 
-      node_three_events : (write : Sought → ℕ → ℕ → ℕ → ℕ → Written) → ((k i j m : ℕ) → k < length trees → i < length t → j < length t → m < length t → Right (write s k i j m)) → RowHolds (of_node_three_events write)
+      node_three_events : (write : Sought → ℕ → ℕ → ℕ → ℕ → Written)
+          → ((k i j m : ℕ) → k < length trees → i < length t → j < length t → m < length t → Right (write s k i j m))
+          → RowHolds (of_node_three_events write)
       node_three_events write h = row-of-three s Right write (λ k i j m low-k low-i low-j low-m. h k i j m low-k (in-timing i low-i) (in-timing j low-j) (in-timing m low-m))
 
       node_event_change : (write : Sought → ℕ → ℕ → ℕ → Written) → ((k e place : ℕ) → k < length trees → e < length t → Right (write s k e place)) → RowHolds (of_node_event_change write)
@@ -590,7 +668,9 @@ module _ (log : Logged) (t : List ℤ) (trees : List Form) (root : ℕ) (value :
 
 pub rules-hold : CoresAreCores → NodesAreSubtrees → TruthOfCore → BeforeIsNotLater → RulesHold
 rules-hold cores nodes core before = record {
-  lasting = λ log t f v rule c valid ok lasts is. rule-right log t (nodes_of f) (length (nodes_of f) - 1) v ok.count cores.equality (nodes.children_first f) valid ok before rule c (λ one. absurd (lasts one)) is;
+  lasting =
+      λ log t f v rule c valid ok lasts is. rule-right log t (nodes_of f) (length (nodes_of f) - 1) v ok.count cores.equality
+      (nodes.children_first f) valid ok before rule c (λ one. absurd (lasts one)) is;
   sought_value = λ log t f v rule c valid ok gives is. rule-right log t (nodes_of f) (length (nodes_of f) - 1) v ok.count cores.equality (nodes.children_first f) valid ok before rule c
       (λ one. ap (λ tree. truth log t 0 tree) (nodes.root f).1 ∙ core.at_position log t 0 f ∙ gives) is;
 }

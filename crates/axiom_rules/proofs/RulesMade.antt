@@ -158,7 +158,8 @@ module _ (s : Sought) (N : ℕ → Type 0) (B : ℤ → Type 0) (nodes : AreNode
       go None at = tt
       go (Some c) at = order-made c.row e (pos 0) (holds-at (IsOfRow s) changes place c all at) low bounds.zero
 
-  far-made : (direction : Direction) (high : Option ℕ) (i j : ℕ) → i < length s.log.rows → j < length s.log.rows → ((b : ℕ) → high ≡ Some b → BothWays B (pos b)) → OfPart P (option_map_or (λ b. is_not_up_to direction b i j) high (Known false))
+  far-made : (direction : Direction) (high : Option ℕ) (i j : ℕ) → i < length s.log.rows → j < length s.log.rows
+      → ((b : ℕ) → high ≡ Some b → BothWays B (pos b)) → OfPart P (option_map_or (λ b. is_not_up_to direction b i j) high (Known false))
   far-made direction None i j low-i low-j each = tt
   far-made direction (Some b) i j low-i low-j each = not-met-made direction j i (pos b) low-j low-i (each b refl)
 
@@ -212,8 +213,10 @@ module _ (s : Sought) (N : ℕ → Type 0) (B : ℤ → Type 0) (nodes : AreNode
   made-2 = row-of-change s (IsMade s P of-events) rule_2 (λ k e p low-k low. of-kind s P of-events _ _ (λ (rows : PropositionRows) is. of-option s P of-events (slice_get rows.changes p) _ Range (λ (c : Change) at.
       let of = rows-in s k rows is in
       let cleared = cleared-made c.sets rows.pulses e of.pulses low (proposition-rows s k rows is).few_pulses in
-      of-ok s P of-events (after c.row e ∷ has_come rows.changes (p + 1) e ∷ Says (record { atom = Node k e; positive = c.sets }) ∷ at_pulses (if c.sets then [] else rows.pulses) e)
-      (order-made e c.row (neg_ℤ (pos 0) -ℤ pos 1) low (holds-at (IsOfRow s) rows.changes p c of.changes at) zero-turned, (come-made rows.changes (p + 1) e of.changes low, ((nodes.each k low-k, low), cleared.0)))
+      of-ok s P of-events (after c.row e ∷ has_come rows.changes (p + 1) e ∷ Says (record { atom = Node k e; positive = c.sets }) ∷ at_pulses (if c.sets then [] else rows.pulses) e) (
+        order-made e c.row (neg_ℤ (pos 0) -ℤ pos 1) low (holds-at (IsOfRow s) rows.changes p c of.changes at) zero-turned,
+        (come-made rows.changes (p + 1) e of.changes low, ((nodes.each k low-k, low), cleared.0)),
+      )
       (omega (arith, cleared.1)))))
 
   made-3 : IsRow 3 (of_node_event rule_3)
@@ -232,7 +235,9 @@ module _ (s : Sought) (N : ℕ → Type 0) (B : ℤ → Type 0) (nodes : AreNode
   made-7 = row-of-node s (IsMade s P 5) rule_7 (λ k e low-k low. of-kind s P 5 _ _ (λ both is. of-2 s P _ _ (nodes.each k low-k, low) ((nodes.sides k both is).1, low)))
 
   made-8 : IsRow 8 (of_node_event rule_8)
-  made-8 = row-of-node s (IsMade s P 5) rule_8 (λ k e low-k low. of-kind s P 5 _ _ (λ both is. of-3 s P _ _ _ (nodes.each k low-k, low) ((nodes.sides k both is).0, low) ((nodes.sides k both is).1, low)))
+  made-8 =
+      row-of-node s (IsMade s P 5) rule_8 (λ k e low-k low. of-kind s P 5 _ _
+      (λ both is. of-3 s P _ _ _ (nodes.each k low-k, low) ((nodes.sides k both is).0, low) ((nodes.sides k both is).1, low)))
 
   made-9 : IsRow 9 (of_events rule_9)
   made-9 = row-of-events s (IsMade s P 5) rule_9 (λ e x low low-x. of-2 s P _ _ low (order-made e x (pos 0) low low-x bounds.zero))
@@ -244,7 +249,10 @@ module _ (s : Sought) (N : ℕ → Type 0) (B : ℤ → Type 0) (nodes : AreNode
   made-11 = row-of-nothing s (IsMade s P of-events) rule_11 (of-each s P (λ e. is (First e)) (λ x low. low))
 
   made-12 : IsRow 12 (of_node_events rule_12)
-  made-12 = row-of-two s (IsMade s P 5) rule_12 (λ k i j low-k low-i low-j. of-kind s P 5 _ _ (λ (u : Reach) is. of-2 s P _ _ (reach k u is, low-i, low-j) (met-made u.direction i j (neg_ℤ (pos u.interval.low)) low-i low-j (bounds.low k u is))))
+  made-12 =
+      row-of-two s (IsMade s P 5) rule_12 (λ k i j low-k low-i low-j. of-kind s P 5 _ _
+      (λ (u : Reach) is. of-2 s P _ _ (reach k u is, low-i, low-j)
+      (met-made u.direction i j (neg_ℤ (pos u.interval.low)) low-i low-j (bounds.low k u is))))
 
   made-13 : IsRow 13 (of_node_events rule_13)
   made-13 = row-of-two s (IsMade s P 5) rule_13 (λ k i j low-k low-i low-j. of-kind s P 5 _ _ (λ (u : Reach) is. of-option s P 5 u.interval.high _ NoRule (λ b at.
@@ -262,7 +270,9 @@ module _ (s : Sought) (N : ℕ → Type 0) (B : ℤ → Type 0) (nodes : AreNode
       (far-made u.direction u.interval.high i j low-i low-j (λ b at. bounds.high k u b is at)) ((nodes.children k u is).1, low-j) (reach k u is, low-i, low-j)))
 
   made-17 : IsRow 17 (of_node_event rule_17)
-  made-17 = row-of-node s (IsMade s P of-events) rule_17 (λ k i low-k low-i. of-kind s P of-events _ _ (λ (u : Reach) is. of-first-and-each s P _ _ (nodes.each k low-k, low-i) (λ x low-x. (reach k u is, low-i, low-x))))
+  made-17 =
+      row-of-node s (IsMade s P of-events) rule_17 (λ k i low-k low-i. of-kind s P of-events _ _
+      (λ (u : Reach) is. of-first-and-each s P _ _ (nodes.each k low-k, low-i) (λ x low-x. (reach k u is, low-i, low-x))))
 
   made-18 : IsRow 18 (of_node_events rule_18)
   made-18 = row-of-two s (IsMade s P 5) rule_18 (λ k i j low-k low-i low-j. of-kind s P 5 _ _ (λ (u : Reach) is. of-2 s P _ _ (nodes.each k low-k, low-i) (reach k u is, low-i, low-j)))
@@ -272,14 +282,18 @@ module _ (s : Sought) (N : ℕ → Type 0) (B : ℤ → Type 0) (nodes : AreNode
       of-4 s P _ _ _ _ (reach k u is, low-i, low-j) (not-met-made u.direction i m (pos 0) low-i low-m bounds.zero) (met-made u.direction j m (pos 0) low-j low-m bounds.zero) ((nodes.children k u is).0, low-m)))
 
   made-20 : IsRow 20 (of_node_events rule_20)
-  made-20 = row-of-two s (IsMade s P of-events) rule_20 (λ k i j low-k low-i low-j. of-kind s P of-events _ _ (λ (u : Reach) is. of-first-and-each s P _ _ (reach k u is, low-i, low-j) (λ x low-x. (reach k u is, low-i, low-x))))
+  made-20 =
+      row-of-two s (IsMade s P of-events) rule_20 (λ k i j low-k low-i low-j. of-kind s P of-events _ _
+      (λ (u : Reach) is. of-first-and-each s P _ _ (reach k u is, low-i, low-j) (λ x low-x. (reach k u is, low-i, low-x))))
 
   made-21 : IsRow 21 (of_node_three_events rule_21)
   made-21 = row-of-three s (IsMade s P 5) rule_21 (λ k i j m low-k low-i low-j low-m. of-kind s P 5 _ _ (λ (u : Reach) is.
       of-3 s P _ _ _ (reach k u is, low-i, low-m) (not-met-made u.direction j m (pos 0) low-j low-m bounds.zero) (reach k u is, low-i, low-j)))
 
   made-22 : IsRow 22 (of_node_events rule_22)
-  made-22 = row-of-two s (IsMade s P 5) rule_22 (λ k i m low-k low-i low-m. of-kind s P 5 _ _ (λ (u : Reach) is. of-2 s P _ _ (reach k u is, low-i, low-m) (met-made u.direction i m (pos 0) low-i low-m bounds.zero)))
+  made-22 =
+      row-of-two s (IsMade s P 5) rule_22 (λ k i m low-k low-i low-m. of-kind s P 5 _ _
+      (λ (u : Reach) is. of-2 s P _ _ (reach k u is, low-i, low-m) (met-made u.direction i m (pos 0) low-i low-m bounds.zero)))
 
   made-23 : IsRow 23 (of_node_events rule_23)
   made-23 = row-of-two s (IsMade s P 5) rule_23 (λ k i m low-k low-i low-m. of-kind s P 5 _ _ (λ (u : Reach) is. of-2 s P _ _ (reach k u is, low-i, low-m) ((nodes.children k u is).0, low-m)))
@@ -288,7 +302,9 @@ module _ (s : Sought) (N : ℕ → Type 0) (B : ℤ → Type 0) (nodes : AreNode
   made-24 = row-of-event s (IsMade s P 5) rule_24 (λ e low. of-2 s P _ _ low (nodes.root, low))
 
   made-25 : IsRow 25 (of_events rule_25)
-  made-25 = row-of-events s (IsMade s P 5) rule_25 (λ e x low low-x. of-if s P 5 (is_pulse_row s.log e || is_pulse_row s.log x) _ NoRule (of-2 s P _ _ (same-made e x low low-x).1 (order-made e x (pos 0) low low-x bounds.zero)))
+  made-25 =
+      row-of-events s (IsMade s P 5) rule_25 (λ e x low low-x. of-if s P 5 (is_pulse_row s.log e || is_pulse_row s.log x) _ NoRule
+      (of-2 s P _ _ (same-made e x low low-x).1 (order-made e x (pos 0) low low-x bounds.zero)))
 
   made-26 : IsRow 26 (of_events rule_26)
   made-26 = row-of-events s (IsMade s P 5) rule_26 (λ e x low low-x. of-if s P 5 (nat_lt e x) _ Kind (of-if s P 5 (is_pulse_row s.log e || is_pulse_row s.log x) _ NoRule

@@ -31,7 +31,8 @@ clauses_changed f start xs (end ∷ ends) =
     ∙ ap (λ (cs : List (List Lit)). map f (slice_range xs start end) ∷ cs) (clauses_changed f end xs ends)
 
 -- what holds of the literals of each clause holds of all from the start of the first
-lits_have : (P : Lit → Type 0) (start : ℕ) (xs : List Lit) (ends : List ℕ) → Rise start ends (length xs) → last_end start ends ≡ length xs → All (All P) (pieces_from start xs ends) → All P (drop start xs)
+lits_have : (P : Lit → Type 0) (start : ℕ) (xs : List Lit) (ends : List ℕ) → Rise start ends (length xs) → last_end start ends ≡ length xs
+    → All (All P) (pieces_from start xs ends) → All P (drop start xs)
 lits_have P start xs [] rise whole all = rw (drop_all start xs (omega (arith, whole))) (All-nil P)
 lits_have P start xs (end ∷ ends) (first, rest) whole all =
     let end_is : start + (end - start) ≡ end = omega (arith, first) in

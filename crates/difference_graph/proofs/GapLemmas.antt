@@ -62,7 +62,8 @@ no_more_below (x ∷ xs) (y ∷ ys) a b same each =
     let rest = no_more_below xs ys a b (omega (arith, same)) (λ i within. each (suc i) (omega (arith, within))) in
     omega (arith, first, rest, count_cons a x xs, count_cons b y ys)
 
-fewer_below : (xs ys : List ℤ) (a b : ℤ) → length ys ≡ length xs → ((i : ℕ) → i < length xs → number_of ys i <ℤ b → number_of xs i <ℤ a) → (i : ℕ) → i < length xs → number_of xs i <ℤ a → b ≤ℤ number_of ys i → count_below b ys < count_below a xs
+fewer_below : (xs ys : List ℤ) (a b : ℤ) → length ys ≡ length xs → ((i : ℕ) → i < length xs → number_of ys i <ℤ b → number_of xs i <ℤ a)
+    → (i : ℕ) → i < length xs → number_of xs i <ℤ a → b ≤ℤ number_of ys i → count_below b ys < count_below a xs
 fewer_below [] ys a b same each i within old new = absurd (omega (arith, within))
 fewer_below (x ∷ xs) [] a b same each i within old new = absurd (omega (arith, same))
 fewer_below (x ∷ xs) (y ∷ ys) a b same each zero within old new =
@@ -75,7 +76,8 @@ fewer_below (x ∷ xs) (y ∷ ys) a b same each (suc i) within old new =
     omega (arith, first, rest, count_cons a x xs, count_cons b y ys)
 
 -- an edge over a gap that is closed to the greatest bound at most is met still
-met_over : (u v y z level next below bound greatest : ℤ) → u ≤ℤ next → level ≤ℤ v → y ≡ u +ℤ (below -ℤ next) → z ≡ v → next ≤ℤ below → (next <ℤ below → level ≡ below +ℤ greatest) → pos 0 ≤ℤ (bound +ℤ greatest) → (u -ℤ v) ≤ℤ bound → (y -ℤ z) ≤ℤ bound
+met_over : (u v y z level next below bound greatest : ℤ) → u ≤ℤ next → level ≤ℤ v → y ≡ u +ℤ (below -ℤ next) → z ≡ v → next ≤ℤ below
+    → (next <ℤ below → level ≡ below +ℤ greatest) → pos 0 ≤ℤ (bound +ℤ greatest) → (u -ℤ v) ≤ℤ bound → (y -ℤ z) ≤ℤ bound
 met_over u v y z level next below bound greatest low high is_u is_v above cut within meets = by_lt_z next below
     (λ (less : next <ℤ below). let whole = cut less in omega (arith, ints, low, high, is_u, is_v, whole, within))
     (λ (same : below ≤ℤ next). omega (arith, ints, low, high, is_u, is_v, same, above, meets))
@@ -89,7 +91,8 @@ module _ (level next lower by : ℤ) (old new : List ℤ) (top : level ≤ℤ po
   met_moved : (e : Edge) → IsWithin MAX_BOUND e.bound → Meets old e → IsMoved level by old new e.from → IsMoved level by old new e.to ⊎ Stays level old new e.to → Meets new e
   met_moved e limit meets m to = elim to [
     | inl t ↦ omega (arith, ints, m.is, t.is, meets)
-    | inr t ↦ met_over (number_of old e.from) (number_of old e.to) (number_of new e.from) (number_of new e.to) level next lower e.bound MAX_BOUND (at_most_next e.from m.within m.below) t.above (omega (arith, ints, m.is, is_by)) t.is above cut limit.low meets
+    | inr t ↦ met_over (number_of old e.from) (number_of old e.to) (number_of new e.from) (number_of new e.to) level next lower e.bound
+        MAX_BOUND (at_most_next e.from m.within m.below) t.above (omega (arith, ints, m.is, is_by)) t.is above cut limit.low meets
   ]
 
   met_stays : (e : Edge) → Meets old e → Stays level old new e.from → IsMoved level by old new e.to ⊎ Stays level old new e.to → Meets new e
@@ -135,7 +138,8 @@ module _ (level next lower by : ℤ) (old new : List ℤ) (top : level ≤ℤ po
       fewer_below old new level lower raised.count was_below n.place n.within low (omega (arith, ints, is, held, is_by))
 
 -- the level stays near where the count below it falls
-pub level_near : (level lower : ℤ) (count fewer nodes more : ℕ) → level ≤ℤ (lower +ℤ pos (2 ^ 90)) → fewer < count → more ≡ nodes → pos (count * 2 ^ 90) ≤ℤ (level +ℤ pos (nodes * 2 ^ 90)) → pos (fewer * 2 ^ 90) ≤ℤ (lower +ℤ pos (more * 2 ^ 90))
+pub level_near : (level lower : ℤ) (count fewer nodes more : ℕ) → level ≤ℤ (lower +ℤ pos (2 ^ 90)) → fewer < count → more ≡ nodes
+    → pos (count * 2 ^ 90) ≤ℤ (level +ℤ pos (nodes * 2 ^ 90)) → pos (fewer * 2 ^ 90) ≤ℤ (lower +ℤ pos (more * 2 ^ 90))
 level_near level lower count fewer nodes more bound less same near = omega (arith, ints, bound, less, same, near)
 
 -- and is a number
@@ -185,11 +189,15 @@ found_keeps xs x level (Some best) some not = record {
 }
 
 -- so it is for the first numbers of a list
-pub next_takes : (numbers : List ℤ) (i : ℕ) (level x : ℤ) (found after : Option ℤ) → i < length numbers → x ≡ get_or numbers i (pos 0) → IsFound (take i numbers) level found → (x <ℤ level) × IfSome found (λ best. best <ℤ x) → after ≡ Some x → IsFound (take (i + 1) numbers) level after
+pub next_takes : (numbers : List ℤ) (i : ℕ) (level x : ℤ) (found after : Option ℤ) → i < length numbers → x ≡ get_or numbers i (pos 0)
+    → IsFound (take i numbers) level found → (x <ℤ level) × IfSome found (λ best. best <ℤ x) → after ≡ Some x
+    → IsFound (take (i + 1) numbers) level after
 next_takes numbers i level x found after below is held next now =
     rw (now, take_more numbers i (pos 0) below, ← is) (found_takes (take i numbers) x level found held next.0 next.1)
 
-pub next_keeps : (numbers : List ℤ) (i : ℕ) (level x : ℤ) (found after : Option ℤ) → i < length numbers → x ≡ get_or numbers i (pos 0) → IsFound (take i numbers) level found → ((x <ℤ level) × IfSome found (λ best. best <ℤ x) → ⊥) → after ≡ found → IsFound (take (i + 1) numbers) level after
+pub next_keeps : (numbers : List ℤ) (i : ℕ) (level x : ℤ) (found after : Option ℤ) → i < length numbers → x ≡ get_or numbers i (pos 0)
+    → IsFound (take i numbers) level found → ((x <ℤ level) × IfSome found (λ best. best <ℤ x) → ⊥) → after ≡ found
+    → IsFound (take (i + 1) numbers) level after
 next_keeps numbers i level x found after below is held not now =
     rw (now, take_more numbers i (pos 0) below, ← is) (found_keeps (take i numbers) x level found held not)
 
@@ -229,7 +237,9 @@ module _ (n : ℕ) (level by y : ℤ) (old new : List ℤ) (r : IsRaisedSoFar n 
     }
 
 -- with what the code read and wrote
-pub raised_turn : (n : ℕ) (level by x y written : ℤ) (old new : List ℤ) → IsRaisedSoFar n level by old new → n < length old → x ≡ number_of new n → written ≡ y → (x <ℤ level → y ≡ x +ℤ by) → (level ≤ℤ x → y ≡ x) → IsRaisedSoFar (n + 1) level by old (set new n written)
+pub raised_turn : (n : ℕ) (level by x y written : ℤ) (old new : List ℤ) → IsRaisedSoFar n level by old new → n < length old
+    → x ≡ number_of new n → written ≡ y → (x <ℤ level → y ≡ x +ℤ by) → (level ≤ℤ x → y ≡ x)
+    → IsRaisedSoFar (n + 1) level by old (set new n written)
 raised_turn n level by x y written old new r within read is low high =
     let as_before : x ≡ number_of old n = read ∙ r.rest n (omega arith) in
     raised_more n level by written old new r within

@@ -51,7 +51,11 @@ module _ where
 
   once_cons : (w : Missed) (ws : List Missed) → WaitsOnce ws → All (λ x. x.place ≢ w.place) ws → WaitsOnce (w ∷ ws)
   unfolding IsDistinct
-  once_cons w ws once others = (recursion_from_All (λ x. eqb w.place x.place ≡ false) ws (All-weaker (λ x. x.place ≢ w.place) (λ x. eqb w.place x.place ≡ false) (λ x other. other_place w.place x.place other) ws others), once)
+  once_cons w ws once others = (
+    recursion_from_All (λ x. eqb w.place x.place ≡ false) ws
+        (All-weaker (λ x. x.place ≢ w.place) (λ x. eqb w.place x.place ≡ false) (λ x other. other_place w.place x.place other) ws others),
+    once,
+  )
 
   once_nil : WaitsOnce []
   unfolding IsDistinct
@@ -130,13 +134,17 @@ module _ (edges : List Edge) (numbers : List ℤ) where
         each = All-permutation (IsWaiting edges numbers) (entry_of edges numbers (mark - 1) ∷ ws) after p all_wait;
         once = once_permuted (entry_of edges numbers (mark - 1) ∷ ws) after p once_with;
         behind = All-permutation (λ w. (edge_at edges w.place).to ≡ node → next ≤ w.place) (entry_of edges numbers (mark - 1) ∷ ws) after p
-            (All-cons (λ w. (edge_at edges w.place).to ≡ node → next ≤ w.place) (entry_of edges numbers (mark - 1)) ws (λ at. m.within) (λ k d within at. omega (arith, q.behind k d within at, m.within, some)));
+            (All-cons (λ w. (edge_at edges w.place).to ≡ node → next ≤ w.place) (entry_of edges numbers (mark - 1)) ws (λ at. m.within)
+            (λ k d within at. omega (arith, q.behind k d within at, m.within, some)));
         waits = λ r below missed. elim (q.waits r below missed) [
           | inl at ↦ elim (cases_eq r (mark - 1)) [
-            | inl e ↦ inr (subst (λ (k : ℕ). Contains after (entry_of edges numbers k)) (sym e) (Contains-permutation (entry_of edges numbers (mark - 1) ∷ ws) after (entry_of edges numbers (mark - 1)) p (Contains-get_or (entry_of edges numbers (mark - 1) ∷ ws) 0 (entry_of edges numbers (mark - 1)) (omega arith))))
+            | inl e ↦ inr (subst (λ (k : ℕ). Contains after (entry_of edges numbers k)) (sym e)
+                (Contains-permutation (entry_of edges numbers (mark - 1) ∷ ws) after (entry_of edges numbers (mark - 1)) p
+                (Contains-get_or (entry_of edges numbers (mark - 1) ∷ ws) 0 (entry_of edges numbers (mark - 1)) (omega arith))))
             | inr other ↦ inl (at.0, left_of r at.1 other at.0)
           ]
-          | inr held ↦ inr (Contains-permutation (entry_of edges numbers (mark - 1) ∷ ws) after (entry_of edges numbers r) p (Contains-append_right (entry_of edges numbers (mark - 1) ∷ []) ws (entry_of edges numbers r) held))
+          | inr held ↦ inr (Contains-permutation (entry_of edges numbers (mark - 1) ∷ ws) after (entry_of edges numbers r) p
+              (Contains-append_right (entry_of edges numbers (mark - 1) ∷ []) ws (entry_of edges numbers r) held))
         ];
       }
 
@@ -149,7 +157,8 @@ module _ (edges : List Edge) (numbers : List ℤ) where
     pub added_step : (before after : List Missed) → All (IsAdded edges node end before) ws → IsTakenUp edges numbers end (mark - 1) ws after → All (IsAdded edges node end before) after
     added_step before after added taken = elim taken [
       | inl met ↦ rw met.1 added
-      | inr missed ↦ All-permutation (IsAdded edges node end before) (entry_of edges numbers (mark - 1) ∷ ws) after missed.2 (All-cons (IsAdded edges node end before) (entry_of edges numbers (mark - 1)) ws (inl (to, missed.1)) added)
+      | inr missed ↦ All-permutation (IsAdded edges node end before) (entry_of edges numbers (mark - 1) ∷ ws) after missed.2
+          (All-cons (IsAdded edges node end before) (entry_of edges numbers (mark - 1)) ws (inl (to, missed.1)) added)
     ]
 
   -- nothing waits, so no edge is missed
@@ -178,7 +187,9 @@ module _ (edges : List Edge) (numbers : List ℤ) where
     in_all r below missed = elim (q.waits r below missed) [ inl at ↦ absurd (omega (arith, at.1)) | inr held ↦ held ]
 
     in_rest : (r : ℕ) → r < length edges → slack numbers (edge_at edges r) <ℤ pos 0 → r ≢ w.place → Contains rest (entry_of edges numbers r)
-    in_rest r below missed other = Contains-tail w rest (entry_of edges numbers r) (λ same. other (sym (ap (λ (x : Missed). x.place) same))) (Contains-permutation ws (w ∷ rest) (entry_of edges numbers r) p (in_all r below missed))
+    in_rest r below missed other =
+        Contains-tail w rest (entry_of edges numbers r) (λ same. other (sym (ap (λ (x : Missed). x.place) same)))
+        (Contains-permutation ws (w ∷ rest) (entry_of edges numbers r) p (in_all r below missed))
 
     -- it was met since
     pub queue_stale : pos 0 ≤ℤ slack numbers (edge_at edges w.place) → IsQueue edges numbers 0 0 rest
@@ -233,10 +244,16 @@ module _ (edges : List Edge) (numbers : List ℤ) (end place : ℕ) (within : pl
       waits = λ q below missed. absurd (let low = subst (λ (k : ℕ). slack numbers (edge_at edges k) <ℤ pos 0) (only q below missed) missed in omega (arith, ints, low, met.0));
     })
     | inr missed ↦ record {
-      each = All-permutation (IsWaiting edges numbers) (entry_of edges numbers place ∷ []) ws missed.2 (All-cons (IsWaiting edges numbers) (entry_of edges numbers place) [] (entry_waits edges numbers place within) (All-nil (IsWaiting edges numbers)));
+      each =
+          All-permutation (IsWaiting edges numbers) (entry_of edges numbers place ∷ []) ws missed.2
+          (All-cons (IsWaiting edges numbers) (entry_of edges numbers place) [] (entry_waits edges numbers place within)
+          (All-nil (IsWaiting edges numbers)));
       once = once_permuted (entry_of edges numbers place ∷ []) ws missed.2 (once_cons (entry_of edges numbers place) [] once_nil (All-nil (λ x. x.place ≢ place)));
       behind = λ k d inside to. omega arith;
-      waits = λ q below low. inr (subst (λ (k : ℕ). Contains ws (entry_of edges numbers k)) (sym (only q below low)) (Contains-permutation (entry_of edges numbers place ∷ []) ws (entry_of edges numbers place) missed.2 (Contains-get_or (entry_of edges numbers place ∷ []) 0 (entry_of edges numbers place) (omega arith))));
+      waits =
+          λ q below low. inr (subst (λ (k : ℕ). Contains ws (entry_of edges numbers k)) (sym (only q below low))
+          (Contains-permutation (entry_of edges numbers place ∷ []) ws (entry_of edges numbers place) missed.2
+          (Contains-get_or (entry_of edges numbers place ∷ []) 0 (entry_of edges numbers place) (omega arith))));
     }
   ]
 

@@ -73,7 +73,16 @@ module _ (edges : List Edge) (end : ℕ) (old : List ℤ) (others : MeetsOthers 
     -- what the edge misses now, by whether it begins or ends at the node that is lowered
     pub begins_here : (q : ℕ) → q < length edges → (edge_at edges q).from ≡ (edge_at edges p).from → pos 0 ≤ℤ slack (set new (edge_at edges p).from y) (edge_at edges q)
     begins_here q below from = elim (cases_eq (edge_at edges q).to (edge_at edges p).from) [
-      | inl to ↦ omega (arith, ints, at_same (edge_at edges q).from from, at_same (edge_at edges q).to to, old_at (edge_at edges q).from from, old_at (edge_at edges q).to to, met_old q (edge_at edges q).to below refl to)
+      | inl to ↦ omega (
+        arith,
+        ints,
+        at_same (edge_at edges q).from from,
+        at_same (edge_at edges q).to to,
+        old_at (edge_at edges q).from
+            from,
+        old_at (edge_at edges q).to to,
+        met_old q (edge_at edges q).to below refl to,
+      )
       | inr other ↦ omega (arith, ints, at_same (edge_at edges q).from from, at_other (edge_at edges q).to other, t.least q below)
     ]
 
@@ -81,17 +90,39 @@ module _ (edges : List Edge) (end : ℕ) (old : List ℤ) (others : MeetsOthers 
     slack_most q below = elim (cases_eq (edge_at edges q).from (edge_at edges p).from) [
       | inl from ↦ omega (arith, ints, begins_here q below from, missed)
       | inr away ↦ elim (cases_eq (edge_at edges q).to (edge_at edges p).from) [
-        | inl to ↦ omega (arith, ints, at_other (edge_at edges q).from away, at_same (edge_at edges q).to to, old_at (edge_at edges q).to to, fell (edge_at edges q).from, met_old q (edge_at edges q).to below refl to)
+        | inl to ↦ omega (
+          arith,
+          ints,
+          at_other (edge_at edges q).from away,
+          at_same (edge_at edges q).to to,
+          old_at (edge_at edges q).to
+              to,
+          fell (edge_at edges q).from,
+          met_old q (edge_at edges q).to below refl to,
+        )
         | inr other ↦ omega (arith, ints, at_other (edge_at edges q).from away, at_other (edge_at edges q).to other, t.least q below)
       ]
     ]
 
     -- an edge from a node that was lowered before, to the one that is lowered now
-    met_lowered : (q : ℕ) → q < length edges → IsLowered edges old new places (edge_at edges q).from → (edge_at edges q).from ≢ (edge_at edges p).from → (edge_at edges q).to ≡ (edge_at edges p).from → pos 0 ≤ℤ slack (set new (edge_at edges p).from y) (edge_at edges q)
+    met_lowered : (q : ℕ) → q < length edges → IsLowered edges old new places (edge_at edges q).from
+        → (edge_at edges q).from ≢ (edge_at edges p).from → (edge_at edges q).to ≡ (edge_at edges p).from
+        → pos 0 ≤ℤ slack (set new (edge_at edges p).from y) (edge_at edges q)
     met_lowered q below lowered away to =
-        omega (arith, ints, lowered.most p t.within, at_other (edge_at edges q).from away, at_same (edge_at edges q).to to, old_at (edge_at edges q).to to, met_old q (edge_at edges q).to below refl to)
+        omega (
+          arith,
+          ints,
+          lowered.most p t.within,
+          at_other (edge_at edges q).from away,
+          at_same (edge_at edges q).to to,
+          old_at
+              (edge_at edges q).to to,
+          met_old q (edge_at edges q).to below refl to,
+        )
 
-    met_more : (q : ℕ) → q < length edges → number_of (set new (edge_at edges p).from y) (edge_at edges q).from <ℤ number_of old (edge_at edges q).from → pos 0 ≤ℤ slack (set new (edge_at edges p).from y) (edge_at edges q)
+    met_more : (q : ℕ) → q < length edges
+        → number_of (set new (edge_at edges p).from y) (edge_at edges q).from <ℤ number_of old (edge_at edges q).from
+        → pos 0 ≤ℤ slack (set new (edge_at edges p).from y) (edge_at edges q)
     met_more q below low = elim (cases_eq (edge_at edges q).from (edge_at edges p).from) [
       | inl from ↦ begins_here q below from
       | inr away ↦ elim (r.each (edge_at edges q).from) [

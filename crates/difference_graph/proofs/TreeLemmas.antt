@@ -98,7 +98,10 @@ module _ (edges : List Edge) where
 
     pub tree_short : (end : ℕ) (places : List ℕ) → IsTree edges end places → length places ≤ nodes
     tree_short end places tree =
-        let few = length-le_from_distinct_below (map (λ p. (edge_at edges p).from) places) nodes (IsDistinct-from_AllPairs Decides-eqb (map (λ p. (edge_at edges p).from) places) (pairs_map places tree.once)) (froms_below places tree.within) in
+        let few =
+        length-le_from_distinct_below (map (λ p. (edge_at edges p).from) places) nodes
+        (IsDistinct-from_AllPairs Decides-eqb (map (λ p. (edge_at edges p).from) places) (pairs_map places tree.once))
+        (froms_below places tree.within) in
         let many : length (map (λ p. (edge_at edges p).from) places) ≡ length places = simp length-map in
         omega (arith, few, many)
 

@@ -41,7 +41,8 @@ module _ (edges : List Edge) (place : ℕ) (numbers : List ℤ) (last : place + 
   asked_first = elim taken [
     | inl met ↦ rw (met.1, is_none) (All-nil (IsAsked edges (edge_at edges place).to []))
     | inr missed ↦ All-permutation (IsAsked edges (edge_at edges place).to []) (entry_of edges numbers place ∷ none) ws missed.2
-        (rw is_none (All-cons (IsAsked edges (edge_at edges place).to []) (entry_of edges numbers place) [] (record { apart = missed.1; leads = inl refl }) (All-nil (IsAsked edges (edge_at edges place).to []))))
+        (rw is_none (All-cons (IsAsked edges (edge_at edges place).to []) (entry_of edges numbers place) []
+        (record { apart = missed.1; leads = inl refl }) (All-nil (IsAsked edges (edge_at edges place).to []))))
   ]
 
 -- a number is lowered
@@ -59,8 +60,16 @@ module _ (edges : List Edge) (end : ℕ) (old : List ℤ) (others : MeetsOthers 
         at (begins ∙ same)
   ]
 
-  same_slack : (q : ℕ) → (edge_at edges q).from ≢ (edge_at edges p).from → (edge_at edges q).to ≢ (edge_at edges p).from → slack (set new (edge_at edges p).from y) (edge_at edges q) ≡ slack new (edge_at edges q)
-  same_slack q from to = omega (arith, ints, at_other edges end old others new places r p t missed apart inside y is_y (edge_at edges q).from from, at_other edges end old others new places r p t missed apart inside y is_y (edge_at edges q).to to)
+  same_slack : (q : ℕ) → (edge_at edges q).from ≢ (edge_at edges p).from → (edge_at edges q).to ≢ (edge_at edges p).from
+      → slack (set new (edge_at edges p).from y) (edge_at edges q) ≡ slack new (edge_at edges q)
+  same_slack q from to =
+      omega (
+        arith,
+        ints,
+        at_other edges end old others new places r p t missed apart inside y is_y (edge_at edges q).from from,
+        at_other
+            edges end old others new places r p t missed apart inside y is_y (edge_at edges q).to to,
+      )
 
   met_here : (q : ℕ) → q < length edges → (edge_at edges q).from ≡ (edge_at edges p).from → pos 0 ≤ℤ slack (set new (edge_at edges p).from y) (edge_at edges q)
   met_here q below from = begins_here edges end old others new places r p t missed apart inside y is_y q below from
@@ -80,7 +89,8 @@ module _ (edges : List Edge) (end : ℕ) (old : List ℤ) (others : MeetsOthers 
   ]
 
   module _ (rest : List Missed) (q : IsRest edges new p rest) (asked : All (IsAsked edges end places) rest) where
-    missed_waits : (s : ℕ) → s < length edges → slack (set new (edge_at edges p).from y) (edge_at edges s) <ℤ pos 0 → (edge_at edges s).to ≢ (edge_at edges p).from → Contains rest (entry_of edges (set new (edge_at edges p).from y) s)
+    missed_waits : (s : ℕ) → s < length edges → slack (set new (edge_at edges p).from y) (edge_at edges s) <ℤ pos 0
+        → (edge_at edges s).to ≢ (edge_at edges p).from → Contains rest (entry_of edges (set new (edge_at edges p).from y) s)
     missed_waits s below low away = elim (cases_eq (edge_at edges s).from (edge_at edges p).from) [
       | inl from ↦ let met = met_here s below from in absurd (omega (arith, ints, met, low))
       | inr other ↦
@@ -104,7 +114,9 @@ module _ (edges : List Edge) (end : ℕ) (old : List ℤ) (others : MeetsOthers 
     }
 
 -- what waits is asked for by the edges before or by the new one
-pub asked_more : (edges : List Edge) (end : ℕ) (places : List ℕ) (p : ℕ) (before after : List Missed) → All (IsAsked edges end places) before → All (IsAdded edges (edge_at edges p).from end before) after → All (IsAsked edges end (places ++ p ∷ [])) after
+pub asked_more : (edges : List Edge) (end : ℕ) (places : List ℕ) (p : ℕ) (before after : List Missed)
+    → All (IsAsked edges end places) before → All (IsAdded edges (edge_at edges p).from end before) after
+    → All (IsAsked edges end (places ++ p ∷ [])) after
 asked_more edges end places p before after asked added k d within = elim (added k d within) [
   | inl new ↦ record { apart = new.1; leads = inr (subst (λ (v : ℕ). Begins edges (places ++ p ∷ []) v) (sym new.0) (begins_last edges places p)) }
   | inr held ↦
@@ -119,7 +131,8 @@ asked_more edges end places p before after asked added k d within = elim (added 
 ]
 
 -- all that is left waited before
-pub asked_fewer : (edges : List Edge) (end : ℕ) (places : List ℕ) (before after : List Missed) → All (IsAsked edges end places) before → All (Contains before) after → All (IsAsked edges end places) after
+pub asked_fewer : (edges : List Edge) (end : ℕ) (places : List ℕ) (before after : List Missed) → All (IsAsked edges end places) before
+    → All (Contains before) after → All (IsAsked edges end places) after
 asked_fewer edges end places before after asked fewer k d within = All-contains (IsAsked edges end places) before (get_or after k d) asked (fewer k d within)
 
 -- the edge at the place waited
@@ -130,7 +143,8 @@ asked_apart edges end places ws p asked (k, w, within, is, at) =
     rw (is, at) at apart
 
 -- what the numbers were, with one more
-pub former_more : (edges : List Edge) (places : List ℕ) (p : ℕ) (old former : List ℤ) (x : ℤ) → AreFormer edges places old former → x ≡ number_of old (edge_at edges p).from → AreFormer edges (places ++ p ∷ []) old (former ++ x ∷ [])
+pub former_more : (edges : List Edge) (places : List ℕ) (p : ℕ) (old former : List ℤ) (x : ℤ) → AreFormer edges places old former
+    → x ≡ number_of old (edge_at edges p).from → AreFormer edges (places ++ p ∷ []) old (former ++ x ∷ [])
 former_more edges places p old former x f is = record {
   count = length_push former x ∙ ap (λ n. n + 1) f.count ∙ sym (length_push places p);
   is = λ j within. elim (cases_eq j (length places)) [
@@ -157,7 +171,9 @@ repair_differs edges end old new places r = record {
 module _ (edges : List Edge) (places : List ℕ) (old former new : List ℤ) (f : AreFormer edges places old former) (left : ℕ) (some : 0 < left) (within : left ≤ length places) (d : DiffersAt edges (take left places) old new)
     (inside : (edge_at edges (get_or places (left - 1) 0)).from < length new) (x : ℤ) (is_x : x ≡ number_of former (left - 1)) where
   put_at : number_of (set new (edge_at edges (get_or places (left - 1) 0)).from x) (edge_at edges (get_or places (left - 1) 0)).from ≡ number_of old (edge_at edges (get_or places (left - 1) 0)).from
-  put_at = get_or-set_at new (edge_at edges (get_or places (left - 1) 0)).from (edge_at edges (get_or places (left - 1) 0)).from x (pos 0) refl inside ∙ is_x ∙ f.is (left - 1) (omega (arith, some, within))
+  put_at =
+      get_or-set_at new (edge_at edges (get_or places (left - 1) 0)).from (edge_at edges (get_or places (left - 1) 0)).from x (pos 0) refl
+      inside ∙ is_x ∙ f.is (left - 1) (omega (arith, some, within))
 
   taken : take left places ≡ take (left - 1) places ++ get_or places (left - 1) 0 ∷ []
   taken =
@@ -173,7 +189,8 @@ module _ (edges : List Edge) (places : List ℕ) (old former new : List ℤ) (f 
           let at = get_or-set_other new (edge_at edges (get_or places (left - 1) 0)).from v x (pos 0) other in
           elim (d.each v) [
             | inl same ↦ inl (at ∙ same)
-            | inr b ↦ inr (any_last (λ p. (edge_at edges p).from ≡ v) (take (left - 1) places) (get_or places (left - 1) 0) (subst (λ (ps : List ℕ). Begins edges ps v) taken b) (λ same. other (sym same)))
+            | inr b ↦ inr (any_last (λ p. (edge_at edges p).from ≡ v) (take (left - 1) places) (get_or places (left - 1) 0)
+                (subst (λ (ps : List ℕ). Begins edges ps v) taken b) (λ same. other (sym same)))
           ]
     ];
   }
@@ -214,16 +231,22 @@ module _ (edges : List Edge) (end : ℕ) (old : List ℤ) (system : IsSystem (le
     lowered_numbers = repair_numbers edges end old others lowered more lowered_repair near
 
     pub lowered_noted : (before : List ℤ) → before ≡ former ++ number_of new (edge_at edges p).from ∷ [] → AreFormer edges more old before
-    lowered_noted before is_before = rw (is_more, is_before) (former_more edges places p old former (number_of new (edge_at edges p).from) s.noted (missed_from edges end old others new places s.repair p n.tightest.within n.missed))
+    lowered_noted before is_before =
+        rw (is_more, is_before) (former_more edges places p old former (number_of new (edge_at edges p).from) s.noted
+        (missed_from edges end old others new places s.repair p n.tightest.within n.missed))
 
     module _ (rest : List Missed) (q : IsRest edges new p rest) (fewer : All (Contains ws) rest) where
       still_asked : All (IsAsked edges end places) rest
       still_asked = asked_fewer edges end places ws rest s.asked fewer
 
       pub lowered_queue : IsQueue edges lowered (edge_at edges p).from (length edges) rest
-      lowered_queue = rw is (queue_lowered edges end old others new places s.repair p n.tightest n.missed apart within (number_of new (edge_at edges p).to +ℤ (edge_at edges p).bound) refl rest q still_asked)
+      lowered_queue =
+          rw is (queue_lowered edges end old others new places s.repair p n.tightest n.missed apart within
+          (number_of new (edge_at edges p).to +ℤ (edge_at edges p).bound) refl rest q still_asked)
 
-      pub state_more : (after : List Missed) (before : List ℤ) → before ≡ former ++ number_of new (edge_at edges p).from ∷ [] → IsQueue edges lowered (edge_at edges p).from 0 after → All (IsAdded edges (edge_at edges p).from end rest) after → IsState edges end old lowered more before after
+      pub state_more : (after : List Missed) (before : List ℤ) → before ≡ former ++ number_of new (edge_at edges p).from ∷ []
+          → IsQueue edges lowered (edge_at edges p).from 0 after → All (IsAdded edges (edge_at edges p).from end rest) after
+          → IsState edges end old lowered more before after
       state_more after before is_before queue added = record {
         repair = lowered_repair;
         noted = lowered_noted before is_before;
@@ -232,7 +255,10 @@ module _ (edges : List Edge) (end : ℕ) (old : List ℤ) (system : IsSystem (le
       }
 
 -- nothing is lowered, and the last edge may wait
-pub state_first : (edges : List Edge) (place end : ℕ) (numbers : List ℤ) (places : List ℕ) (former : List ℤ) (none ws : List Missed) → end ≡ (edge_at edges place).to → IsSystem (length numbers) edges → All IsNearNumber numbers → place + 1 ≡ length edges → MeetsFirst edges place numbers → places ≡ [] → former ≡ [] → none ≡ [] → IsTakenUp edges numbers end place none ws → IsState edges end numbers numbers places former ws
+pub state_first : (edges : List Edge) (place end : ℕ) (numbers : List ℤ) (places : List ℕ) (former : List ℤ) (none ws : List Missed)
+    → end ≡ (edge_at edges place).to → IsSystem (length numbers) edges → All IsNearNumber numbers → place + 1 ≡ length edges
+    → MeetsFirst edges place numbers → places ≡ [] → former ≡ [] → none ≡ [] → IsTakenUp edges numbers end place none ws
+    → IsState edges end numbers numbers places former ws
 state_first edges place end numbers places former none ws is_end system near last first no_places no_former no_waiting taken = record {
   repair = rw no_places (repair_start edges end numbers system near);
   noted = rw (no_places, no_former) (record { count = refl; is = λ j within. absurd (omega (arith, within)) });

@@ -106,7 +106,8 @@ module _ {L M : Type 0} (c : Carrier L M) where
       not_false = λ has. gives.not_false (negated_to assumed u one has);
     }
 
-  giving_to : (assumed : List L) (hints : List (List L)) (given : List L) → AreAmong c assumed → All (AreAmong c) hints → RefutesGiving c.neg assumed hints given → RefutesGiving c.opposite (carried assumed) (carried_all hints) (carried given)
+  giving_to : (assumed : List L) (hints : List (List L)) (given : List L) → AreAmong c assumed → All (AreAmong c) hints
+      → RefutesGiving c.neg assumed hints given → RefutesGiving c.opposite (carried assumed) (carried_all hints) (carried given)
   giving_to assumed [] given among own refutes = absurd refutes
   giving_to assumed (hint ∷ later) [] among own (last, falsified) = (ap carried_all last, false_to assumed hint among (All-head (AreAmong c) hint later own) falsified)
   giving_to assumed (hint ∷ later) (u ∷ us) among own (gives, rest) =
@@ -232,13 +233,16 @@ module _ {L M : Type 0} (c : Carrier L M) where
     none_false = all_from (λ (clause : List L). IsFalseUnder c.neg (filter c.among set) clause → ⊥) clauses (λ clause has falsified.
         All-contains (λ (d : List L). IsFalseUnder c.neg set d → ⊥) clauses clause closed.none_false has (false_more c.neg (filter c.among set) set clause some falsified));
     keeps = all_from (λ (clause : List L). (u : L) → LeavesOnly c.neg (filter c.among set) clause u → Contains (filter c.among set) u) clauses (λ clause has u leaves.
-        let has_u = All-contains (λ (d : List L). (l : L) → LeavesOnly c.neg set d l → Contains set l) clauses clause closed.keeps has u (leaves_more c.neg (filter c.among set) set clause u some leaves) in
+        let has_u =
+        All-contains (λ (d : List L). (l : L) → LeavesOnly c.neg set d l → Contains set l) clauses clause closed.keeps has u
+        (leaves_more c.neg (filter c.among set) set clause u some leaves) in
         kept c.among set u has_u (is_among clause u (clause_among clauses clause own has) leaves.has));
   } where
     some : All (Contains set) (filter c.among set)
     some = All-filter c.among (Contains set) set (All-contains_itself set)
 
-  missed_to : (clauses : List (List L)) (assumed : List L) (l : L) → All (AreAmong c) clauses → AreAmong c assumed → IsTrue (c.among l) → Misses c.neg clauses assumed l → Misses c.opposite (carried_all clauses) (carried assumed) (c.carry l)
+  missed_to : (clauses : List (List L)) (assumed : List L) (l : L) → All (AreAmong c) clauses → AreAmong c assumed → IsTrue (c.among l)
+      → Misses c.neg clauses assumed l → Misses c.opposite (carried_all clauses) (carried assumed) (c.carry l)
   missed_to clauses assumed l own among one missed = record {
     set = carried own_set;
     closed = closed_to clauses own_set own passes (closed_kept clauses missed.set own missed.closed);

@@ -41,7 +41,10 @@ giving = (either_gives, (refl, second_is_false))
 
 used : Used neg_ℤ (one ∷ []) (either ∷ second_fails ∷ [])
 used = record {
-  stand = all_one (StandsIn (either ∷ second_fails ∷ [])) one (any_from (λ clause. Contains clause one) (either ∷ second_fails ∷ []) either (contains_first either (second_fails ∷ [])) (contains_first one (two ∷ [])));
+  stand =
+      all_one (StandsIn (either ∷ second_fails ∷ [])) one
+      (any_from (λ clause. Contains clause one) (either ∷ second_fails ∷ []) either (contains_first either (second_fails ∷ []))
+      (contains_first one (two ∷ [])));
   given = two ∷ [];
   refutes = giving;
   spent = (any_from (λ clause. Contains clause not_two) (second_fails ∷ []) second_fails (contains_first second_fails []) (contains_first not_two []), tt);

@@ -78,7 +78,8 @@ module _ {L : Type 0} (neg : L → L) where
     | inr old ↦ contains_later u l more (All-contains (Contains more) assumed l all old)
   ])
 
-  assumed_set : (assumed same : List L) (hints : List (List L)) (given : List L) → All (Contains same) assumed → All (Contains assumed) same → RefutesGiving neg assumed hints given → RefutesGiving neg same hints given
+  assumed_set : (assumed same : List L) (hints : List (List L)) (given : List L) → All (Contains same) assumed → All (Contains assumed) same
+      → RefutesGiving neg assumed hints given → RefutesGiving neg same hints given
   assumed_set assumed same [] given to back refutes = absurd refutes
   assumed_set assumed same (hint ∷ later) [] to back last = (last.0, false_more assumed same hint to last.1)
   assumed_set assumed same (hint ∷ later) (u ∷ us) to back (gives, rest) = (
@@ -114,7 +115,8 @@ module _ {L : Type 0} (neg : L → L) where
         ],
       ))
 
-  assumed_grown : (assumed more : List L) (hints : List (List L)) (given : List L) → All (Contains more) assumed → AreUndecided neg more given → RefutesGiving neg assumed hints given → RefutesGiving neg more hints given
+  assumed_grown : (assumed more : List L) (hints : List (List L)) (given : List L) → All (Contains more) assumed
+      → AreUndecided neg more given → RefutesGiving neg assumed hints given → RefutesGiving neg more hints given
   assumed_grown assumed more [] given all free refutes = absurd refutes
   assumed_grown assumed more (hint ∷ later) [] all free last = (last.0, false_more assumed more hint all last.1)
   assumed_grown assumed more (hint ∷ later) (u ∷ us) all free (gives, rest) =

@@ -10,11 +10,13 @@ use Rattle.hint_refutation.proofs.Hinted.{false_more, leaves_more, left_or_false
 
 module _ {L : Type 0} (neg : L → L) where
   -- no clause that has come to be false is one of those under which the set is closed
-  pub closed_not_false : (clauses : List (List L)) (set assumed clause : List L) → ClosedUnder neg clauses set → All (Contains set) assumed → Contains clauses clause → IsFalseUnder neg assumed clause → ⊥
+  pub closed_not_false : (clauses : List (List L)) (set assumed clause : List L) → ClosedUnder neg clauses set → All (Contains set) assumed
+      → Contains clauses clause → IsFalseUnder neg assumed clause → ⊥
   closed_not_false clauses set assumed clause closed all has false =
       All-contains (λ (d : List L). IsFalseUnder neg set d → ⊥) clauses clause closed.none_false has (false_more neg assumed set clause all false)
 
-  pub closed_keeps : (clauses : List (List L)) (set assumed clause : List L) (u : L) → ClosedUnder neg clauses set → All (Contains set) assumed → Contains clauses clause → LeavesOnly neg assumed clause u → Contains set u
+  pub closed_keeps : (clauses : List (List L)) (set assumed clause : List L) (u : L) → ClosedUnder neg clauses set
+      → All (Contains set) assumed → Contains clauses clause → LeavesOnly neg assumed clause u → Contains set u
   closed_keeps clauses set assumed clause u closed all has leaves =
       All-contains (λ (d : List L). (w : L) → LeavesOnly neg set d w → Contains set w) clauses clause closed.keeps has u (leaves_more neg assumed set clause u all leaves)
 
@@ -25,7 +27,8 @@ module _ {L : Type 0} (neg : L → L) where
       let kept = closed_keeps clauses set assumed clause u closed all has leaves in
       All-cons (Contains set) u us kept (has_reached clauses set (u ∷ assumed) us closed (All-cons (Contains set) u assumed kept all) rest)
 
-  reached_not_false : (clauses : List (List L)) (set assumed reached : List L) → ClosedUnder neg clauses set → All (Contains set) assumed → Reaches neg clauses assumed reached → All (λ (clause : List L). IsFalseUnder neg (reached ++ assumed) clause → ⊥) clauses
+  reached_not_false : (clauses : List (List L)) (set assumed reached : List L) → ClosedUnder neg clauses set → All (Contains set) assumed
+      → Reaches neg clauses assumed reached → All (λ (clause : List L). IsFalseUnder neg (reached ++ assumed) clause → ⊥) clauses
   reached_not_false clauses set assumed reached closed all reaches =
       let whole = All-append (Contains set) reached assumed (has_reached clauses set assumed reached closed all reaches) all in
       all_from (λ (clause : List L). IsFalseUnder neg (reached ++ assumed) clause → ⊥) clauses (λ clause has. closed_not_false clauses set (reached ++ assumed) clause closed whole has)
@@ -34,14 +37,16 @@ module _ {L : Type 0} (neg : L → L) where
   missed_not_reached clauses assumed reached l missed reaches has =
       missed.lacks (All-contains (Contains missed.set) reached l (has_reached clauses missed.set assumed reached missed.closed missed.has reaches) has)
 
-  whole_closed : (clauses : List (List L)) (set : List L) → All (λ (clause : List L). IsFalseUnder neg set clause → ⊥) clauses → ((u : L) → Reaches neg clauses set (u ∷ []) → Contains set u) → ClosedUnder neg clauses set
+  whole_closed : (clauses : List (List L)) (set : List L) → All (λ (clause : List L). IsFalseUnder neg set clause → ⊥) clauses
+      → ((u : L) → Reaches neg clauses set (u ∷ []) → Contains set u) → ClosedUnder neg clauses set
   whole_closed clauses set none whole = record {
     none_false = none;
     keeps = all_from (λ (clause : List L). (u : L) → LeavesOnly neg set clause u → Contains set u) clauses (λ clause has u leaves.
         whole u (any_from (λ (d : List L). LeavesOnly neg set d u) clauses clause has leaves, tt));
   }
 
-  not_refuted : (clauses : List (List L)) (set assumed : List L) (hints : List (List L)) → ClosedUnder neg clauses set → All (Contains set) assumed → All (Contains clauses) hints → Refutes neg assumed hints → ⊥
+  not_refuted : (clauses : List (List L)) (set assumed : List L) (hints : List (List L)) → ClosedUnder neg clauses set
+      → All (Contains set) assumed → All (Contains clauses) hints → Refutes neg assumed hints → ⊥
   not_refuted clauses set assumed [] closed all from refutes = refutes
   not_refuted clauses set assumed (hint ∷ later) closed all from (inl last) =
       closed_not_false clauses set assumed hint closed all (All-head (Contains clauses) hint later from) last.1
@@ -91,7 +96,9 @@ module _ {L : Type 0} (neg : L → L) where
   settled_closed : (clauses : List (List L)) (set : List L) → IsConsistent neg set → All (IsSettled neg set) clauses → ClosedUnder neg clauses set
   settled_closed clauses set consistent settled = record {
     none_false = all_from (λ (d : List L). IsFalseUnder neg set d → ⊥) clauses (λ clause has. settled_not_false set clause consistent (All-contains (IsSettled neg set) clauses clause settled has));
-    keeps = all_from (λ (d : List L). (u : L) → LeavesOnly neg set d u → Contains set u) clauses (λ clause has u. settled_keeps set clause u consistent (All-contains (IsSettled neg set) clauses clause settled has));
+    keeps =
+        all_from (λ (d : List L). (u : L) → LeavesOnly neg set d u → Contains set u) clauses
+        (λ clause has u. settled_keeps set clause u consistent (All-contains (IsSettled neg set) clauses clause settled has));
   }
 
 pub closed-has_reached : (L : Type 0) → ClosedHasReached L

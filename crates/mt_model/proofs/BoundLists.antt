@@ -62,7 +62,9 @@ module _ (log : Logged) (t : List ℤ) where
 
   row_met : MeetsBounds log t → (e : ℕ) → e < length log.rows → All IsMet (bounds_at log e)
   row_met all e within =
-      All-flat_map IsMet (bounds_at log) 0 (length log.rows) e (All-front IsMet (flat_map (bounds_at log) (range_with_len 0 (length log.rows))) (map bound.Extra (range_with_len 0 (length log.extras))) all) (omega arith) (omega arith)
+      All-flat_map IsMet (bounds_at log) 0 (length log.rows) e
+      (All-front IsMet (flat_map (bounds_at log) (range_with_len 0 (length log.rows)))
+      (map bound.Extra (range_with_len 0 (length log.extras))) all) (omega arith) (omega arith)
 
   row_at : (e : ℕ) → e < length log.rows → is_row log e ≡ true
   row_at e within = grind (arith, nat_tests)

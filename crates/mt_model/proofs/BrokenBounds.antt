@@ -38,7 +38,8 @@ module _ (log : Logged) (t : List ℤ) where
   none-then [] none = tt
   none-then (b ∷ bs) none = go (breaks log t b) refl none (none-then bs)
     where
-      go : (broken : Bool) → breaks log t b ≡ broken → cond broken (Some b) (find (breaks log t) bs) ≡ None → (find (breaks log t) bs ≡ None → AllByRecursion IsMet bs) → IsMet b × AllByRecursion IsMet bs
+      go : (broken : Bool) → breaks log t b ≡ broken → cond broken (Some b) (find (breaks log t) bs) ≡ None
+          → (find (breaks log t) bs ≡ None → AllByRecursion IsMet bs) → IsMet b × AllByRecursion IsMet bs
       go true is none rest = absurd (cc)
       go false is none rest = (met-then b is, rest none)
 

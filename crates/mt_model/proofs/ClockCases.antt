@@ -61,7 +61,8 @@ first_off timing = absurd (omega (arith, ints, timing.high 0 (omega arith)))
 abbrev twice : Logged
 twice = log_with (host (codes "a") (pos 0) (pos 1) ∷ host (codes "b") (pos 0) (pos 2) ∷ [])
     (row 0 (pos 10) (Note (codes "x")) ∷ row 1 (pos 20) (Note (codes "y")) ∷ row 0 (pos 30) (Note (codes "z")) ∷ [])
-    (record { place = 0; host = 0; skew = pos 5; gap = pos 6 } ∷ record { place = 0; host = 0; skew = pos 7; gap = pos 8 } ∷ record { place = 2; host = 1; skew = pos 9; gap = pos 3 } ∷ record { place = 3; host = 0; skew = pos 1; gap = pos 1 } ∷ [])
+    (record { place = 0; host = 0; skew = pos 5; gap = pos 6 } ∷ record { place = 0; host = 0; skew = pos 7; gap = pos 8 }
+    ∷ record { place = 2; host = 1; skew = pos 9; gap = pos 3 } ∷ record { place = 3; host = 0; skew = pos 1; gap = pos 1 } ∷ [])
 
 last_of_two : skew_of twice 0 ≡ pos 7
 last_of_two = refl

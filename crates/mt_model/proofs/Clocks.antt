@@ -36,7 +36,8 @@ find-none p (x ∷ xs) fails =
 
 module _ (hosts : List Host) (resyncs : List Resync) where
   -- one resync more
-  after-next : (k h : ℕ) (r : Resync) → k < length resyncs → r ≡ get_or resyncs k r → clock_after hosts (take (k + 1) resyncs) h ≡ cond (r.host == h) (resynced_span r) (clock_after hosts (take k resyncs) h)
+  after-next : (k h : ℕ) (r : Resync) → k < length resyncs → r ≡ get_or resyncs k r
+      → clock_after hosts (take (k + 1) resyncs) h ≡ cond (r.host == h) (resynced_span r) (clock_after hosts (take k resyncs) h)
   after-next k h r within is =
       let next : k + 1 ≡ suc k = omega arith in
       let split : take (suc k) resyncs ≡ take k resyncs ++ (r ∷ []) = take-suc resyncs k r within ∙ ap (λ y. take k resyncs ++ (y ∷ [])) (sym is) in
@@ -53,9 +54,12 @@ module _ (hosts : List Host) (resyncs : List Resync) where
     count = length-set clocks r.host (resynced_span r) ∙ are.count;
     each = λ h d low. elim (cases_eq h r.host) [
       | inl same ↦ let test : (r.host == h) ≡ true = eq-eqb r.host h (sym same) in
-          ap (λ j. get_or (set clocks r.host (resynced_span r)) j d) same ∙ get_or-set_same clocks r.host (resynced_span r) d (omega (arith, are.count, hosted)) ∙ sym (after-next k h r within is ∙ ap (λ b. cond b (resynced_span r) (clock_after hosts (take k resyncs) h)) test)
+          ap (λ j. get_or (set clocks r.host (resynced_span r)) j d) same
+          ∙ get_or-set_same clocks r.host (resynced_span r) d (omega (arith, are.count, hosted))
+          ∙ sym (after-next k h r within is ∙ ap (λ b. cond b (resynced_span r) (clock_after hosts (take k resyncs) h)) test)
       | inr other ↦ let test : (r.host == h) ≡ false = ne_eqb r.host h (λ same. other (sym same)) in
-          get_or-set_other clocks r.host h (resynced_span r) d other ∙ are.each h d low ∙ sym (after-next k h r within is ∙ ap (λ b. cond b (resynced_span r) (clock_after hosts (take k resyncs) h)) test)
+          get_or-set_other clocks r.host h (resynced_span r) d other ∙ are.each h d low
+          ∙ sym (after-next k h r within is ∙ ap (λ b. cond b (resynced_span r) (clock_after hosts (take k resyncs) h)) test)
     ];
   }
 
@@ -94,7 +98,8 @@ and-false : (b : Bool) → (b && false) ≡ false
 and-false true = refl
 and-false false = refl
 
-declared-is : (o : Option Host) → option_map_or declared_span o (record { skew = pos 0; gap = pos 0 }) ≡ record { skew = option_map_or (λ h. h.skew) o (pos 0); gap = option_map_or (λ h. h.gap) o (pos 0) }
+declared-is : (o : Option Host)
+    → option_map_or declared_span o (record { skew = pos 0; gap = pos 0 }) ≡ record { skew = option_map_or (λ h. h.skew) o (pos 0); gap = option_map_or (λ h. h.gap) o (pos 0) }
 declared-is None = refl
 declared-is (Some h) = refl
 
@@ -121,14 +126,17 @@ module _ (log : Logged) (valid : IsLog log) (k e : ℕ) (passed : HavePassed log
       ap (λ xs. find (applies_to log e) (reverse xs)) (sym (take-append-drop k log.resyncs))
       ∙ ap (find (applies_to log e)) (reverse-append (take k log.resyncs) (drop k log.resyncs))
       ∙ find-append (applies_to log e) (reverse (drop k log.resyncs)) (reverse (take k log.resyncs))
-      ∙ ap (λ o. option_or o (find (applies_to log e) (reverse (take k log.resyncs)))) (find-none (applies_to log e) (reverse (drop k log.resyncs)) (All-reverse (λ r. applies_to log e r ≡ false) (drop k log.resyncs) back-behind))
+      ∙ ap (λ o. option_or o (find (applies_to log e) (reverse (take k log.resyncs))))
+      (find-none (applies_to log e) (reverse (drop k log.resyncs))
+      (All-reverse (λ r. applies_to log e r ≡ false) (drop k log.resyncs) back-behind))
       ∙ find-same (applies_to log e) (λ r. r.host == host_of log e) (reverse (take k log.resyncs)) (All-reverse (λ r. applies_to log e r ≡ (r.host == host_of log e)) (take k log.resyncs) front-same)
 
   -- the clock of a row's host after the resyncs that do not stand behind the row
   pub span-is : clock_after log.hosts (take k log.resyncs) (host_of log e) ≡ span_of log e
   span-is = go (find (λ r. r.host == host_of log e) (reverse (take k log.resyncs))) resync-is
     where
-      go : (o : Option Resync) → resync_of log e ≡ o → option_map_or resynced_span o (option_map_or declared_span (slice_get log.hosts (host_of log e)) (record { skew = pos 0; gap = pos 0 })) ≡ span_of log e
+      go : (o : Option Resync) → resync_of log e ≡ o
+          → option_map_or resynced_span o (option_map_or declared_span (slice_get log.hosts (host_of log e)) (record { skew = pos 0; gap = pos 0 })) ≡ span_of log e
       go None is = rw is (declared-is (slice_get log.hosts (host_of log e)))
       go (Some r) is = rw is refl
 
@@ -159,7 +167,8 @@ spanning-begins log clocks spans declared none = record {
     declared-at (x ∷ xs) zero d low = refl
     declared-at (x ∷ xs) (suc h) d low = declared-at xs h d (omega arith)
 
-pub spanning-next : (log : Logged) (clocks spans more : List Span) (k e host : ℕ) (d : Span) → IsLog log → HavePassed log.resyncs k e → AreClocks log.hosts (take k log.resyncs) clocks → spans ≡ map (span_of log) (range_with_len 0 e)
+pub spanning-next : (log : Logged) (clocks spans more : List Span) (k e host : ℕ) (d : Span) → IsLog log → HavePassed log.resyncs k e
+    → AreClocks log.hosts (take k log.resyncs) clocks → spans ≡ map (span_of log) (range_with_len 0 e)
     → host ≡ host_of log e → host < length log.hosts → more ≡ spans ++ get_or clocks host d ∷ [] → IsSpanning log clocks more k (e + 1)
 spanning-next log clocks spans more k e host d valid passed are before is hosted pushed = record {
   within = passed.within;

@@ -49,9 +49,18 @@ module _ (log : Logged) (t : List ℤ) {X Y : Type 0} (A : Frame X) (B : Frame Y
   truth_same (And f g) x a = rw (truth_same f x a, truth_same g x a) refl
   truth_same (Or f g) x a = rw (truth_same f x a, truth_same g x a) refl
   truth_same (Implies f g) x a = rw (truth_same f x a, truth_same g x a) refl
-  truth_same (Until I f g) x a = reaches_same A B φ m (is_ahead A I) (is_ahead B I) (is_ahead_same A B φ m I) (λ y. truth_in log t A y f) (λ y. truth_in log t B y f) (truth_same f) (λ y. truth_in log t A y g) (λ y. truth_in log t B y g) (truth_same g) x a
-  truth_same (Since I f g) x a = reaches_same (turned A) (turned B) φ (turned_too A B φ m) (is_behind A I) (is_behind B I) (is_behind_same A B φ m I) (λ y. truth_in log t A y f) (λ y. truth_in log t B y f) (truth_same f) (λ y. truth_in log t A y g) (λ y. truth_in log t B y g) (truth_same g) x a
+  truth_same (Until I f g) x a =
+      reaches_same A B φ m (is_ahead A I) (is_ahead B I) (is_ahead_same A B φ m I) (λ y. truth_in log t A y f) (λ y. truth_in log t B y f)
+      (truth_same f) (λ y. truth_in log t A y g) (λ y. truth_in log t B y g) (truth_same g) x a
+  truth_same (Since I f g) x a =
+      reaches_same (turned A) (turned B) φ (turned_too A B φ m) (is_behind A I) (is_behind B I) (is_behind_same A B φ m I)
+      (λ y. truth_in log t A y f) (λ y. truth_in log t B y f) (truth_same f) (λ y. truth_in log t A y g) (λ y. truth_in log t B y g)
+      (truth_same g) x a
   truth_same (Eventually I f) x a = sometimes_same A B φ m (is_ahead A I) (is_ahead B I) (is_ahead_same A B φ m I) (λ y. truth_in log t A y f) (λ y. truth_in log t B y f) (truth_same f) x a
   truth_same (Always I f) x a = always_same A B φ m (is_ahead A I) (is_ahead B I) (is_ahead_same A B φ m I) (λ y. truth_in log t A y f) (λ y. truth_in log t B y f) (truth_same f) x a
-  truth_same (Once I f) x a = sometimes_same (turned A) (turned B) φ (turned_too A B φ m) (is_behind A I) (is_behind B I) (is_behind_same A B φ m I) (λ y. truth_in log t A y f) (λ y. truth_in log t B y f) (truth_same f) x a
-  truth_same (Historically I f) x a = always_same (turned A) (turned B) φ (turned_too A B φ m) (is_behind A I) (is_behind B I) (is_behind_same A B φ m I) (λ y. truth_in log t A y f) (λ y. truth_in log t B y f) (truth_same f) x a
+  truth_same (Once I f) x a =
+      sometimes_same (turned A) (turned B) φ (turned_too A B φ m) (is_behind A I) (is_behind B I) (is_behind_same A B φ m I)
+      (λ y. truth_in log t A y f) (λ y. truth_in log t B y f) (truth_same f) x a
+  truth_same (Historically I f) x a =
+      always_same (turned A) (turned B) φ (turned_too A B φ m) (is_behind A I) (is_behind B I) (is_behind_same A B φ m I)
+      (λ y. truth_in log t A y f) (λ y. truth_in log t B y f) (truth_same f) x a

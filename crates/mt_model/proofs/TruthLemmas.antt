@@ -71,7 +71,9 @@ module _ {X : Type 0} (F : Frame X) (near : X → X → Bool) (f : X → Bool) (
   Spans y = (z : X) → Among F.points z → F.not_after x z ≡ true → F.not_after y z ≡ false → f z ≡ true
 
   span-each : (y : X) → span F f x y ≡ true → Spans y
-  span-each y h z among from_here before = implies-then (F.not_after x z && not (F.not_after y z)) (f z) (all_each _ F.points z h among) (and_from (F.not_after x z) (not (F.not_after y z)) from_here (not_from_false (F.not_after y z) before))
+  span-each y h z among from_here before =
+      implies-then (F.not_after x z && not (F.not_after y z)) (f z) (all_each _ F.points z h among)
+      (and_from (F.not_after x z) (not (F.not_after y z)) from_here (not_from_false (F.not_after y z) before))
 
   each-span : (y : X) → Spans y → span F f x y ≡ true
   each-span y each = each_all _ F.points (λ z among. implies-from (F.not_after x z && not (F.not_after y z)) (f z) (λ both.

@@ -20,7 +20,9 @@ first_step false n len head found rest ih below = rw one-add (ih (omega arith))
 first : (xs : List (String Global × Vec ℕ Global)) (name : List ℕ) → position_or_len (λ f. bytes_eq (string_bytes f.0) name) xs < length xs
     → file_of (named xs) name ≡ Some (slice_index_or (map (λ f. f.1) (named xs)) (position_or_len (λ f. bytes_eq (string_bytes f.0) name) xs) [])
 first [] name = λ below. absurd (omega arith)
-first (x ∷ xs) name = first_step (bytes_eq (string_bytes x.0) name) (position_or_len (λ f. bytes_eq (string_bytes f.0) name) xs) (length xs) (string_bytes x.0, x.1.items) (find (λ f. bytes_eq f.0 name) (named xs)) (map (λ f. f.1) (named xs)) (first xs name)
+first (x ∷ xs) name =
+    first_step (bytes_eq (string_bytes x.0) name) (position_or_len (λ f. bytes_eq (string_bytes f.0) name) xs) (length xs)
+    (string_bytes x.0, x.1.items) (find (λ f. bytes_eq f.0 name) (named xs)) (map (λ f. f.1) (named xs)) (first xs name)
 
 none_step : (b : Bool) (n len : ℕ) (head : List ℕ × List ℕ) (found : Option (List ℕ × List ℕ)) → (len ≤ n → option_map (λ f. f.1) found ≡ None)
     → suc len ≤ cond (not b) (1 + n) 0 → option_map (λ f. f.1) (cond b (Some head) found) ≡ None
@@ -29,9 +31,12 @@ none_step false n len head found ih past = ih (omega arith)
 
 none : (xs : List (String Global × Vec ℕ Global)) (name : List ℕ) → length xs ≤ position_or_len (λ f. bytes_eq (string_bytes f.0) name) xs → file_of (named xs) name ≡ None
 none [] name = λ past. refl
-none (x ∷ xs) name = none_step (bytes_eq (string_bytes x.0) name) (position_or_len (λ f. bytes_eq (string_bytes f.0) name) xs) (length xs) (string_bytes x.0, x.1.items) (find (λ f. bytes_eq f.0 name) (named xs)) (none xs name)
+none (x ∷ xs) name =
+    none_step (bytes_eq (string_bytes x.0) name) (position_or_len (λ f. bytes_eq (string_bytes f.0) name) xs) (length xs)
+    (string_bytes x.0, x.1.items) (find (λ f. bytes_eq f.0 name) (named xs)) (none xs name)
 
-pub opens_at_start : (xs : List (String Global × Vec ℕ Global)) (name : List ℕ) (i : ℕ) → Some i ≡ position (λ f. bytes_eq (string_bytes f.0) name) xs → file_of (named xs) name ≡ Some (left_at (named xs) (Some i) 0)
+pub opens_at_start : (xs : List (String Global × Vec ℕ Global)) (name : List ℕ) (i : ℕ)
+    → Some i ≡ position (λ f. bytes_eq (string_bytes f.0) name) xs → file_of (named xs) name ≡ Some (left_at (named xs) (Some i) 0)
 opens_at_start xs name i at = grind (arith, nat_tests, first xs name)
 
 pub not_held : (xs : List (String Global × Vec ℕ Global)) (name : List ℕ) → None ≡ position (λ f. bytes_eq (string_bytes f.0) name) xs → file_of (named xs) name ≡ None
@@ -39,7 +44,8 @@ not_held xs name at = grind (arith, nat_tests, none xs name)
 
 pub bytes_of_file : (xs : List (String Global × Vec ℕ Global)) (i : ℕ) (d : String Global × Vec ℕ Global) → i < length xs → bytes_of (named xs) i ≡ (slice_index_or xs i d).1.items
 bytes_of_file xs i d below =
-    get_or-map (λ f. f.1) (named xs) i (string_bytes d.0, d.1.items) [] (simp length-map below) ∙ ap (λ (g : List ℕ × List ℕ). g.1) (get_or-map (λ f. (string_bytes f.0, f.1.items)) xs i d (string_bytes d.0, d.1.items) below)
+    get_or-map (λ f. f.1) (named xs) i (string_bytes d.0, d.1.items) [] (simp length-map below)
+    ∙ ap (λ (g : List ℕ × List ℕ). g.1) (get_or-map (λ f. (string_bytes f.0, f.1.items)) xs i d (string_bytes d.0, d.1.items) below)
 
 pub given_split : (file filled tail : List ℕ) (place n : ℕ) → filled ≡ take n (take (length file - place) (drop place file)) → place + n ≤ length file
     → drop place file ≡ take n (filled ++ tail) ++ drop (place + n) file

@@ -13,7 +13,8 @@ answered text = at (tokens_of text) refl
     not_empty : (p : Placed) (ps : List Placed) → p ∷ ps ≡ [] → ⊥
     not_empty p ps e = absurd (cc)
 
-    read : (p : Placed) (ps : List Placed) → tokens_of text ≡ Ok (p ∷ ps) → (r : Result State FormulaFault) → read_all plain begin (p ∷ ps) ≡ r → FormulaOf text (judged_tokens (length text) (p ∷ ps) r)
+    read : (p : Placed) (ps : List Placed) → tokens_of text ≡ Ok (p ∷ ps) → (r : Result State FormulaFault)
+        → read_all plain begin (p ∷ ps) ≡ r → FormulaOf text (judged_tokens (length text) (p ∷ ps) r)
     read p ps scanned (Err e) is = given_refused text (p ∷ ps) e scanned (refused (p ∷ ps) begin e is)
     read p ps scanned (Ok s) is = given_end text (p ∷ ps) s scanned (not_empty p ps) is (first_empty_interval (p ∷ ps)) refl (finish plain s) refl
 

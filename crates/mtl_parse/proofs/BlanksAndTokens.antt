@@ -32,7 +32,8 @@ after_blank end place b bs (Err f) test s = record {
   fault = s.fault;
 }
 
-after_token : (end place : ℕ) (t : Token) (after bytes : List ℕ) (r : Result (List Placed) FormulaFault) → bytes ≡ token_text t ++ after → is_sound t ≡ true → is_longest t after ≡ true → IsScan end (place + length (token_text t)) after r
+after_token : (end place : ℕ) (t : Token) (after bytes : List ℕ) (r : Result (List Placed) FormulaFault) → bytes ≡ token_text t ++ after
+    → is_sound t ≡ true → is_longest t after ≡ true → IsScan end (place + length (token_text t)) after r
     → IsScan end place bytes (with_token (record { token = t; byte = place }) r)
 after_token end place t after bytes (Ok ps) text sound longest s = token place t after bytes ps text sound longest s
 after_token end place t after bytes (Err f) text sound longest s = record {
@@ -73,7 +74,8 @@ module _ (end place b : ℕ) (bs : List ℕ) (at : end ≡ place + 1 + length bs
       let digit : is_digit b ≡ true = bad-digit b bs found in
       here (fault.Number place) (λ t more is. let both : BadNumber ≡ Found t more = sym found ∙ is in absurd (cc both)) (rw digit refl)
 
-scan_from : (bytes : List ℕ) (belong place next end : ℕ) → next ≡ place + belong → end ≡ place + length bytes → belong ≤ length bytes → IsScan end next (drop belong bytes) (tokens_from belong place bytes)
+scan_from : (bytes : List ℕ) (belong place next end : ℕ) → next ≡ place + belong → end ≡ place + length bytes → belong ≤ length bytes
+    → IsScan end next (drop belong bytes) (tokens_from belong place bytes)
 scan_from [] zero place next end at ends within = let same : end ≡ next = omega arith in subst (λ n. AreBlanksAndTokens end [] n [] []) same nothing
 scan_from [] (suc belong) place next end at ends within = absurd (omega arith)
 scan_from (b ∷ bs) (suc belong) place next end at ends within = scan_from bs belong (place + 1) next end (omega arith) (omega arith) (omega arith)
@@ -91,7 +93,8 @@ scan text = scan_from text 0 0 0 (length text) (omega arith) (omega arith) (omeg
 
 -- that of which the bytes are made is found
 
-found_at : (place next b : ℕ) (inner after : List ℕ) (t : Token) (r : Result (List Placed) FormulaFault) → is_blank b ≡ false → lexeme_at b (inner ++ after) ≡ Found t (length inner) → next ≡ place + 1 + length inner → tokens_from 0 next after ≡ r
+found_at : (place next b : ℕ) (inner after : List ℕ) (t : Token) (r : Result (List Placed) FormulaFault) → is_blank b ≡ false
+    → lexeme_at b (inner ++ after) ≡ Found t (length inner) → next ≡ place + 1 + length inner → tokens_from 0 next after ≡ r
     → tokens_from 0 place (b ∷ inner ++ after) ≡ with_token (record { token = t; byte = place }) r
 found_at place next b inner after t r solid found at rest = rw (solid, found) (ap (with_token (record { token = t; byte = place })) (passed inner after (place + 1) next at ∙ rest))
 

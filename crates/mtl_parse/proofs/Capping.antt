@@ -149,7 +149,9 @@ complete_capped n (p ∷ ps) f =
     ∙ by (complete_capped n ps (applied p f)) (nat_le n (strength p))
   where
     by : complete capped n (cap_stack ps) (capped (applied p f)) ≡ cap_completed (complete plain n ps (applied p f)) → (v : Bool)
-        → (if v then complete capped n (cap_stack ps) (capped (applied p f)) else record { stack = cap_pending p ∷ cap_stack ps; form = capped f }) ≡ cap_completed (if v then complete plain n ps (applied p f) else record { stack = p ∷ ps; form = f })
+        → (if v then complete capped n (cap_stack ps) (capped (applied p f)) else
+        record { stack = cap_pending p ∷ cap_stack ps; form = capped f }) ≡ cap_completed
+        (if v then complete plain n ps (applied p f) else record { stack = p ∷ ps; form = f })
     by h true = h
     by h false = refl
 
@@ -207,11 +209,13 @@ low_capped : (stack : List Pending) (l : Letter) (lo : ℕ) (t : Token) → step
 low_capped stack l lo Comma = refl
 low_capped stack l lo _ = refl
 
-comma_capped : (stack : List Pending) (l : Letter) (lo : ℕ) (t : Token) → step_at capped (cap_stack stack) (CommaRead (cap_letter l) lo) t ≡ option_map cap_state (step_at plain stack (CommaRead l lo) t)
+comma_capped : (stack : List Pending) (l : Letter) (lo : ℕ) (t : Token)
+    → step_at capped (cap_stack stack) (CommaRead (cap_letter l) lo) t ≡ option_map cap_state (step_at plain stack (CommaRead l lo) t)
 comma_capped stack l lo (Word word) = inf_capped stack l lo word
 comma_capped stack l lo _ = refl
 
-high_capped : (stack : List Pending) (l : Letter) (I : Interval) (t : Token) → step_at capped (cap_stack stack) (HighRead (cap_letter l) I) t ≡ option_map cap_state (step_at plain stack (HighRead l I) t)
+high_capped : (stack : List Pending) (l : Letter) (I : Interval) (t : Token)
+    → step_at capped (cap_stack stack) (HighRead (cap_letter l) I) t ≡ option_map cap_state (step_at plain stack (HighRead l I) t)
 high_capped stack l I CloseBracket = refl
 high_capped stack l I _ = refl
 
@@ -243,7 +247,8 @@ whole_capped stack _ = refl
 pub read_all_capped : (ps : List Placed) (s : State) → read_all capped (cap_state s) ps ≡ cap_result (read_all plain s ps)
 read_all_capped [] s = refl
 read_all_capped (p ∷ ps) s =
-    ap (λ v. read_after (step_result (step_at capped (cap_stack s.stack) (cap_stage s.stage) p.token) (if v then fault.Trailing p.byte else fault.Expected p.byte)) (λ n. read_all capped n ps)) (whole_capped s.stack s.stage)
+    ap (λ v. read_after (step_result (step_at capped (cap_stack s.stack) (cap_stage s.stage) p.token)
+    (if v then fault.Trailing p.byte else fault.Expected p.byte)) (λ n. read_all capped n ps)) (whole_capped s.stack s.stage)
     ∙ ap (λ o. read_after (step_result o (refusal s p.byte)) (λ n. read_all capped n ps)) (step_capped s.stack s.stage p.token)
     ∙ by (read_all_capped ps) (step_at plain s.stack s.stage p.token)
   where
@@ -257,6 +262,7 @@ finished_capped [] f = refl
 finished_capped (p ∷ ps) f = refl
 
 -- and so is their end
-pub finish_capped : (stack : List Pending) (stage : Stage) → finish capped (record { stack = cap_stack stack; stage = cap_stage stage }) ≡ option_map capped (finish plain (record { stack = stack; stage = stage }))
+pub finish_capped : (stack : List Pending) (stage : Stage)
+    → finish capped (record { stack = cap_stack stack; stage = cap_stage stage }) ≡ option_map capped (finish plain (record { stack = stack; stage = stage }))
 finish_capped stack (Read f) = ap finished (complete_capped 1 stack f) ∙ finished_capped (complete plain 1 stack f).stack (complete plain 1 stack f).form
 finish_capped stack _ = refl

@@ -68,7 +68,8 @@ popped : (n : ℕ) (p : Pending) (stack : List Pending) (f : Form) → n ≤ str
 popped n p stack f h = let more : nat_le n (strength p) ≡ true = le-leb n (strength p) h in rw more refl
 
 -- what is pending is complete before such tokens
-pub join : (p : Pending) (stack : List Pending) (f : Form) (rest : List Token) → completes_first rest ≤ strength p → 0 < strength p → run (read (p ∷ stack) f) rest ≡ run (read stack (applied p f)) rest
+pub join : (p : Pending) (stack : List Pending) (f : Form) (rest : List Token) → completes_first rest ≤ strength p → 0 < strength p
+    → run (read (p ∷ stack) f) rest ≡ run (read stack (applied p f)) rest
 join p stack f [] h some = ap finished (popped 1 p stack f h)
 join p stack f (Open ∷ ts) h some = refl
 join p stack f (Close ∷ ts) h some = ap (λ c. option_and_then (λ next. run next ts) (closed c)) (popped 1 p stack f h)
@@ -115,7 +116,8 @@ no_bracket constant_false rest = refl
 no_bracket (proposition host name free) rest = refl
 no_bracket (parentheses inner ts f e r) rest = ap (λ xs. begins_with_bracket (xs ++ rest)) e
 
-no_interval : (l : Letter) (stack : List Pending) (ts : List Token) → begins_with_bracket ts ≡ false → run (record { stack = stack; stage = LetterRead l }) ts ≡ run (wanted (Timed l (from_to 0 None) ∷ stack)) ts
+no_interval : (l : Letter) (stack : List Pending) (ts : List Token) → begins_with_bracket ts ≡ false
+    → run (record { stack = stack; stage = LetterRead l }) ts ≡ run (wanted (Timed l (from_to 0 None) ∷ stack)) ts
 no_interval l stack [] h = refl
 no_interval l stack (Open ∷ ts) h = refl
 no_interval l stack (Close ∷ ts) h = refl

@@ -95,11 +95,17 @@ joined left more ts rest f g h e both l r =
     ∙ ap (λ xs. xs ++ dotted rest) (sym both)
 
 finds : {level : Level} {ts : List Token} {f : Form} → Reads level ts f → (rest : List Token) → begins rest ≡ false → dotted (ts ++ rest) ≡ hosts f ++ dotted rest
-finds (implies left right ts f g e l r) rest h = joined left (Arrow ∷ right) ts rest f g (Implies f g) e (hosts_two f g) (finds l (Arrow ∷ right ++ rest) refl) (passed Arrow (right ++ rest) (begins_so r rest) ∙ finds r rest h)
+finds (implies left right ts f g e l r) rest h =
+    joined left (Arrow ∷ right) ts rest f g (Implies f g) e (hosts_two f g) (finds l (Arrow ∷ right ++ rest) refl)
+    (passed Arrow (right ++ rest) (begins_so r rest) ∙ finds r rest h)
 finds (implication ts f r) rest h = finds r rest h
-finds (or left right ts f g e l r) rest h = joined left (Bar ∷ right) ts rest f g (Or f g) e (hosts_two f g) (finds l (Bar ∷ right ++ rest) refl) (passed Bar (right ++ rest) (begins_so r rest) ∙ finds r rest h)
+finds (or left right ts f g e l r) rest h =
+    joined left (Bar ∷ right) ts rest f g (Or f g) e (hosts_two f g) (finds l (Bar ∷ right ++ rest) refl)
+    (passed Bar (right ++ rest) (begins_so r rest) ∙ finds r rest h)
 finds (disjunction ts f r) rest h = finds r rest h
-finds (and left right ts f g e l r) rest h = joined left (Ampersand ∷ right) ts rest f g (And f g) e (hosts_two f g) (finds l (Ampersand ∷ right ++ rest) refl) (passed Ampersand (right ++ rest) (begins_so r rest) ∙ finds r rest h)
+finds (and left right ts f g e l r) rest h =
+    joined left (Ampersand ∷ right) ts rest f g (And f g) e (hosts_two f g) (finds l (Ampersand ∷ right ++ rest) refl)
+    (passed Ampersand (right ++ rest) (begins_so r rest) ∙ finds r rest h)
 finds (conjunction ts f r) rest h = finds r rest h
 finds (timed op left interval right ts I f g e l i r) rest h =
     joined left (InfixLetter op ∷ interval ++ right) ts rest f g (infix_form op I f g) (e ∙ append_assoc left (InfixLetter op ∷ interval) right) (hosts_between op I f g)

@@ -5,7 +5,8 @@ use Rattle.mtl_parse.specs.FormulaOf.{begins_with_empty_interval, first_empty_in
 use Rattle.mtl_parse.specs.States.{placed_in}
 use Rattle.mtl_parse.specs.declared.token.Placed.{Placed as ScannedPlaced}
 
-passed : (zs ys : List ScannedPlaced) (y : ScannedPlaced) → zs ≡ y ∷ ys → begins_with_empty_interval (tokens_in (map placed_in zs)) ≡ false → first_empty_interval (map placed_in ys) ≡ first_empty_interval (map placed_in zs)
+passed : (zs ys : List ScannedPlaced) (y : ScannedPlaced) → zs ≡ y ∷ ys → begins_with_empty_interval (tokens_in (map placed_in zs)) ≡ false
+    → first_empty_interval (map placed_in ys) ≡ first_empty_interval (map placed_in zs)
 passed zs ys y is none =
     let here : begins_with_empty_interval (tokens_in (map placed_in (y ∷ ys))) ≡ false = ap (λ xs. begins_with_empty_interval (tokens_in (map placed_in xs))) (sym is) ∙ none in
     sym (ap (λ xs. first_empty_interval (map placed_in xs)) is ∙ ap (λ v. if v then Some y.byte else first_empty_interval (map placed_in ys)) here)

@@ -23,7 +23,8 @@ run_placed : (ps : List Placed) (s : State) (more : List Token) → run s (token
 run_placed [] s more = refl
 run_placed (p ∷ ps) s more = next (λ n. run_placed ps n more) (step plain s p.token)
   where
-    next : ((n : State) → run n (tokens_in ps ++ more) ≡ run_after (read_all plain n ps) more) → (o : Option State) → option_and_then (λ s. run s (tokens_in ps ++ more)) o ≡ run_after (read_after (step_result o (refusal s p.byte)) (λ n. read_all plain n ps)) more
+    next : ((n : State) → run n (tokens_in ps ++ more) ≡ run_after (read_all plain n ps) more) → (o : Option State)
+        → option_and_then (λ s. run s (tokens_in ps ++ more)) o ≡ run_after (read_after (step_result o (refusal s p.byte)) (λ n. read_all plain n ps)) more
     next on None = refl
     next on (Some n) = on n
 
@@ -81,7 +82,9 @@ read_before : (front rest : List Placed) (s next : State) → read_all plain s f
 read_before [] rest s next h = let same : s ≡ next = cc in ap (λ s. read_all plain s rest) same
 read_before (p ∷ ps) rest s next h = by (λ n. read_before ps rest n next) (read_one plain s p) h
   where
-    by : ((n : State) → read_all plain n ps ≡ Ok next → read_all plain n (ps ++ rest) ≡ read_all plain next rest) → (r : Result State FormulaFault) → read_after r (λ n. read_all plain n ps) ≡ Ok next → read_after r (λ n. read_all plain n (ps ++ rest)) ≡ read_all plain next rest
+    by : ((n : State) → read_all plain n ps ≡ Ok next → read_all plain n (ps ++ rest) ≡ read_all plain next rest)
+        → (r : Result State FormulaFault) → read_after r (λ n. read_all plain n ps) ≡ Ok next
+        → read_after r (λ n. read_all plain n (ps ++ rest)) ≡ read_all plain next rest
     by on (Ok n) h = on n h
     by on (Err e) h = absurd (cc)
 
@@ -100,7 +103,8 @@ pub refused : (ps : List Placed) (s : State) (e : FormulaFault) → read_all pla
 refused [] s e h = absurd (cc)
 refused (p ∷ ps) s e h = by (λ n. refused ps n e) (step plain s p.token) refl h
   where
-    by : ((n : State) → read_all plain n ps ≡ Err e → Refused n ps e) → (o : Option State) → step plain s p.token ≡ o → read_after (step_result o (refusal s p.byte)) (λ n. read_all plain n ps) ≡ Err e → Refused s (p ∷ ps) e
+    by : ((n : State) → read_all plain n ps ≡ Err e → Refused n ps e) → (o : Option State) → step plain s p.token ≡ o
+        → read_after (step_result o (refusal s p.byte)) (λ n. read_all plain n ps) ≡ Err e → Refused s (p ∷ ps) e
     by on None is h = record { front = []; place = p; after = ps; state = s; parts = refl; reaches = refl; refuses = is; fault = cc }
     by on (Some n) is h =
         let r = on n h in
@@ -115,7 +119,8 @@ refused (p ∷ ps) s e h = by (λ n. refused ps n e) (step plain s p.token) refl
           fault = r.fault;
         }
 
-one_read : (front : List Placed) (p : Placed) (s : State) → read_all plain begin front ≡ Ok s → read_all plain begin (front ++ p ∷ []) ≡ read_after (step_result (step plain s p.token) (refusal s p.byte)) Ok
+one_read : (front : List Placed) (p : Placed) (s : State) → read_all plain begin front ≡ Ok s
+    → read_all plain begin (front ++ p ∷ []) ≡ read_after (step_result (step plain s p.token) (refusal s p.byte)) Ok
 one_read front p s h = read_before front (p ∷ []) begin s h ∙ by (step_result (step plain s p.token) (refusal s p.byte))
   where
     by : (r : Result State FormulaFault) → read_after r (λ n. Ok n) ≡ read_after r Ok
@@ -142,7 +147,10 @@ refuses_unexpected ps front p u =
   where
     by : (o : Option State) → step plain (begins_read front u.begins).0 p.token ≡ o → step plain (begins_read front u.begins).0 p.token ≡ None
     by None is = is
-    by (Some n) is = absurd (u.unexpected (read_begins (front ++ p ∷ []) n (one_read front p (begins_read front u.begins).0 (begins_read front u.begins).1 ∙ ap (λ o. read_after (step_result o (refusal (begins_read front u.begins).0 p.byte)) Ok) is)))
+    by (Some n) is =
+        absurd (u.unexpected (read_begins (front ++ p ∷ []) n
+        (one_read front p (begins_read front u.begins).0 (begins_read front u.begins).1
+        ∙ ap (λ o. read_after (step_result o (refusal (begins_read front u.begins).0 p.byte)) Ok) is)))
 
 -- the answer for what was read to the end
 abbrev pub judged_end : ℕ → Option ℕ → Option Form → Result Form FormulaFault
@@ -177,12 +185,14 @@ no_formula f r = let none : None ≡ Some f = run-reads [] f r in absurd (cc)
 not_empty_formula : (ps : List Placed) (f : Form) → Reads Implication (tokens_in ps) f → ps ≡ [] → ⊥
 not_empty_formula ps f r e = no_formula f (subst (λ ps. Reads Implication (tokens_in ps) f) e r)
 
-judged_unexpected : (text : List ℕ) (ps front : List Placed) (p : Placed) → tokens_of text ≡ Ok ps → IsUnexpected ps front p → (s : State) × (read_all plain begin front ≡ Ok s) × (outcome text ≡ Err (refusal s p.byte))
+judged_unexpected : (text : List ℕ) (ps front : List Placed) (p : Placed) → tokens_of text ≡ Ok ps → IsUnexpected ps front p
+    → (s : State) × (read_all plain begin front ≡ Ok s) × (outcome text ≡ Err (refusal s p.byte))
 judged_unexpected text ps front p scanned u =
     let r = refuses_unexpected ps front p u in
     (r.0, r.1, ap (judged (length text)) scanned ∙ some_tokens (length text) ps (not_empty ps front u.after p u.parts) ∙ ap (judged_tokens (length text) ps) r.2)
 
-judged_formula : (text : List ℕ) (ps : List Placed) (f : Form) → tokens_of text ≡ Ok ps → Reads Implication (tokens_in ps) f → outcome text ≡ judged_end (length text) (first_empty_interval ps) (Some f)
+judged_formula : (text : List ℕ) (ps : List Placed) (f : Form) → tokens_of text ≡ Ok ps → Reads Implication (tokens_in ps) f
+    → outcome text ≡ judged_end (length text) (first_empty_interval ps) (Some f)
 judged_formula text ps f scanned r =
     let s = formula_read ps f r in
     ap (judged (length text)) scanned ∙ some_tokens (length text) ps (not_empty_formula ps f r) ∙ ap (judged_tokens (length text) ps) s.1 ∙ ap (judged_end (length text) (first_empty_interval ps)) s.2

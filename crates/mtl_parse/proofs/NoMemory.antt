@@ -33,7 +33,8 @@ from [] (suc belong) place = tt
 from (b ∷ bs) (suc belong) place = from bs belong (place + 1)
 from (b ∷ bs) zero place = by (λ n. from bs n (place + 1)) (is_blank b)
   where
-    by : ((n : ℕ) → HasNoWant (tokens_from n (place + 1) bs)) → (v : Bool) → HasNoWant (if v then tokens_from 0 (place + 1) bs else then_tokens place (lexeme_at b bs) (λ more. tokens_from more (place + 1) bs))
+    by : ((n : ℕ) → HasNoWant (tokens_from n (place + 1) bs)) → (v : Bool)
+        → HasNoWant (if v then tokens_from 0 (place + 1) bs else then_tokens place (lexeme_at b bs) (λ more. tokens_from more (place + 1) bs))
     by on true = on 0
     by on false = then_more place (lexeme_at b bs) (λ more. tokens_from more (place + 1) bs) on
 

@@ -52,7 +52,8 @@ fault-read text ps x scanned some h = at (read_all plain begin ps) refl (sym (wh
     at (Ok s) is e = at_end s is (finish plain s) refl (ap (ended (length text)) (sym (finish_capped s.stack s.stage)) ∙ e)
 
 -- a formula with an empty interval
-pub empty-read : (text : List ℕ) (ps : List Placed) (n byte : ℕ) (g : Form) → tokens_of text ≡ Ok ps → read_whole capped n ps ≡ Ok g → first_empty_interval ps ≡ Some byte → FormulaOf text (Err (fault.EmptyInterval byte))
+pub empty-read : (text : List ℕ) (ps : List Placed) (n byte : ℕ) (g : Form) → tokens_of text ≡ Ok ps → read_whole capped n ps ≡ Ok g
+    → first_empty_interval ps ≡ Some byte → FormulaOf text (Err (fault.EmptyInterval byte))
 empty-read text ps n byte g scanned h found = let w = was_read n ps g h in empty_interval ps byte scanned (w.form, w.reads) found
 
 -- a formula of which nothing is kept
@@ -77,10 +78,12 @@ low_reads : (ps : List Placed) (n : ℕ) (g : Form) → read_whole capped n ps �
 low_reads ps n g h low = let w = was_read n ps g h in subst (λ f. Reads Implication (tokens_in ps) f) (low_same ps g w low) w.reads
 
 -- a formula that is kept
-pub low-read : (text : List ℕ) (ps : List Placed) (n : ℕ) (g : Form) → tokens_of text ≡ Ok ps → read_whole capped n ps ≡ Ok g → first_empty_interval ps ≡ None → height_of g ≤ MAX_HEIGHT → FormulaOf text (Ok g)
+pub low-read : (text : List ℕ) (ps : List Placed) (n : ℕ) (g : Form) → tokens_of text ≡ Ok ps → read_whole capped n ps ≡ Ok g
+    → first_empty_interval ps ≡ None → height_of g ≤ MAX_HEIGHT → FormulaOf text (Ok g)
 low-read text ps n g scanned h none low = formula ps g scanned (low_reads ps n g h low) none low
 
-pub low-valid : (text : List ℕ) (ps : List Placed) (n : ℕ) (g : Form) → length text < 2 ^ 31 → tokens_of text ≡ Ok ps → read_whole capped n ps ≡ Ok g → first_empty_interval ps ≡ None → height_of g ≤ MAX_HEIGHT → IsFormula g
+pub low-valid : (text : List ℕ) (ps : List Placed) (n : ℕ) (g : Form) → length text < 2 ^ 31 → tokens_of text ≡ Ok ps
+    → read_whole capped n ps ≡ Ok g → first_empty_interval ps ≡ None → height_of g ≤ MAX_HEIGHT → IsFormula g
 low-valid text ps n g short scanned h none low = text-valid text ps g short scanned (low_reads ps n g h low) none low
 
 -- a text without tokens

@@ -70,7 +70,9 @@ none_is None h = refl
 none_is (Some p) h = absurd (cc)
 
 -- the tokens that are left begin with one that was found
-taken : (place : ℕ) (t : Token) (r : Result (List Placed) FormulaFault) (all : List Placed) → with_token (record { token = t; byte = place }) r ≡ Ok all → (rest : List Placed) × (r ≡ Ok rest) × (all ≡ record { token = t; byte = place } ∷ rest)
+taken : (place : ℕ) (t : Token) (r : Result (List Placed) FormulaFault) (all : List Placed)
+    → with_token (record { token = t; byte = place }) r ≡ Ok all
+    → (rest : List Placed) × (r ≡ Ok rest) × (all ≡ record { token = t; byte = place } ∷ rest)
 taken place t (Err e) all h = absurd (cc)
 taken place t (Ok rest) all h = (rest, refl, cc)
 
@@ -123,7 +125,8 @@ module _ (text : List ℕ) (number belong i : ℕ) (last : Option ℕ) (left b :
           place =
               let next : left ≡ suc (left - 1) = omega arith in
               let some = (some_is last has).1 in
-              sym (ap (λ n. slice_get (option_to_list last ++ places_after (Some i) first.0) n) next ∙ ap (λ o. slice_get (option_to_list o ++ places_after (Some i) first.0) (suc (left - 1))) some) ∙ dotted dot;
+              sym (ap (λ n. slice_get (option_to_list last ++ places_after (Some i) first.0) n) next
+              ∙ ap (λ o. slice_get (option_to_list o ++ places_after (Some i) first.0) (suc (left - 1))) some) ∙ dotted dot;
         }
 
 found_within : {X : Type 0} (xs : List X) (n : ℕ) → IsSome (slice_get xs n) ↔ (n < length xs)
@@ -140,7 +143,11 @@ pub place-found : (text : List ℕ) (number : ℕ) (result : Option ℕ) (f : Fo
 place-found text number result f is same =
     let t = formula_text text f is in
     let all : length (tokens_in (before_dots t.tokens)) ≡ length (hosts f) = ap length (hosts-before-dots t.tokens f t.reads) in
-    let many : length (before_dots t.tokens) ≡ length (propositions_of f) = sym (length-map (before_dots t.tokens) (λ (p : Placed). p.token)) ∙ all ∙ length-map (propositions_of f) (λ (p : Proposition). Word p.host) in
-    let some : is_some result ≡ is_some (slice_get (before_dots t.tokens) number) = ap is_some (same ∙ host_byte_is text number t.tokens t.scanned) ∙ some_mapped (λ (p : Placed). p.byte) (slice_get (before_dots t.tokens) number) in
+    let many : length (before_dots t.tokens) ≡ length (propositions_of f) =
+    sym (length-map (before_dots t.tokens) (λ (p : Placed). p.token)) ∙ all
+    ∙ length-map (propositions_of f) (λ (p : Proposition). Word p.host) in
+    let some : is_some result ≡ is_some (slice_get (before_dots t.tokens) number) =
+    ap is_some (same ∙ host_byte_is text number t.tokens t.scanned)
+    ∙ some_mapped (λ (p : Placed). p.byte) (slice_get (before_dots t.tokens) number) in
     let each = found_within (before_dots t.tokens) number in
     (λ h. let less = each.0 (sym some ∙ h) in omega (arith, less, many), λ h. some ∙ each.1 (omega (arith, h, many)))

@@ -60,7 +60,8 @@ interval-reads : (I : Interval) → ReadsInterval (interval_tokens I) I
 interval-reads I = high-reads I.low I.high
 
 -- a formula of two with a sign between them
-printed-joined : {left middle right : List ℕ} {f g : Form} (h : Form) (ms : List Token) → Piece middle ms → ((ts us : List Token) → Reads Unary ts f → Reads Unary us g → Reads Implication (ts ++ (ms ++ us)) h)
+printed-joined : {left middle right : List ℕ} {f g : Form} (h : Form) (ms : List Token) → Piece middle ms
+    → ((ts us : List Token) → Reads Unary ts f → Reads Unary us g → Reads Implication (ts ++ (ms ++ us)) h)
     → Printed left f → Printed right g → Printed (joined left middle right) h
 printed-joined h ms m reads p q = record {
   tokens = Open ∷ (p.tokens ++ (ms ++ q.tokens)) ++ Close ∷ [];
@@ -143,9 +144,11 @@ printed (Implies f g) v =
     (λ ts us r s. implies ts us (ts ++ Arrow ∷ us) f g refl (as_disjunction ts f r) (implication us g (as_disjunction us g s)))
     (printed f (left f g v.propositions v.intervals)) (printed g (right f g v.propositions v.intervals))
 printed (Until I f g) v =
-    printed-timed 85 U I refl (λ bs. refl) (timed_interval f g v.propositions I v.intervals) (printed f (timed_left f g v.propositions I v.intervals)) (printed g (timed_right f g v.propositions I v.intervals))
+    printed-timed 85 U I refl (λ bs. refl) (timed_interval f g v.propositions I v.intervals)
+    (printed f (timed_left f g v.propositions I v.intervals)) (printed g (timed_right f g v.propositions I v.intervals))
 printed (Since I f g) v =
-    printed-timed 83 S I refl (λ bs. refl) (timed_interval f g v.propositions I v.intervals) (printed f (timed_left f g v.propositions I v.intervals)) (printed g (timed_right f g v.propositions I v.intervals))
+    printed-timed 83 S I refl (λ bs. refl) (timed_interval f g v.propositions I v.intervals)
+    (printed f (timed_left f g v.propositions I v.intervals)) (printed g (timed_right f g v.propositions I v.intervals))
 printed (Eventually I f) v = printed-prefixed 70 F I refl (λ bs. refl) (first_interval I f v.propositions v.intervals) (printed f (operand I f v.propositions v.intervals))
 printed (Always I f) v = printed-prefixed 71 G I refl (λ bs. refl) (first_interval I f v.propositions v.intervals) (printed f (operand I f v.propositions v.intervals))
 printed (Once I f) v = printed-prefixed 79 O I refl (λ bs. refl) (first_interval I f v.propositions v.intervals) (printed f (operand I f v.propositions v.intervals))
@@ -168,7 +171,8 @@ tokens-of-piece {text} {ts} p =
     ap (λ bytes. without_places (tokens_of bytes)) (sym (append-nil text)) ∙ scan.at 0 ∙ ap Some (append-nil ts)
 
 -- a piece that is the whole text
-whole : (text : List ℕ) (f : Form) (ts : List Token) (ps : List Placed) → Piece text ts → tokens_of text ≡ Ok ps → tokens_in ps ≡ ts → Reads Unary ts f → height_of f ≤ MAX_HEIGHT → FormulaOf text (Ok f)
+whole : (text : List ℕ) (f : Form) (ts : List Token) (ps : List Placed) → Piece text ts → tokens_of text ≡ Ok ps → tokens_in ps ≡ ts
+    → Reads Unary ts f → height_of f ≤ MAX_HEIGHT → FormulaOf text (Ok f)
 whole text f ts ps p scan same reads height =
     let in_order = ap are_in_order (sym (append-nil ts)) ∙ p.in_order [] refl in
     formula ps f scan (rw same (as_implication ts f (until_or_since ts f reads))) (first-none ps (ap are_in_order same ∙ in_order)) height

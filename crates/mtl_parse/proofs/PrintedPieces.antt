@@ -40,14 +40,16 @@ high_within : (low : ℕ) (high : Option ℕ) → BoundsAreSound low high → op
 high_within low None h = refl
 high_within low (Some b) h = (and_parts (nat_le b MAX_DISTANCE) (nat_le low b) h).0
 
-scans-high : {rest : List ℕ} {ts : List Token} (high : Option ℕ) → option_map_or (λ b. nat_le b MAX_DISTANCE) high true ≡ true → begins_with is_name_byte rest ≡ false → Scans rest ts → Scans (high_text high ++ rest) (high_token high ∷ ts)
+scans-high : {rest : List ℕ} {ts : List Token} (high : Option ℕ) → option_map_or (λ b. nat_le b MAX_DISTANCE) high true ≡ true
+    → begins_with is_name_byte rest ≡ false → Scans rest ts → Scans (high_text high ++ rest) (high_token high ∷ ts)
 scans-high (Some b) within cut s = scans-number b within cut s
 scans-high None within cut s = scans-word (codes "inf") refl cut s
 
 not_below : (low b : ℕ) → nat_le low b ≡ true → nat_lt b low ≡ false
 not_below low b h = grind (arith, nat_tests)
 
-bounds-in_order : (low : ℕ) (high : Option ℕ) (more : List Token) → BoundsAreSound low high → are_in_order more ≡ true → are_in_order (OpenBracket ∷ Number low ∷ Comma ∷ high_token high ∷ CloseBracket ∷ more) ≡ true
+bounds-in_order : (low : ℕ) (high : Option ℕ) (more : List Token) → BoundsAreSound low high → are_in_order more ≡ true
+    → are_in_order (OpenBracket ∷ Number low ∷ Comma ∷ high_token high ∷ CloseBracket ∷ more) ≡ true
 bounds-in_order low None more sound h = h
 bounds-in_order low (Some b) more sound h =
     let right : nat_lt b low ≡ false = not_below low b (and_parts (nat_le b MAX_DISTANCE) (nat_le low b) sound).1 in
@@ -61,7 +63,9 @@ interval-piece I sound =
     let parts = and_parts (nat_le I.low MAX_DISTANCE) (option_map_or (λ b. nat_le b MAX_DISTANCE && nat_le I.low b) I.high true) sound in
     record {
       scans = λ rest more cut s. rw (interval-rest I rest)
-          (scans-token 91 [] OpenBracket refl refl (scans-number I.low parts.0 refl (scans-token 44 [] Comma refl refl (scans-high I.high (high_within I.low I.high parts.1) refl (scans-token 93 [] CloseBracket refl refl s)))));
+          (scans-token 91 [] OpenBracket refl refl (scans-number I.low parts.0 refl
+          (scans-token 44 [] Comma refl refl
+          (scans-high I.high (high_within I.low I.high parts.1) refl (scans-token 93 [] CloseBracket refl refl s)))));
       in_order = λ more h. bounds-in_order I.low I.high more parts.1 h;
     }
 
@@ -85,7 +89,8 @@ prefixed-rest : (b : ℕ) (I : Interval) (operand rest : List ℕ) → prefixed 
 prefixed-rest b I operand rest = simp append_assoc
 
 -- a byte that is a token by itself, with an interval, and a piece behind it
-pub prefixed-piece : {operand : List ℕ} {ts : List Token} (b : ℕ) (t : Token) (I : Interval) → is_blank b ≡ false → ((bs : List ℕ) → lexeme_at b bs ≡ Found t 0) → ((ts : List Token) → begins_with_empty_interval (t ∷ ts) ≡ false)
+pub prefixed-piece : {operand : List ℕ} {ts : List Token} (b : ℕ) (t : Token) (I : Interval) → is_blank b ≡ false
+    → ((bs : List ℕ) → lexeme_at b bs ≡ Found t 0) → ((ts : List Token) → begins_with_empty_interval (t ∷ ts) ≡ false)
     → is_interval I ≡ true → Piece operand ts → Piece (prefixed (b ∷ []) I operand) (t ∷ (interval_tokens I ++ ts))
 prefixed-piece {operand} {ts} b t I solid lexeme other sound p =
     let q = interval-piece I sound in
@@ -96,7 +101,9 @@ prefixed-piece {operand} {ts} b t I solid lexeme other sound p =
     }
 
 -- a byte that is a token by itself, before a piece
-pub sign-piece : {operand : List ℕ} {ts : List Token} (b : ℕ) (t : Token) → is_blank b ≡ false → ((bs : List ℕ) → lexeme_at b bs ≡ Found t 0) → ((ts : List Token) → begins_with_empty_interval (t ∷ ts) ≡ false) → Piece operand ts → Piece (b ∷ operand) (t ∷ ts)
+pub sign-piece : {operand : List ℕ} {ts : List Token} (b : ℕ) (t : Token) → is_blank b ≡ false
+    → ((bs : List ℕ) → lexeme_at b bs ≡ Found t 0) → ((ts : List Token) → begins_with_empty_interval (t ∷ ts) ≡ false) → Piece operand ts
+    → Piece (b ∷ operand) (t ∷ ts)
 sign-piece {operand} {ts} b t solid lexeme other p = record {
   scans = λ rest more cut s. scans-token b [] t solid (lexeme (operand ++ rest)) (p.scans rest more cut s);
   in_order = λ more h. rw (other (ts ++ more)) (p.in_order more h);

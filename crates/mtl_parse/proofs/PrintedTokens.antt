@@ -42,7 +42,8 @@ pub scans-blank : {rest : List ℕ} {ts : List Token} (b : ℕ) → is_blank b �
 scans-blank b blank s = record { at = λ place. rw blank (s.at (place + 1)) }
 
 -- a token of a byte and those that belong to it
-pub scans-token : {rest : List ℕ} {ts : List Token} (b : ℕ) (inner : List ℕ) (t : Token) → is_blank b ≡ false → lexeme_at b (inner ++ rest) ≡ Found t (length inner) → Scans rest ts → Scans (b ∷ inner ++ rest) (t ∷ ts)
+pub scans-token : {rest : List ℕ} {ts : List Token} (b : ℕ) (inner : List ℕ) (t : Token) → is_blank b ≡ false
+    → lexeme_at b (inner ++ rest) ≡ Found t (length inner) → Scans rest ts → Scans (b ∷ inner ++ rest) (t ∷ ts)
 scans-token {rest} {ts} b inner t solid lexeme s = record {
   at = λ place. rw (solid, lexeme) (
       with_first (record { token = t; byte = place }) (tokens_from (length inner) (place + 1) (inner ++ rest)) ts (
@@ -110,7 +111,9 @@ pub whole_number : (n b : ℕ) (bs : List ℕ) → has_leading_zero (b ∷ bs) �
 whole_number n b bs plain value within = rw (value, plain, within) (ap (Found (Number n)) (let less : length (b ∷ bs) - 1 ≡ length bs = omega arith in less))
 
 -- a run of digits is a number
-digits : {rest : List ℕ} {ts : List Token} (n : ℕ) (ds : List ℕ) → list_all is_digit ds ≡ true → 0 < length ds → has_leading_zero ds ≡ false → digits_value 10 ds ≡ n → nat_le n MAX_DISTANCE ≡ true → begins_with is_digit rest ≡ false → Scans rest ts → Scans (ds ++ rest) (Number n ∷ ts)
+digits : {rest : List ℕ} {ts : List Token} (n : ℕ) (ds : List ℕ) → list_all is_digit ds ≡ true → 0 < length ds → has_leading_zero ds ≡ false
+    → digits_value 10 ds ≡ n → nat_le n MAX_DISTANCE ≡ true → begins_with is_digit rest ≡ false → Scans rest ts
+    → Scans (ds ++ rest) (Number n ∷ ts)
 digits n [] passes some plain value within cut s = absurd (omega arith)
 digits {rest} n (b ∷ bs) passes some plain value within cut s =
     let digit = (and_parts (is_digit b) (list_all is_digit bs) passes).0 in

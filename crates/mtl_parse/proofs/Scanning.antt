@@ -51,7 +51,9 @@ module _ (text : List ℕ) (done : List Placed) (belong i b : ℕ) (within : i <
 
     module _ (blank : is_blank b ≡ false) where
       lexeme : (l : Lexeme) → l ≡ first_lexeme (drop i text) → prepended done (then_tokens i l (λ more. tokens_from more (i + 1) (drop (i + 1) text))) ≡ tokens_of text
-      lexeme l found = ap (λ l. prepended done (then_tokens i l (λ more. tokens_from more (i + 1) (drop (i + 1) text)))) found ∙ ap (prepended done) (sym (passed-lexeme text i b within is blank)) ∙ begun
+      lexeme l found =
+          ap (λ l. prepended done (then_tokens i l (λ more. tokens_from more (i + 1) (drop (i + 1) text)))) found
+          ∙ ap (prepended done) (sym (passed-lexeme text i b within is blank)) ∙ begun
 
       pub scanned-token : (t : Token) (more : ℕ) → Found t more ≡ first_lexeme (drop i text) → Scanned text (done ++ record { token = t; byte = i } ∷ []) more (i + 1)
       scanned-token t more found = record { same = prepended_more done (record { token = t; byte = i }) (tokens_from more (i + 1) (drop (i + 1) text)) ∙ lexeme (Found t more) found }

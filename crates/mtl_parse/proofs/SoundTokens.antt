@@ -97,7 +97,8 @@ sound_from [] (suc belong) place = (refl, omega arith)
 sound_from (b ∷ bs) (suc belong) place = fewer (length bs) (tokens_from belong (place + 1) bs) (sound_from bs belong (place + 1))
 sound_from (b ∷ bs) zero place = by (λ n. sound_from bs n (place + 1)) (is_blank b)
   where
-    by : ((n : ℕ) → SoundTokens (length bs) (tokens_from n (place + 1) bs)) → (v : Bool) → SoundTokens (suc (length bs)) (if v then tokens_from 0 (place + 1) bs else then_tokens place (lexeme_at b bs) (λ more. tokens_from more (place + 1) bs))
+    by : ((n : ℕ) → SoundTokens (length bs) (tokens_from n (place + 1) bs)) → (v : Bool)
+        → SoundTokens (suc (length bs)) (if v then tokens_from 0 (place + 1) bs else then_tokens place (lexeme_at b bs) (λ more. tokens_from more (place + 1) bs))
     by on true = fewer (length bs) (tokens_from 0 (place + 1) bs) (on 0)
     by on false = then_sound (length bs) place (lexeme_at b bs) (λ more. tokens_from more (place + 1) bs) (lexeme_sound b bs) on
 

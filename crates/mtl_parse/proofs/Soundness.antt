@@ -137,20 +137,26 @@ abbrev NextRead : Option State → List Token → Type 0
 NextRead None ts = Unit {0}
 NextRead (Some s) ts = StateRead s.stack s.stage ts
 
-timed_reads : (l : Letter) (I : Interval) (ts a : List Token) (level : Level) (g : Form) → TimedRead l I ts → Reads level a g → operand_rank (Timed l I) ≤ rank level → Reads (made (Timed l I)) (ts ++ a) (applied (Timed l I) g)
+timed_reads : (l : Letter) (I : Interval) (ts a : List Token) (level : Level) (g : Form) → TimedRead l I ts → Reads level a g
+    → operand_rank (Timed l I) ≤ rank level → Reads (made (Timed l I)) (ts ++ a) (applied (Timed l I) g)
 timed_reads (OfOne op) I ts a level g read r h =
     prefixed op read.interval a (ts ++ a) I g (ap (λ xs. xs ++ a) (read.split ∙ ap (λ xs. xs ++ read.interval) read.reads)) read.reads_interval (to_unary level a g h r)
 timed_reads (OfTwo op f) I ts a level g read r h =
-    timed op read.reads.left read.interval a (ts ++ a) I f g (ap (λ xs. xs ++ a) (read.split ∙ ap (λ xs. xs ++ read.interval) read.reads.split) ∙ simp append_assoc) read.reads.reads read.reads_interval (to_until level a g h r)
+    timed op read.reads.left read.interval a (ts ++ a) I f g
+    (ap (λ xs. xs ++ a) (read.split ∙ ap (λ xs. xs ++ read.interval) read.reads.split) ∙ simp append_assoc) read.reads.reads
+    read.reads_interval (to_until level a g h r)
 
 -- what is pending with its operand
-applied_reads : (p : Pending) (ts a : List Token) (level : Level) (g : Form) → PendingRead p ts → Reads level a g → operand_rank p ≤ rank level → 0 < strength p → Reads (made p) (ts ++ a) (applied p g)
+applied_reads : (p : Pending) (ts a : List Token) (level : Level) (g : Form) → PendingRead p ts → Reads level a g
+    → operand_rank p ≤ rank level → 0 < strength p → Reads (made p) (ts ++ a) (applied p g)
 applied_reads Opened ts a level g read r h some = absurd (omega arith)
 applied_reads Negation ts a level g read r h some = subst (λ xs. Reads Unary (xs ++ a) (applied Negation g)) (sym read) (not a g (to_unary level a g h r))
 applied_reads (Timed l I) ts a level g read r h some = timed_reads l I ts a level g read r h
 applied_reads (LeftOfAnd f) ts a level g read r h some = and read.left a (ts ++ a) f g (ap (λ xs. xs ++ a) read.split ∙ append_assoc read.left (Ampersand ∷ []) a) read.reads (to_until level a g h r)
 applied_reads (LeftOfOr f) ts a level g read r h some = or read.left a (ts ++ a) f g (ap (λ xs. xs ++ a) read.split ∙ append_assoc read.left (Bar ∷ []) a) read.reads (to_conjunction level a g h r)
-applied_reads (LeftOfImplies f) ts a level g read r h some = implies read.left a (ts ++ a) f g (ap (λ xs. xs ++ a) read.split ∙ append_assoc read.left (Arrow ∷ []) a) read.reads (to_implication level a g r)
+applied_reads (LeftOfImplies f) ts a level g read r h some =
+    implies read.left a (ts ++ a) f g (ap (λ xs. xs ++ a) read.split ∙ append_assoc read.left (Arrow ∷ []) a) read.reads
+    (to_implication level a g r)
 
 -- the tokens are what is still pending and an operand, which binds at least so tightly
 record Reduced (n : ℕ) (stack : List Pending) (f : Form) (ts : List Token) : Type 0 where
@@ -218,7 +224,8 @@ grown stack stage next ts t read reads = record {
 }
 
 -- the tokens of the stage become something that is pending
-pushed : (p : Pending) (stack : List Pending) (out inner ts : List Token) → ts ≡ out ++ inner → StackRead stack out → PendingRead p inner → takes stack ≤ rank (made p) → StateRead (p ∷ stack) Wanted ts
+pushed : (p : Pending) (stack : List Pending) (out inner ts : List Token) → ts ≡ out ++ inner → StackRead stack out → PendingRead p inner
+    → takes stack ≤ rank (made p) → StateRead (p ∷ stack) Wanted ts
 pushed p stack out inner ts e prefix_form own fits = record { out = ts; inner = []; split = sym (append-nil ts); prefix_form = (out, inner, e, prefix_form, own, fits); reads = refl }
 
 same_bytes : (word text : List ℕ) → bytes_eq word text ≡ true → text ≡ word
@@ -244,11 +251,21 @@ word_reads stack word ts read =
 wanted_reads : (stack : List Pending) (t : Token) (ts : List Token) → StateRead stack Wanted ts → NextRead (step_wanted stack t) (ts ++ t ∷ [])
 wanted_reads stack Open ts read =
     let few = takes_few stack in
-    pushed Opened stack read.out (Open ∷ []) (ts ++ Open ∷ []) (ap (λ xs. xs ++ Open ∷ []) (read.split ∙ ap (λ xs. read.out ++ xs) read.reads ∙ append-nil read.out)) read.prefix_form refl (omega arith)
+    pushed Opened stack read.out (Open ∷ []) (ts ++ Open ∷ [])
+    (ap (λ xs. xs ++ Open ∷ []) (read.split ∙ ap (λ xs. read.out ++ xs) read.reads ∙ append-nil read.out)) read.prefix_form refl
+    (omega arith)
 wanted_reads stack Bang ts read =
-    pushed Negation stack read.out (Bang ∷ []) (ts ++ Bang ∷ []) (ap (λ xs. xs ++ Bang ∷ []) (read.split ∙ ap (λ xs. read.out ++ xs) read.reads ∙ append-nil read.out)) read.prefix_form refl (takes_few stack)
+    pushed Negation stack read.out (Bang ∷ []) (ts ++ Bang ∷ [])
+    (ap (λ xs. xs ++ Bang ∷ []) (read.split ∙ ap (λ xs. read.out ++ xs) read.reads ∙ append-nil read.out)) read.prefix_form refl
+    (takes_few stack)
 wanted_reads stack (PrefixLetter op) ts read =
-    grown stack Wanted (LetterRead (OfOne op)) ts (PrefixLetter op) read (record { letter = PrefixLetter op ∷ []; split = alone (PrefixLetter op) read.inner read.reads; reads = refl; fits = takes_few stack })
+    grown stack Wanted (LetterRead (OfOne op)) ts (PrefixLetter op) read
+    (record {
+      letter = PrefixLetter op ∷ [];
+      split = alone (PrefixLetter op) read.inner read.reads;
+      reads = refl;
+      fits = takes_few stack;
+    })
 wanted_reads stack (Word word) ts read = word_reads stack word ts read
 wanted_reads stack _ ts read = tt
 
@@ -270,7 +287,14 @@ made_letter (OfTwo op f) I = omega arith
 letter_wanted : (stack : List Pending) (l : Letter) (ts : List Token) → StateRead stack (LetterRead l) ts → StateRead (Timed l (from_to 0 None) ∷ stack) Wanted ts
 letter_wanted stack l ts read =
     let fits = read.reads.fits in
-    pushed (Timed l (from_to 0 None)) stack read.out read.inner ts read.split read.prefix_form (record { letter = read.reads.letter; interval = []; split = read.reads.split; reads = read.reads.reads; reads_interval = everything }) (omega (arith, made_letter l (from_to 0 None)))
+    pushed (Timed l (from_to 0 None)) stack read.out read.inner ts read.split read.prefix_form
+    (record {
+      letter = read.reads.letter;
+      interval = [];
+      split = read.reads.split;
+      reads = read.reads.reads;
+      reads_interval = everything;
+    }) (omega (arith, made_letter l (from_to 0 None)))
 
 letter_reads : (stack : List Pending) (l : Letter) (t : Token) (ts : List Token) → StateRead stack (LetterRead l) ts → NextRead (step_letter stack l t) (ts ++ t ∷ [])
 letter_reads stack l OpenBracket ts read = grown stack (LetterRead l) (BracketRead l) ts OpenBracket read (record {
@@ -297,7 +321,8 @@ low_reads : (stack : List Pending) (l : Letter) (low : ℕ) (t : Token) (ts : Li
 low_reads stack l low Comma ts read = grown stack (LowRead l low) (CommaRead l low) ts Comma read (behind stack l _ read.inner Comma read.reads)
 low_reads stack l low _ ts read = tt
 
-inf_reads : (stack : List Pending) (l : Letter) (low : ℕ) (word : List ℕ) (ts : List Token) → StateRead stack (CommaRead l low) ts → NextRead (step_comma stack l low (Word word)) (ts ++ Word word ∷ [])
+inf_reads : (stack : List Pending) (l : Letter) (low : ℕ) (word : List ℕ) (ts : List Token) → StateRead stack (CommaRead l low) ts
+    → NextRead (step_comma stack l low (Word word)) (ts ++ Word word ∷ [])
 inf_reads stack l low word ts read = elim (cases_Bool (bytes_eq word (codes "inf"))) [
   | inl it ↦ rw it (grown stack (CommaRead l low) (HighRead l (from_to low None)) ts (Word word) read (record {
     more = OpenBracket ∷ Number low ∷ Comma ∷ Word word ∷ [];
@@ -320,15 +345,18 @@ high_reads : (stack : List Pending) (l : Letter) (I : Interval) (t : Token) (ts 
 high_reads stack l I CloseBracket ts read =
     let b = behind stack l read.reads.more read.inner CloseBracket read.reads.behind in
     let fits = b.fits in
-    pushed (Timed l I) stack read.out (read.inner ++ CloseBracket ∷ []) (ts ++ CloseBracket ∷ []) (ap (λ xs. xs ++ CloseBracket ∷ []) read.split ∙ append_assoc read.out read.inner (CloseBracket ∷ [])) read.prefix_form
+    pushed (Timed l I) stack read.out (read.inner ++ CloseBracket ∷ []) (ts ++ CloseBracket ∷ [])
+    (ap (λ xs. xs ++ CloseBracket ∷ []) read.split ∙ append_assoc read.out read.inner (CloseBracket ∷ [])) read.prefix_form
     (record { letter = b.letter; interval = read.reads.more ++ CloseBracket ∷ []; split = b.split; reads = b.reads; reads_interval = read.reads.closes }) (omega (arith, made_letter l I))
 high_reads stack l I _ ts read = tt
 
 -- what an operand is with what stands before it
-operand_reads : (n : ℕ) (stack : List Pending) (f : Form) (ts : List Token) → 0 < n → n ≤ 6 → StateRead stack (Read f) ts → Reduced n (complete plain n stack f).stack (complete plain n stack f).form ts
+operand_reads : (n : ℕ) (stack : List Pending) (f : Form) (ts : List Token) → 0 < n → n ≤ 6 → StateRead stack (Read f) ts
+    → Reduced n (complete plain n stack f).stack (complete plain n stack f).form ts
 operand_reads n stack f ts some most read =
     let few = takes_few stack in
-    subst (λ xs. Reduced n (complete plain n stack f).stack (complete plain n stack f).form xs) (sym read.split) (complete_reads n stack f read.out read.inner Atom some read.prefix_form read.reads (omega arith) most)
+    subst (λ xs. Reduced n (complete plain n stack f).stack (complete plain n stack f).form xs) (sym read.split)
+    (complete_reads n stack f read.out read.inner Atom some read.prefix_form read.reads (omega arith) most)
 
 -- the operand becomes a left side
 side_reads : (level : Level) (t : Token) (f : Form) (inner : List Token) → Reads level inner f → LeftRead level t f (inner ++ t ∷ [])
@@ -338,15 +366,22 @@ split_more : (t : Token) (ts out inner : List Token) → ts ≡ out ++ inner →
 split_more t ts out inner e = ap (λ xs. xs ++ t ∷ []) e ∙ append_assoc out inner (t ∷ [])
 
 and_reads : (c : Completed) (ts : List Token) → Reduced 3 c.stack c.form ts → NextRead (left_of LeftOfAnd c) (ts ++ Ampersand ∷ [])
-and_reads c ts r = pushed (LeftOfAnd c.form) c.stack r.out (r.inner ++ Ampersand ∷ []) (ts ++ Ampersand ∷ []) (split_more Ampersand ts r.out r.inner r.split) r.below (side_reads Conjunction Ampersand c.form r.inner (to_conjunction r.level r.inner c.form r.tight r.reads)) ((takes_less c.stack).1 r.low)
+and_reads c ts r =
+    pushed (LeftOfAnd c.form) c.stack r.out (r.inner ++ Ampersand ∷ []) (ts ++ Ampersand ∷ [])
+    (split_more Ampersand ts r.out r.inner r.split) r.below
+    (side_reads Conjunction Ampersand c.form r.inner (to_conjunction r.level r.inner c.form r.tight r.reads)) ((takes_less c.stack).1 r.low)
 
 or_reads : (c : Completed) (ts : List Token) → Reduced 2 c.stack c.form ts → NextRead (left_of LeftOfOr c) (ts ++ Bar ∷ [])
 or_reads c ts r =
     let few = (takes_less c.stack).2 r.low in
-    pushed (LeftOfOr c.form) c.stack r.out (r.inner ++ Bar ∷ []) (ts ++ Bar ∷ []) (split_more Bar ts r.out r.inner r.split) r.below (side_reads Disjunction Bar c.form r.inner (to_disjunction r.level r.inner c.form r.tight r.reads)) (omega arith)
+    pushed (LeftOfOr c.form) c.stack r.out (r.inner ++ Bar ∷ []) (ts ++ Bar ∷ []) (split_more Bar ts r.out r.inner r.split) r.below
+    (side_reads Disjunction Bar c.form r.inner (to_disjunction r.level r.inner c.form r.tight r.reads)) (omega arith)
 
 implies_reads : (c : Completed) (ts : List Token) → Reduced 2 c.stack c.form ts → NextRead (left_of LeftOfImplies c) (ts ++ Arrow ∷ [])
-implies_reads c ts r = pushed (LeftOfImplies c.form) c.stack r.out (r.inner ++ Arrow ∷ []) (ts ++ Arrow ∷ []) (split_more Arrow ts r.out r.inner r.split) r.below (side_reads Disjunction Arrow c.form r.inner (to_disjunction r.level r.inner c.form r.tight r.reads)) ((takes_less c.stack).2 r.low)
+implies_reads c ts r =
+    pushed (LeftOfImplies c.form) c.stack r.out (r.inner ++ Arrow ∷ []) (ts ++ Arrow ∷ []) (split_more Arrow ts r.out r.inner r.split)
+    r.below (side_reads Disjunction Arrow c.form r.inner (to_disjunction r.level r.inner c.form r.tight r.reads))
+    ((takes_less c.stack).2 r.low)
 
 between_reads : (op : Infix) (c : Completed) (ts : List Token) → Reduced 5 c.stack c.form ts → NextRead (letter_after op c) (ts ++ InfixLetter op ∷ [])
 between_reads op c ts r = record {

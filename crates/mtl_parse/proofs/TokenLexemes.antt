@@ -124,7 +124,12 @@ word_stands b bs letter = by (nat_le (length (take_while is_name_byte (b ∷ bs)
     by : (v : Bool) → StandsIfFound b bs (if v then Found (Word (take_while is_name_byte (b ∷ bs))) (length (take_while is_name_byte (b ∷ bs)) - 1) else NoToken)
     by true =
         let r = run_at is_name_byte b bs (name_byte b letter) in
-        record { text = r.split; longest = not_going_on (Word (take_while is_name_byte (b ∷ bs))) is_name_byte (λ b bs. refl) (drop (length (take_while is_name_byte (b ∷ bs)) - 1) bs) r.cut; size = r.size }
+        record {
+          text = r.split;
+          longest = not_going_on (Word (take_while is_name_byte (b ∷ bs))) is_name_byte (λ b bs. refl)
+              (drop (length (take_while is_name_byte (b ∷ bs)) - 1) bs) r.cut;
+          size = r.size;
+        }
     by false = tt
 
 -- a run of digits that is a number is what is written of its value
@@ -133,7 +138,8 @@ is_number_run [] digits some plain = absurd (omega arith)
 is_number_run (b ∷ []) digits some plain = (and_parts (is_digit b) true digits).0
 is_number_run (b ∷ c ∷ bs) digits some plain = rw plain digits
 
-pub number_written : (run : List ℕ) → list_all is_digit run ≡ true → 0 < length run → has_leading_zero run ≡ false → nat_le (digits_value 10 run) MAX_DISTANCE ≡ true → decimal (digits_value 10 run) ≡ run
+pub number_written : (run : List ℕ) → list_all is_digit run ≡ true → 0 < length run → has_leading_zero run ≡ false
+    → nat_le (digits_value 10 run) MAX_DISTANCE ≡ true → decimal (digits_value 10 run) ≡ run
 number_written run digits some plain within =
     let form = is_number_run run digits some plain in
     let below : nat_lt (digits_value 10 run) (2 ^ 64) ≡ true = grind (arith, nat_tests) in
@@ -262,7 +268,8 @@ word_found (b ∷ bs) after name longest =
     let whole = run is_name_byte (b ∷ bs) after (name_passes b bs parts.0 parts.1) (word_cut (b ∷ bs) after longest) in
     record { first = b; more = bs; text = refl; solid = letter_no_blank b parts.0; found = word_here b (bs ++ after) parts.0 ∙ ap word_lexeme whole ∙ whole_word b bs parts.2 }
 
-digits_found : (n : ℕ) (ds after : List ℕ) → decimal n ≡ ds → list_all is_digit ds ≡ true → 0 < length ds → has_leading_zero ds ≡ false → digits_value 10 ds ≡ n → nat_le n MAX_DISTANCE ≡ true → begins_with is_digit after ≡ false → IsFound (Number n) after
+digits_found : (n : ℕ) (ds after : List ℕ) → decimal n ≡ ds → list_all is_digit ds ≡ true → 0 < length ds → has_leading_zero ds ≡ false
+    → digits_value 10 ds ≡ n → nat_le n MAX_DISTANCE ≡ true → begins_with is_digit after ≡ false → IsFound (Number n) after
 digits_found n [] after is passes some plain value within cut = absurd (omega arith)
 digits_found n (b ∷ bs) after is passes some plain value within cut =
     let digit = (and_parts (is_digit b) (list_all is_digit bs) passes).0 in
@@ -272,7 +279,8 @@ digits_found n (b ∷ bs) after is passes some plain value within cut =
 number_found : (n : ℕ) (after : List ℕ) → nat_le n MAX_DISTANCE ≡ true → is_longest (Number n) after ≡ true → IsFound (Number n) after
 number_found n after within longest =
     let small : n < 2 ^ 64 = grind (arith, nat_tests) in
-    digits_found n (decimal n) after refl (digits_decimal digits_model n small) (decimal_nonempty n small) (no_leading_zero n small) (digits_value-decimal digits_model n small) within (number_cut n after longest)
+    digits_found n (decimal n) after refl (digits_decimal digits_model n small) (decimal_nonempty n small) (no_leading_zero n small)
+    (digits_value-decimal digits_model n small) within (number_cut n after longest)
 
 -- a token is found where its text stands and is as long as it can be
 pub stands-found : (t : Token) (after : List ℕ) → is_sound t ≡ true → is_longest t after ≡ true → IsFound t after

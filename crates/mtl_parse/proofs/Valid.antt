@@ -123,7 +123,8 @@ interval_good (unbounded low) g =
     let low_is : nat_le low MAX_DISTANCE ≡ true = (and_parts (nat_le low MAX_DISTANCE) true g.sound).0 in
     rw low_is refl
 
-before_parts : (op : Prefix) (I : Interval) (f : Form) (n k : ℕ) → n ≤ k → is_interval I ≡ true → Parts (propositions_of f) (intervals_of f) n → Parts (propositions_of (prefix_form op I f)) (intervals_of (prefix_form op I f)) k
+before_parts : (op : Prefix) (I : Interval) (f : Form) (n k : ℕ) → n ≤ k → is_interval I ≡ true
+    → Parts (propositions_of f) (intervals_of f) n → Parts (propositions_of (prefix_form op I f)) (intervals_of (prefix_form op I f)) k
 before_parts F I f n k fits ok p = with_interval I (propositions_of f) (intervals_of f) n k fits ok p
 before_parts G I f n k fits ok p = with_interval I (propositions_of f) (intervals_of f) n k fits ok p
 before_parts O I f n k fits ok p = with_interval I (propositions_of f) (intervals_of f) n k fits ok p
@@ -131,8 +132,12 @@ before_parts H I f n k fits ok p = with_interval I (propositions_of f) (interval
 
 between_parts : (op : Infix) (I : Interval) (f g : Form) (n m k : ℕ) → n + m ≤ k → is_interval I ≡ true → Parts (propositions_of f) (intervals_of f) n → Parts (propositions_of g) (intervals_of g) m
     → Parts (propositions_of (infix_form op I f g)) (intervals_of (infix_form op I f g)) k
-between_parts U I f g n m k fits ok p q = two_parts (propositions_of f) (propositions_of g) (intervals_of f) (I ∷ intervals_of g) n m k fits p (with_interval I (propositions_of g) (intervals_of g) m m (omega arith) ok q)
-between_parts S I f g n m k fits ok p q = two_parts (propositions_of f) (propositions_of g) (intervals_of f) (I ∷ intervals_of g) n m k fits p (with_interval I (propositions_of g) (intervals_of g) m m (omega arith) ok q)
+between_parts U I f g n m k fits ok p q =
+    two_parts (propositions_of f) (propositions_of g) (intervals_of f) (I ∷ intervals_of g) n m k fits p
+    (with_interval I (propositions_of g) (intervals_of g) m m (omega arith) ok q)
+between_parts S I f g n m k fits ok p q =
+    two_parts (propositions_of f) (propositions_of g) (intervals_of f) (I ∷ intervals_of g) n m k fits p
+    (with_interval I (propositions_of g) (intervals_of g) m m (omega arith) ok q)
 
 prop_parts : (host name : List ℕ) (n : ℕ) → is_reserved host ≡ false → is_name host ≡ true → is_name name ≡ true → 1 ≤ n → Parts (record { host = host; name = name } ∷ []) [] n
 prop_parts host name n free host_is name_is some = record { names = rw (host_is, name_is) refl; hosts = rw free refl; intervals = refl; few = some }
@@ -140,42 +145,57 @@ prop_parts host name n free host_is name_is some = record { names = rw (host_is,
 parts : {level : Level} {ts : List Token} {f : Form} → Reads level ts f → Good ts → Parts (propositions_of f) (intervals_of f) (length ts)
 parts (implies left right ts f g e l r) good =
     let whole = good_as ts (left ++ Arrow ∷ right) e good in
-    two_parts (propositions_of f) (propositions_of g) (intervals_of f) (intervals_of g) (length left) (length right) (length ts) (omega (arith, ap length e, length-append left (Arrow ∷ right))) (parts l (good_left left (Arrow ∷ right) whole)) (parts r (good_rest Arrow right (good_right left (Arrow ∷ right) whole)))
+    two_parts (propositions_of f) (propositions_of g) (intervals_of f) (intervals_of g) (length left) (length right) (length ts)
+    (omega (arith, ap length e, length-append left (Arrow ∷ right))) (parts l (good_left left (Arrow ∷ right) whole))
+    (parts r (good_rest Arrow right (good_right left (Arrow ∷ right) whole)))
 parts (implication ts f r) good = parts r good
 parts (or left right ts f g e l r) good =
     let whole = good_as ts (left ++ Bar ∷ right) e good in
-    two_parts (propositions_of f) (propositions_of g) (intervals_of f) (intervals_of g) (length left) (length right) (length ts) (omega (arith, ap length e, length-append left (Bar ∷ right))) (parts l (good_left left (Bar ∷ right) whole)) (parts r (good_rest Bar right (good_right left (Bar ∷ right) whole)))
+    two_parts (propositions_of f) (propositions_of g) (intervals_of f) (intervals_of g) (length left) (length right) (length ts)
+    (omega (arith, ap length e, length-append left (Bar ∷ right))) (parts l (good_left left (Bar ∷ right) whole))
+    (parts r (good_rest Bar right (good_right left (Bar ∷ right) whole)))
 parts (disjunction ts f r) good = parts r good
 parts (and left right ts f g e l r) good =
     let whole = good_as ts (left ++ Ampersand ∷ right) e good in
-    two_parts (propositions_of f) (propositions_of g) (intervals_of f) (intervals_of g) (length left) (length right) (length ts) (omega (arith, ap length e, length-append left (Ampersand ∷ right))) (parts l (good_left left (Ampersand ∷ right) whole)) (parts r (good_rest Ampersand right (good_right left (Ampersand ∷ right) whole)))
+    two_parts (propositions_of f) (propositions_of g) (intervals_of f) (intervals_of g) (length left) (length right) (length ts)
+    (omega (arith, ap length e, length-append left (Ampersand ∷ right))) (parts l (good_left left (Ampersand ∷ right) whole))
+    (parts r (good_rest Ampersand right (good_right left (Ampersand ∷ right) whole)))
 parts (conjunction ts f r) good = parts r good
 parts (timed op left interval right ts I f g e l i r) good =
     let same = e ∙ append_assoc left (InfixLetter op ∷ interval) right in
     let whole = good_as ts (left ++ (InfixLetter op ∷ interval ++ right)) same good in
     let rest = good_rest (InfixLetter op) (interval ++ right) (good_right left (InfixLetter op ∷ interval ++ right) whole) in
-    between_parts op I f g (length left) (length right) (length ts) (omega (arith, ap length same, length-append left (InfixLetter op ∷ interval ++ right), length-append interval right)) (interval_good i (good_left interval right rest)) (parts l (good_left left (InfixLetter op ∷ interval ++ right) whole)) (parts r (good_right interval right rest))
+    between_parts op I f g (length left) (length right) (length ts)
+    (omega (arith, ap length same, length-append left (InfixLetter op ∷ interval ++ right), length-append interval right))
+    (interval_good i (good_left interval right rest)) (parts l (good_left left (InfixLetter op ∷ interval ++ right) whole))
+    (parts r (good_right interval right rest))
 parts (until_or_since ts f r) good = parts r good
 parts (not ts f r) good = more_room (propositions_of f) (intervals_of f) (length ts) (length (Bang ∷ ts)) (omega arith) (parts r (good_rest Bang ts good))
 parts (prefixed op interval operand ts I f e i r) good =
     let rest = good_rest (PrefixLetter op) (interval ++ operand) (good_as ts (PrefixLetter op ∷ interval ++ operand) e good) in
-    before_parts op I f (length operand) (length ts) (omega (arith, ap length e, length-append interval operand)) (interval_good i (good_left interval operand rest)) (parts r (good_right interval operand rest))
+    before_parts op I f (length operand) (length ts) (omega (arith, ap length e, length-append interval operand))
+    (interval_good i (good_left interval operand rest)) (parts r (good_right interval operand rest))
 parts (unary ts f r) good = parts r good
 parts constant_true good = record { names = refl; hosts = refl; intervals = refl; few = omega arith }
 parts constant_false good = record { names = refl; hosts = refl; intervals = refl; few = omega arith }
 parts (proposition host name free) good =
     let sound = good.sound in
-    prop_parts host name (length (Word host ∷ Dot ∷ Word name ∷ [])) free ((and_parts (is_name host) (is_name name && true) sound).0) ((and_parts (is_name name) true ((and_parts (is_name host) (is_name name && true) sound).1)).0) (omega arith)
+    prop_parts host name (length (Word host ∷ Dot ∷ Word name ∷ [])) free ((and_parts (is_name host) (is_name name && true) sound).0)
+    ((and_parts (is_name name) true ((and_parts (is_name host) (is_name name && true) sound).1)).0) (omega arith)
 parts (parentheses inner ts f e r) good =
     let rest = good_rest Open (inner ++ Close ∷ []) (good_as ts (Open ∷ inner ++ Close ∷ []) e good) in
     more_room (propositions_of f) (intervals_of f) (length inner) (length ts) (omega (arith, ap length e, length-append inner (Close ∷ []))) (parts r (good_left inner (Close ∷ []) rest))
 
 sound_in : (ps : List Placed) → list_all (λ p. is_sound p.token) ps ≡ true → list_all is_sound (tokens_in ps) ≡ true
 sound_in [] h = refl
-sound_in (p ∷ ps) h = and_from (is_sound p.token) (list_all is_sound (tokens_in ps)) ((and_parts (is_sound p.token) (list_all (λ p. is_sound p.token) ps) h).0) (sound_in ps ((and_parts (is_sound p.token) (list_all (λ p. is_sound p.token) ps) h).1))
+sound_in (p ∷ ps) h =
+    and_from (is_sound p.token) (list_all is_sound (tokens_in ps))
+    ((and_parts (is_sound p.token) (list_all (λ p. is_sound p.token) ps) h).0)
+    (sound_in ps ((and_parts (is_sound p.token) (list_all (λ p. is_sound p.token) ps) h).1))
 
 -- the formula that a text is, is valid
-pub text-valid : (text : List ℕ) (ps : List Placed) (f : Form) → length text < 2 ^ 31 → tokens_of text ≡ Ok ps → Reads Implication (tokens_in ps) f → first_empty_interval ps ≡ None → height_of f ≤ MAX_HEIGHT → IsFormula f
+pub text-valid : (text : List ℕ) (ps : List Placed) (f : Form) → length text < 2 ^ 31 → tokens_of text ≡ Ok ps
+    → Reads Implication (tokens_in ps) f → first_empty_interval ps ≡ None → height_of f ≤ MAX_HEIGHT → IsFormula f
 text-valid text ps f short scanned reads none low =
     let p = parts reads (record { sound = sound_in ps (tokens-sound text ps scanned); whole = none_empty ps none }) in
     let each = p.few in

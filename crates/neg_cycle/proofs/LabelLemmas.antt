@@ -22,7 +22,8 @@ sum_within b edges all s t (p ∷ ps) w =
     record { low = omega (arith, ints, first, rest); high = omega (arith, ints, first, rest) }
 
 -- a number that a trail gives is within b times the nodes
-pub trail_high : (nodes b : ℕ) (edges : List Edge) → All (IsEdge nodes) edges → HasBoundsWithin b edges → (s t : ℕ) (ps : List ℕ) (x : ℤ) → IsTrail nodes edges s ps t → x +ℤ sum_of_bounds edges ps ≡ pos 0 → x ≤ℤ pos (nodes * b)
+pub trail_high : (nodes b : ℕ) (edges : List Edge) → All (IsEdge nodes) edges → HasBoundsWithin b edges → (s t : ℕ) (ps : List ℕ) (x : ℤ)
+    → IsTrail nodes edges s ps t → x +ℤ sum_of_bounds edges ps ≡ pos 0 → x ≤ℤ pos (nodes * b)
 trail_high nodes b edges all within s t ps x trail number =
     let short = trail_short nodes edges all s t ps trail in
     let sum = sum_within b edges within s t ps trail.walk in
@@ -108,7 +109,8 @@ module _ (edges : List Edge) (numbers : List ℤ) (p : ℕ) (y : ℤ) (system : 
     pub room_less : room (set numbers (edge_at edges p).to y) < room numbers
     room_less = room_falls numbers (edge_at edges p).to y to_below above (trail_below (length numbers) edges system a (edge_at edges p).to (ps ++ p ∷ []) y longer number_new)
 
-    covered_before : (i : ℕ) → i ≤ length ps → pos 0 ≤ℤ (number_of (set numbers (edge_at edges p).to y) (slice_index (nodes_of edges a (ps ++ p ∷ [])) i) +ℤ sum_of_bounds edges (take i (ps ++ p ∷ [])))
+    covered_before : (i : ℕ) → i ≤ length ps
+        → pos 0 ≤ℤ (number_of (set numbers (edge_at edges p).to y) (slice_index (nodes_of edges a (ps ++ p ∷ [])) i) +ℤ sum_of_bounds edges (take i (ps ++ p ∷ [])))
     covered_before i within =
         let many : length (nodes_of edges a ps) ≡ suc (length ps) = simp length-map in
         let node : slice_index (nodes_of edges a (ps ++ p ∷ [])) i ≡ slice_index (nodes_of edges a ps) i =
@@ -126,7 +128,8 @@ module _ (edges : List Edge) (numbers : List ℤ) (p : ℕ) (y : ℤ) (system : 
 
     covered_new : Covers edges (set numbers (edge_at edges p).to y) a (ps ++ p ∷ [])
     covered_new i within = elim (cases_eq i (length ps + 1)) [
-      | inl e ↦ subst (λ n. pos 0 ≤ℤ (number_of (set numbers (edge_at edges p).to y) (slice_index (nodes_of edges a (ps ++ p ∷ [])) n) +ℤ sum_of_bounds edges (take n (ps ++ p ∷ [])))) (sym e) covered_last
+      | inl e ↦ subst (λ n. pos 0 ≤ℤ (number_of (set numbers (edge_at edges p).to y) (slice_index (nodes_of edges a (ps ++ p ∷ [])) n) +ℤ
+          sum_of_bounds edges (take n (ps ++ p ∷ [])))) (sym e) covered_last
       | inr other ↦ covered_before i (omega (arith, length-append ps (p ∷ [])))
     ]
 

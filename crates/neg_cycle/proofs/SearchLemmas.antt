@@ -36,12 +36,14 @@ module _ (edges : List Edge) (numbers : List ℤ) (walks : List Walk) (system : 
       record { low = omega (arith, ints, least); high = omega (arith, ints, high, few) }
 
 -- the numbers of a search over so many nodes are at most b times the nodes
-pub solved_high : (nodes b : ℕ) (edges : List Edge) (numbers : List ℤ) (walks : List Walk) → IsSystem nodes edges → length numbers ≡ nodes → IsSearch edges numbers walks → HasBoundsWithin b edges → All (λ x. x ≤ℤ pos (nodes * b)) numbers
+pub solved_high : (nodes b : ℕ) (edges : List Edge) (numbers : List ℤ) (walks : List Walk) → IsSystem nodes edges → length numbers ≡ nodes
+    → IsSearch edges numbers walks → HasBoundsWithin b edges → All (λ x. x ≤ℤ pos (nodes * b)) numbers
 solved_high nodes b edges numbers walks system count s within =
     subst (λ n. All (λ x. x ≤ℤ pos (n * b)) numbers) count (numbers_high edges numbers walks (subst (λ n. IsSystem n edges) (sym count) system) s b within)
 
 -- a walk that the code read
-pub walk_read : (edges : List Edge) (numbers : List ℤ) (walks : List Walk) (v : ℕ) (w : Walk) → IsSearch edges numbers walks → v < length numbers → w ≡ get_or walks v w → All (λ p. p < length edges) w.places.items
+pub walk_read : (edges : List Edge) (numbers : List ℤ) (walks : List Walk) (v : ℕ) (w : Walk) → IsSearch edges numbers walks
+    → v < length numbers → w ≡ get_or walks v w → All (λ p. p < length edges) w.places.items
 walk_read edges numbers walks v w s below is = places_within edges w.start v w.places.items (subst (Gives edges numbers v) (sym is) (s.best v w below)).trail.walk
 
 -- a number that the code read
@@ -89,5 +91,7 @@ pub begins : (edges : List Edge) (nodes : ℕ) (numbers : List ℤ) (walks : Lis
 begins edges nodes numbers walks start = record {
   count = omega (arith, start.numbers_count, start.walks_count);
   least = λ v below. rw (start.zero_number v (omega (arith, start.numbers_count))) (omega (arith, ints));
-  best = λ v d below. gives_start edges numbers v (get_or walks v d) below (start.zero_number v (omega (arith, start.numbers_count))) (start.own_start v d (omega (arith, start.numbers_count))) (start.no_places v d (omega (arith, start.numbers_count)));
+  best =
+      λ v d below. gives_start edges numbers v (get_or walks v d) below (start.zero_number v (omega (arith, start.numbers_count)))
+      (start.own_start v d (omega (arith, start.numbers_count))) (start.no_places v d (omega (arith, start.numbers_count)));
 }

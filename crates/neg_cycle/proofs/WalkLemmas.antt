@@ -95,7 +95,8 @@ distinct_drop (suc n) [] d = tt
 distinct_drop (suc n) (x ∷ xs) d = distinct_drop n xs d.1
 
 -- what a search along a walk knows of one more node
-pub visited_more : (node here : ℕ) (ns : List ℕ) (i : ℕ) → i < length ns → list_any (eqb node) (take i ns) ≡ false → here ≡ slice_index ns i → (here ≡ node → ⊥) → list_any (eqb node) (take (i + 1) ns) ≡ false
+pub visited_more : (node here : ℕ) (ns : List ℕ) (i : ℕ) → i < length ns → list_any (eqb node) (take i ns) ≡ false → here ≡ slice_index ns i
+    → (here ≡ node → ⊥) → list_any (eqb node) (take (i + 1) ns) ≡ false
 visited_more node here ns i below before at other =
     rw (take_more ns i 0 below, list_any-append (eqb node) (take i ns) (get_or ns i 0 ∷ [])) (grind (arith, nat_tests))
 
@@ -124,7 +125,9 @@ module _ (nodes : ℕ) (edges : List Edge) where
     rest_leads = subst (λ n. LeadsTo edges n (drop i ps) (edge_at edges p).from) at (walk_rest edges a (edge_at edges p).from ps i t.walk within)
 
     pub loop_closed : IsClosedWalk edges (drop i ps ++ p ∷ [])
-    loop_closed = closed_from edges (edge_at edges p).to (drop i ps ++ p ∷ []) (grind (arith, common_steps)) (walk_push edges (edge_at edges p).to (edge_at edges p).from (drop i ps) p rest_leads below refl)
+    loop_closed =
+        closed_from edges (edge_at edges p).to (drop i ps ++ p ∷ []) (grind (arith, common_steps))
+        (walk_push edges (edge_at edges p).to (edge_at edges p).from (drop i ps) p rest_leads below refl)
 
     begins_distinct : IsDistinct eqb (map (λ q. (edge_at edges q).from) (drop i ps ++ p ∷ []))
     begins_distinct =

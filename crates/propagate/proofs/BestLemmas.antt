@@ -31,7 +31,9 @@ last_best t clause beside f trail seen = record {
 }
 
 -- where all others are false, one that became false at the present level is best
-pub top_best : (t : Assigned) (clause : List Lit) (beside : Option Lit) (l : Lit) → IsTrail t → Contains clause l → beside ≢ Some l → IsTrueAt t.entries (negation l) (length t.levels) → AreFalseWithin t.entries clause 0 (length clause) beside → IsBest t.entries clause beside l
+pub top_best : (t : Assigned) (clause : List Lit) (beside : Option Lit) (l : Lit) → IsTrail t → Contains clause l → beside ≢ Some l
+    → IsTrueAt t.entries (negation l) (length t.levels) → AreFalseWithin t.entries clause 0 (length clause) beside
+    → IsBest t.entries clause beside l
 top_best t clause beside l trail has other at others = record {
   has = has;
   differs = other;
@@ -67,7 +69,8 @@ module _ (es : List Entry) (front : List Lit) (x : Lit) (beside : Option Lit) wh
     others = All-push (IsFalseOr m) front x (All-weaker (λ (y : Lit). beside ≡ Some y) (IsFalseOr m) (λ y is. inl is) front known) (inr (at_up_to es (negation x) m m (omega arith) at));
   }
 
-  false_later : (m : ℕ) (f : Falsified) → IsLastFalse es front beside f → f.level ≤ m → beside ≢ Some x → IsTrueAt es (negation x) m → IsLastFalse es (front ++ x ∷ []) beside (record { lit = x; level = m })
+  false_later : (m : ℕ) (f : Falsified) → IsLastFalse es front beside f → f.level ≤ m → beside ≢ Some x → IsTrueAt es (negation x) m
+      → IsLastFalse es (front ++ x ∷ []) beside (record { lit = x; level = m })
   false_later m f known le other at = record {
     has = Contains-push front x;
     differs = other;

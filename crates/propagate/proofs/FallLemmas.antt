@@ -51,18 +51,21 @@ pub none_last : (t : Assigned) (db : List (List Lit)) → AreLastToFallFrom (len
 none_last t db c p from is = let within = known_at t.watching.watches c p is in absurd (omega (arith, within, from))
 
 -- the literal beside which the best one is watched anew, in place of one that is false, isn't false since a lower level
-pub last_beside : (t s : Assigned) (clause : List Lit) (f o best : Lit) → IsTrail t → IsTrail s → IsNextFalse t f → IsAssignedIfUnit t s o best → Contains clause best → IsLastToFall s.entries (length s.levels) clause o f
+pub last_beside : (t s : Assigned) (clause : List Lit) (f o best : Lit) → IsTrail t → IsTrail s → IsNextFalse t f
+    → IsAssignedIfUnit t s o best → Contains clause best → IsLastToFall s.entries (length s.levels) clause o f
     → IsLastToFall s.entries (length s.levels) clause o best
 last_beside t s clause f o best before trail next (inl (open_here, same)) has was m below at =
     absurd (elim (All-contains (λ (x : Lit). (Some f ≡ Some x) ⊎ IsTrueUpTo s.entries m (negation x)) clause best (was m below at) has) [
       | inl that ↦ open_here (rw (same_Some _ _ that) at (next_false t f before next))
       | inr since ↦ open_here (rw same at (up_to_held s.entries m (negation best) since))
     ])
-last_beside t s clause f o best before trail next (inr (made, guarded)) has was m below at = absurd (not_both s o trail made (up_to_held s.entries m (negation o) (at_up_to s.entries (negation o) m m (omega arith) at)))
+last_beside t s clause f o best before trail next (inr (made, guarded)) has was m below at =
+    absurd (not_both s o trail made (up_to_held s.entries m (negation o) (at_up_to s.entries (negation o) m m (omega arith) at)))
 
 -- the watched literals of a clause, of which f is one, with the best one in its place
 pub last_moved : (t s : Assigned) (db : List (List Lit)) (n c : ℕ) (f o best : Lit) → IsTrail t → IsTrail s → IsNextFalse t f → IsAssignedIfUnit t s o best → AreWatchedOf s.watching c f o → n ≤ c
-    → IsLastToFall s.entries (length s.levels) (clause_at db c) best o → Contains (clause_at db c) best → AreLastToFallFrom n s db → AreLastToFall s.entries (length s.levels) (clause_at db c) (record { first = best; second = o })
+    → IsLastToFall s.entries (length s.levels) (clause_at db c) best o → Contains (clause_at db c) best → AreLastToFallFrom n s db
+    → AreLastToFall s.entries (length s.levels) (clause_at db c) (record { first = best; second = o })
 last_moved t s db n c f o best before trail next assigned (p, is, both) from last has was =
     let old = was c p from is in
     let that : IsLastToFall s.entries (length s.levels) (clause_at db c) o f = elim both [
@@ -76,7 +79,8 @@ module _ (t : Assigned) (clause : List Lit) (trail : IsTrail t) where
   highest : (l other : Lit) → IsGuarded t.entries (length t.entries) l other → IsLastToFall t.entries (length t.levels) clause l other → IsHighest t.entries clause l
   highest l other guarded last m at = elim (cases_lt m (length t.levels)) [
     | inr le ↦ λ k d within n fell. let top = trail.levels.top fell.0 fell.1 in let level = fell.3 in omega (arith, le, top, level)
-    | inl below ↦ All-weaker (λ (x : Lit). (Some other ≡ Some x) ⊎ IsTrueUpTo t.entries m (negation x)) (λ (x : Lit). (n : ℕ) → IsTrueAt t.entries (negation x) n → n ≤ m) weaker clause (last m below at)
+    | inl below ↦ All-weaker (λ (x : Lit). (Some other ≡ Some x) ⊎ IsTrueUpTo t.entries m (negation x))
+        (λ (x : Lit). (n : ℕ) → IsTrueAt t.entries (negation x) n → n ≤ m) weaker clause (last m below at)
   ] where
     weaker : (x : Lit) → (Some other ≡ Some x) ⊎ IsTrueUpTo t.entries m (negation x) → (n : ℕ) → IsTrueAt t.entries (negation x) n → n ≤ m
     weaker x (inr since) n fell = up_to_level t (negation x) n m trail fell since

@@ -94,7 +94,8 @@ module _ (t : Assigned) (db : List (List Lit)) (c m : ℕ) (o : Lit) (trail : Is
   ]
 
 -- a true literal, where the others are false since some level
-pub since_true : (t : Assigned) (db : List (List Lit)) (c m : ℕ) (o : Lit) → IsTrail t → Closed t db → c < length db → Contains (literals t.entries) o → AreFalseUpTo t.entries m (clause_at db c) (Some o) → IsTrueUpTo t.entries m o
+pub since_true : (t : Assigned) (db : List (List Lit)) (c m : ℕ) (o : Lit) → IsTrail t → Closed t db → c < length db
+    → Contains (literals t.entries) o → AreFalseUpTo t.entries m (clause_at db c) (Some o) → IsTrueUpTo t.entries m o
 since_true t db c m o trail closed held is_true rest =
     let at = literal_at t.entries o is_true in
     let k = is_true.0 in
@@ -110,7 +111,8 @@ since_true t db c m o trail closed held is_true rest =
           absurd (omega (arith, late, top, above))
     ]
 
-pub since_followed : (t : Assigned) (db : List (List Lit)) (c m : ℕ) (o : Lit) → IsTrail t → Closed t db → c < length db → IsUnassigned t.entries o.var → AreFalseUpTo t.entries m (clause_at db c) (Some o)
+pub since_followed : (t : Assigned) (db : List (List Lit)) (c m : ℕ) (o : Lit) → IsTrail t → Closed t db → c < length db
+    → IsUnassigned t.entries o.var → AreFalseUpTo t.entries m (clause_at db c) (Some o)
     → IsTrueUpTo (followed t o c).entries m o
 since_followed t db c m o trail closed held free rest =
     let e : Entry = record { lit = o; level = length t.levels; reason = Some c } in
@@ -119,10 +121,13 @@ since_followed t db c m o trail closed held free rest =
     (length t.entries, omega (arith, length_push t.entries e), ap (λ (x : Entry). x.lit) here, rw here late)
 
 -- where the best literal beside one is false, all others are
-pub best_leaves : (es : List Entry) (clause : List Lit) (l best : Lit) (k : ℕ) → Contains clause l → IsBest es clause (Some l) best → k < length es → (entry_at es k).lit ≡ negation best → LeavesOnly negation (literals es) clause l
+pub best_leaves : (es : List Entry) (clause : List Lit) (l best : Lit) (k : ℕ) → Contains clause l → IsBest es clause (Some l) best
+    → k < length es → (entry_at es k).lit ≡ negation best → LeavesOnly negation (literals es) clause l
 best_leaves es clause l best k has is_best within is = record {
   has = has;
-  others_false = All-weaker (λ (x : Lit). (Some l ≡ Some x) ⊎ IsTrueUpTo es (entry_at es k).level (negation x)) (λ (x : Lit). (x ≡ l) ⊎ Contains (literals es) (negation x)) weaker clause (is_best.last k within is);
+  others_false =
+      All-weaker (λ (x : Lit). (Some l ≡ Some x) ⊎ IsTrueUpTo es (entry_at es k).level (negation x))
+      (λ (x : Lit). (x ≡ l) ⊎ Contains (literals es) (negation x)) weaker clause (is_best.last k within is);
 } where
   weaker : (x : Lit) → (Some l ≡ Some x) ⊎ IsTrueUpTo es (entry_at es k).level (negation x) → (x ≡ l) ⊎ Contains (literals es) (negation x)
   weaker x (inl same) = inl (sym (same_Some _ _ same))
@@ -132,7 +137,8 @@ best_leaves es clause l best k has is_best within is = record {
 pub two_best : (es : List Entry) (clause : List Lit) (p : Watch) → AreBest es clause p → AreTwoOf clause p
 two_best es clause p best = record { differ = λ same. best.second.differs (ap (λ x. Some x) same); has_first = best.first.has; has_second = best.second.has }
 
-pub guards_best : (t s : Assigned) (clause : List Lit) (p : Watch) (n : ℕ) → IsTrail s → n ≤ length s.entries → IsAssignedIfUnit t s p.first p.second → AreBest t.entries clause p → AreGuarded s.entries n p
+pub guards_best : (t s : Assigned) (clause : List Lit) (p : Watch) (n : ℕ) → IsTrail s → n ≤ length s.entries
+    → IsAssignedIfUnit t s p.first p.second → AreBest t.entries clause p → AreGuarded s.entries n p
 guards_best t s clause p n trail le (inl (open_here, same)) best =
     let first_open : Contains (literals t.entries) (negation p.first) → ⊥ = λ first_false.
     let at = literal_at t.entries (negation p.first) first_false in

@@ -69,7 +69,8 @@ unset_few (v ∷ vars) t trail apart unset =
     omega (arith, more, length_push t.entries e)
 
 -- the held edges are no more than those of the base and the literals
-edges_few : (t : Assigned) (db : List (List Lit)) (links : List (Option (Edge × Edge))) (base : List Edge) (g : Constraints) → InStep t db links base g → length g.edges ≤ length base + length t.entries
+edges_few : (t : Assigned) (db : List (List Lit)) (links : List (Option (Edge × Edge))) (base : List Edge) (g : Constraints)
+    → InStep t db links base g → length g.edges ≤ length base + length t.entries
 edges_few t db links base g step =
     let kept = few_kept (edge_of links) (literals t.entries) in
     omega (arith, kept, ap length step.edges, length-append base (edges_of links (literals t.entries)), length-map t.entries (λ (e : Entry). e.lit))
@@ -78,7 +79,9 @@ pub room_for_all : RoomForAllIsRoom
 room_for_all = record {
   each = λ t db links base g trail step most vars apart unset.
       let edges = edges_few t db links base g step in
-      let count = unset_few vars t trail apart (All-weaker (λ v. (v < t.vars) × IsUnassigned t.entries v × IsSome (edges_at links v)) (λ v. (v < t.vars) × IsUnassigned t.entries v) (λ v is. (is.0, is.1)) vars unset) in
+      let count =
+      unset_few vars t trail apart (All-weaker (λ v. (v < t.vars) × IsUnassigned t.entries v × IsSome (edges_at links v))
+      (λ v. (v < t.vars) × IsUnassigned t.entries v) (λ v is. (is.0, is.1)) vars unset) in
       omega (arith, edges, count, most);
   next = λ t db links base g v trail step most below free.
       let edges = edges_few t db links base g step in

@@ -43,7 +43,8 @@ pub view_below : (places : List (Option ℕ)) (edges : List Pair) (v : ℕ) → 
 view_below places edges v within = omega (arith, within, length-map places (pair_at edges))
 
 -- the edges of a variable, as they are read
-pub pair_read : (places : List (Option ℕ)) (edges : List Pair) (v k : ℕ) (r : Pair) → v < length places → get_or places v None ≡ Some k → k < length edges → r ≡ get_or edges k r → get_or (map (pair_at edges) places) v None ≡ Some r
+pub pair_read : (places : List (Option ℕ)) (edges : List Pair) (v k : ℕ) (r : Pair) → v < length places → get_or places v None ≡ Some k
+    → k < length edges → r ≡ get_or edges k r → get_or (map (pair_at edges) places) v None ≡ Some r
 pair_read places edges v k r within is less got = get_or-map (pair_at edges) places v None None within ∙ ap (pair_at edges) is ∙ read_get edges k r less got
 
 -- no variable has edges at first
@@ -121,6 +122,10 @@ module _ (places : List (Option ℕ)) (edges : List Pair) (capacity v : ℕ) (wi
         let inside : w < length places = omega (arith, w_in, length-map places (pair_at (set edges k y))) in
         let here : v < length (map (pair_at edges) places) = omega (arith, within, length-map places (pair_at edges)) in
         elim (cases_eq w v) [
-          | inl same ↦ rw (same, get_or-set_same (map (pair_at edges) places) v (Some y) None here) (get_or-map (pair_at (set edges k y)) places v None None within ∙ ap (pair_at (set edges k y)) is ∙ get_set_same edges k y (old.below v k is))
-          | inr other ↦ rw (get_or-set_other (map (pair_at edges) places) v w (Some y) None other) (get_or-map (pair_at (set edges k y)) places w None None inside ∙ other_pair w (get_or places w None) other refl ∙ sym (get_or-map (pair_at edges) places w None None inside))
+          | inl same ↦ rw (same, get_or-set_same (map (pair_at edges) places) v (Some y) None here)
+              (get_or-map (pair_at (set edges k y)) places v None None within ∙ ap (pair_at (set edges k y)) is
+              ∙ get_set_same edges k y (old.below v k is))
+          | inr other ↦ rw (get_or-set_other (map (pair_at edges) places) v w (Some y) None other)
+              (get_or-map (pair_at (set edges k y)) places w None None inside ∙ other_pair w (get_or places w None) other refl
+              ∙ sym (get_or-map (pair_at edges) places w None None inside))
         ])

@@ -43,14 +43,16 @@ pub best_apart : (t : Assigned) (f best denied : Lit) (n : ℕ) → IsNextFalse 
 best_apart t f best denied n next level is later same = later (t.taken, next.more, next.is ∙ ap negation (sym same) ∙ sym is, omega (arith, level))
 
 -- the other watched literal of a clause is in range
-pub other_below : (db : List (List Lit)) (links : List (Option (Edge × Edge))) (t : Assigned) (g : Constraints) (c : ℕ) (f o : Lit) → IsAtWork db links t g → IsNextFalse t f → AreWatchedOf t.watching c f o → o.var < t.vars
+pub other_below : (db : List (List Lit)) (links : List (Option (Edge × Edge))) (t : Assigned) (g : Constraints) (c : ℕ) (f o : Lit)
+    → IsAtWork db links t g → IsNextFalse t f → AreWatchedOf t.watching c f o → o.var < t.vars
 other_below db links t g c f o work next both =
     let known = work.watched.known in
     let held : c < length db = let within = known_at t.watching.watches c both.0 both.1 in omega (arith, known, within) in
     All-contains (λ (l : Lit). l.var < t.vars) (clause_at db c) o (work.reasons.variables c [] held) (other_in t db c f o work.trail work.watched next both)
 
 -- a clause that was watched still is
-pub step_watched : (t s : Assigned) (f o best : Lit) (c : ℕ) → AreWatchedOf t.watching c f o → s ≡ rewatched t (listing t.watching best (watchers_of t.watching best ++ c ∷ [])) t.taken → IsSome (watch_at s.watching c)
+pub step_watched : (t s : Assigned) (f o best : Lit) (c : ℕ) → AreWatchedOf t.watching c f o
+    → s ≡ rewatched t (listing t.watching best (watchers_of t.watching best ++ c ∷ [])) t.taken → IsSome (watch_at s.watching c)
 step_watched t s f o best c both added = rw (ap (λ (x : Assigned). x.watching.watches) added, both.1) refl
 
 -- a clause that is moved, step by step
@@ -104,7 +106,9 @@ module _ (t : Assigned) (f o best : Lit) (c place : ℕ) (trail : IsTrail t) (in
 
 -- the visit of a clause that watches the literal and another one
 module _ (db : List (List Lit)) (links : List (Option (Edge × Edge))) (t : Assigned) (g : Constraints) (s : Assigned) (h : Constraints) (u : Assigned) (c place : ℕ) (f o best : Lit) (work : IsAtWork db links t g) (next : IsNextFalse t f)
-    (here : IsWatcherAt t.watching f place c) (both : AreWatchedOf t.watching c f o) (is_best : IsBest t.entries (clause_at db c) (Some o) best) (progress : IsProgress db links t g s h) (unmoved : IsUnmoved t s) (assigned_here : IsAssignedIfUnit t s o best)
+    (here : IsWatcherAt t.watching f place c) (both : AreWatchedOf t.watching c f o)
+    (is_best : IsBest t.entries (clause_at db c) (Some o) best) (progress : IsProgress db links t g s h) (unmoved : IsUnmoved t s)
+    (assigned_here : IsAssignedIfUnit t s o best)
     (is : u ≡ rewatched s u.watching s.taken) (trail : IsTrail u) (anew : IsRewatched s.watching u.watching c (record { first = best; second = o })) where
   abbrev q : Watch
   q = record { first = best; second = o }
@@ -165,7 +169,8 @@ left_visited t s f c place after next grown visited left d p is = elim (cases_eq
 ]
 
 -- where nothing is left, the literal is taken
-pub progress_next : (db : List (List Lit)) (links : List (Option (Edge × Edge))) (a t s : Assigned) (g h : Constraints) (f : Lit) (place : ℕ) → IsProgress db links a g t h → AreLeft t f place → length (watchers_of t.watching f) ≤ place
+pub progress_next : (db : List (List Lit)) (links : List (Option (Edge × Edge))) (a t s : Assigned) (g h : Constraints) (f : Lit) (place : ℕ)
+    → IsProgress db links a g t h → AreLeft t f place → length (watchers_of t.watching f) ≤ place
     → s ≡ rewatched t t.watching (t.taken + 1) → IsTrail s → IsProgress db links a g s h
 progress_next db links a t s g h f place old left end is trail =
     subst (λ (x : Assigned). IsProgress db links a g x h) (sym is) (progress_rewatched t db t.watching (t.taken + 1) links a g h (subst IsTrail is trail) watched (omega arith) (λ k was. was) old) where

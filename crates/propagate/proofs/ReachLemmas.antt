@@ -80,7 +80,8 @@ grown_followed t u c =
 module _ (t s : Assigned) (grown : IsGrown t s) (clause : List Lit) where
   pub last_grown : (l other : Lit) → IsLastToFall t.entries (length t.levels) clause l other → IsLastToFall s.entries (length s.levels) clause l other
   last_grown l other was =
-      rw grown.levels (last_longer t.entries s.entries (length t.levels) grown.longer (λ k within. grown_entry t s k grown within) (λ k after within. (grown.added k after within).0) clause l other was)
+      rw grown.levels (last_longer t.entries s.entries (length t.levels) grown.longer (λ k within. grown_entry t s k grown within)
+      (λ k after within. (grown.added k after within).0) clause l other was)
 
   pub both_last_grown : (p : Watch) → AreLastToFall t.entries (length t.levels) clause p → AreLastToFall s.entries (length s.levels) clause p
   both_last_grown p was = record { first = last_grown p.first p.second was.first; second = last_grown p.second p.first was.second }
@@ -247,7 +248,8 @@ module _ (t : Assigned) (db : List (List Lit)) (w : Watching) (n : ℕ) where
   reasons_rewatched : HasReasons t db → HasReasons (rewatched t w n) db
   reasons_rewatched old = record { variables = old.variables; reasons = old.reasons }
 
-  step_rewatched : (held : List Lit) (links : List (Option (Edge × Edge))) (base : List Edge) (g : Constraints) → AreWatched (rewatched t w n) db → IsInStep held t db links base g → IsInStep held (rewatched t w n) db links base g
+  step_rewatched : (held : List Lit) (links : List (Option (Edge × Edge))) (base : List Edge) (g : Constraints)
+      → AreWatched (rewatched t w n) db → IsInStep held t db links base g → IsInStep held (rewatched t w n) db links base g
   step_rewatched held links base g watched old = record {
     reasons = reasons_rewatched old.reasons;
     watched = watched;
@@ -256,7 +258,8 @@ module _ (t : Assigned) (db : List (List Lit)) (w : Watching) (n : ℕ) where
     marks = old.marks;
   }
 
-  pub progress_rewatched : (links : List (Option (Edge × Edge))) (a : Assigned) (g h : Constraints) → IsTrail (rewatched t w n) → AreWatched (rewatched t w n) db → length t.watching.watches ≤ length w.watches
+  pub progress_rewatched : (links : List (Option (Edge × Edge))) (a : Assigned) (g h : Constraints) → IsTrail (rewatched t w n)
+      → AreWatched (rewatched t w n) db → length t.watching.watches ≤ length w.watches
       → ((k : ℕ) → AreLastToFallFrom k t db → AreLastToFallFrom k (rewatched t w n) db) → IsProgress db links a g t h → IsProgress db links a g (rewatched t w n) h
   progress_rewatched links a g h trail watched more kept old = record {
     work = record {
@@ -274,7 +277,8 @@ module _ (t : Assigned) (db : List (List Lit)) (w : Watching) (n : ℕ) where
     in_step = λ base step. step_rewatched (literals t.entries) links base h watched (old.in_step base step);
   }
 
-  stopped_rewatched : (links : List (Option (Edge × Edge))) (a : Assigned) (g h : Constraints) (u : Lit) → AreWatched (rewatched t w n) db → IsStopped db links a g u t h → IsStopped db links a g u (rewatched t w n) h
+  stopped_rewatched : (links : List (Option (Edge × Edge))) (a : Assigned) (g h : Constraints) (u : Lit) → AreWatched (rewatched t w n) db
+      → IsStopped db links a g u t h → IsStopped db links a g u (rewatched t w n) h
   stopped_rewatched links a g h u watched old = record {
     reasons = reasons_rewatched old.reasons;
     watched = watched;
@@ -290,7 +294,9 @@ module _ (t s : Assigned) (db : List (List Lit)) (links : List (Option (Edge × 
   pub progress_untaken : IsProgress db links a g t h → IsProgress db links a g s h
   progress_untaken old =
       let n = s.taken in
-      subst (λ (x : Assigned). IsProgress db links a g x h) (sym is) (progress_rewatched t db t.watching n links a g h (subst IsTrail is trail) (watched_taken t db n le old.work.watched) (omega arith) (λ k was. was) old)
+      subst (λ (x : Assigned). IsProgress db links a g x h) (sym is)
+      (progress_rewatched t db t.watching n links a g h (subst IsTrail is trail) (watched_taken t db n le old.work.watched)
+      (omega arith) (λ k was. was) old)
 
   pub stop_untaken : (k : Stop) → HasStopped db links a g k t h → HasStopped db links a g k s h
   stop_untaken (stop.Clause c) old = (progress_untaken old.0, subst (λ (x : Assigned). IsConflict x db c) (sym is) (record { held = old.1.held; falsified = old.1.falsified }))

@@ -75,7 +75,9 @@ module _ (xs : List Entry) (places : List (Option ℕ)) (ls : List Level) (w : W
       let lists = stored.trail.lists in
       let within : l.var < length w.watchers = omega (arith, below, lists) in
       let read = read_lists i l now below at is in
-      stored_watching (record { watches = w.watches; watchers = set w.watchers i new; satisfied = w.satisfied }) (length-set w.watchers i new) stored.trail.satisfied (rw (at, less, sense, read) (all_listed_less w l k within here unwatched stored.trail.listed))
+      stored_watching (record { watches = w.watches; watchers = set w.watchers i new; satisfied = w.satisfied })
+      (length-set w.watchers i new) stored.trail.satisfied (rw (at, less, sense, read)
+      (all_listed_less w l k within here unwatched stored.trail.listed))
 
   pub stored_up : (r : Option Watch) (watches : List (Option Watch)) → watches ≡ w.watches ++ r ∷ [] → ((p : Watch) → r ≡ Some p → IsListed w (length w.watches) p)
       → IsStored xs places ls (record { watches = watches; watchers = w.watchers; satisfied = w.satisfied }) n ec lc
@@ -86,7 +88,9 @@ module _ (xs : List Entry) (places : List (Option ℕ)) (ls : List Level) (w : W
   stored_taken_up r watches (inl more) new = stored_up r watches more new
   stored_taken_up r watches (inr same) new = rw same stored
 
-  pub stored_set : (c : ℕ) (q : Watch) (watches : List (Option Watch)) → watches ≡ set w.watches c (Some q) → c < length w.watches → IsSome (watch_at w c) → IsListed w c q → IsStored xs places ls (record { watches = watches; watchers = w.watchers; satisfied = w.satisfied }) n ec lc
+  pub stored_set : (c : ℕ) (q : Watch) (watches : List (Option Watch)) → watches ≡ set w.watches c (Some q) → c < length w.watches
+      → IsSome (watch_at w c) → IsListed w c q
+      → IsStored xs places ls (record { watches = watches; watchers = w.watchers; satisfied = w.satisfied }) n ec lc
   stored_set c q watches is within some new = rw is (stored_watching (watching w (set w.watches c (Some q))) refl (let satisfied = stored.trail.satisfied in omega (arith, satisfied, ap length (unwatched_set w.watches c c q refl some))) (all_listed_set w c q within new stored.trail.listed))
 
   -- one clause more that counts as satisfied

@@ -101,13 +101,15 @@ abbrev pub trail_of : ℕ → List Entry → List Level → Watching → ℕ →
 trail_of vars entries levels watching taken = record { vars = vars; entries = entries; levels = levels; watching = watching; taken = taken }
 
 -- a trail with an unassigned variable has room for its literal
-pub room_for_entry : (xs : List Entry) (places : List (Option ℕ)) (ls : List Level) (w : Watching) (n ec lc : ℕ) (u : Lit) → IsStored xs places ls w n ec lc → u.var < length places → IsUnassigned xs u.var → length xs < length places
+pub room_for_entry : (xs : List Entry) (places : List (Option ℕ)) (ls : List Level) (w : Watching) (n ec lc : ℕ) (u : Lit)
+    → IsStored xs places ls w n ec lc → u.var < length places → IsUnassigned xs u.var → length xs < length places
 room_for_entry xs places ls w n ec lc u stored below free =
     let t : Assigned = record { vars = length places; entries = xs; levels = ls; watching = w; taken = n } in
     let most = few_literals (followed t u 0) (trail_followed t u 0 stored.trail below free) in
     omega (arith, most, length_push xs (record { lit = u; level = length ls; reason = Some 0 }))
 
-pub room_for_level : (xs : List Entry) (places : List (Option ℕ)) (ls : List Level) (w : Watching) (n ec lc : ℕ) (u : Lit) → IsStored xs places ls w n ec lc → u.var < length places → IsUnassigned xs u.var → length ls < length places
+pub room_for_level : (xs : List Entry) (places : List (Option ℕ)) (ls : List Level) (w : Watching) (n ec lc : ℕ) (u : Lit)
+    → IsStored xs places ls w n ec lc → u.var < length places → IsUnassigned xs u.var → length ls < length places
 room_for_level xs places ls w n ec lc u stored below free =
     let more = room_for_entry xs places ls w n ec lc u stored below free in
     let fewer = few_levels xs ls stored.trail.levels in
@@ -129,7 +131,8 @@ stored_followed xs ys places ls w n ec lc more u c v level place stored room bel
     })
 
 -- what is stored after one more level, with its decision
-pub stored_decided : (xs ys : List Entry) (places : List (Option ℕ)) (ls ms : List Level) (w : Watching) (n ec lc more deeper : ℕ) (u : Lit) (mark v level place : ℕ) → IsStored xs places ls w n ec lc → ec ≤ more → lc ≤ deeper
+pub stored_decided : (xs ys : List Entry) (places : List (Option ℕ)) (ls ms : List Level) (w : Watching) (n ec lc more deeper : ℕ) (u : Lit) (mark v level place : ℕ)
+    → IsStored xs places ls w n ec lc → ec ≤ more → lc ≤ deeper
     → u.var < length places → IsUnassigned xs u.var → v ≡ u.var → place ≡ length xs → level ≡ length ls → ys ≡ xs ++ record { lit = u; level = level + 1; reason = None } ∷ []
     → ms ≡ ls ++ record { start = place; mark = mark } ∷ [] → IsStored ys (set places v (Some place)) ms w n more deeper
 stored_decided xs ys places ls ms w n ec lc more deeper u mark v level place stored room depth below free var at deep is opened =
@@ -144,7 +147,8 @@ stored_decided xs ys places ls ms w n ec lc more deeper u mark v level place sto
     })
 
 -- what is stored after levels are undone
-pub stored_cut : (xs ys : List Entry) (places rest : List (Option ℕ)) (ls ms : List Level) (w : Watching) (n ec lc : ℕ) (m : ℕ) → m < length ls → IsStored xs places ls w n ec lc → ys ≡ take (start_of ls m) xs → ms ≡ take m ls
+pub stored_cut : (xs ys : List Entry) (places rest : List (Option ℕ)) (ls ms : List Level) (w : Watching) (n ec lc : ℕ) (m : ℕ)
+    → m < length ls → IsStored xs places ls w n ec lc → ys ≡ take (start_of ls m) xs → ms ≡ take m ls
     → length rest ≡ length places → IsTable ys rest → IsStored ys rest ms w (min n (start_of ls m)) ec lc
 stored_cut xs ys places rest ls ms w n ec lc m op stored is undone count table =
     let t : Assigned = record { vars = length places; entries = xs; levels = ls; watching = w; taken = n } in
@@ -161,12 +165,14 @@ pub read_start : (ls : List Level) (m : ℕ) (l : Level) → m < length ls → l
 read_start ls m l op is = ap (λ (x : Level). x.start) (get_or_read ls m l op is no_level)
 
 -- the trail after levels are undone
-pub cut_is : (xs ys : List Entry) (places rest : List (Option ℕ)) (ls ms : List Level) (w : Watching) (n m : ℕ) → m < length ls → IsTrail (trail_of (length places) xs ls w n) → ys ≡ take (start_of ls m) xs → ms ≡ take m ls
+pub cut_is : (xs ys : List Entry) (places rest : List (Option ℕ)) (ls ms : List Level) (w : Watching) (n m : ℕ) → m < length ls
+    → IsTrail (trail_of (length places) xs ls w n) → ys ≡ take (start_of ls m) xs → ms ≡ take m ls
     → length rest ≡ length places → trail_of (length rest) ys ms w (min n (start_of ls m)) ≡ cut_to m (trail_of (length places) xs ls w n)
 cut_is xs ys places rest ls ms w n m op trail is undone count = rw (count, is, undone) (cut_is_at (trail_of (length places) xs ls w n) m op trail)
 
 -- where no more literals are taken than begin before the present level, none of that level is
-pub untaken : (xs : List Entry) (ls : List Level) (n start k : ℕ) → AreLevels xs ls → n ≤ length xs → (length ls ≡ 0 → start ≡ 0) → ((j : ℕ) → length ls ≡ j + 1 → start ≡ start_of ls j) → k < min n start → (entry_at xs k).level < length ls
+pub untaken : (xs : List Entry) (ls : List Level) (n start k : ℕ) → AreLevels xs ls → n ≤ length xs → (length ls ≡ 0 → start ≡ 0)
+    → ((j : ℕ) → length ls ≡ j + 1 → start ≡ start_of ls j) → k < min n start → (entry_at xs k).level < length ls
 untaken xs ls n start k levels most lowest above less = elim (cases_lt 0 (length ls)) [
   | inr none ↦
       let first = lowest (omega (arith, none)) in

@@ -34,7 +34,8 @@ value_read values v i r same below is =
     rw (← same) (sym got)
 
 -- what a variable's value tells
-pub value_tells : (xs : List Entry) (places : List (Option ℕ)) (v : ℕ) (r : Option Bool) → IsTable xs places → r ≡ value_of xs (get_or places v None) → (IsNone r ↔ IsUnassigned xs v) × IfSome r (λ b. HasEntry xs v (λ e. e.lit.positive ≡ b))
+pub value_tells : (xs : List Entry) (places : List (Option ℕ)) (v : ℕ) (r : Option Bool) → IsTable xs places
+    → r ≡ value_of xs (get_or places v None) → (IsNone r ↔ IsUnassigned xs v) × IfSome r (λ b. HasEntry xs v (λ e. e.lit.positive ≡ b))
 value_tells xs places v r table is = by (get_or places v None) refl r is where
   by : (p : Option ℕ) → get_or places v None ≡ p → (r : Option Bool) → r ≡ value_of xs p → (IsNone r ↔ IsUnassigned xs v) × IfSome r (λ b. HasEntry xs v (λ e. e.lit.positive ≡ b))
   by None at None same = ((λ none. table_none xs places v table at, λ free. refl), tt)
@@ -48,12 +49,17 @@ value_tells xs places v r table is = by (get_or places v None) refl r is where
 
 module _ (xs : List Entry) (e : Entry) (places : List (Option ℕ)) (values : List (Option Bool)) where
   -- one more literal
-  pub values_push : AreValues xs places values → IsTable xs places → e.lit.var < length places → AreValues (xs ++ e ∷ []) (set places e.lit.var (Some (length xs))) (set values e.lit.var (Some e.lit.positive))
+  pub values_push : AreValues xs places values → IsTable xs places → e.lit.var < length places
+      → AreValues (xs ++ e ∷ []) (set places e.lit.var (Some (length xs))) (set values e.lit.var (Some e.lit.positive))
   values_push old table below = record {
     count = length-set values e.lit.var (Some e.lit.positive) ∙ old.count ∙ sym (length-set places e.lit.var (Some (length xs)));
     is = λ v. elim (cases_eq v e.lit.var) [
       | inl same ↦ rw (same, get_or-set_same places e.lit.var (Some (length xs)) None below, get_or-set_same values e.lit.var (Some e.lit.positive) None (let count = old.count in omega (arith, count, below)), new_entry xs e (length xs) refl) refl
-      | inr other ↦ rw (get_or-set_other places e.lit.var v (Some (length xs)) None other, get_or-set_other values e.lit.var v (Some e.lit.positive) None other) (old.is v ∙ kept v (get_or places v None) refl)
+      | inr other ↦ rw (
+        get_or-set_other places e.lit.var v (Some (length xs)) None other,
+        get_or-set_other values e.lit.var v
+            (Some e.lit.positive) None other,
+      ) (old.is v ∙ kept v (get_or places v None) refl)
     ];
   } where
     kept : (v : ℕ) (p : Option ℕ) → get_or places v None ≡ p → value_of xs p ≡ value_of (xs ++ e ∷ []) p

@@ -61,7 +61,8 @@ module _ (db : List (List Lit)) (links : List (Option (Edge × Edge))) (t : Assi
         rw (same, kept) (since (entry_at t.entries at.0).level (is_best.last at.0 at.1 at.2)),
   )
 
-  pub assigned_if_ok : {T : Type 0} (r : Result T Stop) → IsReached db links t g r s h → OnOk r (Contains (literals s.entries) l) → OnOk r ((m : ℕ) → AreFalseUpTo t.entries m clause (Some l) → IsTrueUpTo s.entries m l) → OnOk r (IsAssignedIfUnit t s l best)
+  pub assigned_if_ok : {T : Type 0} (r : Result T Stop) → IsReached db links t g r s h → OnOk r (Contains (literals s.entries) l)
+      → OnOk r ((m : ℕ) → AreFalseUpTo t.entries m clause (Some l) → IsTrueUpTo s.entries m l) → OnOk r (IsAssignedIfUnit t s l best)
   assigned_if_ok (Ok x) progress made since = assigned progress made since
   assigned_if_ok (Err k) stopped made since = tt
 
@@ -80,7 +81,8 @@ short_satisfied t db trail closed op c held short = met_so (closed 0 op c [] hel
   met_so (inr two) = absurd (two.differ (two_apart (clause_at db c) two.one two.other two.has_one two.has_other short))
 
 -- where those of which no two literals are watched count as satisfied, all short ones are
-pub all_short_satisfied : (t : Assigned) (db : List (List Lit)) → AreWatched t db → length db ≤ length t.watching.watches → length (unwatched t.watching.watches) ≤ t.watching.satisfied → AreShortSatisfied t db
+pub all_short_satisfied : (t : Assigned) (db : List (List Lit)) → AreWatched t db → length db ≤ length t.watching.watches
+    → length (unwatched t.watching.watches) ≤ t.watching.satisfied → AreShortSatisfied t db
 all_short_satisfied t db watched known all c held short = by_watch (watch_at t.watching c) refl where
   by_watch : (r : Option Watch) → watch_at t.watching c ≡ r → Any (Contains (literals t.entries)) (clause_at db c)
   by_watch None none =
@@ -92,15 +94,19 @@ all_short_satisfied t db watched known all c held short = by_watch (watch_at t.w
   by_watch (Some p) is = let two = watched.two c p is in absurd (two.differ (two_apart (clause_at db c) p.first p.second two.has_first two.has_second short))
 
 -- at level 0 a short clause that was satisfied counts as such
-pub progress_satisfied : (db : List (List Lit)) (links : List (Option (Edge × Edge))) (a t s : Assigned) (g h : Constraints) (c : ℕ) → IsProgress db links a g t h → length t.levels ≡ 0 → t.watching.satisfied < length (unwatched t.watching.watches)
-    → get_or (unwatched t.watching.watches) t.watching.satisfied 0 ≡ c → IsSatisfiedIfShort t (clause_at db c) → s ≡ rewatched t (satisfying t.watching (t.watching.satisfied + 1)) t.taken → IsTrail s → IsProgress db links a g s h
+pub progress_satisfied : (db : List (List Lit)) (links : List (Option (Edge × Edge))) (a t s : Assigned) (g h : Constraints) (c : ℕ)
+    → IsProgress db links a g t h → length t.levels ≡ 0 → t.watching.satisfied < length (unwatched t.watching.watches)
+    → get_or (unwatched t.watching.watches) t.watching.satisfied 0 ≡ c → IsSatisfiedIfShort t (clause_at db c)
+    → s ≡ rewatched t (satisfying t.watching (t.watching.satisfied + 1)) t.taken → IsTrail s → IsProgress db links a g s h
 progress_satisfied db links a t s g h c old lowest more here satisfied is trail =
     let w = satisfying t.watching (t.watching.satisfied + 1) in
     let below = unwatched_below t.watching.watches t.watching.satisfied more in
     let short = old.work.watched.short (get_or (unwatched t.watching.watches) t.watching.satisfied 0) below (unwatched_none t.watching.watches t.watching.satisfied more) in
     let any = satisfied (rw here at short) in
     let since : Any (IsTrueUpTo t.entries 0) (clause_at db c) = (any.0, any.1, any.2, any.3, up_to_top t any.1 0 old.work.trail (omega (arith, lowest)) any.4) in
-    subst (λ (x : Assigned). IsProgress db links a g x h) (sym is) (progress_rewatched t db w t.taken links a g h (subst IsTrail is trail) (watched_satisfied t db (rw here since) old.work.watched) (omega arith) (λ k was. was) old)
+    subst (λ (x : Assigned). IsProgress db links a g x h) (sym is)
+    (progress_rewatched t db w t.taken links a g h (subst IsTrail is trail) (watched_satisfied t db (rw here since) old.work.watched)
+    (omega arith) (λ k was. was) old)
 
 pub satisfied_grown : (t s : Assigned) (clause : List Lit) → IsGrown t s → IsSatisfiedIfShort t clause → IsSatisfiedIfShort s clause
 satisfied_grown t s clause grown was short = let any = was short in (any.0, any.1, any.2, any.3, held_grown t s any.1 grown any.4)
@@ -135,19 +141,33 @@ all_settled t db watched taken known short = All-from_get_or (IsSettled negation
               let since = rule.second no_second.0 (let within = at.0 in omega (arith, within, taken)) at.1 in
               let has = two.has_first in
               inl (has.0, p.first, has.1, has.2, up_to_held t.entries _ p.first since)
-          | inr second_open ↦ inr (record { one = p.first; other = p.second; has_one = two.has_first; has_other = two.has_second; differ = two.differ; one_open = first_open; other_open = second_open })
+          | inr second_open ↦ inr (record {
+            one = p.first;
+            other = p.second;
+            has_one = two.has_first;
+            has_other = two.has_second;
+            differ = two.differ;
+            one_open = first_open;
+            other_open = second_open;
+          })
         ]
       ]
 
 -- the lists of watchers change
-pub progress_lists : (db : List (List Lit)) (links : List (Option (Edge × Edge))) (a t s : Assigned) (g h : Constraints) → s ≡ rewatched t s.watching t.taken → s.watching.watches ≡ t.watching.watches → s.watching.satisfied ≡ t.watching.satisfied → IsTrail s → IsProgress db links a g t h
+pub progress_lists : (db : List (List Lit)) (links : List (Option (Edge × Edge))) (a t s : Assigned) (g h : Constraints)
+    → s ≡ rewatched t s.watching t.taken → s.watching.watches ≡ t.watching.watches → s.watching.satisfied ≡ t.watching.satisfied → IsTrail s
+    → IsProgress db links a g t h
     → IsProgress db links a g s h
 progress_lists db links a t s g h is same satisfied trail old =
     let v = s.watching in
-    subst (λ (x : Assigned). IsProgress db links a g x h) (sym is) (progress_rewatched t db v t.taken links a g h (subst IsTrail is trail) (watched_lists t db v same satisfied old.work.watched) (omega (arith, ap length same)) (λ k was c p from here. was c p from (rw same at here)) old)
+    subst (λ (x : Assigned). IsProgress db links a g x h) (sym is)
+    (progress_rewatched t db v t.taken links a g h (subst IsTrail is trail) (watched_lists t db v same satisfied old.work.watched)
+    (omega (arith, ap length same)) (λ k was c p from here. was c p from (rw same at here)) old)
 
 -- one more clause is attached
-pub progress_up : (db : List (List Lit)) (links : List (Option (Edge × Edge))) (a t s : Assigned) (g h : Constraints) (r : Option Watch) → s ≡ rewatched t s.watching t.taken → s.watching.watches ≡ t.watching.watches ++ r ∷ [] → s.watching.satisfied ≡ t.watching.satisfied → IsTrail s
+pub progress_up : (db : List (List Lit)) (links : List (Option (Edge × Edge))) (a t s : Assigned) (g h : Constraints) (r : Option Watch)
+    → s ≡ rewatched t s.watching t.taken → s.watching.watches ≡ t.watching.watches ++ r ∷ [] → s.watching.satisfied ≡ t.watching.satisfied
+    → IsTrail s
     → length t.watching.watches < length db → (r ≡ None → length (clause_at db (length t.watching.watches)) < 2)
     → ((p : Watch) → r ≡ Some p → AreTwoOf (clause_at db (length t.watching.watches)) p × AreGuarded t.entries t.taken p)
     → ((p : Watch) → r ≡ Some p → AreLastToFall t.entries (length t.levels) (clause_at db (length t.watching.watches)) p) → IsProgress db links a g t h → IsProgress db links a g s h
@@ -159,8 +179,11 @@ progress_up db links a t s g h r is added satisfied trail more none some last ol
       kept k was c p from here = elim (cases_taken_up t.watching.watches r c p (rw added at here)) [ inl before ↦ was c p from before | inr new ↦ rw new.0 (last p new.1) ]
 
 -- one more clause whose best two literals are watched
-pub progress_two : (db : List (List Lit)) (links : List (Option (Edge × Edge))) (a t s : Assigned) (g h : Constraints) (c : ℕ) (p : Watch) → IsProgress db links a g t h → IsUnmoved a t → IsAssignedIfUnit a t p.first p.second → AreBest a.entries (clause_at db c) p
-    → s ≡ rewatched t s.watching t.taken → s.watching.watches ≡ t.watching.watches ++ Some p ∷ [] → s.watching.satisfied ≡ t.watching.satisfied → IsTrail s → c ≡ length a.watching.watches → c < length db → IsProgress db links a g s h
+pub progress_two : (db : List (List Lit)) (links : List (Option (Edge × Edge))) (a t s : Assigned) (g h : Constraints) (c : ℕ) (p : Watch)
+    → IsProgress db links a g t h → IsUnmoved a t → IsAssignedIfUnit a t p.first p.second → AreBest a.entries (clause_at db c) p
+    → s ≡ rewatched t s.watching t.taken → s.watching.watches ≡ t.watching.watches ++ Some p ∷ []
+    → s.watching.satisfied ≡ t.watching.satisfied → IsTrail s → c ≡ length a.watching.watches → c < length db
+    → IsProgress db links a g s h
 progress_two db links a t s g h c p old unmoved assigned_here best is added satisfied trail at held =
     let here : c ≡ length t.watching.watches = at ∙ ap (λ (w : Watching). length w.watches) (sym unmoved.watching) in
     let guards = guards_best a t (clause_at db c) p t.taken old.work.trail old.work.trail.taken assigned_here best in
@@ -174,7 +197,13 @@ pub listed_two : (w : Watching) (p : Watch) (c : ℕ) → p.first.var < length w
     → IsListed (listing (listing w p.first (watchers_of w p.first ++ c ∷ [])) p.second (watchers_of (listing w p.first (watchers_of w p.first ++ c ∷ [])) p.second ++ c ∷ [])) c p
 listed_two w p c first second =
     let v = listing w p.first (watchers_of w p.first ++ c ∷ []) in
-    let more : p.second.var < length v.watchers = omega (arith, second, length-set w.watchers p.first.var (with_list (lists_at w.watchers p.first.var) p.first.positive (watchers_of w p.first ++ c ∷ []))) in
+    let more : p.second.var < length v.watchers =
+    omega (
+      arith,
+      second,
+      length-set w.watchers p.first.var
+          (with_list (lists_at w.watchers p.first.var) p.first.positive (watchers_of w p.first ++ c ∷ [])),
+    ) in
     record { first = listed_more v p.second c more p.first c (listed_new w p.first c first); second = listed_new v p.second c more }
 
 -- the next literal to take stays the next one
@@ -191,7 +220,8 @@ among_next xs place c d here other (j, le, within, at) = elim (cases_eq j place)
   | inr differ ↦ (j, omega (arith, le, differ), within, at)
 ]
 
-pub visited_stay : (t s : Assigned) (f : Lit) (c place : ℕ) → s.taken ≡ t.taken → s.watching ≡ t.watching → IsWatcherAt t.watching f place c → ((p : Watch) → watch_at s.watching c ≡ Some p → AreGuarded s.entries (t.taken + 1) p)
+pub visited_stay : (t s : Assigned) (f : Lit) (c place : ℕ) → s.taken ≡ t.taken → s.watching ≡ t.watching → IsWatcherAt t.watching f place c
+    → ((p : Watch) → watch_at s.watching c ≡ Some p → AreGuarded s.entries (t.taken + 1) p)
     → IsVisited t s f c place (place + 1)
 visited_stay t s f c place taken same here guards = record {
   taken = taken;
@@ -202,7 +232,8 @@ visited_stay t s f c place taken same here guards = record {
 }
 
 -- a clause that no longer watches it
-pub guards_elsewhere : (t : Assigned) (db : List (List Lit)) (f : Lit) (c : ℕ) → IsTrail t → AreWatched t db → IsNextFalse t f → IsUnwatched t.watching c f → (p : Watch) → watch_at t.watching c ≡ Some p → AreGuarded t.entries (t.taken + 1) p
+pub guards_elsewhere : (t : Assigned) (db : List (List Lit)) (f : Lit) (c : ℕ) → IsTrail t → AreWatched t db → IsNextFalse t f
+    → IsUnwatched t.watching c f → (p : Watch) → watch_at t.watching c ≡ Some p → AreGuarded t.entries (t.taken + 1) p
 guards_elsewhere t db f c trail watched next unwatched p is =
     let rule = watched.rule c p is in
     let apart = unwatched p is in
@@ -239,7 +270,8 @@ module _ (t s : Assigned) (db : List (List Lit)) (c : ℕ) (f o best : Lit) (bef
         let high = since.3 in
         (since.0, since.1, since.2, omega (arith, low, high))
 
-pub visited_moved : (t s u : Assigned) (f : Lit) (c place : ℕ) (p : Watch) → s.taken ≡ t.taken → s.watching ≡ t.watching → u ≡ rewatched s u.watching s.taken → IsRewatched s.watching u.watching c p → IsMoved s.watching u.watching f p c place
+pub visited_moved : (t s u : Assigned) (f : Lit) (c place : ℕ) (p : Watch) → s.taken ≡ t.taken → s.watching ≡ t.watching
+    → u ≡ rewatched s u.watching s.taken → IsRewatched s.watching u.watching c p → IsMoved s.watching u.watching f p c place
     → AreGuarded s.entries (t.taken + 1) p → IsVisited t u f c place place
 visited_moved t s u f c place p taken same is anew moved guards = record {
   taken = ap (λ (x : Assigned). x.taken) is ∙ taken;
@@ -252,8 +284,11 @@ visited_moved t s u f c place p taken same is anew moved guards = record {
 }
 
 -- a clause that was watched anew at two literals that may be watched
-pub progress_again : (db : List (List Lit)) (links : List (Option (Edge × Edge))) (a s u : Assigned) (g h : Constraints) (c : ℕ) (p : Watch) → u ≡ rewatched s u.watching s.taken → IsTrail u → IsRewatched s.watching u.watching c p
-    → AreTwoOf (clause_at db c) p → AreGuarded s.entries s.taken p → ((k : ℕ) → k ≤ c → AreLastToFallFrom k s db → AreLastToFall s.entries (length s.levels) (clause_at db c) p) → IsProgress db links a g s h → IsProgress db links a g u h
+pub progress_again : (db : List (List Lit)) (links : List (Option (Edge × Edge))) (a s u : Assigned) (g h : Constraints) (c : ℕ) (p : Watch)
+    → u ≡ rewatched s u.watching s.taken → IsTrail u → IsRewatched s.watching u.watching c p
+    → AreTwoOf (clause_at db c) p → AreGuarded s.entries s.taken p
+    → ((k : ℕ) → k ≤ c → AreLastToFallFrom k s db → AreLastToFall s.entries (length s.levels) (clause_at db c) p)
+    → IsProgress db links a g s h → IsProgress db links a g u h
 progress_again db links a s u g h c p is trail anew two guards last old =
     let count = anew.count in
     subst (λ (x : Assigned). IsProgress db links a g x h) (sym is)
@@ -314,7 +349,10 @@ module _ (w v u x : Watching) (l : Lit) (p : Watch) (c place : ℕ) (within : l.
 
     list_now : watchers_of x l ≡ swap_remove (watchers_of w l) place 0
     list_now =
-        let lists : length u.watchers ≡ length w.watchers = ap (λ (y : Watching). length y.watchers) anew ∙ ap (λ (y : Watching). length y.watchers) added ∙ length-set w.watchers p.first.var (with_list (lists_at w.watchers p.first.var) p.first.positive (watchers_of w p.first ++ c ∷ [])) in
+        let lists : length u.watchers ≡ length w.watchers =
+        ap (λ (y : Watching). length y.watchers) anew ∙ ap (λ (y : Watching). length y.watchers) added
+        ∙ length-set w.watchers p.first.var (with_list (lists_at w.watchers p.first.var) p.first.positive
+        (watchers_of w p.first ++ c ∷ [])) in
         ap (λ (y : Watching). watchers_of y l) less ∙ listed_here u l (swap_remove (watchers_of u l) place 0) (omega (arith, lists, within)) ∙ ap (λ xs. swap_remove xs place 0) kept_list
 
     pub moved_off : IsMoved w x l p c place

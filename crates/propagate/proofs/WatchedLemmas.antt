@@ -45,7 +45,8 @@ module _ (xs ys : List Entry) (longer : length xs ≤ length ys) (same : (k : �
   pub guards_longer : (n : ℕ) (p : Watch) → n ≤ length xs → AreGuarded xs n p → AreGuarded ys n p
   guards_longer n p le old = record { first = guard_longer n p.first p.second le old.first; second = guard_longer n p.second p.first le old.second }
 
-pub watched_longer : (t : Assigned) (db : List (List Lit)) (ys : List Entry) (ls : List Level) → t.taken ≤ length t.entries → length t.entries ≤ length ys → ((k : ℕ) → k < length t.entries → entry_at ys k ≡ entry_at t.entries k)
+pub watched_longer : (t : Assigned) (db : List (List Lit)) (ys : List Entry) (ls : List Level) → t.taken ≤ length t.entries
+    → length t.entries ≤ length ys → ((k : ℕ) → k < length t.entries → entry_at ys k ≡ entry_at t.entries k)
     → AreWatched t db → AreWatched (record { vars = t.vars; entries = ys; levels = ls; watching = t.watching; taken = t.taken }) db
 watched_longer t db ys ls le longer same old = record {
   known = old.known;
@@ -125,7 +126,9 @@ watched_lists t db v same count old = record {
 }
 
 -- one more clause
-pub watched_up : (t : Assigned) (db : List (List Lit)) (v : Watching) (r : Option Watch) → v.watches ≡ t.watching.watches ++ r ∷ [] → v.satisfied ≡ t.watching.satisfied → t.watching.satisfied ≤ length (unwatched t.watching.watches) → length t.watching.watches < length db
+pub watched_up : (t : Assigned) (db : List (List Lit)) (v : Watching) (r : Option Watch) → v.watches ≡ t.watching.watches ++ r ∷ []
+    → v.satisfied ≡ t.watching.satisfied → t.watching.satisfied ≤ length (unwatched t.watching.watches)
+    → length t.watching.watches < length db
     → (r ≡ None → length (clause_at db (length t.watching.watches)) < 2) → ((p : Watch) → r ≡ Some p → AreTwoOf (clause_at db (length t.watching.watches)) p × AreGuarded t.entries t.taken p)
     → AreWatched t db → AreWatched (rewatched t v t.taken) db
 watched_up t db v r added count few more none some old = record {

@@ -50,7 +50,8 @@ module _ (w : Watching) (l : Lit) (cs : List ℕ) (within : l.var < length w.wat
   ]
 
 -- a clause more among the watchers of a literal leaves those that stand there, and those of other literals
-pub listed_more : (w : Watching) (l : Lit) (c : ℕ) (within : l.var < length w.watchers) (m : Lit) (d : ℕ) → Contains (watchers_of w m) d → Contains (watchers_of (listing w l (watchers_of w l ++ c ∷ [])) m) d
+pub listed_more : (w : Watching) (l : Lit) (c : ℕ) (within : l.var < length w.watchers) (m : Lit) (d : ℕ) → Contains (watchers_of w m) d
+    → Contains (watchers_of (listing w l (watchers_of w l ++ c ∷ [])) m) d
 listed_more w l c within m d has = elim (cases_lit m l) [
   | inl same ↦ rw (same, listed_here w l (watchers_of w l ++ c ∷ []) within) (Contains-append_left (watchers_of w l) (c ∷ []) d (rw same at has))
   | inr other ↦ rw (listed_elsewhere w l (watchers_of w l ++ c ∷ []) within m other) has

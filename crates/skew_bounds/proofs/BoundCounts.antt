@@ -99,4 +99,11 @@ module _ (log : Logged) where
 
   pub few-bounds : length (bounds_of log) ≤ 5 * length log.rows + length log.extras
   few-bounds =
-      omega (arith, length-append (flat_map (bounds_at log) (range_with_len 0 (length log.rows))) (map bound.Extra (range_with_len 0 (length log.extras))), rows-few 0 (length log.rows), length-map-range_with_len bound.Extra 0 (length log.extras))
+      omega (
+        arith,
+        length-append (flat_map (bounds_at log) (range_with_len 0 (length log.rows)))
+            (map bound.Extra (range_with_len 0 (length log.extras))),
+        rows-few 0 (length log.rows),
+        length-map-range_with_len bound.Extra
+            0 (length log.extras),
+      )

@@ -12,7 +12,8 @@ pub record IsColumnSetUpTo (old : Differences) (node : ℕ) (numbers : List ℤ)
   pub column : (i : ℕ) → i < count → entry new i node ≡ number_of numbers i
   pub others : (i j : ℕ) → i < old.nodes → j < old.nodes → j ≢ node → entry new i j ≡ entry old i j
 
-pub column-more : (old : Differences) (node : ℕ) (numbers : List ℤ) (i : ℕ) (now new : Differences) → node < old.nodes → i < old.nodes → IsColumnSetUpTo old node numbers i now → IsSet now i node (number_of numbers i) new
+pub column-more : (old : Differences) (node : ℕ) (numbers : List ℤ) (i : ℕ) (now new : Differences) → node < old.nodes → i < old.nodes
+    → IsColumnSetUpTo old node numbers i now → IsSet now i node (number_of numbers i) new
     → IsColumnSetUpTo old node numbers (i + 1) new
 column-more old node numbers i now new in-node in-i up set = record {
   nodes = set.nodes ∙ up.nodes;
@@ -27,7 +28,8 @@ pub record IsTableUpTo (incoming : List (List Edge)) (count : ℕ) (d : Differen
   pub nodes : d.nodes ≡ length incoming
   pub columns : (node : ℕ) → node < count → IsColumnOf incoming d node
 
-pub table-more : (incoming : List (List Edge)) (node : ℕ) (numbers : List ℤ) (now new : Differences) → node < length incoming → IsTableUpTo incoming node now → IsLatest incoming node numbers → IsColumnSet now node numbers new
+pub table-more : (incoming : List (List Edge)) (node : ℕ) (numbers : List ℤ) (now new : Differences) → node < length incoming
+    → IsTableUpTo incoming node now → IsLatest incoming node numbers → IsColumnSet now node numbers new
     → IsTableUpTo incoming (node + 1) new
 table-more incoming node numbers now new within up latest set = record {
   nodes = set.nodes ∙ up.nodes;
@@ -47,7 +49,8 @@ pub record AreTurnedUpTo (d : Differences) (count : ℕ) (turned : Differences) 
   pub nodes : turned.nodes ≡ d.nodes
   pub exchanged : (i j : ℕ) → i < count → j < d.nodes → entry turned j i ≡ entry d i j
 
-pub turned-more : (d : Differences) (node : ℕ) (numbers : List ℤ) (now new : Differences) → node < d.nodes → AreTurnedUpTo d node now → ((j : ℕ) → j < d.nodes → number_of numbers j ≡ entry d node j) → IsColumnSet now node numbers new
+pub turned-more : (d : Differences) (node : ℕ) (numbers : List ℤ) (now new : Differences) → node < d.nodes → AreTurnedUpTo d node now
+    → ((j : ℕ) → j < d.nodes → number_of numbers j ≡ entry d node j) → IsColumnSet now node numbers new
     → AreTurnedUpTo d (node + 1) new
 turned-more d node numbers now new within up row set = record {
   nodes = set.nodes ∙ up.nodes;

@@ -32,16 +32,32 @@ pub incoming-none : (nodes : ℕ) (lists : List (List Edge)) → lists ≡ repli
 incoming-none nodes lists is = record { count = rw is (length-replicate nodes []); each = λ v below. rw is (get_or-replicate nodes v [] [] below) }
 
 -- one more edge joins the list of the node where it ends
-pub incoming-more : (nodes : ℕ) (edges : List Edge) (edge : Edge) (old new : List (List Edge)) → edge.to < nodes → AreIncoming nodes edges old → new ≡ set old edge.to (ending_at old edge.to ++ edge ∷ [])
+pub incoming-more : (nodes : ℕ) (edges : List Edge) (edge : Edge) (old new : List (List Edge)) → edge.to < nodes
+    → AreIncoming nodes edges old → new ≡ set old edge.to (ending_at old edge.to ++ edge ∷ [])
     → AreIncoming nodes (edges ++ edge ∷ []) new
 incoming-more nodes edges edge old new within are added = record {
   count = rw added (length-set old edge.to (ending_at old edge.to ++ edge ∷ []) ∙ are.count);
   each = λ v below. elim (cases_eq v edge.to) [
     | inl same ↦
-        rw (same, added, get_or-set_same old edge.to (ending_at old edge.to ++ edge ∷ []) [] (rw are.count within), filter-append (ends-at edge.to) edges (edge ∷ []), same-end edge.to edge.to refl, are.each edge.to within)
+        rw (
+          same,
+          added,
+          get_or-set_same old edge.to (ending_at old edge.to ++ edge ∷ []) [] (rw are.count within),
+          filter-append
+              (ends-at edge.to) edges (edge ∷ []),
+          same-end edge.to edge.to refl,
+          are.each edge.to within,
+        )
         refl
     | inr apart ↦
-        rw (added, get_or-set_other old edge.to v (ending_at old edge.to ++ edge ∷ []) [] apart, filter-append (ends-at v) edges (edge ∷ []), ne_eqb edge.to v (λ same. apart (sym same)), are.each v below)
+        rw (
+          added,
+          get_or-set_other old edge.to v (ending_at old edge.to ++ edge ∷ []) [] apart,
+          filter-append (ends-at v) edges
+              (edge ∷ []),
+          ne_eqb edge.to v (λ same. apart (sym same)),
+          are.each v below,
+        )
         (sym (append-nil (filter (ends-at v) edges)))
   ];
 }

@@ -95,7 +95,8 @@ steps-are-bounds : (bounds : List Bound) (places : List ℕ) → All IsBound (st
 steps-are-bounds bounds [] = All-nil IsBound
 steps-are-bounds bounds (p ∷ ps) = All-cons IsBound (step_of (bound_at bounds p)) (steps_at bounds ps) (step_of-is_bound (bound_at bounds p)) (steps-are-bounds bounds ps)
 
-found-edges : (log : Logged) (bounds : List Bound) (edges : List SystemEdge) (places : List ℕ) → AreEdges log bounds edges → system.IsClosedWalk edges places → HasEdges log (steps_at bounds places) (edges_at edges places)
+found-edges : (log : Logged) (bounds : List Bound) (edges : List SystemEdge) (places : List ℕ) → AreEdges log bounds edges
+    → system.IsClosedWalk edges places → HasEdges log (steps_at bounds places) (edges_at edges places)
 found-edges log bounds edges [] are closed = refl
 found-edges log bounds edges (p ∷ ps) are closed = has-edges log bounds edges (system.edge_at edges p).from (p ∷ ps) (system.edge_at edges p).from are closed
 
@@ -159,5 +160,6 @@ system-of log bounds edges valid listed are within = record {
 }
 
 -- the places of a cycle are places of bounds
-pub places-within : (log : Logged) (bounds : List Bound) (edges : List SystemEdge) (places : List ℕ) → AreEdges log bounds edges → system.IsClosedWalk edges places → All (λ p. p < length bounds) places
+pub places-within : (log : Logged) (bounds : List Bound) (edges : List SystemEdge) (places : List ℕ) → AreEdges log bounds edges
+    → system.IsClosedWalk edges places → All (λ p. p < length bounds) places
 places-within log bounds edges places are closed = rw (← count-edges log bounds edges are) (places-of-cycle edges places closed)

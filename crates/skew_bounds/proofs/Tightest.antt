@@ -27,7 +27,8 @@ node-number t zero = refl
 node-number t (suc e) = refl
 
 -- times that meet every bound are numbers that meet every edge
-edges-met : (log : Logged) (bounds : List Bound) (edges : List SystemEdge) (t : List ℤ) → AreEdges log bounds edges → All (λ b. IfSome (edge_of log (step_of b)) (Meets t)) bounds → All (system.Meets (pos 0 ∷ t)) edges
+edges-met : (log : Logged) (bounds : List Bound) (edges : List SystemEdge) (t : List ℤ) → AreEdges log bounds edges
+    → All (λ b. IfSome (edge_of log (step_of b)) (Meets t)) bounds → All (system.Meets (pos 0 ∷ t)) edges
 edges-met log [] [] t are met = All-nil (system.Meets (pos 0 ∷ t))
 edges-met log [] (e ∷ es) t are met = absurd (cc)
 edges-met log (b ∷ bs) [] t are met = absurd (cc)
@@ -45,7 +46,9 @@ module _ (law : BoundsAreAdmissible) (log : Logged) (valid : IsLog log) (edges :
   near-of t admissible = record {
     solution = record {
       count = let size = admissible.count in let nodes = lists.count in omega (arith, size, nodes);
-      meets = λ v below. all-incoming (length log.rows + 1) edges incoming lists within (system.Meets (pos 0 ∷ t)) (edges-met log (bounds_of log) edges t are ((law log t).0 admissible).1) v (rw lists.count at below);
+      meets =
+          λ v below. all-incoming (length log.rows + 1) edges incoming lists within (system.Meets (pos 0 ∷ t))
+          (edges-met log (bounds_of log) edges t are ((law log t).0 admissible).1) v (rw lists.count at below);
     };
     near = All-cons (IsWithin MAX_TIME) (pos 0) t (record { low = omega (arith, ints); high = omega (arith, ints) }) (times-near log valid t admissible);
   }

@@ -42,9 +42,13 @@ gaps-preserved c =
     let near : to_z w128 c.gaps.level-bits ≤ℤ (to_z w128 (of_z w128 c.level_below-below.result) +ℤ pos (2 ^ 90)) = rw read e.near in
     record {
       count = raised.count ∙ inv.count;
-      numbers = numbers_closed (to_z w128 c.gaps.level-bits) c.in-Some.next (to_z w128 (of_z w128 c.level_below-below.result)) (to_z w128 (of_z w128 c.difference.result)) c.gaps.numbers c.raise_below.new.numbers
+      numbers =
+          numbers_closed (to_z w128 c.gaps.level-bits) c.in-Some.next (to_z w128 (of_z w128 c.level_below-below.result))
+          (to_z w128 (of_z w128 c.difference.result)) c.gaps.numbers c.raise_below.new.numbers
           inv.top n below (rw read e.above) (rw read e.cut) by raised inv.numbers;
-      met = λ edge limit meets. keeps_met (to_z w128 c.gaps.level-bits) c.in-Some.next (to_z w128 (of_z w128 c.level_below-below.result)) (to_z w128 (of_z w128 c.difference.result)) c.gaps.numbers c.raise_below.new.numbers
+      met =
+          λ edge limit meets. keeps_met (to_z w128 c.gaps.level-bits) c.in-Some.next (to_z w128 (of_z w128 c.level_below-below.result))
+          (to_z w128 (of_z w128 c.difference.result)) c.gaps.numbers c.raise_below.new.numbers
           inv.top n below (rw read e.above) (rw read e.cut) by raised edge limit.bound (inv.met edge limit meets);
       top = omega (arith, ints, below, inv.top);
       near = level_near (to_z w128 c.gaps.level-bits) (to_z w128 (of_z w128 c.level_below-below.result)) _ _ (length c.gaps.numbers) (length c.raise_below.new.numbers) near

@@ -15,4 +15,7 @@ returns-in-Some c =
     let fits_by : SFits w128 (pos 0 -ℤ c.in-Some.greatest) = search (rules, greatest) in
     let read = to_z-of_z w128 c.in-Some.greatest fits in
     let is_by = to_z-of_z w128 (pos 0 -ℤ c.in-Some.greatest) fits_by in
-    record { lifted = lifted c.args.numbers.now c.raise_below.new.numbers c.in-Some.greatest (pos 0 -ℤ c.in-Some.greatest) c.requires.numbers n refl (rw (read, is_by) at c.raise_below.ensures.raised) }
+    record {
+      lifted = lifted c.args.numbers.now c.raise_below.new.numbers c.in-Some.greatest (pos 0 -ℤ c.in-Some.greatest)
+          c.requires.numbers n refl (rw (read, is_by) at c.raise_below.ensures.raised);
+    }

@@ -26,7 +26,8 @@ returns-then-not-is_met-clause-next c =
     let inv = c.loop-next.invariant in
     let not : c.is_met.result ≡ false = search (rules, c.if-not-is_met.true) in
     let missed = misses c.args.numbers.now (edge_at c.args.edges.now c.in-Some.next.place) c.is_met.result c.is_met.ensures.met not in
-    next_found c.args.edges.now c.args.numbers.now (heap_items c.loop-next.waiting) inv.queue c.in-Some.next (heap_items c.next_waiting.new.waiting) c.in-Some.ensures.taken missed c.in-Some.ensures.most
+    next_found c.args.edges.now c.args.numbers.now (heap_items c.loop-next.waiting) inv.queue c.in-Some.next
+    (heap_items c.next_waiting.new.waiting) c.in-Some.ensures.taken missed c.in-Some.ensures.most
 
 pub returns-then-not-is_met-clause-waited : goal.returns-then-not-is_met-clause-waited
 returns-then-not-is_met-clause-waited c =

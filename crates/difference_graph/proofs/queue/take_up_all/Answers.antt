@@ -21,12 +21,18 @@ loop-mark-preserved c =
     let edges = c.deref.ensures.value in
     let taken = rw edges at c.in_default.ensures.taken in
     let mark = c.requires.incoming.places (c.loop-mark.mark - 1) (omega (arith, some, inv.few)) in
-    let read : c.index-mark-in-loop-mark.result.now ≡ get_or c.args.held.now.before.items (c.loop-mark.mark - 1) 0 = c.index-mark-in-loop-mark.ensures ∙ get_or_default_zero c.args.held.now.before.items (c.loop-mark.mark - 1) c.index-mark-in-loop-mark.result.now (omega (arith, some, inv.few, c.requires.incoming.count)) in
+    let read : c.index-mark-in-loop-mark.result.now ≡ get_or c.args.held.now.before.items (c.loop-mark.mark - 1) 0 =
+    c.index-mark-in-loop-mark.ensures ∙ get_or_default_zero c.args.held.now.before.items (c.loop-mark.mark - 1)
+    c.index-mark-in-loop-mark.result.now (omega (arith, some, inv.few, c.requires.incoming.count)) in
     record {
       few = rw read (omega (arith, mark.within, inv.few));
       ends = rw (read, ← to) (next_mark c.args.held.now.edges.items (c.loop-mark.mark - 1) (edge_at c.args.held.now.edges.items (c.loop-mark.mark - 1)).to _ mark);
       order = c.in_default.ensures.order;
-      queue = rw read (queue_step c.args.held.now.edges.items c.args.numbers.now c.args.node c.loop-mark.mark c.args.end (heap_items c.loop-mark.waiting) inv.queue some inv.few to _ mark (heap_items c.take_up.new.waiting) taken);
-      added = added_step c.args.held.now.edges.items c.args.numbers.now c.args.node c.loop-mark.mark c.args.end (heap_items c.loop-mark.waiting) inv.queue some inv.few to (heap_items c.args.waiting.now) (heap_items c.take_up.new.waiting) inv.added taken;
+      queue =
+          rw read (queue_step c.args.held.now.edges.items c.args.numbers.now c.args.node c.loop-mark.mark c.args.end
+          (heap_items c.loop-mark.waiting) inv.queue some inv.few to _ mark (heap_items c.take_up.new.waiting) taken);
+      added =
+          added_step c.args.held.now.edges.items c.args.numbers.now c.args.node c.loop-mark.mark c.args.end (heap_items c.loop-mark.waiting)
+          inv.queue some inv.few to (heap_items c.args.waiting.now) (heap_items c.take_up.new.waiting) inv.added taken;
       room = omega (arith, inv.room, c.in_default.ensures.room);
     }

@@ -16,10 +16,14 @@ loop-left-preserved c =
     record {
       within = omega (arith, inv.within);
       count = length-set _ _ _ ∙ inv.count;
-      differs = λ old former differs. differs_less c.args.edges.now c.args.places.now old c.args.former.now c.loop-left.numbers former c.loop-left.left some inv.within (inv.differs old former differs) (omega (arith, edge.from, inv.count)) _ read;
+      differs =
+          λ old former differs. differs_less c.args.edges.now c.args.places.now old c.args.former.now c.loop-left.numbers former
+          c.loop-left.left some inv.within (inv.differs old former differs) (omega (arith, edge.from, inv.count)) _ read;
     }
 
 pub returns : goal.returns
 returns c = record {
-  same = λ old former differs. all_back c.args.edges.now c.args.places.now c.loop-left.left old c.loop-left.numbers (omega (arith, c.loop-left-test.false)) (c.loop-left.invariant.differs old former differs);
+  same =
+      λ old former differs. all_back c.args.edges.now c.args.places.now c.loop-left.left old c.loop-left.numbers
+      (omega (arith, c.loop-left-test.false)) (c.loop-left.invariant.differs old former differs);
 }

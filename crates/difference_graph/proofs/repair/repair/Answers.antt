@@ -14,7 +14,9 @@ trace-requires-clause-leads c =
     let is_end = ap (λ (e : Edge). e.to) (c.index.ensures ∙ get_or_default edges c.args.place _ _ (omega (arith, c.requires.place))) in
     let others : MeetsOthers edges c.index.result.now.to c.args.numbers.now = rw is_end (others_of_first edges c.args.place c.args.numbers.now c.requires.place c.requires.first) in
     let closing = rw c.deref.ensures.value at c.in-Some.ensures.closing in
-    rw (c.deref-in-Some.ensures.value, c.deref-in-Some-2.ensures.value, c.clear-2.ensures.items) (closing_leads edges c.index.result.now.to c.args.numbers.now others c.args.numbers.now _ (repair_start edges c.index.result.now.to c.args.numbers.now c.requires.system c.requires.near) c.in-Some.closing closing)
+    rw (c.deref-in-Some.ensures.value, c.deref-in-Some-2.ensures.value, c.clear-2.ensures.items)
+    (closing_leads edges c.index.result.now.to c.args.numbers.now others c.args.numbers.now _
+    (repair_start edges c.index.result.now.to c.args.numbers.now c.requires.system c.requires.near) c.in-Some.closing closing)
 
 pub returns-in-Some-clause-cycle : goal.returns-in-Some-clause-cycle
 returns-in-Some-clause-cycle c =
@@ -23,7 +25,9 @@ returns-in-Some-clause-cycle c =
     let others : MeetsOthers edges c.index.result.now.to c.args.numbers.now = rw is_end (others_of_first edges c.args.place c.args.numbers.now c.requires.place c.requires.first) in
     let closing = rw c.deref.ensures.value at c.in-Some.ensures.closing in
     let trace = rw (c.deref-in-Some.ensures.value, c.deref-in-Some-2.ensures.value, c.clear-2.ensures.items) at c.trace.ensures.trace in
-    closing_cycle edges c.index.result.now.to c.args.numbers.now others c.args.numbers.now _ (repair_start edges c.index.result.now.to c.args.numbers.now c.requires.system c.requires.near) c.in-Some.closing closing c.trace.new.walk.items trace
+    closing_cycle edges c.index.result.now.to c.args.numbers.now others c.args.numbers.now _
+    (repair_start edges c.index.result.now.to c.args.numbers.now c.requires.system c.requires.near) c.in-Some.closing closing
+    c.trace.new.walk.items trace
 
 pub loop-next-init : goal.loop-next-init
 loop-next-init c =
@@ -32,7 +36,9 @@ loop-next-init c =
     let taken = rw c.deref.ensures.value at c.in_default.ensures.taken in
     record {
       others = rw is_end (others_of_first edges c.args.place c.args.numbers.now c.requires.place c.requires.first);
-      state = state_first edges c.args.place c.index.result.now.to c.args.numbers.now _ _ _ _ is_end c.requires.system c.requires.near c.requires.place c.requires.first c.clear-2.ensures.items c.clear-3.ensures.items c.clear.ensures.items taken;
+      state =
+          state_first edges c.args.place c.index.result.now.to c.args.numbers.now _ _ _ _ is_end c.requires.system c.requires.near
+          c.requires.place c.requires.first c.clear-2.ensures.items c.clear-3.ensures.items c.clear.ensures.items taken;
       order = c.in_default.ensures.order;
       room = record {
         waiting = omega (arith, c.clear.ensures.capacity, c.in_default.ensures.room);
@@ -65,7 +71,10 @@ lower-requires-clause-order_room c =
     let old = c.args.numbers.now in
     let inv = c.loop-next.invariant in
     let next = rw c.deref-in-loop-next.ensures.value at c.in-Some-next_missed.ensures.next in
-    let room = state_room edges end old c.requires.system inv.others c.requires.near c.loop-next.numbers c.loop-next.work.order.items c.loop-next.work.former.items (heap_items c.loop-next.work.waiting) inv.state c.in-Some-next_missed.next next c.in-Some-next_missed.ensures.waited in
+    let room =
+    state_room edges end old c.requires.system inv.others c.requires.near c.loop-next.numbers c.loop-next.work.order.items
+    c.loop-next.work.former.items (heap_items c.loop-next.work.waiting) inv.state c.in-Some-next_missed.next next
+    c.in-Some-next_missed.ensures.waited in
     omega (arith, room, inv.room.order, c.requires.room.order)
 
 pub lower-requires-clause-former_room : goal.lower-requires-clause-former_room
@@ -75,7 +84,10 @@ lower-requires-clause-former_room c =
     let old = c.args.numbers.now in
     let inv = c.loop-next.invariant in
     let next = rw c.deref-in-loop-next.ensures.value at c.in-Some-next_missed.ensures.next in
-    let room = state_room edges end old c.requires.system inv.others c.requires.near c.loop-next.numbers c.loop-next.work.order.items c.loop-next.work.former.items (heap_items c.loop-next.work.waiting) inv.state c.in-Some-next_missed.next next c.in-Some-next_missed.ensures.waited in
+    let room =
+    state_room edges end old c.requires.system inv.others c.requires.near c.loop-next.numbers c.loop-next.work.order.items
+    c.loop-next.work.former.items (heap_items c.loop-next.work.waiting) inv.state c.in-Some-next_missed.next next
+    c.in-Some-next_missed.ensures.waited in
     omega (arith, room, inv.room.former, c.requires.room.former, inv.state.noted.count)
 
 pub take_up_all-requires-clause-numbers : goal.take_up_all-requires-clause-numbers
@@ -86,7 +98,9 @@ take_up_all-requires-clause-numbers c =
     let inv = c.loop-next.invariant in
     let next = rw c.deref-in-loop-next.ensures.value at c.in-Some-next_missed.ensures.next in
     let lowered = rw c.deref-in-Some-next_missed.ensures.value at c.lower.ensures.numbers in
-    lowered_numbers edges end old c.requires.system inv.others c.requires.near c.loop-next.numbers c.loop-next.work.order.items c.loop-next.work.former.items (heap_items c.loop-next.work.waiting) inv.state c.in-Some-next_missed.next next c.in-Some-next_missed.ensures.waited c.lower.new.numbers lowered c.lower.new.order.items c.lower.ensures.order
+    lowered_numbers edges end old c.requires.system inv.others c.requires.near c.loop-next.numbers c.loop-next.work.order.items
+    c.loop-next.work.former.items (heap_items c.loop-next.work.waiting) inv.state c.in-Some-next_missed.next next
+    c.in-Some-next_missed.ensures.waited c.lower.new.numbers lowered c.lower.new.order.items c.lower.ensures.order
 
 pub take_up_all-requires-clause-queue : goal.take_up_all-requires-clause-queue
 take_up_all-requires-clause-queue c =
@@ -98,7 +112,10 @@ take_up_all-requires-clause-queue c =
     let lowered = rw c.deref-in-Some-next_missed.ensures.value at c.lower.ensures.numbers in
     let rest = rw c.deref-in-loop-next.ensures.value at c.in-Some-next_missed.ensures.rest in
     let is_node = ap (λ (e : Edge). e.from) (c.index-in-Some-next_missed.ensures ∙ get_or_default edges c.in-Some-next_missed.next _ _ next.tightest.within) in
-    rw is_node (lowered_queue edges end old c.requires.system inv.others c.requires.near c.loop-next.numbers c.loop-next.work.order.items c.loop-next.work.former.items (heap_items c.loop-next.work.waiting) inv.state c.in-Some-next_missed.next next c.in-Some-next_missed.ensures.waited c.lower.new.numbers lowered c.lower.new.order.items c.lower.ensures.order (heap_items c.next_missed.new.waiting) rest c.in-Some-next_missed.ensures.fewer)
+    rw is_node (lowered_queue edges end old c.requires.system inv.others c.requires.near c.loop-next.numbers c.loop-next.work.order.items
+    c.loop-next.work.former.items (heap_items c.loop-next.work.waiting) inv.state c.in-Some-next_missed.next next
+    c.in-Some-next_missed.ensures.waited c.lower.new.numbers lowered c.lower.new.order.items c.lower.ensures.order
+    (heap_items c.next_missed.new.waiting) rest c.in-Some-next_missed.ensures.fewer)
 
 pub trace-requires-in-Some-take_up_all-clause-tree : goal.trace-requires-in-Some-take_up_all-clause-tree
 trace-requires-in-Some-take_up_all-clause-tree c =
@@ -108,7 +125,12 @@ trace-requires-in-Some-take_up_all-clause-tree c =
     let inv = c.loop-next.invariant in
     let next = rw c.deref-in-loop-next.ensures.value at c.in-Some-next_missed.ensures.next in
     let lowered = rw c.deref-in-Some-next_missed.ensures.value at c.lower.ensures.numbers in
-    rw (c.deref-in-Some-take_up_all.ensures.value, c.deref-in-Some-take_up_all-2.ensures.value) (closing_tree edges end old inv.others c.lower.new.numbers c.lower.new.order.items (lowered_repair edges end old c.requires.system inv.others c.requires.near c.loop-next.numbers c.loop-next.work.order.items c.loop-next.work.former.items (heap_items c.loop-next.work.waiting) inv.state c.in-Some-next_missed.next next c.in-Some-next_missed.ensures.waited c.lower.new.numbers lowered c.lower.new.order.items c.lower.ensures.order) c.in-Some-take_up_all.closing c.in-Some-take_up_all.ensures.closing)
+    rw (c.deref-in-Some-take_up_all.ensures.value, c.deref-in-Some-take_up_all-2.ensures.value)
+    (closing_tree edges end old inv.others c.lower.new.numbers c.lower.new.order.items
+    (lowered_repair edges end old c.requires.system inv.others c.requires.near c.loop-next.numbers c.loop-next.work.order.items
+    c.loop-next.work.former.items (heap_items c.loop-next.work.waiting) inv.state c.in-Some-next_missed.next next
+    c.in-Some-next_missed.ensures.waited c.lower.new.numbers lowered c.lower.new.order.items c.lower.ensures.order)
+    c.in-Some-take_up_all.closing c.in-Some-take_up_all.ensures.closing)
 
 pub trace-requires-in-Some-take_up_all-clause-leads : goal.trace-requires-in-Some-take_up_all-clause-leads
 trace-requires-in-Some-take_up_all-clause-leads c =
@@ -118,7 +140,12 @@ trace-requires-in-Some-take_up_all-clause-leads c =
     let inv = c.loop-next.invariant in
     let next = rw c.deref-in-loop-next.ensures.value at c.in-Some-next_missed.ensures.next in
     let lowered = rw c.deref-in-Some-next_missed.ensures.value at c.lower.ensures.numbers in
-    rw (c.deref-in-Some-take_up_all.ensures.value, c.deref-in-Some-take_up_all-2.ensures.value) (closing_leads edges end old inv.others c.lower.new.numbers c.lower.new.order.items (lowered_repair edges end old c.requires.system inv.others c.requires.near c.loop-next.numbers c.loop-next.work.order.items c.loop-next.work.former.items (heap_items c.loop-next.work.waiting) inv.state c.in-Some-next_missed.next next c.in-Some-next_missed.ensures.waited c.lower.new.numbers lowered c.lower.new.order.items c.lower.ensures.order) c.in-Some-take_up_all.closing c.in-Some-take_up_all.ensures.closing)
+    rw (c.deref-in-Some-take_up_all.ensures.value, c.deref-in-Some-take_up_all-2.ensures.value)
+    (closing_leads edges end old inv.others c.lower.new.numbers c.lower.new.order.items
+    (lowered_repair edges end old c.requires.system inv.others c.requires.near c.loop-next.numbers c.loop-next.work.order.items
+    c.loop-next.work.former.items (heap_items c.loop-next.work.waiting) inv.state c.in-Some-next_missed.next next
+    c.in-Some-next_missed.ensures.waited c.lower.new.numbers lowered c.lower.new.order.items c.lower.ensures.order)
+    c.in-Some-take_up_all.closing c.in-Some-take_up_all.ensures.closing)
 
 pub trace-requires-in-Some-take_up_all-clause-room : goal.trace-requires-in-Some-take_up_all-clause-room
 trace-requires-in-Some-take_up_all-clause-room c =
@@ -128,7 +155,11 @@ trace-requires-in-Some-take_up_all-clause-room c =
     let inv = c.loop-next.invariant in
     let next = rw c.deref-in-loop-next.ensures.value at c.in-Some-next_missed.ensures.next in
     let lowered = rw c.deref-in-Some-next_missed.ensures.value at c.lower.ensures.numbers in
-    let few = tree_short edges (length old) c.requires.system.each end c.lower.new.order.items (lowered_repair edges end old c.requires.system inv.others c.requires.near c.loop-next.numbers c.loop-next.work.order.items c.loop-next.work.former.items (heap_items c.loop-next.work.waiting) inv.state c.in-Some-next_missed.next next c.in-Some-next_missed.ensures.waited c.lower.new.numbers lowered c.lower.new.order.items c.lower.ensures.order).tree in
+    let few =
+    tree_short edges (length old) c.requires.system.each end c.lower.new.order.items
+    (lowered_repair edges end old c.requires.system inv.others c.requires.near c.loop-next.numbers c.loop-next.work.order.items
+    c.loop-next.work.former.items (heap_items c.loop-next.work.waiting) inv.state c.in-Some-next_missed.next next
+    c.in-Some-next_missed.ensures.waited c.lower.new.numbers lowered c.lower.new.order.items c.lower.ensures.order).tree in
     rw c.deref-in-Some-take_up_all-2.ensures.value (omega (arith, few, inv.room.walk, c.requires.room.walk))
 
 pub put_back-requires-clause-within : goal.put_back-requires-clause-within
@@ -139,7 +170,10 @@ put_back-requires-clause-within c =
     let inv = c.loop-next.invariant in
     let next = rw c.deref-in-loop-next.ensures.value at c.in-Some-next_missed.ensures.next in
     let lowered = rw c.deref-in-Some-next_missed.ensures.value at c.lower.ensures.numbers in
-    rw (c.deref-in-Some-take_up_all-3.ensures.value, c.deref-in-Some-take_up_all-4.ensures.value) (lowered_repair edges end old c.requires.system inv.others c.requires.near c.loop-next.numbers c.loop-next.work.order.items c.loop-next.work.former.items (heap_items c.loop-next.work.waiting) inv.state c.in-Some-next_missed.next next c.in-Some-next_missed.ensures.waited c.lower.new.numbers lowered c.lower.new.order.items c.lower.ensures.order).tree.within
+    rw (c.deref-in-Some-take_up_all-3.ensures.value, c.deref-in-Some-take_up_all-4.ensures.value)
+    (lowered_repair edges end old c.requires.system inv.others c.requires.near c.loop-next.numbers c.loop-next.work.order.items
+    c.loop-next.work.former.items (heap_items c.loop-next.work.waiting) inv.state c.in-Some-next_missed.next next
+    c.in-Some-next_missed.ensures.waited c.lower.new.numbers lowered c.lower.new.order.items c.lower.ensures.order).tree.within
 
 pub returns-in-Some-take_up_all-clause-same : goal.returns-in-Some-take_up_all-clause-same
 returns-in-Some-take_up_all-clause-same c =
@@ -150,8 +184,15 @@ returns-in-Some-take_up_all-clause-same c =
     let next = rw c.deref-in-loop-next.ensures.value at c.in-Some-next_missed.ensures.next in
     let lowered = rw c.deref-in-Some-next_missed.ensures.value at c.lower.ensures.numbers in
     let back = rw (c.deref-in-Some-take_up_all-3.ensures.value, c.deref-in-Some-take_up_all-4.ensures.value, c.deref-in-Some-take_up_all-5.ensures.value) at c.put_back.ensures.same in
-    let repair = lowered_repair edges end old c.requires.system inv.others c.requires.near c.loop-next.numbers c.loop-next.work.order.items c.loop-next.work.former.items (heap_items c.loop-next.work.waiting) inv.state c.in-Some-next_missed.next next c.in-Some-next_missed.ensures.waited c.lower.new.numbers lowered c.lower.new.order.items c.lower.ensures.order in
-    back old (lowered_noted edges end old c.requires.system inv.others c.requires.near c.loop-next.numbers c.loop-next.work.order.items c.loop-next.work.former.items (heap_items c.loop-next.work.waiting) inv.state c.in-Some-next_missed.next next c.in-Some-next_missed.ensures.waited c.lower.new.numbers lowered c.lower.new.order.items c.lower.ensures.order c.lower.new.former.items (rw c.deref-in-Some-next_missed.ensures.value at c.lower.ensures.former)) (repair_differs edges end old c.lower.new.numbers c.lower.new.order.items repair)
+    let repair =
+    lowered_repair edges end old c.requires.system inv.others c.requires.near c.loop-next.numbers c.loop-next.work.order.items
+    c.loop-next.work.former.items (heap_items c.loop-next.work.waiting) inv.state c.in-Some-next_missed.next next
+    c.in-Some-next_missed.ensures.waited c.lower.new.numbers lowered c.lower.new.order.items c.lower.ensures.order in
+    back old (lowered_noted edges end old c.requires.system inv.others c.requires.near c.loop-next.numbers c.loop-next.work.order.items
+    c.loop-next.work.former.items (heap_items c.loop-next.work.waiting) inv.state c.in-Some-next_missed.next next
+    c.in-Some-next_missed.ensures.waited c.lower.new.numbers lowered c.lower.new.order.items c.lower.ensures.order
+    c.lower.new.former.items (rw c.deref-in-Some-next_missed.ensures.value at c.lower.ensures.former))
+    (repair_differs edges end old c.lower.new.numbers c.lower.new.order.items repair)
 
 pub returns-in-Some-take_up_all-clause-numbers : goal.returns-in-Some-take_up_all-clause-numbers
 returns-in-Some-take_up_all-clause-numbers c =
@@ -162,8 +203,16 @@ returns-in-Some-take_up_all-clause-numbers c =
     let next = rw c.deref-in-loop-next.ensures.value at c.in-Some-next_missed.ensures.next in
     let lowered = rw c.deref-in-Some-next_missed.ensures.value at c.lower.ensures.numbers in
     let back = rw (c.deref-in-Some-take_up_all-3.ensures.value, c.deref-in-Some-take_up_all-4.ensures.value, c.deref-in-Some-take_up_all-5.ensures.value) at c.put_back.ensures.same in
-    let repair = lowered_repair edges end old c.requires.system inv.others c.requires.near c.loop-next.numbers c.loop-next.work.order.items c.loop-next.work.former.items (heap_items c.loop-next.work.waiting) inv.state c.in-Some-next_missed.next next c.in-Some-next_missed.ensures.waited c.lower.new.numbers lowered c.lower.new.order.items c.lower.ensures.order in
-    let same = back old (lowered_noted edges end old c.requires.system inv.others c.requires.near c.loop-next.numbers c.loop-next.work.order.items c.loop-next.work.former.items (heap_items c.loop-next.work.waiting) inv.state c.in-Some-next_missed.next next c.in-Some-next_missed.ensures.waited c.lower.new.numbers lowered c.lower.new.order.items c.lower.ensures.order c.lower.new.former.items (rw c.deref-in-Some-next_missed.ensures.value at c.lower.ensures.former)) (repair_differs edges end old c.lower.new.numbers c.lower.new.order.items repair) in
+    let repair =
+    lowered_repair edges end old c.requires.system inv.others c.requires.near c.loop-next.numbers c.loop-next.work.order.items
+    c.loop-next.work.former.items (heap_items c.loop-next.work.waiting) inv.state c.in-Some-next_missed.next next
+    c.in-Some-next_missed.ensures.waited c.lower.new.numbers lowered c.lower.new.order.items c.lower.ensures.order in
+    let same =
+    back old (lowered_noted edges end old c.requires.system inv.others c.requires.near c.loop-next.numbers c.loop-next.work.order.items
+    c.loop-next.work.former.items (heap_items c.loop-next.work.waiting) inv.state c.in-Some-next_missed.next next
+    c.in-Some-next_missed.ensures.waited c.lower.new.numbers lowered c.lower.new.order.items c.lower.ensures.order
+    c.lower.new.former.items (rw c.deref-in-Some-next_missed.ensures.value at c.lower.ensures.former))
+    (repair_differs edges end old c.lower.new.numbers c.lower.new.order.items repair) in
     rw same (near_numbers old c.requires.near)
 
 pub returns-in-Some-take_up_all-clause-cycle : goal.returns-in-Some-take_up_all-clause-cycle
@@ -175,7 +224,11 @@ returns-in-Some-take_up_all-clause-cycle c =
     let next = rw c.deref-in-loop-next.ensures.value at c.in-Some-next_missed.ensures.next in
     let lowered = rw c.deref-in-Some-next_missed.ensures.value at c.lower.ensures.numbers in
     let trace = rw (c.deref-in-Some-take_up_all.ensures.value, c.deref-in-Some-take_up_all-2.ensures.value) at c.trace-in-Some-take_up_all.ensures.trace in
-    closing_cycle edges end old inv.others c.lower.new.numbers c.lower.new.order.items (lowered_repair edges end old c.requires.system inv.others c.requires.near c.loop-next.numbers c.loop-next.work.order.items c.loop-next.work.former.items (heap_items c.loop-next.work.waiting) inv.state c.in-Some-next_missed.next next c.in-Some-next_missed.ensures.waited c.lower.new.numbers lowered c.lower.new.order.items c.lower.ensures.order) c.in-Some-take_up_all.closing c.in-Some-take_up_all.ensures.closing c.trace-in-Some-take_up_all.new.walk.items trace
+    closing_cycle edges end old inv.others c.lower.new.numbers c.lower.new.order.items
+    (lowered_repair edges end old c.requires.system inv.others c.requires.near c.loop-next.numbers c.loop-next.work.order.items
+    c.loop-next.work.former.items (heap_items c.loop-next.work.waiting) inv.state c.in-Some-next_missed.next next
+    c.in-Some-next_missed.ensures.waited c.lower.new.numbers lowered c.lower.new.order.items c.lower.ensures.order)
+    c.in-Some-take_up_all.closing c.in-Some-take_up_all.ensures.closing c.trace-in-Some-take_up_all.new.walk.items trace
 
 pub returns-in-Some-take_up_all-clause-once : goal.returns-in-Some-take_up_all-clause-once
 returns-in-Some-take_up_all-clause-once c =
@@ -189,7 +242,10 @@ loop-next-smaller c =
     let old = c.args.numbers.now in
     let inv = c.loop-next.invariant in
     let next = rw c.deref-in-loop-next.ensures.value at c.in-Some-next_missed.ensures.next in
-    let room = state_room edges end old c.requires.system inv.others c.requires.near c.loop-next.numbers c.loop-next.work.order.items c.loop-next.work.former.items (heap_items c.loop-next.work.waiting) inv.state c.in-Some-next_missed.next next c.in-Some-next_missed.ensures.waited in
+    let room =
+    state_room edges end old c.requires.system inv.others c.requires.near c.loop-next.numbers c.loop-next.work.order.items
+    c.loop-next.work.former.items (heap_items c.loop-next.work.waiting) inv.state c.in-Some-next_missed.next next
+    c.in-Some-next_missed.ensures.waited in
     let more = ap length c.lower.ensures.order ∙ length_push c.loop-next.work.order.items c.in-Some-next_missed.next in
     fewer_left (length old) (length c.loop-next.work.order.items) (length c.lower.new.order.items) more room
 
@@ -207,7 +263,12 @@ loop-next-preserved c =
     let added = rw is_node at c.in_default-take_up_all.ensures.added in
     record {
       others = inv.others;
-      state = state_more edges end old c.requires.system inv.others c.requires.near c.loop-next.numbers c.loop-next.work.order.items c.loop-next.work.former.items (heap_items c.loop-next.work.waiting) inv.state c.in-Some-next_missed.next next c.in-Some-next_missed.ensures.waited c.lower.new.numbers lowered c.lower.new.order.items c.lower.ensures.order (heap_items c.next_missed.new.waiting) rest c.in-Some-next_missed.ensures.fewer (heap_items c.take_up_all.new.waiting) c.lower.new.former.items (rw c.deref-in-Some-next_missed.ensures.value at c.lower.ensures.former) queue added;
+      state =
+          state_more edges end old c.requires.system inv.others c.requires.near c.loop-next.numbers c.loop-next.work.order.items
+          c.loop-next.work.former.items (heap_items c.loop-next.work.waiting) inv.state c.in-Some-next_missed.next next
+          c.in-Some-next_missed.ensures.waited c.lower.new.numbers lowered c.lower.new.order.items c.lower.ensures.order
+          (heap_items c.next_missed.new.waiting) rest c.in-Some-next_missed.ensures.fewer (heap_items c.take_up_all.new.waiting)
+          c.lower.new.former.items (rw c.deref-in-Some-next_missed.ensures.value at c.lower.ensures.former) queue added;
       order = c.in_default-take_up_all.ensures.order;
       room = record {
         waiting = omega (arith, inv.room.waiting, c.in-Some-next_missed.ensures.room, c.in_default-take_up_all.ensures.room);

@@ -21,10 +21,13 @@ loop-left-preserved c =
       tracing = elim (cases_eq (edge_at c.args.edges.now (get_or c.args.order.now (c.loop-left.left - 1) 0)).from c.loop-left.node) [
         | inl from ↦
             let (items, node) = c.follow-node.ensures.goes from in
-            rw (items, node) (tracing_goes c.args.edges.now c.args.order.now c.args.place c.requires.place c.requires.tree (c.loop-left.left - 1) c.loop-left.left c.loop-left.node c.loop-left.walk.items t more from)
+            rw (items, node) (tracing_goes c.args.edges.now c.args.order.now c.args.place c.requires.place c.requires.tree
+            (c.loop-left.left - 1) c.loop-left.left c.loop-left.node c.loop-left.walk.items t more from)
         | inr other ↦
             let (items, node) = c.follow-node.ensures.stays other in
-            rw (items, node) (tracing_stays c.args.edges.now c.args.order.now c.args.place c.requires.place c.requires.tree (c.loop-left.left - 1) c.loop-left.left c.loop-left.node c.loop-left.walk.items t more other)
+            rw (items, node)
+            (tracing_stays c.args.edges.now c.args.order.now c.args.place c.requires.place c.requires.tree (c.loop-left.left - 1)
+            c.loop-left.left c.loop-left.node c.loop-left.walk.items t more other)
       ];
       room = omega (arith, c.follow-node.ensures.room, c.loop-left.invariant.room);
     }

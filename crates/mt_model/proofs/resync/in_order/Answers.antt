@@ -8,11 +8,15 @@ loop-resync-init c = record { pairs = λ i j d first second. absurd (omega arith
 pub returns-then-resync-least : goal.returns-then-resync-least
 returns-then-resync-least c = (
   λ no. absurd (cc),
-  λ all. absurd (in_order-falls c.args.resyncs.now c.loop-resync.resync-index c.loop-resync.least c.resync-item.result c.loop-resync-test.true c.resync-item.is c.loop-resync.invariant c.if-resync-least.true all),
+  λ all. absurd
+      (in_order-falls c.args.resyncs.now c.loop-resync.resync-index c.loop-resync.least c.resync-item.result c.loop-resync-test.true
+      c.resync-item.is c.loop-resync.invariant c.if-resync-least.true all),
 )
 
 pub loop-resync-preserved : goal.loop-resync-preserved
-loop-resync-preserved c = in_order-more c.args.resyncs.now c.loop-resync.resync-index c.loop-resync.least c.resync-item.result c.loop-resync-test.true c.resync-item.is c.loop-resync.invariant c.if-resync-least.false
+loop-resync-preserved c =
+    in_order-more c.args.resyncs.now c.loop-resync.resync-index c.loop-resync.least c.resync-item.result c.loop-resync-test.true
+    c.resync-item.is c.loop-resync.invariant c.if-resync-least.false
 
 pub returns : goal.returns
 returns c = (

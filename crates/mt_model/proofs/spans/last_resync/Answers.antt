@@ -9,13 +9,16 @@ loop-k-init c = last-from_front (λ r. r.host == c.args.host && nat_le r.place c
 
 pub returns-then-applies : goal.returns-then-applies
 returns-then-applies c =
-    let same : c.index-resyncs-k-then-applies.result ≡ c.index-resyncs-k.result = c.index-resyncs-k-then-applies.is ∙ get_or_default c.args.resyncs.now (c.loop-k.k - 1) c.index-resyncs-k-then-applies.result c.index-resyncs-k.result (omega (arith, c.loop-k-test.true, c.loop-k.auto.k)) ∙ sym c.index-resyncs-k.is in
+    let same : c.index-resyncs-k-then-applies.result ≡ c.index-resyncs-k.result =
+    c.index-resyncs-k-then-applies.is ∙ get_or_default c.args.resyncs.now (c.loop-k.k - 1) c.index-resyncs-k-then-applies.result
+    c.index-resyncs-k.result (omega (arith, c.loop-k-test.true, c.loop-k.auto.k)) ∙ sym c.index-resyncs-k.is in
     sym (c.loop-k.invariant ∙ last-here (λ (r : Resync). r.host == c.args.host && nat_le r.place c.args.e) c.args.resyncs.now c.loop-k.k c.index-resyncs-k-then-applies.result c.loop-k-test.true c.loop-k.auto.k c.index-resyncs-k-then-applies.is
     (rw (same) (sym c.applies.ensures ∙ c.if-applies.true)))
 
 pub loop-k-preserved : goal.loop-k-preserved
 loop-k-preserved c =
-    c.loop-k.invariant ∙ last-not_here (λ (r : Resync). r.host == c.args.host && nat_le r.place c.args.e) c.args.resyncs.now c.loop-k.k c.index-resyncs-k.result c.loop-k-test.true c.loop-k.auto.k c.index-resyncs-k.is
+    c.loop-k.invariant ∙ last-not_here (λ (r : Resync). r.host == c.args.host && nat_le r.place c.args.e) c.args.resyncs.now c.loop-k.k
+    c.index-resyncs-k.result c.loop-k-test.true c.loop-k.auto.k c.index-resyncs-k.is
     (sym c.applies.ensures ∙ c.if-applies.false)
 
 pub returns : goal.returns

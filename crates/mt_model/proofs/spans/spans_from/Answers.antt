@@ -18,7 +18,8 @@ pass_resyncs-passed-requires-clause-clocks c = c.loop-e.invariant.clocks
 
 pub loop-e-preserved : goal.loop-e-preserved
 loop-e-preserved c =
-    spanning-next c.args.log.now c.pass_resyncs-passed.new.clocks c.loop-e.spans c.push.new.self c.pass_resyncs-passed.result c.loop-e.e c.host_at.result _ c.rows-e-end.ensures.valid c.pass_resyncs-passed.ensures.passed c.pass_resyncs-passed.ensures.clocks
+    spanning-next c.args.log.now c.pass_resyncs-passed.new.clocks c.loop-e.spans c.push.new.self c.pass_resyncs-passed.result c.loop-e.e
+    c.host_at.result _ c.rows-e-end.ensures.valid c.pass_resyncs-passed.ensures.passed c.pass_resyncs-passed.ensures.clocks
     c.loop-e.invariant.spans c.host_at.ensures.host c.host_at.ensures.within c.in_ok-push.ensures.ok
 
 pub returns-clause-spans : goal.returns-clause-spans

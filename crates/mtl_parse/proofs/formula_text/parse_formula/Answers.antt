@@ -32,7 +32,8 @@ returns-in_err-operand-clause-fault c =
     let same = c.in_ok-tokens.tokens.ok.0 in
     let scanned : tokens_of c.args.bytes.now ≡ Ok (map placed_in c.in_ok-tokens.tokens.items) = search rules in
     let some : 0 < length c.in_ok-tokens.tokens.items = grind (arith, nat_tests, same, c.if-is_empty.ensures) in
-    rw (p.1, p.2) (λ other. fault-read c.args.bytes.now (map placed_in c.in_ok-tokens.tokens.items) _ scanned (some-read c.in_ok-tokens.tokens.items some) (rw c.deref.ensures.value at (c.in_err-operand.ensures.fault other)))
+    rw (p.1, p.2) (λ other. fault-read c.args.bytes.now (map placed_in c.in_ok-tokens.tokens.items) _ scanned
+    (some-read c.in_ok-tokens.tokens.items some) (rw c.deref.ensures.value at (c.in_err-operand.ensures.fault other)))
 
 pub returns-in-Some-clause-fault : goal.returns-in-Some-clause-fault
 returns-in-Some-clause-fault c = λ _.
@@ -53,7 +54,8 @@ returns-in-Some-new-clause-formula c =
     let whole : read_whole capped (length c.args.bytes.now) (map placed_in c.in_ok-tokens.tokens.items) ≡ Ok (form_in c.in_ok-operand.operand) = search rules in
     let none : first_empty_interval (map placed_in c.in_ok-tokens.tokens.items) ≡ None = search rules in
     let tree : read_whole capped (length c.args.bytes.now) (map placed_in c.in_ok-tokens.tokens.items) ≡ Ok (form_of c.into_tree.result) = rw c.into_tree.ensures.same (rw c.in-Low.is at whole) in
-    rw c.in-Some-new.ensures.tree (low-read c.args.bytes.now (map placed_in c.in_ok-tokens.tokens.items) (length c.args.bytes.now) (form_of c.into_tree.result) scanned tree none c.into_tree.ensures.height)
+    rw c.in-Some-new.ensures.tree (low-read c.args.bytes.now (map placed_in c.in_ok-tokens.tokens.items) (length c.args.bytes.now)
+    (form_of c.into_tree.result) scanned tree none c.into_tree.ensures.height)
 
 pub unreachable-requires : goal.unreachable-requires
 unreachable-requires c =
@@ -61,5 +63,7 @@ unreachable-requires c =
     let whole : read_whole capped (length c.args.bytes.now) (map placed_in c.in_ok-tokens.tokens.items) ≡ Ok (form_in c.in_ok-operand.operand) = search rules in
     let none : first_empty_interval (map placed_in c.in_ok-tokens.tokens.items) ≡ None = search rules in
     let tree : read_whole capped (length c.args.bytes.now) (map placed_in c.in_ok-tokens.tokens.items) ≡ Ok (form_of c.into_tree.result) = rw c.into_tree.ensures.same (rw c.in-Low.is at whole) in
-    let other = c.in-None.ensures.valid.1 (low-valid c.args.bytes.now (map placed_in c.in_ok-tokens.tokens.items) (length c.args.bytes.now) (form_of c.into_tree.result) c.requires scanned tree none c.into_tree.ensures.height) in
+    let other =
+    c.in-None.ensures.valid.1 (low-valid c.args.bytes.now (map placed_in c.in_ok-tokens.tokens.items) (length c.args.bytes.now)
+    (form_of c.into_tree.result) c.requires scanned tree none c.into_tree.ensures.height) in
     absurd (cc)

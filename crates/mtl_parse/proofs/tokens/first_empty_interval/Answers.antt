@@ -9,5 +9,6 @@ use Rattle.mtl_parse.proofs.tokens.first_empty_interval.Goals as goal
 pub loop-i-preserved : goal.loop-i-preserved
 loop-i-preserved c =
     no-interval c.args.tokens.now c.loop-i.i c.loop-i-test.true
-    (ap (λ xs. begins_with_empty_interval (tokens_in (map placed_in xs))) (sym (take_rest c.args.tokens.now c.loop-i.i)) ∙ sym c.begins_with_empty_interval.ensures ∙ c.if-begins_with_empty_interval.false)
+    (ap (λ xs. begins_with_empty_interval (tokens_in (map placed_in xs))) (sym (take_rest c.args.tokens.now c.loop-i.i))
+    ∙ sym c.begins_with_empty_interval.ensures ∙ c.if-begins_with_empty_interval.false)
     ∙ c.loop-i.invariant

@@ -12,4 +12,5 @@ returns-then-level_of-level-clause-best c =
     let t = c.args.trail.now in
     let at = held_at t (negation c.args.fallen) c.var.result c.level_of.result c.level.ensures.trail c.var.ensures.variable c.requires.fallen c.level_of.ensures.level in
     let apart : Some c.args.beside ≢ Some c.args.fallen = λ same. c.requires.apart cc in
-    top_best t c.args.clause.now (Some c.args.beside) c.args.fallen c.level.ensures.trail c.requires.has apart (rw (c.if-level_of-level.true ∙ c.level.ensures.level) at at) (c.in_default.ensures.none refl)
+    top_best t c.args.clause.now (Some c.args.beside) c.args.fallen c.level.ensures.trail c.requires.has apart
+    (rw (c.if-level_of-level.true ∙ c.level.ensures.level) at at) (c.in_default.ensures.none refl)

@@ -12,7 +12,9 @@ no_lit = record { var = 0; positive = false }
 pub returns-then-may_be_watched-clause-open : goal.returns-then-may_be_watched-clause-open
 returns-then-may_be_watched-clause-open c =
     let open_here = c.may_be_watched.ensures.open c.if-may_be_watched.true in
-    open_best c.args.trail.now.entries c.args.clause.now c.args.beside _ (Contains-get_or c.args.clause.now c.loop-place.place no_lit (omega (arith, c.loop-place-test.true, c.requires.within))) open_here.0 open_here.1
+    open_best c.args.trail.now.entries c.args.clause.now c.args.beside _
+    (Contains-get_or c.args.clause.now c.loop-place.place no_lit (omega (arith, c.loop-place-test.true, c.requires.within))) open_here.0
+    open_here.1
 
 pub loop-place-preserved : goal.loop-place-preserved
 loop-place-preserved c = λ k d from less. elim (cases_lt k c.loop-place.place) [

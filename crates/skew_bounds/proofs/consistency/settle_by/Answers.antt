@@ -12,7 +12,9 @@ solve-requires c =
 pub times_of-requires : goal.times_of-requires
 times_of-requires c =
     let found = rw (c.rows.ensures.same, c.as_slice.ensures.items, c.in-Potential.is) at c.in_ok-outcome.ensures.found in
-    let admissible = timing-of c.bounds_are_admissible.ensures c.args.log.now c.args.system.now.bounds c.args.system.now.edges c.in-Potential.numbers c.requires.system.bounds c.requires.system.edges c.requires.system.within found in
+    let admissible =
+    timing-of c.bounds_are_admissible.ensures c.args.log.now c.args.system.now.bounds c.args.system.now.edges c.in-Potential.numbers
+    c.requires.system.bounds c.requires.system.edges c.requires.system.within found in
     rw c.as_slice-in-Potential.ensures.items (record {
       some = let count = found.count in omega (arith, count);
       near = times-near c.args.log.now c.rows.ensures.valid (times_of c.in-Potential.numbers) admissible;
@@ -21,14 +23,18 @@ times_of-requires c =
 pub returns-in_ok-times-in-Potential : goal.returns-in_ok-times-in-Potential
 returns-in_ok-times-in-Potential c =
     let found = rw (c.rows.ensures.same, c.as_slice.ensures.items, c.in-Potential.is) at c.in_ok-outcome.ensures.found in
-    let admissible = timing-of c.bounds_are_admissible.ensures c.args.log.now c.args.system.now.bounds c.args.system.now.edges c.in-Potential.numbers c.requires.system.bounds c.requires.system.edges c.requires.system.within found in
+    let admissible =
+    timing-of c.bounds_are_admissible.ensures c.args.log.now c.args.system.now.bounds c.args.system.now.edges c.in-Potential.numbers
+    c.requires.system.bounds c.requires.system.edges c.requires.system.within found in
     let times = rw (c.as_slice-in-Potential.ensures.items) at c.in_ok-times-in-Potential.ensures.times in
     record { answer = rw times admissible }
 
 pub steps_of-requires : goal.steps_of-requires
 steps_of-requires c =
     let cycle = rw (c.as_slice.ensures.items, c.in-Cycle.is) at c.in_ok-outcome.ensures.cycle in
-    rw (c.as_slice-in-Cycle.ensures.items, c.as_slice-in-Cycle-2.ensures.items) (places-within c.args.log.now c.args.system.now.bounds c.args.system.now.edges c.in-Cycle.places c.requires.system.edges cycle.closed)
+    rw (c.as_slice-in-Cycle.ensures.items, c.as_slice-in-Cycle-2.ensures.items)
+    (places-within c.args.log.now c.args.system.now.bounds c.args.system.now.edges c.in-Cycle.places c.requires.system.edges
+    cycle.closed)
 
 pub returns-in_ok-steps-in-Cycle : goal.returns-in_ok-steps-in-Cycle
 returns-in_ok-steps-in-Cycle c =

@@ -12,7 +12,8 @@ pub loop-next-init : goal.loop-next-init
 loop-next-init c =
     let first : IsPermutation (entry_of c.args.potential.now c.args.node (pos 0) ∷ []) (heap_items c.push.new.self) =
     rw (c.waiting_at.ensures.waiting, c.new-waiting.ensures.items) at c.in_ok-push.ensures.permutation in
-    reached-first (lists_of c.args.incoming.now) c.args.potential.now c.args.node c.requires.network c.requires.potential (rw (lists-count c.args.incoming.now) c.requires.node) c.in_ok-numbers.numbers.items
+    reached-first (lists_of c.args.incoming.now) c.args.potential.now c.args.node c.requires.network c.requires.potential
+    (rw (lists-count c.args.incoming.now) c.requires.node) c.in_ok-numbers.numbers.items
     c.in_ok-numbers.ensures (heap_items c.push.new.self) first
 
 pub bounds-incoming-next : goal.bounds-incoming-next
@@ -47,7 +48,8 @@ loop-next-preserved c =
     let place : next < length (lists_of incoming) = rw c.requires.potential.solution.count at within in
     let list = list-at incoming next c.index-incoming-next.result (rw lists-count at place) c.index-incoming-next.is in
     let lowered = rw (c.deref-in-Some.ensures.value, ← list, c.deref_mut.ensures.value) at c.in_ok-lower_before.ensures.lowered in
-    let kept : take c.loop-next.numbers.len (c.lower_before.new.numbers ++ drop (length c.lower_before.new.numbers) c.loop-next.numbers.items) ≡ c.lower_before.new.numbers = grind (arith, common_steps, lowered.count) in
+    let kept : take c.loop-next.numbers.len (c.lower_before.new.numbers ++ drop (length c.lower_before.new.numbers) c.loop-next.numbers.items) ≡ c.lower_before.new.numbers =
+    grind (arith, common_steps, lowered.count) in
     rw kept
     (reached-more (lists_of incoming) c.args.potential.now c.args.node c.requires.network c.requires.potential (rw (lists-count incoming) c.requires.node) c.loop-next.numbers.items
     (heap_items c.loop-next.waiting) c.loop-next.invariant c.in-Some.next (heap_items c.pop.new.self) c.in-Some.ensures.permutation c.lower_before.new.numbers (heap_items c.lower_before.new.waiting)

@@ -9,4 +9,5 @@ pub loop-k-preserved : goal.loop-k-preserved
 loop-k-preserved c =
     let rows = flat_map (bounds_at c.args.log.now) (range_with_len 0 (length c.args.log.now.rows)) in
     let more = map-range_with_len_more bound.Extra 0 c.loop-k.k c.loop-k.k (zero-add c.loop-k.k) in
-    c.in_ok-push.ensures.ok ∙ ap (λ xs. xs ++ bound.Extra c.loop-k.k ∷ []) c.loop-k.invariant ∙ append_assoc rows (map bound.Extra (range_with_len 0 c.loop-k.k)) (bound.Extra c.loop-k.k ∷ []) ∙ sym (ap (λ xs. rows ++ xs) more)
+    c.in_ok-push.ensures.ok ∙ ap (λ xs. xs ++ bound.Extra c.loop-k.k ∷ []) c.loop-k.invariant
+    ∙ append_assoc rows (map bound.Extra (range_with_len 0 c.loop-k.k)) (bound.Extra c.loop-k.k ∷ []) ∙ sym (ap (λ xs. rows ++ xs) more)

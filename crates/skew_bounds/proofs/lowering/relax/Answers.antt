@@ -8,7 +8,9 @@ use Rattle.skew_bounds.proofs.lowering.relax.Goals as goal
 pub lower-requires-clause-number : goal.lower-requires-clause-number
 lower-requires-clause-number c =
     let unmet = c.in-Some.ensures in
-    let near = lowered-near c.args.potential.now c.args.numbers.now (heap_items c.args.waiting.now) c.args.edge c.requires.search c.requires.edge c.requires.met c.in-Some.number unmet.number unmet.above in
+    let near =
+    lowered-near c.args.potential.now c.args.numbers.now (heap_items c.args.waiting.now) c.args.edge c.requires.search c.requires.edge
+    c.requires.met c.in-Some.number unmet.number unmet.above in
     record { low = omega (arith, ints, near.low, near.high); high = omega (arith, ints, near.low, near.high) }
 
 pub returns-in_ok-lower : goal.returns-in_ok-lower

@@ -18,7 +18,8 @@ table_by-requires-clause-potential c =
     let are = rw (c.requires.system.bounds) at c.requires.system.edges in
     let lists = rw (c.rows.ensures.same, c.as_slice.ensures.items) at c.in_ok-incoming.ensures in
     rw (c.deref.ensures.value, c.deref-2.ensures.value, c.in_ok-potential.ensures)
-    (near-of c.bounds_are_admissible.ensures c.args.log.now c.rows.ensures.valid c.args.system.now.edges (lists_of c.in_ok-incoming.incoming.items) are c.requires.system.within lists c.args.times.now c.requires.admissible)
+    (near-of c.bounds_are_admissible.ensures c.args.log.now c.rows.ensures.valid c.args.system.now.edges
+    (lists_of c.in_ok-incoming.incoming.items) are c.requires.system.within lists c.args.times.now c.requires.admissible)
 
 pub returns : goal.returns
 returns c =

@@ -15,30 +15,42 @@ index-requires c =
 
 pub offset_bounds-deref-start : goal.offset_bounds-deref-start
 offset_bounds-deref-start c =
-    let s = span _ _ _ _ c.args.c _ _ _ c.self.view_is c.self.invariant c.requires c.get-place.ensures.place c.deref.ensures.value c.start_of-start.ensures.first c.start_of-start.ensures.later c.index.ensures in
+    let s =
+    span _ _ _ _ c.args.c _ _ _ c.self.view_is c.self.invariant c.requires c.get-place.ensures.place c.deref.ensures.value
+    c.start_of-start.ensures.first c.start_of-start.ensures.later c.index.ensures in
     omega (arith, s.rising, s.within, c.deref-2.type_inv.1, ap length c.deref-2.ensures.value)
 
 pub slice_bounds-result-count : goal.slice_bounds-result-count
 slice_bounds-result-count c =
-    let s = span _ _ _ _ c.args.c _ _ _ c.self.view_is c.self.invariant c.requires c.get-place.ensures.place c.deref.ensures.value c.start_of-start.ensures.first c.start_of-start.ensures.later c.index.ensures in
+    let s =
+    span _ _ _ _ c.args.c _ _ _ c.self.view_is c.self.invariant c.requires c.get-place.ensures.place c.deref.ensures.value
+    c.start_of-start.ensures.first c.start_of-start.ensures.later c.index.ensures in
     s.rising
 
 pub slice_bounds-result-start : goal.slice_bounds-result-start
 slice_bounds-result-start c =
-    let s = span _ _ _ _ c.args.c _ _ _ c.self.view_is c.self.invariant c.requires c.get-place.ensures.place c.deref.ensures.value c.start_of-start.ensures.first c.start_of-start.ensures.later c.index.ensures in
+    let s =
+    span _ _ _ _ c.args.c _ _ _ c.self.view_is c.self.invariant c.requires c.get-place.ensures.place c.deref.ensures.value
+    c.start_of-start.ensures.first c.start_of-start.ensures.later c.index.ensures in
     s.rising
 
 pub slice_bounds-result-end : goal.slice_bounds-result-end
 slice_bounds-result-end c =
-    let s = span _ _ _ _ c.args.c _ _ _ c.self.view_is c.self.invariant c.requires c.get-place.ensures.place c.deref.ensures.value c.start_of-start.ensures.first c.start_of-start.ensures.later c.index.ensures in
+    let s =
+    span _ _ _ _ c.args.c _ _ _ c.self.view_is c.self.invariant c.requires c.get-place.ensures.place c.deref.ensures.value
+    c.start_of-start.ensures.first c.start_of-start.ensures.later c.index.ensures in
     omega (arith, s.within, ap length c.deref-2.ensures.value)
 
 pub returns-clause-clause : goal.returns-clause-clause
 returns-clause-clause c =
-    let s = span _ _ _ _ c.args.c _ _ _ c.self.view_is c.self.invariant c.requires c.get-place.ensures.place c.deref.ensures.value c.start_of-start.ensures.first c.start_of-start.ensures.later c.index.ensures in
+    let s =
+    span _ _ _ _ c.args.c _ _ _ c.self.view_is c.self.invariant c.requires c.get-place.ensures.place c.deref.ensures.value
+    c.start_of-start.ensures.first c.start_of-start.ensures.later c.index.ensures in
     rw c.deref-2.ensures.value s.is
 
 pub returns-clause-once : goal.returns-clause-once
 returns-clause-once c =
-    let s = span _ _ _ _ c.args.c _ _ _ c.self.view_is c.self.invariant c.requires c.get-place.ensures.place c.deref.ensures.value c.start_of-start.ensures.first c.start_of-start.ensures.later c.index.ensures in
+    let s =
+    span _ _ _ _ c.args.c _ _ _ c.self.view_is c.self.invariant c.requires c.get-place.ensures.place c.deref.ensures.value
+    c.start_of-start.ensures.first c.start_of-start.ensures.later c.index.ensures in
     rw c.deref-2.ensures.value s.once

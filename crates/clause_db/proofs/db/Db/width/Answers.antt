@@ -15,10 +15,14 @@ index-requires c =
 
 pub overflow_sub-result : goal.overflow_sub-result
 overflow_sub-result c =
-    let s = span _ _ _ _ c.args.c _ _ _ c.self.view_is c.self.invariant c.requires c.get-place.ensures.place c.deref.ensures.value c.start_of-start.ensures.first c.start_of-start.ensures.later c.index.ensures in
+    let s =
+    span _ _ _ _ c.args.c _ _ _ c.self.view_is c.self.invariant c.requires c.get-place.ensures.place c.deref.ensures.value
+    c.start_of-start.ensures.first c.start_of-start.ensures.later c.index.ensures in
     s.rising
 
 pub returns : goal.returns
 returns c =
-    let s = span _ _ _ _ c.args.c _ _ _ c.self.view_is c.self.invariant c.requires c.get-place.ensures.place c.deref.ensures.value c.start_of-start.ensures.first c.start_of-start.ensures.later c.index.ensures in
+    let s =
+    span _ _ _ _ c.args.c _ _ _ c.self.view_is c.self.invariant c.requires c.get-place.ensures.place c.deref.ensures.value
+    c.start_of-start.ensures.first c.start_of-start.ensures.later c.index.ensures in
     record { width = span_length _ _ _ _ _ s }

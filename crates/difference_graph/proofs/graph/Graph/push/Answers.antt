@@ -52,10 +52,14 @@ invariant_of-self-in-Kept c =
     let kept = c.in-Kept.ensures in
     let same = kept.count ∙ ap length near in
     let meets = subst (λ (es : List Edge). All (Meets c.repair.new.numbers) es) c.hold-2.ensures.edges kept.met in
-    let now = written_back i.current.len c.repair.new.numbers (take i.current.len (c.bring_near.new.numbers ++ drop (length c.bring_near.new.numbers) i.current.items)) (same ∙ c.bring_near.ensures.count ∙ c.deref_mut.ensures.len) in
+    let now =
+    written_back i.current.len c.repair.new.numbers
+    (take i.current.len (c.bring_near.new.numbers ++ drop (length c.bring_near.new.numbers) i.current.items))
+    (same ∙ c.bring_near.ensures.count ∙ c.deref_mut.ensures.len) in
     let had = c.self.invariant.1 in
     rw now (
-      rw c.hold-2.ensures.edges (kept_more i.held.edges.items i.limit i.current.items c.self.invariant.0 c.bring_near.new.numbers count keeps c.args.edge edge room c.repair.new.numbers same kept.numbers meets),
+      rw c.hold-2.ensures.edges (kept_more i.held.edges.items i.limit i.current.items c.self.invariant.0 c.bring_near.new.numbers count
+          keeps c.args.edge edge room c.repair.new.numbers same kept.numbers meets),
       record {
         incoming = c.hold-2.ensures.incoming;
         ends = omega (arith, c.hold-2.ensures.nodes, had.ends, same, count);
@@ -75,7 +79,10 @@ invariant_of-self-in-Cycle c =
     let refused = c.in-Cycle.ensures in
     let back = refused.same ∙ near in
     let same = refused.count ∙ ap length near in
-    let now = written_back i.current.len c.repair.new.numbers (take i.current.len (c.bring_near.new.numbers ++ drop (length c.bring_near.new.numbers) i.current.items)) (same ∙ c.bring_near.ensures.count ∙ c.deref_mut.ensures.len) in
+    let now =
+    written_back i.current.len c.repair.new.numbers
+    (take i.current.len (c.bring_near.new.numbers ++ drop (length c.bring_near.new.numbers) i.current.items))
+    (same ∙ c.bring_near.ensures.count ∙ c.deref_mut.ensures.len) in
     let had = c.self.invariant.1 in
     let held = c.take_back.ensures.edges ∙ ap (λ (es : List Edge). take (length es - 1) es) c.hold-2.ensures.edges ∙ take_last i.held.edges.items c.args.edge in
     let numbers = subst (λ (xs : List ℤ). All IsNumber xs) back refused.numbers in
@@ -193,7 +200,10 @@ returns-in-Cycle-clause-restored c small =
     let refused = c.in-Cycle.ensures in
     let back = refused.same ∙ near in
     let same = refused.count ∙ ap length near in
-    let now = written_back i.current.len c.repair.new.numbers (take i.current.len (c.bring_near.new.numbers ++ drop (length c.bring_near.new.numbers) i.current.items)) (same ∙ c.bring_near.ensures.count ∙ c.deref_mut.ensures.len) in
+    let now =
+    written_back i.current.len c.repair.new.numbers
+    (take i.current.len (c.bring_near.new.numbers ++ drop (length c.bring_near.new.numbers) i.current.items))
+    (same ∙ c.bring_near.ensures.count ∙ c.deref_mut.ensures.len) in
     let here = subst (λ (g : Constraints). AreSmall g.numbers) (sym c.self.view_is) small in
     let differences = rw value at c.bring_near.ensures.same in
     let view = same_view i.current.items c.bring_near.new.numbers count (differences (narrow i.current.items here)) in

@@ -22,4 +22,9 @@ invariant_of-result c =
     let wide = simp (to_z-of_z, c.ranges.s) at c.widened_hosts.ensures in
     let after = simp (to_z-of_z, c.ranges.s) at c.widened_resyncs.ensures in
     rw (wide, after)
-    (log-widened c.args.s c.requires.low (record { hosts = c.self.inside.hosts; rows = c.self.inside.rows; resyncs = c.self.inside.resyncs; extras = c.self.inside.extras }) c.self.invariant room later)
+    (log-widened c.args.s c.requires.low (record {
+      hosts = c.self.inside.hosts;
+      rows = c.self.inside.rows;
+      resyncs = c.self.inside.resyncs;
+      extras = c.self.inside.extras;
+    }) c.self.invariant room later)

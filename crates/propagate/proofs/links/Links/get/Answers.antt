@@ -16,5 +16,8 @@ returns-in-Some c =
     let below : c.args.var < length inside.places.items = view_below inside.places.items inside.edges.items c.args.var (rw (← c.self.view_is) at c.requires.in_range) in
     let at = read_place inside.places.items c.args.var _ _ c.get.ensures.number below c.index.ensures ∙ c.in-Some.is in
     record {
-      edges = rw (← c.self.view_is) (sym (pair_read inside.places.items inside.edges.items c.args.var c.in-Some.place c.index-in-Some.result.now below at (c.self.invariant.below c.args.var c.in-Some.place at) c.index-in-Some.ensures));
+      edges =
+          rw (← c.self.view_is) (sym
+          (pair_read inside.places.items inside.edges.items c.args.var c.in-Some.place c.index-in-Some.result.now below at
+          (c.self.invariant.below c.args.var c.in-Some.place at) c.index-in-Some.ensures));
     }

@@ -9,5 +9,7 @@ assign_unit-requires-clause-leaves c =
 
 pub returns-in-Some-clause-assigned : goal.returns-in-Some-clause-assigned
 returns-in-Some-clause-assigned c =
-    assigned_if_ok c.args.db.now c.args.links.now c.args.self.now c.args.graph.now c.assign_unit.new.self c.assign_unit.new.graph _ c.args.lit c.args.best _ c.requires.best c.in-Some.ensures.level c.assign_unit.result c.assign_unit.ensures.reached c.assign_unit.ensures.made
+    assigned_if_ok c.args.db.now c.args.links.now c.args.self.now c.args.graph.now c.assign_unit.new.self c.assign_unit.new.graph _
+    c.args.lit c.args.best _ c.requires.best c.in-Some.ensures.level c.assign_unit.result c.assign_unit.ensures.reached
+    c.assign_unit.ensures.made
     c.assign_unit.ensures.since

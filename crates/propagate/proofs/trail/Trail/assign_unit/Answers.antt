@@ -16,12 +16,15 @@ assign-requires-clause-room c =
 
 pub returns-in-Some-true-clause-since : goal.returns-in-Some-true-clause-since
 returns-in-Some-true-clause-since c = λ m rest.
-    since_true c.args.self.now c.args.db.now c.args.clause m c.args.lit c.requires.work.trail c.requires.work.closed c.requires.held (rw c.in-Some-true.field-0-test at c.in-Some-true.ensures.truth) rest
+    since_true c.args.self.now c.args.db.now c.args.clause m c.args.lit c.requires.work.trail c.requires.work.closed c.requires.held
+    (rw c.in-Some-true.field-0-test at c.in-Some-true.ensures.truth) rest
 
 pub returns-in-Some-false-clause-reached : goal.returns-in-Some-false-clause-reached
 returns-in-Some-false-clause-reached c =
-    let is_false = rw c.in-Some-false.field-0-test at c.in-Some-false.ensures.truth in
-    (progress_none c.args.self.now c.args.db.now c.args.links.now c.args.graph.now c.requires.work, record { held = c.requires.held; falsified = leaves_false _ _ c.args.lit c.requires.leaves is_false })
+    let is_false = rw c.in-Some-false.field-0-test at c.in-Some-false.ensures.truth in (
+      progress_none c.args.self.now c.args.db.now c.args.links.now c.args.graph.now c.requires.work,
+      record { held = c.requires.held; falsified = leaves_false _ _ c.args.lit c.requires.leaves is_false },
+    )
 
 pub returns-in-Kept-clause-reached : goal.returns-in-Kept-clause-reached
 returns-in-Kept-clause-reached c =

@@ -26,11 +26,17 @@ returns-in_ok-attach-in-None-clause-reached c =
     let db = c.args.db.now in
     let made = c.in_ok-attach-in-None.ensures.ok in
     let short = rw (c.lits.ensures.clause, c.requires.next) at (c.in-None.ensures.short refl) in
-    progress_up db c.args.links.now t t c.attach.new.self c.args.graph.now c.args.graph.now None (rewatched_is c.attach.new.self t _ t.taken made) (ap (λ (x : Assigned). x.watching.watches) made) (ap (λ (x : Assigned). x.watching.satisfied) made) c.attach.ensures.after
-    (omega (arith, c.requires.next, c.requires.held)) (λ none. short) (λ p is. absurd (none_some is)) (λ p is. absurd (none_some is)) (progress_none t db c.args.links.now c.args.graph.now c.requires.work)
+    progress_up db c.args.links.now t t c.attach.new.self c.args.graph.now c.args.graph.now None
+    (rewatched_is c.attach.new.self t _ t.taken made) (ap (λ (x : Assigned). x.watching.watches) made)
+    (ap (λ (x : Assigned). x.watching.satisfied) made) c.attach.ensures.after
+    (omega (arith, c.requires.next, c.requires.held)) (λ none. short) (λ p is. absurd (none_some is)) (λ p is. absurd (none_some is))
+    (progress_none t db c.args.links.now c.args.graph.now c.requires.work)
 
 pub returns-in_ok-attach_watched-in-Some-clause-reached : goal.returns-in_ok-attach_watched-in-Some-clause-reached
 returns-in_ok-attach_watched-in-Some-clause-reached c =
     let best = rw c.lits.ensures.clause at c.in-Some.ensures.two in
-    progress_two c.args.db.now c.args.links.now c.args.self.now c.assign_if_unit.new.self c.attach_watched.new.self c.args.graph.now c.assign_if_unit.new.graph c.args.clause c.in-Some.watch c.in_ok-assign_if_unit-in-Some.ensures.reached c.assign_if_unit.ensures.unmoved
-    c.in_ok-assign_if_unit-in-Some.ensures.assigned best c.attach_watched.ensures.same c.in_ok-attach_watched-in-Some.ensures.ok c.attach_watched.ensures.satisfied c.attach_watched.ensures.after c.requires.next c.requires.held
+    progress_two c.args.db.now c.args.links.now c.args.self.now c.assign_if_unit.new.self c.attach_watched.new.self c.args.graph.now
+    c.assign_if_unit.new.graph c.args.clause c.in-Some.watch c.in_ok-assign_if_unit-in-Some.ensures.reached
+    c.assign_if_unit.ensures.unmoved
+    c.in_ok-assign_if_unit-in-Some.ensures.assigned best c.attach_watched.ensures.same c.in_ok-attach_watched-in-Some.ensures.ok
+    c.attach_watched.ensures.satisfied c.attach_watched.ensures.after c.requires.next c.requires.held

@@ -9,7 +9,8 @@ invariant_of-self c = record {
       let below : c.args.lit.var < length inside.places.items = rw (← c.self.view_is) at c.requires.in_range in
       let within = rw (← c.self.view_is) at c.requires.within in
       let unwatched = rw (← c.self.view_is) at c.requires.unwatched in
-      stored_dropped inside.entries.items inside.places.items inside.levels.items _ _ _ _ c.self.invariant.stored c.get.result c.args.lit c.args.place c.positive.result c.index_mut.result.now c.remove.new.self below
+      stored_dropped inside.entries.items inside.places.items inside.levels.items _ _ _ _ c.self.invariant.stored c.get.result c.args.lit
+      c.args.place c.positive.result c.index_mut.result.now c.remove.new.self below
       (c.get.ensures.number ∙ c.var.ensures.variable) c.positive.ensures.sense c.index_mut.ensures.value c.remove.ensures.removed within unwatched;
   valued = c.self.invariant.valued;
 }

@@ -20,7 +20,8 @@ invariant_of-self c = record {
       let free : IsUnassigned inside.entries.items c.args.lit.var = rw (← c.self.view_is) at c.requires.unassigned in
       let place : c.len-place.result ≡ length inside.entries.items = rw (← c.self.view_is) at c.len-place.ensures.count in
       let level : c.level-present.result ≡ length inside.levels.items = rw (← c.self.view_is) at c.level-present.ensures.level in
-      stored_followed inside.entries.items c.push_within.new.list.items inside.places.items inside.levels.items _ _ _ _ _ c.args.lit c.get.result c.get-at.result c.level-present.result c.len-place.result
+      stored_followed inside.entries.items c.push_within.new.list.items inside.places.items inside.levels.items _ _ _ _ _ c.args.lit
+      c.get.result c.get-at.result c.level-present.result c.len-place.result
       c.self.invariant.stored c.push_within.ensures.capacity below free (c.get-at.ensures.number ∙ c.var.ensures.variable) place level c.push_within.ensures.items;
   valued =
       let inside = c.self.inside in
@@ -28,7 +29,8 @@ invariant_of-self c = record {
       let place : c.len-place.result ≡ length inside.entries.items = rw (← c.self.view_is) at c.len-place.ensures.count in
       let level : c.level-present.result ≡ length inside.levels.items = rw (← c.self.view_is) at c.level-present.ensures.level in
       rw (c.push_within.ensures.items, place, level, c.get-at.ensures.number ∙ c.var.ensures.variable, c.positive.ensures.sense)
-      (values_push inside.entries.items (record { lit = c.args.lit; level = length inside.levels.items; reason = Some c.get.result }) inside.places.items inside.values.items c.self.invariant.valued c.self.invariant.stored.table below);
+      (values_push inside.entries.items (record { lit = c.args.lit; level = length inside.levels.items; reason = Some c.get.result })
+      inside.places.items inside.values.items c.self.invariant.valued c.self.invariant.stored.table below);
 }
 
 pub returns-clause-after : goal.returns-clause-after

@@ -37,8 +37,10 @@ invariant_of-self c = record {
       let free : IsUnassigned inside.entries.items c.args.lit.var = rw (← c.self.view_is) at c.requires.unassigned in
       let start : c.len-start.result ≡ length inside.entries.items = rw (← c.self.view_is) at c.len-start.ensures.count in
       let level : c.level-level.result ≡ length inside.levels.items = rw (← c.self.view_is) at c.level-level.ensures.level in
-      stored_decided inside.entries.items c.push_within.new.list.items inside.places.items inside.levels.items c.push_within-2.new.list.items _ _ _ _ _ _ c.args.lit c.args.mark c.get-at.result c.level-level.result
-      c.len-start.result c.self.invariant.stored c.push_within.ensures.capacity c.push_within-2.ensures.capacity below free (c.get-at.ensures.number ∙ c.var.ensures.variable) start level c.push_within.ensures.items
+      stored_decided inside.entries.items c.push_within.new.list.items inside.places.items inside.levels.items
+      c.push_within-2.new.list.items _ _ _ _ _ _ c.args.lit c.args.mark c.get-at.result c.level-level.result
+      c.len-start.result c.self.invariant.stored c.push_within.ensures.capacity c.push_within-2.ensures.capacity below free
+      (c.get-at.ensures.number ∙ c.var.ensures.variable) start level c.push_within.ensures.items
       c.push_within-2.ensures.items;
   valued =
       let inside = c.self.inside in
@@ -46,7 +48,8 @@ invariant_of-self c = record {
       let start : c.len-start.result ≡ length inside.entries.items = rw (← c.self.view_is) at c.len-start.ensures.count in
       let level : c.level-level.result ≡ length inside.levels.items = rw (← c.self.view_is) at c.level-level.ensures.level in
       rw (c.push_within.ensures.items, start, level, c.get-at.ensures.number ∙ c.var.ensures.variable, c.positive.ensures.sense)
-      (values_push inside.entries.items (record { lit = c.args.lit; level = length inside.levels.items + 1; reason = None }) inside.places.items inside.values.items c.self.invariant.valued c.self.invariant.stored.table below);
+      (values_push inside.entries.items (record { lit = c.args.lit; level = length inside.levels.items + 1; reason = None })
+      inside.places.items inside.values.items c.self.invariant.valued c.self.invariant.stored.table below);
 }
 
 pub returns-clause-after : goal.returns-clause-after

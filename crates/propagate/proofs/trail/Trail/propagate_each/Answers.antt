@@ -8,7 +8,9 @@ use Rattle.propagate.proofs.trail.Trail.propagate_each.Goals as goal
 pub returns-in_err-visit_watchers-clause-reached : goal.returns-in_err-visit_watchers-clause-reached
 returns-in_err-visit_watchers-clause-reached c =
     let p = err_from_is_err_and c.from_residual.result c.from_residual.ensures.1 in
-    rw (p.1, p.2) (stop_more c.args.db.now c.args.links.now c.args.self.now c.literals.self c.visit_watchers.new.self c.args.graph.now c.literals.graph c.visit_watchers.new.graph c.literals.invariant.progress c.in_err-visit_watchers.field-0.0 c.in_err-visit_watchers.ensures.reached)
+    rw (p.1, p.2) (stop_more c.args.db.now c.args.links.now c.args.self.now c.literals.self c.visit_watchers.new.self c.args.graph.now
+    c.literals.graph c.visit_watchers.new.graph c.literals.invariant.progress c.in_err-visit_watchers.field-0.0
+    c.in_err-visit_watchers.ensures.reached)
 
 pub literals-smaller : goal.literals-smaller
 literals-smaller c =
@@ -25,7 +27,9 @@ literals-preserved c =
     let more = progress.known in
     let known = c.literals.invariant.known in
     record {
-      progress = progress_more c.args.db.now c.args.links.now c.args.self.now c.literals.self c.visit_watchers.new.self c.args.graph.now c.literals.graph c.visit_watchers.new.graph c.literals.invariant.progress progress;
+      progress =
+          progress_more c.args.db.now c.args.links.now c.args.self.now c.literals.self c.visit_watchers.new.self c.args.graph.now
+          c.literals.graph c.visit_watchers.new.graph c.literals.invariant.progress progress;
       known = omega (arith, more, known);
       short = short_grown c.literals.self c.visit_watchers.new.self c.args.db.now progress.grown c.literals.invariant.short;
     }

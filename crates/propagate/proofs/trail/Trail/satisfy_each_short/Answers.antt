@@ -17,16 +17,22 @@ short-preserved c =
     let t = c.short.self in
     let s = c.satisfy_if_short.new.self in
     let unmoved = c.satisfy_if_short.ensures.unmoved.watching in
-    let progress = progress_more c.args.db.now c.args.links.now c.args.self.now t s c.args.graph.now c.short.graph c.satisfy_if_short.new.graph c.short.invariant c.in_ok-satisfy_if_short.ensures.reached in
+    let progress =
+    progress_more c.args.db.now c.args.links.now c.args.self.now t s c.args.graph.now c.short.graph c.satisfy_if_short.new.graph
+    c.short.invariant c.in_ok-satisfy_if_short.ensures.reached in
     let lowest = ap length progress.grown.levels ∙ c.requires.lowest in
     let found = c.in-Some.ensures.some in
-    progress_satisfied c.args.db.now c.args.links.now c.args.self.now s c.count_satisfied.new.self c.args.graph.now c.satisfy_if_short.new.graph c.in-Some.clause progress lowest (rw unmoved found.0) (rw unmoved found.1) c.in_ok-satisfy_if_short.ensures.short
+    progress_satisfied c.args.db.now c.args.links.now c.args.self.now s c.count_satisfied.new.self c.args.graph.now
+    c.satisfy_if_short.new.graph c.in-Some.clause progress lowest (rw unmoved found.0) (rw unmoved found.1)
+    c.in_ok-satisfy_if_short.ensures.short
     c.count_satisfied.ensures.trail c.count_satisfied.ensures.after
 
 pub returns-in_err-satisfy_if_short-clause-reached : goal.returns-in_err-satisfy_if_short-clause-reached
 returns-in_err-satisfy_if_short-clause-reached c =
     let p = err_from_is_err_and c.from_residual.result c.from_residual.ensures.1 in
-    rw (p.1, p.2) (stop_more c.args.db.now c.args.links.now c.args.self.now c.short.self c.satisfy_if_short.new.self c.args.graph.now c.short.graph c.satisfy_if_short.new.graph c.short.invariant c.in_err-satisfy_if_short.field-0.0 c.in_err-satisfy_if_short.ensures.reached)
+    rw (p.1, p.2) (stop_more c.args.db.now c.args.links.now c.args.self.now c.short.self c.satisfy_if_short.new.self c.args.graph.now
+    c.short.graph c.satisfy_if_short.new.graph c.short.invariant c.in_err-satisfy_if_short.field-0.0
+    c.in_err-satisfy_if_short.ensures.reached)
 
 pub returns-clause-short : goal.returns-clause-short
 returns-clause-short c =

@@ -5,13 +5,18 @@ use Rattle.propagate.proofs.VisitLemmas.{guards_elsewhere, visited_stay}
 use Rattle.propagate.proofs.trail.Trail.visit.Goals as goal
 
 pub true_up_to-requires : goal.true_up_to-requires
-true_up_to-requires c = record { in_range = other_below c.args.db.now c.args.links.now c.args.self.now c.args.graph.now c.args.clause c.args.lit c.in-Some.other c.requires.work c.requires.next c.in-Some.ensures.beside }
+true_up_to-requires c =
+    record {
+      in_range = other_below c.args.db.now c.args.links.now c.args.self.now c.args.graph.now c.args.clause c.args.lit c.in-Some.other
+          c.requires.work c.requires.next c.in-Some.ensures.beside;
+    }
 
 pub returns-in-None-clause-visited : goal.returns-in-None-clause-visited
 returns-in-None-clause-visited c =
     let t = c.args.self.now in
     let work = c.requires.work in
-    visited_stay t t c.args.lit c.args.clause c.args.place refl refl c.requires.here (guards_elsewhere t c.args.db.now c.args.lit c.args.clause work.trail work.watched c.requires.next (c.in-None.ensures.none refl))
+    visited_stay t t c.args.lit c.args.clause c.args.place refl refl c.requires.here
+    (guards_elsewhere t c.args.db.now c.args.lit c.args.clause work.trail work.watched c.requires.next (c.in-None.ensures.none refl))
 
 pub returns-then-true_up_to-clause-visited : goal.returns-then-true_up_to-clause-visited
 returns-then-true_up_to-clause-visited c =

@@ -25,7 +25,8 @@ watchers-init c =
 pub returns-in_err-visit-clause-reached : goal.returns-in_err-visit-clause-reached
 returns-in_err-visit-clause-reached c =
     let p = err_from_is_err_and c.from_residual.result c.from_residual.ensures.1 in
-    rw (p.1, p.2) (stop_more c.args.db.now c.args.links.now c.args.self.now c.watchers.self c.visit.new.self c.args.graph.now c.watchers.graph c.visit.new.graph c.watchers.invariant.progress c.in_err-visit.field-0.0 c.in_err-visit.ensures.reached)
+    rw (p.1, p.2) (stop_more c.args.db.now c.args.links.now c.args.self.now c.watchers.self c.visit.new.self c.args.graph.now
+    c.watchers.graph c.visit.new.graph c.watchers.invariant.progress c.in_err-visit.field-0.0 c.in_err-visit.ensures.reached)
 
 pub watchers-preserved-in-Stayed : goal.watchers-preserved-in-Stayed
 watchers-preserved-in-Stayed c =
@@ -59,5 +60,6 @@ watchers-preserved c =
 
 pub returns-clause-reached : goal.returns-clause-reached
 returns-clause-reached c =
-    progress_next c.args.db.now c.args.links.now c.args.self.now c.watchers.self c.advance.new.self c.args.graph.now c.watchers.graph c.negated-lit.result c.watchers.place c.watchers.invariant.progress c.watchers.invariant.left
+    progress_next c.args.db.now c.args.links.now c.args.self.now c.watchers.self c.advance.new.self c.args.graph.now c.watchers.graph
+    c.negated-lit.result c.watchers.place c.watchers.invariant.progress c.watchers.invariant.left
     (c.in_default.ensures.none (search rules)) c.advance.ensures.trail c.advance.ensures.after
