@@ -6,6 +6,7 @@ ghost use Rattle.skew_words.specs.Called.{HasFewConflicts, HasSmallWidening, Has
 ghost use Rattle.skew_words.specs.NormalWords.{Calls, IsNormal, conflicts_said};
 ghost use Rattle.skew_words.specs.Matched.{GivesSpoken, app_for, command_matched, conflicts_rule, operand_rule, option_rules};
 ghost use Rattle.skew_words.specs.Table.{name_of};
+ghost use Rattle.skew_words.specs.declared.table.Verb.TheVariants.{Audit, Check, Replay, Span, Tolerance};
 ghost use Rattle.skew_words.specs.declared.limits.TheConstants.{MAX_CONFLICTS};
 
 use crate::call::Call;
@@ -96,6 +97,73 @@ fn conflicts_matched(matches: &ArgMatches<'_>) -> Option<u32>
     }
 }
 
+// The command `replay` that matches give.
+fn replay_in<'a>(matches: &ArgMatches<'a>) -> Option<Call<'a>>
+    ensures command { option_map command_in result ≡ command_matched Replay (first_value (found_of matches.now)) }
+    ensures bounds { IfSome result (λ call. HasFewConflicts call × HasSmallWidening call × HasTwoEvents call) }
+{
+    Some(Call::Replay {
+        formula: value(matches, Operand::Formula)?,
+        log: value(matches, Operand::Log)?,
+        times: value(matches, Operand::Times)?,
+    })
+}
+
+// The command `check` that matches give.
+fn check_in<'a>(matches: &ArgMatches<'a>) -> Option<Call<'a>>
+    ensures command { option_map command_in result ≡ command_matched Check (first_value (found_of matches.now)) }
+    ensures bounds { IfSome result (λ call. HasFewConflicts call × HasSmallWidening call × HasTwoEvents call) }
+{
+    Some(Call::Check {
+        conflicts: conflicts_matched(matches)?,
+        formula: value(matches, Operand::Formula)?,
+        log: value(matches, Operand::Log)?,
+    })
+}
+
+// The command `audit` that matches give.
+fn audit_in<'a>(matches: &ArgMatches<'a>) -> Option<Call<'a>>
+    ensures command { option_map command_in result ≡ command_matched Audit (first_value (found_of matches.now)) }
+    ensures bounds { IfSome result (λ call. HasFewConflicts call × HasSmallWidening call × HasTwoEvents call) }
+{
+    Some(Call::Audit {
+        conflicts: conflicts_matched(matches)?,
+        formula: value(matches, Operand::Formula)?,
+        log: value(matches, Operand::Log)?,
+        report: value(matches, Operand::Report)?,
+    })
+}
+
+// The command `tolerance` that matches give.
+fn tolerance_in<'a>(matches: &ArgMatches<'a>) -> Option<Call<'a>>
+    ensures command { option_map command_in result ≡ command_matched Tolerance (first_value (found_of matches.now)) }
+    ensures bounds { IfSome result (λ call. HasFewConflicts call × HasSmallWidening call × HasTwoEvents call) }
+{
+    Some(Call::Tolerance {
+        conflicts: conflicts_matched(matches)?,
+        value: truth_value(value(matches, Operand::Value)?)?,
+        max: widening(value(matches, Operand::Max)?)?,
+        formula: value(matches, Operand::Formula)?,
+        log: value(matches, Operand::Log)?,
+    })
+}
+
+// The command `span` that matches give.
+fn span_in<'a>(matches: &ArgMatches<'a>) -> Option<Call<'a>>
+    ensures command { option_map command_in result ≡ command_matched Span (first_value (found_of matches.now)) }
+    ensures bounds { IfSome result (λ call. HasFewConflicts call × HasSmallWidening call × HasTwoEvents call) }
+{
+    let (from, to) = two_events(value(matches, Operand::From)?, value(matches, Operand::To)?)?;
+    Some(Call::Span {
+        conflicts: conflicts_matched(matches)?,
+        value: truth_value(value(matches, Operand::Value)?)?,
+        from,
+        to,
+        formula: value(matches, Operand::Formula)?,
+        log: value(matches, Operand::Log)?,
+    })
+}
+
 // The command that matches give.
 fn call_in<'a>(verb: Verb, matches: &ArgMatches<'a>) -> Option<Call<'a>>
     ensures command { option_map command_in result ≡ command_matched verb (first_value (found_of matches.now)) }
@@ -107,52 +175,20 @@ fn call_in<'a>(verb: Verb, matches: &ArgMatches<'a>) -> Option<Call<'a>>
         Verb::Times => Some(Call::Times {
             log: value(matches, Operand::Log)?,
         }),
-        Verb::Replay => Some(Call::Replay {
-            formula: value(matches, Operand::Formula)?,
-            log: value(matches, Operand::Log)?,
-            times: value(matches, Operand::Times)?,
-        }),
+        Verb::Replay => replay_in(matches),
         Verb::Order => Some(Call::Order {
             log: value(matches, Operand::Log)?,
         }),
-        Verb::Check => Some(Call::Check {
-            conflicts: conflicts_matched(matches)?,
-            formula: value(matches, Operand::Formula)?,
-            log: value(matches, Operand::Log)?,
-        }),
-        Verb::Audit => Some(Call::Audit {
-            conflicts: conflicts_matched(matches)?,
-            formula: value(matches, Operand::Formula)?,
-            log: value(matches, Operand::Log)?,
-            report: value(matches, Operand::Report)?,
-        }),
+        Verb::Check => check_in(matches),
+        Verb::Audit => audit_in(matches),
         Verb::Trim => Some(Call::Trim {
             report: value(matches, Operand::Report)?,
         }),
         Verb::Json => Some(Call::Json {
             json: value(matches, Operand::Json)?,
         }),
-        Verb::Tolerance => Some(Call::Tolerance {
-            conflicts: conflicts_matched(matches)?,
-            value: truth_value(value(matches, Operand::Value)?)?,
-            max: widening(value(matches, Operand::Max)?)?,
-            formula: value(matches, Operand::Formula)?,
-            log: value(matches, Operand::Log)?,
-        }),
-        Verb::Span => {
-            let (from, to) = two_events(
-                value(matches, Operand::From)?,
-                value(matches, Operand::To)?,
-            )?;
-            Some(Call::Span {
-                conflicts: conflicts_matched(matches)?,
-                value: truth_value(value(matches, Operand::Value)?)?,
-                from,
-                to,
-                formula: value(matches, Operand::Formula)?,
-                log: value(matches, Operand::Log)?,
-            })
-        }
+        Verb::Tolerance => tolerance_in(matches),
+        Verb::Span => span_in(matches),
         Verb::Demo => Some(Call::Demo {
             seed: seed(value(matches, Operand::Seed)?)?,
         }),
