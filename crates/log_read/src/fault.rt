@@ -2,43 +2,28 @@ ghost use Rattle.std.specs.Prelude.{◌≡◌};
 ghost use Rattle.log_read.specs.Faults.{number_of, record_of};
 
 use std::alloc::AllocError;
+use std::fmt;
 use thiserror::Error;
 
 /// What is wrong with a log file, or want of memory. A `place` is the number of the faulty record,
 /// from 1, the header included.
 #[derive(Clone, Copy, Debug, Error)]
 pub enum LogFault {
-    #[error("record {place} is neither the header `kind,host,time,name` nor `skewlog2,host,time,name`")]
     Header { place: u32 },
-    #[error("record {place} has not four fields")]
     Width { place: u32 },
-    #[error("record {place} is of no kind that the file's version knows")]
     Kind { place: u32 },
-    #[error("record {place} declares a host with a word that names none")]
     HostName { place: u32 },
-    #[error("record {place} declares a host of a name that was declared")]
     DuplicateHost { place: u32 },
-    #[error("record {place} is of a host that was not declared")]
     UnknownHost { place: u32 },
-    #[error("record {place} has a number out of form or range")]
     Number { place: u32 },
-    #[error("record {place} has a word that is no name")]
     Name { place: u32 },
-    #[error("record {place} sends a message that was sent")]
     DoubleSend { place: u32 },
-    #[error("record {place} receives a message that is sent nowhere")]
     UnmatchedReceive { place: u32 },
-    #[error("there is no row")]
     NoEvent,
-    #[error("record {place} declares a host too many")]
     TooManyHosts { place: u32 },
-    #[error("record {place} is a row too many")]
     TooManyEvents { place: u32 },
-    #[error("record {place} states a latency of a host that has one")]
     DoubleLatency { place: u32 },
-    #[error("record {place} states a greatest delay below the least")]
     LatencyRange { place: u32 },
-    #[error("out of memory")]
     Memory,
 }
 
@@ -88,6 +73,34 @@ impl LogFault {
             | LogFault::DoubleLatency { place }
             | LogFault::LatencyRange { place } => Some(*place),
             LogFault::NoEvent | LogFault::Memory => None,
+        }
+    }
+}
+
+impl fmt::Display for LogFault {
+    fn fmt<W: fmt::Write>(&self, f: &mut fmt::Formatter<W>) -> fmt::Result {
+        let wrong = match self {
+            LogFault::Header { .. } =>
+                "is neither the header `kind,host,time,name` nor `skewlog2,host,time,name`",
+            LogFault::Width { .. } => "has not four fields",
+            LogFault::Kind { .. } => "is of no kind that the file's version knows",
+            LogFault::HostName { .. } => "declares a host with a word that names none",
+            LogFault::DuplicateHost { .. } => "declares a host of a name that was declared",
+            LogFault::UnknownHost { .. } => "is of a host that was not declared",
+            LogFault::Number { .. } => "has a number out of form or range",
+            LogFault::Name { .. } => "has a word that is no name",
+            LogFault::DoubleSend { .. } => "sends a message that was sent",
+            LogFault::UnmatchedReceive { .. } => "receives a message that is sent nowhere",
+            LogFault::NoEvent => "there is no row",
+            LogFault::TooManyHosts { .. } => "declares a host too many",
+            LogFault::TooManyEvents { .. } => "is a row too many",
+            LogFault::DoubleLatency { .. } => "states a latency of a host that has one",
+            LogFault::LatencyRange { .. } => "states a greatest delay below the least",
+            LogFault::Memory => "out of memory",
+        };
+        match self.record() {
+            Some(place) => write!(f, "record {place} {wrong}"),
+            None => f.write_str(wrong),
         }
     }
 }
