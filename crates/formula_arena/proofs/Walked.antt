@@ -1,6 +1,6 @@
 -- What the steps of a walk lead to.
 use Rattle.std.proofs.Common.{◌≡◌, ◌∙◌, ℕ, ◌+◌, ◌≤◌, ◌<◌, List, [], ◌∷◌, ◌++◌, length, length-append, map, reverse, drop, Some, Result, Ok, Err, OnOk, refl, sym, ap, subst, arith}
-use Rattle.std.proofs.lemmas.List.{append-nil, map-append, reverse-append, length_push}
+use Rattle.std.proofs.lemmas.List.{append-nil, append_assoc, length-map, length-reverse, map-append, reverse-append, length_push}
 use Rattle.std.proofs.lemmas.List.Elements.{All-head, All-pop, All-push, All-tail, All-weaker}
 use Rattle.mt_model.specs.Form.{Form, True, False, Prop, Not, And, Or, Implies, Until, Since, Eventually, Always, Once, Historically}
 use Rattle.formula_arena.specs.declared.fault.ArenaFault.{ArenaFault}
@@ -9,7 +9,7 @@ use Rattle.formula_arena.specs.Cores.{core_of}
 use Rattle.formula_arena.specs.Growth.{IsGrown, with_subtrees, with_tree}
 use Rattle.formula_arena.specs.Nodes.{Extends, IsAt, tree_at}
 use Rattle.formula_arena.specs.Subtrees.{subtrees_of}
-use Rattle.formula_arena.specs.Walks.{AreHeld, IsMade, IsTaken, Join, Leads, Leaf, Negation, Step, Whole, operands, step_in, steps_of, tree_by, trees_after_step, waiting_after, waiting_in, work, work_of}
+use Rattle.formula_arena.specs.Walks.{AreHeld, IsMade, IsTaken, Join, Leads, Leaf, Negation, Step, Whole, operands, step_in, steps_in, steps_of, tree_by, trees_after_step, waiting_after, waiting_in, work, work_of}
 use Rattle.formula_arena.proofs.Grown.{node_at}
 use Rattle.formula_arena.proofs.GrowthLemmas.{longer_with_subtrees, longer_with_tree}
 use Rattle.formula_arena.proofs.TreeLists.{at-old}
@@ -162,6 +162,42 @@ pub record IsWalk (old : List Form) (f : Form) (steps : List Step) (trees : List
   pub held : AreHeld trees nodes
   pub leads : Leads steps trees (waiting_in trees nodes) (with_subtrees old f) f
   pub kept : Extends old trees
+
+-- the task that stands last is the first step
+pub next-step : {tasks : List Task} (left : List Task) (task : Task) → tasks ≡ left ++ task ∷ [] → steps_in tasks ≡ step_in task ∷ steps_in left
+next-step left task last = ap steps_in last ∙ ap (map step_in) (reverse-append left (task ∷ []))
+
+begins : (old : List Form) (f : Form) → IsWalk old f (Whole f ∷ []) old []
+begins old f = record { held = λ k d within. absurd (omega arith); leads = (omega arith, (refl, refl)); kept = ([], sym (append-nil old)) }
+
+-- a walk whose one task is the tree
+pub begun : {old : List Form} {f : Form} {tasks : List Task} {nodes : List ℕ} (before : List Task) (task : Task) → before ≡ [] → tasks ≡ before ++ task ∷ [] → step_in task ≡ Whole f → nodes ≡ []
+    → IsWalk old f (steps_in tasks) old nodes
+begun {old} {f} {tasks} {nodes} before task none pushed is nobody =
+    let first : steps_in tasks ≡ Whole f ∷ [] = next-step before task pushed ∙ (λ i. is i ∷ steps_in (none i)) in
+    subst (IsWalk old f (steps_in tasks) old) (sym nobody) (subst (λ s. IsWalk old f s old []) (sym first) (begins old f))
+
+-- the nodes that wait are enough for the next step
+pub next-operands : {old trees : List Form} {f : Form} {steps : List Step} {nodes : List ℕ} (step : Step) (left : List Step) → IsWalk old f steps trees nodes → steps ≡ step ∷ left
+    → operands step ≤ length nodes
+next-operands {old} {trees} {f} {steps} {nodes} step left walk is =
+    let leads : Leads (step ∷ left) trees (waiting_in trees nodes) (with_subtrees old f) f = subst (λ s. Leads s trees (waiting_in trees nodes) (with_subtrees old f) f) is walk.leads in
+    omega (arith, leads.0, length-reverse (map (tree_at trees) nodes), length-map nodes (tree_at trees))
+
+-- a walk after a step
+pub walked : {old trees new : List Form} {f : Form} {steps after : List Step} {nodes more : List ℕ} {u : Unit {0}} (step : Step) (left : List Step) → IsWalk old f steps trees nodes → steps ≡ step ∷ left
+    → IsTaken (step ∷ left) trees (waiting_in trees nodes) (Ok u) after new more → IsWalk old f after new more
+walked {old} {trees} {f = f} {nodes = nodes} step left walk is taken = record {
+  held = taken.held;
+  leads = taken.leads (with_subtrees old f) f (subst (λ s. Leads s trees (waiting_in trees nodes) (with_subtrees old f) f) is walk.leads);
+  kept = (walk.kept.0 ++ taken.kept.0, taken.kept.1 ∙ ap (λ l. l ++ taken.kept.0) walk.kept.1 ∙ append_assoc old walk.kept.0 taken.kept.0);
+}
+
+-- where no step is left, a node waits
+pub one-waits : {old trees : List Form} {f : Form} {steps : List Step} {nodes : List ℕ} → IsWalk old f steps trees nodes → steps ≡ [] → 0 < length nodes
+one-waits {old} {trees} {f} {steps} {nodes} walk none =
+    let leads : Leads [] trees (waiting_in trees nodes) (with_subtrees old f) f = subst (λ s. Leads s trees (waiting_in trees nodes) (with_subtrees old f) f) none walk.leads in
+    omega (arith, ap length leads.1, length-reverse (map (tree_at trees) nodes), length-map nodes (tree_at trees))
 
 -- a tree that gives way to what its core comes to
 pub expanded : (task : Task) (f : Form) (steps left : List Step) (old : List Form) (nodes : List ℕ) → step_in task ≡ Whole (core_of f) → left ≡ steps_of f ++ steps → AreHeld old nodes
