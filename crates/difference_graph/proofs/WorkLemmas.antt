@@ -285,3 +285,12 @@ keeps_room nodes count edges old new same had keeps = record {
   former = omega (arith, same, had.former, keeps.former);
   walk = omega (arith, same, had.walk, keeps.walk);
 }
+
+-- room for so many edges is room for fewer
+pub room_within : (nodes count limit edges : ℕ) (work : Work) → count ≡ nodes → edges ≤ limit → HasWorkRoom nodes limit work → HasWorkRoom count edges work
+room_within nodes count limit edges work same few had = record {
+  waiting = omega (arith, few, had.waiting);
+  order = omega (arith, same, had.order);
+  former = omega (arith, same, had.former);
+  walk = omega (arith, same, had.walk);
+}
