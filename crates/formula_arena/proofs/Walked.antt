@@ -185,7 +185,8 @@ next-operands {old} {trees} {f} {steps} {nodes} step left walk is =
     omega (arith, leads.0, length-reverse (map (tree_at trees) nodes), length-map nodes (tree_at trees))
 
 -- a walk after a step
-pub walked : {old trees new : List Form} {f : Form} {steps after : List Step} {nodes more : List ℕ} {u : Unit {0}} (step : Step) (left : List Step) → IsWalk old f steps trees nodes → steps ≡ step ∷ left
+pub walked : {old trees new : List Form} {f : Form} {steps after : List Step} {nodes more : List ℕ} {u : Unit {0}} (step : Step) (left : List Step)
+    → IsWalk old f steps trees nodes → steps ≡ step ∷ left
     → IsTaken (step ∷ left) trees (waiting_in trees nodes) (Ok u) after new more → IsWalk old f after new more
 walked {old} {trees} {f = f} {nodes = nodes} step left walk is taken = record {
   held = taken.held;

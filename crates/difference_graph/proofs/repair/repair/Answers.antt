@@ -1,7 +1,9 @@
-use Rattle.std.proofs.Common.{◌∙◌, ap, arith, length}
+use Rattle.std.proofs.Common.{◌≡◌, ◌∙◌, ap, sym, subst, refl, ℕ, arith, length, pos}
+use Rattle.std.specs.Prelude.{All}
 use Rattle.std.specs.BinaryHeap.{heap_items}
 use Rattle.std.proofs.lemmas.List.{get_or_default, length_push}
 use Rattle.neg_cycle.specs.declared.system.Edge.{Edge}
+use Rattle.neg_cycle.specs.Systems.{IsEdge, edge_at}
 use Rattle.difference_graph.specs.Repairs.{MeetsOthers}
 use Rattle.difference_graph.proofs.TreeLemmas.{tree_short}
 use Rattle.difference_graph.proofs.RepairLemmas.{near_numbers, repair_numbers, repair_start, fewer_left}
@@ -285,3 +287,226 @@ returns-clause-numbers c =
     let old = c.args.numbers.now in
     let inv = c.loop-next.invariant in
     repair_numbers edges end old inv.others c.loop-next.numbers c.loop-next.work.order.items inv.state.repair c.requires.near
+
+pub take_up-requires-clause-place : goal.take_up-requires-clause-place
+take_up-requires-clause-place c =
+    rw c.deref.ensures.value (omega (arith, c.requires.place))
+
+pub take_up-requires-clause-edges : goal.take_up-requires-clause-edges
+take_up-requires-clause-edges c =
+    rw c.deref.ensures.value c.requires.system.each
+
+pub take_up-requires-clause-numbers : goal.take_up-requires-clause-numbers
+take_up-requires-clause-numbers c =
+    near_numbers c.args.numbers.now c.requires.near
+
+pub take_up-requires-clause-room : goal.take_up-requires-clause-room
+take_up-requires-clause-room c =
+    rw c.clear.ensures.items (omega (arith, c.clear.ensures.capacity, c.requires.room.waiting, c.requires.place))
+
+pub trace-requires-clause-place : goal.trace-requires-clause-place
+trace-requires-clause-place c =
+    let closing = rw c.deref.ensures.value at c.in-Some.ensures.closing in
+    rw c.deref-in-Some.ensures.value closing.within
+
+pub trace-requires-clause-tree : goal.trace-requires-clause-tree
+trace-requires-clause-tree c =
+    let edges = c.args.held.now.edges.items in
+    let is_end = ap (λ (e : Edge). e.to) (c.index.ensures ∙ get_or_default edges c.args.place _ _ (omega (arith, c.requires.place))) in
+    let others : MeetsOthers edges c.index.result.now.to c.args.numbers.now = rw is_end (others_of_first edges c.args.place c.args.numbers.now c.requires.place c.requires.first) in
+    let closing = rw c.deref.ensures.value at c.in-Some.ensures.closing in
+    rw (c.deref-in-Some.ensures.value, c.deref-in-Some-2.ensures.value, c.clear-2.ensures.items)
+    (closing_tree edges c.index.result.now.to c.args.numbers.now others c.args.numbers.now _
+    (repair_start edges c.index.result.now.to c.args.numbers.now c.requires.system c.requires.near) c.in-Some.closing closing)
+
+pub trace-requires-clause-room : goal.trace-requires-clause-room
+trace-requires-clause-room c =
+    rw (c.deref-in-Some-2.ensures.value, c.clear-2.ensures.items) (omega (arith, c.requires.room.walk))
+
+pub returns-in-Some-clause-count : goal.returns-in-Some-clause-count
+returns-in-Some-clause-count c =
+    refl
+
+pub returns-in-Some-clause-numbers : goal.returns-in-Some-clause-numbers
+returns-in-Some-clause-numbers c =
+    near_numbers c.args.numbers.now c.requires.near
+
+pub returns-in-Some-clause-met : goal.returns-in-Some-clause-met
+returns-in-Some-clause-met c =
+    tt
+
+pub returns-in-Some-clause-same : goal.returns-in-Some-clause-same
+returns-in-Some-clause-same c =
+    refl
+
+pub returns-in-Some-clause-once : goal.returns-in-Some-clause-once
+returns-in-Some-clause-once c =
+    let trace = rw (c.deref-in-Some.ensures.value, c.deref-in-Some-2.ensures.value, c.clear-2.ensures.items) at c.trace.ensures.trace in
+    trace.once
+
+pub returns-in-Some-clause-room : goal.returns-in-Some-clause-room
+returns-in-Some-clause-room c =
+    record {
+      waiting = omega (arith, c.clear.ensures.capacity, c.in-Some.ensures.room);
+      order = omega (arith, c.clear-2.ensures.capacity);
+      former = omega (arith, c.clear-3.ensures.capacity);
+      walk = c.trace.ensures.room;
+    }
+
+pub next_missed-requires-clause-edges : goal.next_missed-requires-clause-edges
+next_missed-requires-clause-edges c =
+    let edges = c.args.held.now.edges.items in
+    let inv = c.loop-next.invariant in
+    rw c.deref-in-loop-next.ensures.value (subst (λ (n : ℕ). All (IsEdge n) edges) (sym inv.state.repair.count) c.requires.system.each)
+
+pub next_missed-requires-clause-order : goal.next_missed-requires-clause-order
+next_missed-requires-clause-order c =
+    c.loop-next.invariant.order
+
+pub next_missed-requires-clause-queue : goal.next_missed-requires-clause-queue
+next_missed-requires-clause-queue c =
+    rw c.deref-in-loop-next.ensures.value c.loop-next.invariant.state.queue
+
+pub lower-requires-clause-place : goal.lower-requires-clause-place
+lower-requires-clause-place c =
+    let next = rw c.deref-in-loop-next.ensures.value at c.in-Some-next_missed.ensures.next in
+    rw c.deref-in-Some-next_missed.ensures.value next.tightest.within
+
+pub lower-requires-clause-edges : goal.lower-requires-clause-edges
+lower-requires-clause-edges c =
+    let edges = c.args.held.now.edges.items in
+    let inv = c.loop-next.invariant in
+    rw c.deref-in-Some-next_missed.ensures.value (subst (λ (n : ℕ). All (IsEdge n) edges) (sym inv.state.repair.count) c.requires.system.each)
+
+pub take_up_all-requires-clause-node : goal.take_up_all-requires-clause-node
+take_up_all-requires-clause-node c =
+    let edges = c.args.held.now.edges.items in
+    let next = rw c.deref-in-loop-next.ensures.value at c.in-Some-next_missed.ensures.next in
+    let is_node : c.index-in-Some-next_missed.result.now.from ≡ (edge_at edges c.in-Some-next_missed.next).from =
+    ap (λ (e : Edge). e.from)
+    (c.index-in-Some-next_missed.ensures ∙ get_or_default edges c.in-Some-next_missed.next _ _ next.tightest.within) in
+    let from = (c.requires.system.each c.in-Some-next_missed.next (record { from = 0; to = 0; bound = pos 0 }) next.tightest.within).from in
+    rw (is_node, c.requires.nodes) from
+
+pub take_up_all-requires-clause-edges : goal.take_up_all-requires-clause-edges
+take_up_all-requires-clause-edges c =
+    let edges = c.args.held.now.edges.items in
+    let end = c.index.result.now.to in
+    let old = c.args.numbers.now in
+    let inv = c.loop-next.invariant in
+    let next = rw c.deref-in-loop-next.ensures.value at c.in-Some-next_missed.ensures.next in
+    let lowered = rw c.deref-in-Some-next_missed.ensures.value at c.lower.ensures.numbers in
+    subst (λ (n : ℕ). All (IsEdge n) edges)
+    (sym (lowered_repair edges end old c.requires.system inv.others c.requires.near c.loop-next.numbers c.loop-next.work.order.items
+    c.loop-next.work.former.items (heap_items c.loop-next.work.waiting) inv.state c.in-Some-next_missed.next next
+    c.in-Some-next_missed.ensures.waited c.lower.new.numbers lowered c.lower.new.order.items c.lower.ensures.order).count)
+    c.requires.system.each
+
+pub take_up_all-requires-clause-incoming : goal.take_up_all-requires-clause-incoming
+take_up_all-requires-clause-incoming c =
+    c.requires.incoming
+
+pub take_up_all-requires-clause-order : goal.take_up_all-requires-clause-order
+take_up_all-requires-clause-order c =
+    c.in-Some-next_missed.ensures.order
+
+pub take_up_all-requires-clause-room : goal.take_up_all-requires-clause-room
+take_up_all-requires-clause-room c =
+    let inv = c.loop-next.invariant in
+    omega (arith, c.requires.room.waiting, inv.room.waiting, c.in-Some-next_missed.ensures.room)
+
+pub trace-requires-in-Some-take_up_all-clause-place : goal.trace-requires-in-Some-take_up_all-clause-place
+trace-requires-in-Some-take_up_all-clause-place c =
+    rw c.deref-in-Some-take_up_all.ensures.value c.in-Some-take_up_all.ensures.closing.within
+
+pub put_back-requires-clause-edges : goal.put_back-requires-clause-edges
+put_back-requires-clause-edges c =
+    let edges = c.args.held.now.edges.items in
+    let end = c.index.result.now.to in
+    let old = c.args.numbers.now in
+    let inv = c.loop-next.invariant in
+    let next = rw c.deref-in-loop-next.ensures.value at c.in-Some-next_missed.ensures.next in
+    let lowered = rw c.deref-in-Some-next_missed.ensures.value at c.lower.ensures.numbers in
+    rw c.deref-in-Some-take_up_all-3.ensures.value (subst (λ (n : ℕ). All (IsEdge n) edges)
+    (sym (lowered_repair edges end old c.requires.system inv.others c.requires.near c.loop-next.numbers c.loop-next.work.order.items
+    c.loop-next.work.former.items (heap_items c.loop-next.work.waiting) inv.state c.in-Some-next_missed.next next
+    c.in-Some-next_missed.ensures.waited c.lower.new.numbers lowered c.lower.new.order.items c.lower.ensures.order).count)
+    c.requires.system.each)
+
+pub put_back-requires-clause-count : goal.put_back-requires-clause-count
+put_back-requires-clause-count c =
+    let edges = c.args.held.now.edges.items in
+    let end = c.index.result.now.to in
+    let old = c.args.numbers.now in
+    let inv = c.loop-next.invariant in
+    let next = rw c.deref-in-loop-next.ensures.value at c.in-Some-next_missed.ensures.next in
+    let lowered = rw c.deref-in-Some-next_missed.ensures.value at c.lower.ensures.numbers in
+    rw (c.deref-in-Some-take_up_all-4.ensures.value, c.deref-in-Some-take_up_all-5.ensures.value)
+    (lowered_noted edges end old c.requires.system inv.others c.requires.near c.loop-next.numbers c.loop-next.work.order.items
+    c.loop-next.work.former.items (heap_items c.loop-next.work.waiting) inv.state c.in-Some-next_missed.next next
+    c.in-Some-next_missed.ensures.waited c.lower.new.numbers lowered c.lower.new.order.items c.lower.ensures.order
+    c.lower.new.former.items (rw c.deref-in-Some-next_missed.ensures.value at c.lower.ensures.former)).count
+
+pub returns-in-Some-take_up_all-clause-count : goal.returns-in-Some-take_up_all-clause-count
+returns-in-Some-take_up_all-clause-count c =
+    let edges = c.args.held.now.edges.items in
+    let end = c.index.result.now.to in
+    let old = c.args.numbers.now in
+    let inv = c.loop-next.invariant in
+    let next = rw c.deref-in-loop-next.ensures.value at c.in-Some-next_missed.ensures.next in
+    let lowered = rw c.deref-in-Some-next_missed.ensures.value at c.lower.ensures.numbers in
+    let back = rw (c.deref-in-Some-take_up_all-3.ensures.value, c.deref-in-Some-take_up_all-4.ensures.value, c.deref-in-Some-take_up_all-5.ensures.value) at c.put_back.ensures.same in
+    let repair =
+    lowered_repair edges end old c.requires.system inv.others c.requires.near c.loop-next.numbers c.loop-next.work.order.items
+    c.loop-next.work.former.items (heap_items c.loop-next.work.waiting) inv.state c.in-Some-next_missed.next next
+    c.in-Some-next_missed.ensures.waited c.lower.new.numbers lowered c.lower.new.order.items c.lower.ensures.order in
+    ap length (back old
+    (lowered_noted edges end old c.requires.system inv.others c.requires.near c.loop-next.numbers c.loop-next.work.order.items
+    c.loop-next.work.former.items (heap_items c.loop-next.work.waiting) inv.state c.in-Some-next_missed.next next
+    c.in-Some-next_missed.ensures.waited c.lower.new.numbers lowered c.lower.new.order.items c.lower.ensures.order
+    c.lower.new.former.items (rw c.deref-in-Some-next_missed.ensures.value at c.lower.ensures.former))
+    (repair_differs edges end old c.lower.new.numbers c.lower.new.order.items repair))
+
+pub returns-in-Some-take_up_all-clause-met : goal.returns-in-Some-take_up_all-clause-met
+returns-in-Some-take_up_all-clause-met c =
+    tt
+
+pub returns-in-Some-take_up_all-clause-room : goal.returns-in-Some-take_up_all-clause-room
+returns-in-Some-take_up_all-clause-room c =
+    let inv = c.loop-next.invariant in
+    record {
+      waiting = omega (arith, inv.room.waiting, c.in-Some-next_missed.ensures.room, c.in-Some-take_up_all.ensures.room);
+      order = omega (arith, inv.room.order, c.lower.ensures.order_room);
+      former = omega (arith, inv.room.former, c.lower.ensures.former_room);
+      walk = omega (arith, inv.room.walk, c.trace-in-Some-take_up_all.ensures.room);
+    }
+
+pub returns-clause-count : goal.returns-clause-count
+returns-clause-count c =
+    c.loop-next.invariant.state.repair.count
+
+pub returns-clause-met : goal.returns-clause-met
+returns-clause-met c =
+    rw c.deref-in-loop-next.ensures.value at c.in_default-next_missed.ensures.met
+
+pub returns-clause-same : goal.returns-clause-same
+returns-clause-same c =
+    tt
+
+pub returns-clause-cycle : goal.returns-clause-cycle
+returns-clause-cycle c =
+    tt
+
+pub returns-clause-once : goal.returns-clause-once
+returns-clause-once c =
+    tt
+
+pub returns-clause-room : goal.returns-clause-room
+returns-clause-room c =
+    let inv = c.loop-next.invariant in
+    record {
+      waiting = omega (arith, inv.room.waiting, c.in_default-next_missed.ensures.room);
+      order = inv.room.order;
+      former = inv.room.former;
+      walk = inv.room.walk;
+    }

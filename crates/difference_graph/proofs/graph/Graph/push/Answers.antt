@@ -363,7 +363,10 @@ returns-in-Kept-clause-limits c =
     let near = c.deref_mut-2.ensures.value ∙ written_back i.current.len c.bring_near.new.numbers i.current.items (c.bring_near.ensures.count ∙ c.deref_mut.ensures.len) in
     let count = c.bring_near.ensures.count ∙ ap length c.deref_mut.ensures.value in
     let same = c.in-Kept.ensures.count ∙ ap length near in
-    let now = written_back i.current.len c.repair.new.numbers (take i.current.len (c.bring_near.new.numbers ++ drop (length c.bring_near.new.numbers) i.current.items)) (same ∙ c.bring_near.ensures.count ∙ c.deref_mut.ensures.len) in
+    let now =
+    written_back i.current.len c.repair.new.numbers
+    (take i.current.len (c.bring_near.new.numbers ++ drop (length c.bring_near.new.numbers) i.current.items))
+    (same ∙ c.bring_near.ensures.count ∙ c.deref_mut.ensures.len) in
     record { nodes = ap length now ∙ same ∙ count ∙ ap (λ (g : Constraints). g.nodes) c.self.view_is; capacity = ap (λ (g : Constraints). g.capacity) c.self.view_is }
 
 pub returns-in-Cycle-clause-limits : goal.returns-in-Cycle-clause-limits
@@ -372,7 +375,10 @@ returns-in-Cycle-clause-limits c =
     let near = c.deref_mut-2.ensures.value ∙ written_back i.current.len c.bring_near.new.numbers i.current.items (c.bring_near.ensures.count ∙ c.deref_mut.ensures.len) in
     let count = c.bring_near.ensures.count ∙ ap length c.deref_mut.ensures.value in
     let same = c.in-Cycle.ensures.count ∙ ap length near in
-    let now = written_back i.current.len c.repair.new.numbers (take i.current.len (c.bring_near.new.numbers ++ drop (length c.bring_near.new.numbers) i.current.items)) (same ∙ c.bring_near.ensures.count ∙ c.deref_mut.ensures.len) in
+    let now =
+    written_back i.current.len c.repair.new.numbers
+    (take i.current.len (c.bring_near.new.numbers ++ drop (length c.bring_near.new.numbers) i.current.items))
+    (same ∙ c.bring_near.ensures.count ∙ c.deref_mut.ensures.len) in
     record { nodes = ap length now ∙ same ∙ count ∙ ap (λ (g : Constraints). g.nodes) c.self.view_is; capacity = ap (λ (g : Constraints). g.capacity) c.self.view_is }
 
 pub returns-in-Kept-clause-added : goal.returns-in-Kept-clause-added
