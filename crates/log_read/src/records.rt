@@ -1,6 +1,6 @@
-ghost use Rattle.std.specs.Prelude.{◌≡◌, ◌<◌, ◌∷◌, ◌++◌, [], length, Some, IfOk, OnOk};
-ghost use Rattle.csv.specs.Reading.{AreRecords, default_config, records, strip_bom};
-ghost use Rattle.csv.specs.Records.{field_at, fields_of};
+ghost use Rattle.std.specs.Prelude.{◌≡◌, ◌<◌, ◌∷◌, ◌++◌, [], length, Some, Ok, IfErr, IfOk, OnOk, true};
+ghost use Rattle.csv.specs.Reading.{AreRecords, default_config, error_kind, records, stops_reader, strip_bom};
+ghost use Rattle.csv.specs.Records.{Row, field_at, fields_of};
 ghost use Rattle.csv.specs.declared.parser.State.TheVariants as st;
 
 use crate::fields::{Fields, RecordList};
@@ -28,13 +28,25 @@ fn copied(alloc: Global, row: &ByteRecord) -> Result<Fields, AllocError>
     Ok(fields)
 }
 
-// Adds the fields of a record of `csv`.
-fn keep(alloc: Global, list: &mut RecordList, row: &ByteRecord) -> Result<(), AllocError>
-    ensures ok { OnOk result (list.new ≡ list.old ++ fields_of row.now ∷ []) }
+// Adds the fields of a record that `csv` read, or tells that memory lacks where it read none.
+fn keep(
+    alloc: Global,
+    list: &mut RecordList,
+    read: csv::Result<ByteRecord>,
+) -> Result<(), AllocError>
+    requires { IfErr read (λ e. stops_reader (error_kind e) ≡ true) }
+    ensures ok { OnOk result ((row : Row) × (read ≡ Ok row) × (list.new ≡ list.old ++ fields_of row ∷ [])) }
 {
-    let fields = copied(alloc, row)?;
-    list.push(fields)?;
-    Ok(())
+    match read {
+        Ok(row) => {
+            list.push(copied(alloc, &row)?)?;
+            Ok(())
+        }
+        Err(error) => match error.kind() {
+            ErrorKind::Io(_) | ErrorKind::OutOfMemory => Err(AllocError),
+            _ => unreachable!(),
+        },
+    }
 }
 
 /// The records of a text, of any number of fields, none of them set apart as a header.
@@ -46,14 +58,8 @@ pub fn all_records(alloc: Global, text: &[u8]) -> Result<RecordList, AllocError>
         .flexible(true)
         .from_reader(alloc, text);
     let mut list = RecordList::new(alloc);
-    for row in rdr.into_byte_records() {
-        match row {
-            Ok(row) => keep(alloc, &mut list, &row)?,
-            Err(error) => match error.kind() {
-                ErrorKind::Io(_) | ErrorKind::OutOfMemory => return Err(AllocError),
-                _ => unreachable!(),
-            },
-        }
+    for read in rdr.into_byte_records() {
+        keep(alloc, &mut list, read)?;
     }
     Ok(list)
 }

@@ -4,8 +4,8 @@ use Rattle.csv.specs.declared.parser.State.TheVariants as st
 use Rattle.csv.specs.declared.reader.Trim.TheVariants as trim
 use Rattle.log_read.proofs.records.all_records.Given as goal
 
-abbrev pub invariant-loop-row : goal.invariant-loop-row
-invariant-loop-row l =
-    (l.row-iterator.rdr.trim ≡ trim.None) × Ready l.row-iterator.rdr × (0 < l.row-iterator.left) × (l.row-iterator.rdr.config ≡ default_config) × (l.row-iterator.rdr.flexible ≡ true)
-    × (y : List ℕ) × (source_of (λ s. Some s.now) l.row-iterator.rdr ≡ Some y)
-    × Reached default_config st.StartRecord (strip_bom l.fn.text) l.list l.row-iterator.rdr.state y
+abbrev pub invariant-loop-read : goal.invariant-loop-read
+invariant-loop-read l =
+    (l.read-iterator.rdr.trim ≡ trim.None) × Ready l.read-iterator.rdr × (0 < l.read-iterator.left) × (l.read-iterator.rdr.config ≡ default_config) × (l.read-iterator.rdr.flexible ≡ true)
+    × (y : List ℕ) × (source_of (λ s. Some s.now) l.read-iterator.rdr ≡ Some y)
+    × Reached default_config st.StartRecord (strip_bom l.fn.text) l.list l.read-iterator.rdr.state y
