@@ -42,12 +42,19 @@ next_level t f v n trail next var found =
 pub best_apart : (t : Assigned) (f best denied : Lit) (n : ℕ) → IsNextFalse t f → n ≡ (entry_at t.entries t.taken).level → denied ≡ negation best → (IsTrueUpTo t.entries n denied → ⊥) → best ≢ f
 best_apart t f best denied n next level is later same = later (t.taken, next.more, next.is ∙ ap negation (sym same) ∙ sym is, omega (arith, level))
 
+-- a clause with watched literals is held
+pub watched_held : (db : List (List Lit)) (links : List (Option (Edge × Edge))) (t : Assigned) (g : Constraints) (c : ℕ) (f o : Lit)
+    → IsAtWork db links t g → AreWatchedOf t.watching c f o → c < length db
+watched_held db links t g c f o work both =
+    let known = work.watched.known in
+    let within = known_at t.watching.watches c both.0 both.1 in
+    omega (arith, known, within)
+
 -- the other watched literal of a clause is in range
 pub other_below : (db : List (List Lit)) (links : List (Option (Edge × Edge))) (t : Assigned) (g : Constraints) (c : ℕ) (f o : Lit)
     → IsAtWork db links t g → IsNextFalse t f → AreWatchedOf t.watching c f o → o.var < t.vars
 other_below db links t g c f o work next both =
-    let known = work.watched.known in
-    let held : c < length db = let within = known_at t.watching.watches c both.0 both.1 in omega (arith, known, within) in
+    let held = watched_held db links t g c f o work both in
     All-contains (λ (l : Lit). l.var < t.vars) (clause_at db c) o (work.reasons.variables c [] held) (other_in t db c f o work.trail work.watched next both)
 
 -- a clause that was watched still is

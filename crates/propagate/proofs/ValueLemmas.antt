@@ -10,8 +10,8 @@ use Rattle.propagate.proofs.TrailLemmas.{cases_push, old_entry, new_entry}
 use Rattle.propagate.proofs.TableLemmas.{place_below, table_none}
 use Rattle.std.proofs.lemmas.Option.{same_Some, none-some}
 
--- no variable has a value at first
-no_place : (n v : ℕ) → let none : Option ℕ = None in get_or (replicate n none) v none ≡ none
+-- no variable has a place or a value at first
+pub no_place : (n v : ℕ) → let none : Option ℕ = None in get_or (replicate n none) v none ≡ none
 no_place zero v = refl
 no_place (suc n) zero = refl
 no_place (suc n) (suc v) = no_place n v

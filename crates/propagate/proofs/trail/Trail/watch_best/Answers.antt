@@ -1,8 +1,15 @@
+use Rattle.std.proofs.Common.{◌≡◌, sym, subst, refl, ◌<◌, [], Some}
+use Rattle.std.proofs.lemmas.Option.{same_Some}
+use Rattle.std.proofs.lemmas.List.Elements.{All-contains}
 use Rattle.std.proofs.lemmas.Result.{err_from_is_err_and}
 use Rattle.propagate.proofs.ClauseLemmas.{literal_held}
-use Rattle.propagate.proofs.GuardLemmas.{other_apart, this_in}
+use Rattle.propagate.proofs.GuardLemmas.{other_apart, other_in, this_in}
 use Rattle.clause_db.specs.Literals.{negation}
-use Rattle.propagate.proofs.MoveLemmas.{best_progress, best_visited}
+use Rattle.clause_db.specs.Clauses.{clause_at}
+use Rattle.clause_db.specs.declared.lit.Lit.{Lit}
+use Rattle.propagate.specs.Watching.{Watching, AreWatchedOf, IsWatcherAt}
+use Rattle.propagate.proofs.MoveLemmas.{best_progress, best_visited, watched_held}
+use Rattle.propagate.proofs.VisitLemmas.{next_grown}
 use Rattle.propagate.proofs.trail.Trail.watch_best.Goals as goal
 
 pub best_after-requires-clause-has : goal.best_after-requires-clause-has
@@ -43,3 +50,66 @@ returns-clause-visited c =
     c.requires.here c.requires.both best c.in_ok-assign_if_unit-in-Some.ensures.reached c.assign_if_unit.ensures.unmoved
     c.in_ok-assign_if_unit-in-Some.ensures.assigned c.move_watch.ensures.same c.move_watch.ensures.trail c.move_watch.ensures.rewatched
     c.in_ok-move_watch-in-Some.field-0 c.in_ok-move_watch-in-Some.ensures.moved
+
+pub lits-requires : goal.lits-requires
+lits-requires c =
+    let held = watched_held c.args.db.now c.args.links.now c.args.self.now c.args.graph.now c.args.clause c.args.lit c.args.other c.requires.work c.requires.both in
+    held
+
+pub best_after-requires-clause-in_range : goal.best_after-requires-clause-in_range
+best_after-requires-clause-in_range c =
+    let held = watched_held c.args.db.now c.args.links.now c.args.self.now c.args.graph.now c.args.clause c.args.lit c.args.other c.requires.work c.requires.both in
+    rw c.lits.ensures.clause (c.requires.work.reasons.variables c.args.clause [] held)
+
+pub assign_if_unit-requires : goal.assign_if_unit-requires
+assign_if_unit-requires c =
+    let held = watched_held c.args.db.now c.args.links.now c.args.self.now c.args.graph.now c.args.clause c.args.lit c.args.other c.requires.work c.requires.both in
+    record {
+      work = c.requires.work;
+      held = held;
+      has = other_in c.args.self.now c.args.db.now c.args.clause c.args.lit c.args.other c.requires.work.trail c.requires.work.watched c.requires.next c.requires.both;
+      best = rw c.lits.ensures.clause at c.in-Some.ensures.best;
+    }
+
+pub move_watch-requires : goal.move_watch-requires
+move_watch-requires c =
+    let held = watched_held c.args.db.now c.args.links.now c.args.self.now c.args.graph.now c.args.clause c.args.lit c.args.other c.requires.work c.requires.both in
+    let t = c.args.self.now in
+    let s = c.assign_if_unit.new.self in
+    let reached = c.in_ok-assign_if_unit-in-Some.ensures.reached in
+    let unmoved = c.assign_if_unit.ensures.unmoved in
+    let best = rw c.lits.ensures.clause at c.in-Some.ensures.best in
+    let below = All-contains (λ (l : Lit). l.var < t.vars) (clause_at c.args.db.now c.args.clause) c.in-Some.best.lit (c.requires.work.reasons.variables c.args.clause [] held) best.has in
+    record {
+      trail = reached.work.trail;
+      in_range = rw reached.grown.vars below;
+      next = next_grown t s c.args.lit reached.grown unmoved.taken c.requires.next;
+      here = subst (λ (w : Watching). IsWatcherAt w c.args.lit c.args.place c.args.clause) (sym unmoved.watching) c.requires.here;
+      both = subst (λ (w : Watching). AreWatchedOf w c.args.clause c.args.lit c.args.other) (sym unmoved.watching) c.requires.both;
+      apart = other_apart t c.args.db.now c.args.clause c.args.lit c.args.other c.requires.work.trail c.requires.work.watched c.requires.next c.requires.both;
+    }
+
+pub returns-in_err-move_watch-in-Some-clause-visited : goal.returns-in_err-move_watch-in-Some-clause-visited
+returns-in_err-move_watch-in-Some-clause-visited c =
+    let p = err_from_is_err_and c.from_residual-in_err-move_watch-in-Some.result c.from_residual-in_err-move_watch-in-Some.ensures.1 in
+    rw p.1 tt
+
+pub unreachable-requires : goal.unreachable-requires
+unreachable-requires c =
+    let all = rw c.lits.ensures.clause at (c.in-None.ensures.none refl) in
+    let same =
+    All-contains (λ (x : Lit). Some c.args.other ≡ Some x) (clause_at c.args.db.now c.args.clause) c.args.lit all
+    (this_in c.args.self.now c.args.db.now c.args.clause c.args.lit c.args.other c.requires.work.trail c.requires.work.watched
+    c.requires.next c.requires.both) in
+    other_apart c.args.self.now c.args.db.now c.args.clause c.args.lit c.args.other c.requires.work.trail c.requires.work.watched
+    c.requires.next c.requires.both (same_Some c.args.other c.args.lit same)
+
+pub returns-in_err-assign_if_unit-in-Some-clause-reached : goal.returns-in_err-assign_if_unit-in-Some-clause-reached
+returns-in_err-assign_if_unit-in-Some-clause-reached c =
+    let p = err_from_is_err_and c.from_residual.result c.from_residual.ensures.1 in
+    rw (p.1, p.2) c.in_err-assign_if_unit-in-Some.ensures.reached
+
+pub returns-in_err-assign_if_unit-in-Some-clause-visited : goal.returns-in_err-assign_if_unit-in-Some-clause-visited
+returns-in_err-assign_if_unit-in-Some-clause-visited c =
+    let p = err_from_is_err_and c.from_residual.result c.from_residual.ensures.1 in
+    rw p.1 tt
