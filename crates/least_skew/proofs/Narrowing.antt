@@ -9,7 +9,7 @@ use Rattle.mtl_encode.specs.SizesFall.{SizesFall}
 use Rattle.proof_log.specs.declared.line.Line.{Line}
 use Rattle.proof_log.specs.Derivations.{Refutes}
 use Rattle.cdcl_core.specs.Values.{GivesValue, RefutesWithin}
-use Rattle.least_skew.specs.Grounds.{HasSmallSize}
+use Rattle.search_ground.specs.Grounds.{HasSmallSize}
 use Rattle.least_skew.specs.Laws.{SkewsMayGrow}
 use Rattle.least_skew.specs.Least.{wide}
 use Rattle.least_skew.proofs.Sames.{truth-stays}

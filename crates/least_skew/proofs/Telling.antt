@@ -8,27 +8,16 @@ use Rattle.skew_bounds.specs.Tight.{IsConsistent, IsInconsistent}
 use Rattle.proof_log.specs.declared.line.Line.{Line}
 use Rattle.proof_log.specs.FreshLaws.{RefutedByRulesIsNotSpent, SpentIsBounded}
 use Rattle.proof_check.specs.Laws.{RefutedIsNoValue}
-use Rattle.cdcl_core.specs.Values.{SpendsWithin}
-use Rattle.cdcl_core.proofs.KeptLists.{kept_refuted}
+use Rattle.search_ground.proofs.Spending.{could-be-spent}
 use Rattle.least_skew.specs.declared.tolerance.Tolerance.{Tolerance}
 use Rattle.least_skew.specs.declared.tolerance.Tolerance.TheVariants as tolerance
 use Rattle.least_skew.specs.declared.widening.TheConstants.{MAX_WIDENING}
 use Rattle.least_skew.specs.Laws.{RightTolerancesAreLeast}
 use Rattle.least_skew.specs.Least.{HasWrittenSkews, IsBelow, LeastRight, wide}
-use Rattle.least_skew.specs.Told.{CanBeSpent, IsInconsistentExactly, Tells}
+use Rattle.least_skew.specs.Told.{IsInconsistentExactly, Tells}
 use Rattle.least_skew.proofs.Widenings.{skews-may-grow}
 use Rattle.least_skew.proofs.ValidWidenings.{wide-valid}
 use Rattle.least_skew.proofs.Sames.{values-may-grow}
-
--- a budget of which lines show that it was spent can be
-pub could-be-spent : SpentIsBounded → RefutedByRulesIsNotSpent → (log : Logged) (f : Form) (v : Bool) (budget : ℕ) (lines : List Line) → 1 ≤ budget
-    → SpendsWithin log f v budget lines → CanBeSpent log f v budget
-could-be-spent bounded by_rules log f v budget lines some spent = record {
-  bounded = λ atoms all. bounded.by_rules log f v spent.rules budget lines atoms spent.spends all;
-  not_refuted = λ rules kept refuted.
-      let none = by_rules.none_spent log f v spent.rules budget lines (kept_refuted log f v rules spent.rules kept spent.kept refuted) spent.spends in
-      omega (arith, none, some);
-}
 
 module _ (refutes : RefutedIsNoValue) (bounded : SpentIsBounded) (by_rules : RefutedByRulesIsNotSpent) (excludes : ConflictExcludesTimings) where
   module _ (log : Logged) (f : Form) (v : Bool) (max budget : ℕ) (valid : IsLog log) (written : HasWrittenSkews log) (range : max ≤ MAX_WIDENING) (some : 1 ≤ budget) where

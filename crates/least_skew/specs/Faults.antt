@@ -3,12 +3,13 @@ use Rattle.std.specs.Prelude.{◌≡◌, ℕ, ◌<◌, ◌≤◌, length, Some, 
 use Rattle.mt_model.specs.Form.{Form}
 use Rattle.mt_model.specs.Log.{Logged, widened}
 use Rattle.mt_model.specs.State.{unknown_host}
-use Rattle.formula_arena.specs.declared.fault.ArenaFault.{ArenaFault}
-use Rattle.formula_arena.specs.declared.fault.ArenaFault.TheVariants as arena
 use Rattle.formula_arena.specs.Nodes.{nodes_of}
 use Rattle.formula_arena.specs.declared.arena.TheConstants.{MAX_NODES}
 use Rattle.mtl_encode.specs.Size.{IsSize, IsSmall}
 use Rattle.mtl_encode.specs.declared.size.TheConstants.{MAX_SIZE}
+use Rattle.search_ground.specs.Faults.{HasTooManyNodes}
+use Rattle.search_ground.specs.declared.fault.GroundFault.{GroundFault}
+use Rattle.search_ground.specs.declared.fault.GroundFault.TheVariants as ground
 use Rattle.least_skew.specs.declared.fault.ToleranceFault.{ToleranceFault}
 use Rattle.least_skew.specs.declared.fault.ToleranceFault.TheVariants as fault
 
@@ -17,11 +18,6 @@ pub record IsAsked (log : Logged) (f : Form) (max : ℕ) : Type 0 where
   pub hosts : unknown_host log f ≡ None
   pub few : length (nodes_of f) ≤ MAX_NODES
   pub small : IsSmall (widened (pos max) log) (nodes_of f)
-
--- the hosts of the formula are in the log, and it has too many nodes
-pub record HasTooManyNodes (log : Logged) (f : Form) : Type 0 where
-  pub hosts : unknown_host log f ≡ None
-  pub many : MAX_NODES < length (nodes_of f)
 
 -- the hosts of the formula are in the log, it has few enough nodes, and with the greatest widening the size of their problem,
 -- which is this one, is too large
@@ -38,7 +34,9 @@ IsFault log f max fault.TooManyNodes = HasTooManyNodes log f
 IsFault log f max (fault.TooLarge n) = IsTooLarge log f max n
 IsFault log f max fault.Memory = Unit {0}
 
--- the fault that a fault of an arena is
-abbrev pub IsOfArena : ArenaFault → ToleranceFault → Type 0
-IsOfArena arena.TooManyNodes f = f ≡ fault.TooManyNodes
-IsOfArena arena.Memory f = f ≡ fault.Memory
+-- the same fault, as it is called before a search
+abbrev pub IsOfGround : GroundFault → ToleranceFault → Type 0
+IsOfGround (ground.UnknownHost index) f = f ≡ fault.UnknownHost index
+IsOfGround ground.TooManyNodes f = f ≡ fault.TooManyNodes
+IsOfGround (ground.TooLarge n) f = f ≡ fault.TooLarge n
+IsOfGround ground.Memory f = f ≡ fault.Memory

@@ -1,5 +1,4 @@
 pub mod Faults
-pub mod Grounds
 pub mod Least
 pub mod Told
 pub mod Brackets

@@ -1,4 +1,4 @@
-use formula_arena::ArenaFault;
+use search_ground::GroundFault;
 use std::alloc::AllocError;
 use thiserror::Error;
 
@@ -29,15 +29,17 @@ impl From<AllocError> for ToleranceFault {
     }
 }
 
-impl From<ArenaFault> for ToleranceFault {
-    ghost use Rattle.least_skew.specs.Faults.{IsOfArena};
+impl From<GroundFault> for ToleranceFault {
+    ghost use Rattle.least_skew.specs.Faults.{IsOfGround};
 
-    ghost from_gives = { IsOfArena };
+    ghost from_gives = { IsOfGround };
 
-    fn from(fault: ArenaFault) -> Self {
+    fn from(fault: GroundFault) -> Self {
         match fault {
-            ArenaFault::TooManyNodes => ToleranceFault::TooManyNodes,
-            ArenaFault::Memory => ToleranceFault::Memory,
+            GroundFault::UnknownHost { index } => ToleranceFault::UnknownHost { index },
+            GroundFault::TooManyNodes => ToleranceFault::TooManyNodes,
+            GroundFault::TooLarge { size } => ToleranceFault::TooLarge { size },
+            GroundFault::Memory => ToleranceFault::Memory,
         }
     }
 }

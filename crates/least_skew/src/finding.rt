@@ -13,13 +13,13 @@ ghost use Rattle.least_skew.specs.declared.widening.TheConstants.{MAX_WIDENING};
 
 use crate::bracket::Bracket;
 use crate::laws::{right_tolerances_are_least, skews_may_grow};
-use crate::nodes::{Ground, ground_of, nodes_of};
 use crate::turn::{Turned, turn};
 use crate::widening::widened;
 use crate::{Tolerance, ToleranceFault};
 use cdcl_core::Nodes;
 use mt_model::{Formula, Log, conflict_excludes_timings, log_is_valid};
 use mtl_encode::sizes_fall;
+use search_ground::{Ground, ground_of, nodes_of};
 use std::alloc::{AllocError, Global};
 
 // The least widening, where some timing is admissible with the greatest one.

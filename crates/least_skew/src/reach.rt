@@ -16,7 +16,8 @@ use cdcl_core::Nodes;
 use mt_model::{Formula, Log, Step, log_is_valid};
 use proof_check::{Check, Checker};
 use proof_log::Line;
-use skew_bounds::{bound_of, bounds, edge_of, first_broken};
+use search_ground::walk_slack;
+use skew_bounds::{bounds, first_broken};
 use std::alloc::{AllocError, Global};
 
 // A number as a widening up to this one.
@@ -86,29 +87,6 @@ pub fn admitted_from(
     } else {
         Ok(s)
     }
-}
-
-// The bound of a step of a walk in a log.
-fn bound_in(log: &Log, step: Step) -> i128 {
-    if let Step::Order { c, .. } = step {
-        return c;
-    }
-    let Some(bound) = bound_of(step) else {
-        return 0;
-    };
-    match edge_of(log, bound) {
-        Some(edge) => edge.bound,
-        None => 0,
-    }
-}
-
-/// By how much the sum of a walk in a log can grow and still be below 0.
-pub fn walk_slack(log: &Log, steps: &[Step]) -> i128 {
-    let mut sum: i128 = 0;
-    for step in steps {
-        sum = sum.saturating_add(bound_in(log, *step));
-    }
-    (-1i128).saturating_sub(sum)
 }
 
 // How many steps of a walk are a row's own bound, which grows with the skews.

@@ -12,7 +12,7 @@ use Rattle.proof_check.specs.Laws.{RefutedIsNoValue}
 use Rattle.proof_log.specs.declared.line.Line.{Line}
 use Rattle.proof_log.specs.Derivations.{Refutes}
 use Rattle.cdcl_core.specs.Values.{GivesValue, RefuteEachValue, RefutesWithin}
-use Rattle.least_skew.specs.Grounds.{HasSmallSize}
+use Rattle.search_ground.specs.Grounds.{HasSmallSize}
 use Rattle.verdict_span.specs.Spaced.{CanBeSpaced, spaced}
 use Rattle.verdict_span.proofs.Extras.{extras-keep-truth, spaced-valid, the-extra, unspaced}
 use Rattle.verdict_span.proofs.Telling.{below-refuted}

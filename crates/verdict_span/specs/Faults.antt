@@ -7,9 +7,9 @@ use Rattle.formula_arena.specs.Nodes.{nodes_of}
 use Rattle.formula_arena.specs.declared.arena.TheConstants.{MAX_NODES}
 use Rattle.mtl_encode.specs.Size.{IsSize, IsSmall}
 use Rattle.mtl_encode.specs.declared.size.TheConstants.{MAX_SIZE}
-use Rattle.least_skew.specs.Faults.{HasTooManyNodes}
-use Rattle.least_skew.specs.declared.fault.ToleranceFault.{ToleranceFault}
-use Rattle.least_skew.specs.declared.fault.ToleranceFault.TheVariants as tolerance
+use Rattle.search_ground.specs.Faults.{HasTooManyNodes}
+use Rattle.search_ground.specs.declared.fault.GroundFault.{GroundFault}
+use Rattle.search_ground.specs.declared.fault.GroundFault.TheVariants as ground
 use Rattle.verdict_span.specs.declared.fault.SpanFault.{SpanFault}
 use Rattle.verdict_span.specs.declared.fault.SpanFault.TheVariants as fault
 
@@ -33,9 +33,9 @@ IsFault log f fault.TooManyNodes = HasTooManyNodes log f
 IsFault log f (fault.TooLarge n) = IsTooLarge log f n
 IsFault log f fault.Memory = Unit {0}
 
--- the same fault, of another search
-abbrev pub IsOfTolerance : ToleranceFault → SpanFault → Type 0
-IsOfTolerance (tolerance.UnknownHost index) f = f ≡ fault.UnknownHost index
-IsOfTolerance tolerance.TooManyNodes f = f ≡ fault.TooManyNodes
-IsOfTolerance (tolerance.TooLarge n) f = f ≡ fault.TooLarge n
-IsOfTolerance tolerance.Memory f = f ≡ fault.Memory
+-- the same fault, as it is called before a search
+abbrev pub IsOfGround : GroundFault → SpanFault → Type 0
+IsOfGround (ground.UnknownHost index) f = f ≡ fault.UnknownHost index
+IsOfGround ground.TooManyNodes f = f ≡ fault.TooManyNodes
+IsOfGround (ground.TooLarge n) f = f ≡ fault.TooLarge n
+IsOfGround ground.Memory f = f ≡ fault.Memory

@@ -1,4 +1,4 @@
-use least_skew::ToleranceFault;
+use search_ground::GroundFault;
 use std::alloc::AllocError;
 use thiserror::Error;
 
@@ -29,17 +29,17 @@ impl From<AllocError> for SpanFault {
     }
 }
 
-impl From<ToleranceFault> for SpanFault {
-    ghost use Rattle.verdict_span.specs.Faults.{IsOfTolerance};
+impl From<GroundFault> for SpanFault {
+    ghost use Rattle.verdict_span.specs.Faults.{IsOfGround};
 
-    ghost from_gives = { IsOfTolerance };
+    ghost from_gives = { IsOfGround };
 
-    fn from(fault: ToleranceFault) -> Self {
+    fn from(fault: GroundFault) -> Self {
         match fault {
-            ToleranceFault::UnknownHost { index } => SpanFault::UnknownHost { index },
-            ToleranceFault::TooManyNodes => SpanFault::TooManyNodes,
-            ToleranceFault::TooLarge { size } => SpanFault::TooLarge { size },
-            ToleranceFault::Memory => SpanFault::Memory,
+            GroundFault::UnknownHost { index } => SpanFault::UnknownHost { index },
+            GroundFault::TooManyNodes => SpanFault::TooManyNodes,
+            GroundFault::TooLarge { size } => SpanFault::TooLarge { size },
+            GroundFault::Memory => SpanFault::Memory,
         }
     }
 }

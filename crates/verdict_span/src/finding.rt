@@ -21,10 +21,10 @@ use crate::spacing::{distance, spaced};
 use crate::turn::{Turned, turn};
 use crate::{SpanFault, Widest};
 use cdcl_core::{Nodes, Searched, refuted_by_conflict, search_log};
-use least_skew::{Ground, ground_of, nodes_of};
 use mt_model::{EventId, Formula, Log, Times, conflict_excludes_timings, log_is_valid};
 use mtl_encode::sizes_fall;
 use proof_log::Lines;
+use search_ground::{Ground, ground_of, nodes_of};
 use skew_bounds::{Consistency, settle};
 use std::alloc::{AllocError, Global};
 

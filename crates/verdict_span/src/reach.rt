@@ -10,10 +10,10 @@ ghost use Rattle.verdict_span.specs.Spaced.{CanBeSpaced, spaced as spaced_log};
 
 use crate::spacing::spaced;
 use cdcl_core::Nodes;
-use least_skew::walk_slack;
 use mt_model::{EventId, Formula, Log, Step};
 use proof_check::{Check, Checker};
 use proof_log::Line;
+use search_ground::walk_slack;
 use std::alloc::{AllocError, Global};
 
 // A number from 0 to this one.

@@ -1,17 +1,18 @@
 use Rattle.std.proofs.Common.{arith}
 use Rattle.std.proofs.lemmas.Result.{err_from_is_err_and}
 use Rattle.mt_model.specs.Form.{form_of}
+use Rattle.search_ground.proofs.Conflicts.{conflict-small}
 use Rattle.least_skew.specs.declared.tolerance.Tolerance.TheVariants as tolerance
 use Rattle.least_skew.specs.Least.{wide}
 use Rattle.least_skew.proofs.Narrowing.{small-below}
 use Rattle.least_skew.proofs.NotAsked.{of-nodes}
-use Rattle.least_skew.proofs.Answering.{conflict-right, conflict-small}
+use Rattle.least_skew.proofs.Answering.{conflict-right}
 use Rattle.least_skew.proofs.finding.least.Goals as goal
 
 pub returns-in_err-nodes-clause-fault : goal.returns-in_err-nodes-clause-fault
 returns-in_err-nodes-clause-fault c =
     let p = err_from_is_err_and c.from_residual.result c.from_residual.ensures.1 in
-    rw (p.1, p.2) (of-nodes c.args.log.now (form_of c.args.f.now) c.args.max c.in_err-nodes.field-0.0 c.in_err-nodes.ensures.fault)
+    rw p.1 (of-nodes c.args.log.now (form_of c.args.f.now) c.args.max c.in_err-nodes.field-0.0 p.0 c.in_err-nodes.ensures.fault p.2)
 
 pub returns-in-Conflict-clause-tells : goal.returns-in-Conflict-clause-tells
 returns-in-Conflict-clause-tells c = λ t ok.

@@ -2,7 +2,7 @@ use Rattle.std.proofs.Common.{arith}
 use Rattle.std.proofs.lemmas.Int.{ints}
 use Rattle.std.proofs.lemmas.Result.{err_from_is_err_and}
 use Rattle.mt_model.specs.Form.{form_of}
-use Rattle.least_skew.proofs.Answering.{conflict-small}
+use Rattle.search_ground.proofs.Conflicts.{conflict-small}
 use Rattle.verdict_span.specs.declared.greatest.Widest.TheVariants as widest
 use Rattle.verdict_span.proofs.Climbing.{greatest-at, small-itself, small-spaced}
 use Rattle.verdict_span.proofs.NotAsked.{of-nodes}

@@ -1,4 +1,4 @@
-use Rattle.least_skew.proofs.nodes.small_enough.Goals as goal
+use Rattle.search_ground.proofs.nodes.small_enough.Goals as goal
 
 pub returns-then-size-le-MAX_SIZE-clause-small : goal.returns-then-size-le-MAX_SIZE-clause-small
 returns-then-size-le-MAX_SIZE-clause-small c = record {

@@ -8,11 +8,11 @@ use Rattle.skew_bounds.specs.Tight.{IsConsistent, IsTight}
 use Rattle.formula_arena.specs.Nodes.{nodes_of}
 use Rattle.mtl_encode.specs.Size.{IsSize}
 use Rattle.mtl_encode.specs.declared.size.TheConstants.{MAX_SIZE}
-use Rattle.least_skew.specs.Faults.{HasTooManyNodes}
-use Rattle.least_skew.specs.declared.fault.ToleranceFault.{ToleranceFault}
-use Rattle.least_skew.specs.declared.fault.ToleranceFault.TheVariants as fault
-use Rattle.least_skew.specs.declared.nodes.Ground.{Ground}
-use Rattle.least_skew.specs.declared.nodes.Ground.TheVariants as ground
+use Rattle.search_ground.specs.Faults.{HasTooManyNodes}
+use Rattle.search_ground.specs.declared.fault.GroundFault.{GroundFault}
+use Rattle.search_ground.specs.declared.fault.GroundFault.TheVariants as fault
+use Rattle.search_ground.specs.declared.nodes.Ground.{Ground}
+use Rattle.search_ground.specs.declared.nodes.Ground.TheVariants as ground
 
 -- some timing is admissible, and the size of the problem, which is this one, isn't above the limit
 pub record HasSmallSize (log : Logged) (f : Form) : Type 0 where
@@ -22,14 +22,14 @@ pub record HasSmallSize (log : Logged) (f : Form) : Type 0 where
   pub small : size ≤ MAX_SIZE
 
 -- the fault of a formula whose nodes aren't made; want of memory says nothing
-abbrev pub IsNodesFault : Logged → Form → ToleranceFault → Type 0
+abbrev pub IsNodesFault : Logged → Form → GroundFault → Type 0
 IsNodesFault log f (fault.UnknownHost index) = unknown_host log f ≡ Some index
 IsNodesFault log f fault.TooManyNodes = HasTooManyNodes log f
 IsNodesFault log f (fault.TooLarge n) = ⊥
 IsNodesFault log f fault.Memory = Unit {0}
 
 -- the size of the problem, which is this one, is above the limit; want of memory says nothing
-abbrev pub IsSizeFault : Logged → Form → ToleranceFault → Type 0
+abbrev pub IsSizeFault : Logged → Form → GroundFault → Type 0
 IsSizeFault log f (fault.UnknownHost index) = ⊥
 IsSizeFault log f fault.TooManyNodes = ⊥
 IsSizeFault log f (fault.TooLarge n) = IsSize log (nodes_of f) n × (MAX_SIZE < n)

@@ -7,9 +7,9 @@ ghost use Rattle.skew_bounds.specs.Tight.{IsConsistent, IsTight};
 ghost use Rattle.formula_arena.specs.Nodes.{nodes_of as nodes_of_form};
 ghost use Rattle.formula_arena.specs.declared.arena.TheConstants.{MAX_NODES};
 ghost use Rattle.cdcl_core.specs.Values.{AreNodesOf};
-ghost use Rattle.least_skew.specs.Grounds.{HasSmallSize, IsGround, IsNodesFault, IsSizeFault};
+ghost use Rattle.search_ground.specs.Grounds.{HasSmallSize, IsGround, IsNodesFault, IsSizeFault};
 
-use crate::ToleranceFault;
+use crate::GroundFault;
 use cdcl_core::Nodes;
 use formula_arena::Arena;
 use mt_model::{Formula, Log, Steps};
@@ -28,14 +28,14 @@ pub enum Ground {
 
 /// The nodes of a formula. The first test that fails gives the fault: whether its hosts are in the log, and whether
 /// it has few enough nodes.
-pub fn nodes_of(alloc: Global, log: &Log, f: &Formula) -> Result<Nodes, ToleranceFault>
+pub fn nodes_of(alloc: Global, log: &Log, f: &Formula) -> Result<Nodes, GroundFault>
     ensures hosts { OnOk result (unknown_host log.now (form_of f.now) ≡ None) }
     ensures few { OnOk result (length (nodes_of_form (form_of f.now)) ≤ MAX_NODES) }
     ensures nodes { IfOk result (AreNodesOf (form_of f.now)) }
     ensures fault { IfErr result (IsNodesFault log.now (form_of f.now)) }
 {
     if let Some(index) = f.unknown_host(log) {
-        return Err(ToleranceFault::UnknownHost { index });
+        return Err(GroundFault::UnknownHost { index });
     }
     let mut arena = Arena::new(alloc);
     let root = arena.intern(f)?;
@@ -43,7 +43,7 @@ pub fn nodes_of(alloc: Global, log: &Log, f: &Formula) -> Result<Nodes, Toleranc
 }
 
 // That the problem of a log that admits a timing is small enough.
-fn small_enough(wide: &Log, f: &Formula, nodes: &Nodes, tight: &Tight) -> Result<(), ToleranceFault>
+fn small_enough(wide: &Log, f: &Formula, nodes: &Nodes, tight: &Tight) -> Result<(), GroundFault>
     requires nodes { AreNodesOf (form_of f.now) nodes.now }
     requires consistent { IsConsistent wide.now }
     requires tight { IsTight wide.now tight.now }
@@ -54,7 +54,7 @@ fn small_enough(wide: &Log, f: &Formula, nodes: &Nodes, tight: &Tight) -> Result
     if size <= MAX_SIZE {
         Ok(())
     } else {
-        Err(ToleranceFault::TooLarge { size })
+        Err(GroundFault::TooLarge { size })
     }
 }
 
@@ -64,7 +64,7 @@ pub fn ground_of(
     wide: &Log,
     f: &Formula,
     nodes: &Nodes,
-) -> Result<Ground, ToleranceFault>
+) -> Result<Ground, GroundFault>
     requires nodes { AreNodesOf (form_of f.now) nodes.now }
     ensures ground { IfOk result (IsGround wide.now (form_of f.now)) }
     ensures fault { IfErr result (IsSizeFault wide.now (form_of f.now)) }

@@ -5,8 +5,8 @@ use Rattle.mt_model.specs.State.{unknown_host}
 use Rattle.formula_arena.specs.declared.arena.TheConstants.{MAX_NODES}
 use Rattle.formula_arena.specs.declared.fault.ArenaFault.TheVariants.{TooManyNodes}
 use Rattle.formula_arena.proofs.NodeCounts.{with_nodes-empty}
-use Rattle.least_skew.proofs.NotAsked.{of-arena}
-use Rattle.least_skew.proofs.nodes.nodes_of.Goals as goal
+use Rattle.search_ground.proofs.NotMade.{of-arena}
+use Rattle.search_ground.proofs.nodes.nodes_of.Goals as goal
 
 pub returns-in_err-root-clause-fault : goal.returns-in_err-root-clause-fault
 returns-in_err-root-clause-fault c =

@@ -1,0 +1,4 @@
+mod NotMade
+pub mod Conflicts
+pub mod Spending
+pub mod SameStates

@@ -1,0 +1,19 @@
+-- Why the nodes of a formula aren't made.
+use Rattle.std.proofs.Common.{◌≡◌, ◌<◌, length, None, Err}
+use Rattle.std.specs.Prelude.{Result}
+use Rattle.mt_model.specs.Form.{Form}
+use Rattle.mt_model.specs.Log.{Logged}
+use Rattle.mt_model.specs.State.{unknown_host}
+use Rattle.formula_arena.specs.declared.arena.TheConstants.{MAX_NODES}
+use Rattle.formula_arena.specs.declared.fault.ArenaFault.{ArenaFault}
+use Rattle.formula_arena.specs.declared.fault.ArenaFault.TheVariants as arena
+use Rattle.formula_arena.specs.Nodes.{nodes_of}
+use Rattle.search_ground.specs.declared.fault.GroundFault.{GroundFault}
+use Rattle.search_ground.specs.Faults.{IsOfArena}
+use Rattle.search_ground.specs.Grounds.{IsNodesFault}
+
+-- a fault of the arena says why
+pub of-arena : {X : Type 0} (log : Logged) (f : Form) (r : Result X ArenaFault) (a : ArenaFault) (v : GroundFault) → r ≡ Err a → unknown_host log f ≡ None
+    → (r ≡ Err arena.TooManyNodes → MAX_NODES < length (nodes_of f)) → IsOfArena a v → IsNodesFault log f v
+of-arena log f r arena.TooManyNodes v fault hosts many is = rw is (record { hosts = hosts; many = many fault })
+of-arena log f r arena.Memory v fault hosts many is = rw is tt
