@@ -1,11 +1,14 @@
 //! The least widening.
 
-ghost use Rattle.std.specs.Prelude.{◌≤◌, ℕ, IfErr, IfOk, OnOk};
+ghost use Rattle.std.specs.Prelude.{◌≡◌, ◌≤◌, ℕ, None, length, IfErr, IfOk, OnOk};
 ghost use Rattle.mt_model.specs.Form.{form_of};
+ghost use Rattle.mt_model.specs.State.{unknown_host};
 ghost use Rattle.formula_arena.specs.Nodes.{nodes_of as nodes_of_form};
+ghost use Rattle.formula_arena.specs.declared.arena.TheConstants.{MAX_NODES};
 ghost use Rattle.skew_bounds.specs.Tight.{IsConsistent};
 ghost use Rattle.mtl_encode.specs.Size.{IsSmall};
 ghost use Rattle.cdcl_core.specs.Values.{AreNodesOf};
+ghost use Rattle.search_ground.specs.Grounds.{IsGround, IsSizeFault};
 ghost use Rattle.least_skew.specs.Faults.{IsAsked, IsFault};
 ghost use Rattle.least_skew.specs.Least.{HasWrittenSkews, LeastRight, wide};
 ghost use Rattle.least_skew.specs.Told.{IsInconsistentExactly, Tells};
@@ -19,7 +22,7 @@ use crate::{Tolerance, ToleranceFault};
 use cdcl_core::Nodes;
 use mt_model::{Formula, Log, conflict_excludes_timings, log_is_valid};
 use mtl_encode::sizes_fall;
-use search_ground::{Ground, ground_of, nodes_of};
+use search_ground::{Ground, GroundFault, ground_of, nodes_of};
 use std::alloc::{AllocError, Global};
 
 // The least widening, where some timing is admissible with the greatest one.
@@ -51,6 +54,58 @@ fn search_least(
     Ok(bracket.answer())
 }
 
+// What is known of a log with the widening s before any search.
+fn ground_with(
+    alloc: Global,
+    log: &Log,
+    f: &Formula,
+    nodes: &Nodes,
+    s: u64,
+) -> Result<Ground, GroundFault>
+    requires range { s ≤ MAX_WIDENING }
+    requires skews { HasWrittenSkews log.now }
+    requires nodes { AreNodesOf (form_of f.now) nodes.now }
+    ensures ground { IfOk result (IsGround (wide s log.now) (form_of f.now)) }
+    ensures fault { IfErr result (IsSizeFault (wide s log.now) (form_of f.now)) }
+{
+    let wide = widened(alloc, log, s)?;
+    ground_of(alloc, &wide, f, nodes)
+}
+
+// The least widening, where the formula has these nodes.
+fn least_of_nodes(
+    alloc: Global,
+    log: &Log,
+    f: &Formula,
+    nodes: &Nodes,
+    value: bool,
+    max: u64,
+    budget: u32,
+) -> Result<Tolerance, ToleranceFault>
+    requires some { 1 ≤ budget }
+    requires most { budget ≤ 1000000 }
+    requires range { max ≤ MAX_WIDENING }
+    requires skews { HasWrittenSkews log.now }
+    requires nodes { AreNodesOf (form_of f.now) nodes.now }
+    requires hosts { unknown_host log.now (form_of f.now) ≡ None }
+    requires few { length (nodes_of_form (form_of f.now)) ≤ MAX_NODES }
+    ensures right { IfOk result (LeastRight log.now (form_of f.now) value max budget) }
+    ensures tells { IfOk result (Tells log.now (form_of f.now) value max budget) }
+    ensures inconsistent { IfOk result (IsInconsistentExactly log.now max) }
+    ensures asked { OnOk result (IsAsked log.now (form_of f.now) max) }
+    ensures fault { IfErr result (IsFault log.now (form_of f.now) max) }
+{
+    right_tolerances_are_least();
+    skews_may_grow();
+    sizes_fall();
+    conflict_excludes_timings();
+    log_is_valid(log);
+    match ground_with(alloc, log, f, nodes, max)? {
+        Ground::Conflict(steps) => Ok(Tolerance::Inconsistent(steps)),
+        Ground::Consistent(_) => Ok(search_least(alloc, log, f, nodes, value, max, budget)?),
+    }
+}
+
 /// By how much all skews of a log have to grow at least, up to a greatest widening, so that the formula has the value in
 /// some timing that the log then admits; with a timing that shows it, and lines that refute the value with one less. Each
 /// search has the budget of conflicts, which is from 1 to 1,000,000; where one spends it, its lines are the answer.
@@ -79,15 +134,6 @@ pub fn least(
     ensures asked { OnOk result (IsAsked log.now (form_of f.now) max) }
     ensures fault { IfErr result (IsFault log.now (form_of f.now) max) }
 {
-    right_tolerances_are_least();
-    skews_may_grow();
-    sizes_fall();
-    conflict_excludes_timings();
-    log_is_valid(log);
     let nodes = nodes_of(alloc, log, f)?;
-    let wide = widened(alloc, log, max)?;
-    match ground_of(alloc, &wide, f, &nodes)? {
-        Ground::Conflict(steps) => Ok(Tolerance::Inconsistent(steps)),
-        Ground::Consistent(_) => Ok(search_least(alloc, log, f, &nodes, value, max, budget)?),
-    }
+    least_of_nodes(alloc, log, f, &nodes, value, max, budget)
 }

@@ -2,7 +2,7 @@
 //! greater ones.
 
 ghost use Rattle.std.specs.Prelude.{◌≡◌, ◌<◌, ◌≤◌, ◌^◌, All, length, IfOk, IsTrue};
-ghost use Rattle.mt_model.specs.Form.{form_of};
+ghost use Rattle.mt_model.specs.Form.{Form, form_of};
 ghost use Rattle.mt_model.specs.Log.{IsWithin};
 ghost use Rattle.mt_model.specs.Timing.{Admissible};
 ghost use Rattle.mt_model.specs.declared.limits.TheConstants.{MAX_TIME};
@@ -121,15 +121,67 @@ fn room(log: &Log, lines: &[Line], most: u64) -> u64
     room
 }
 
+// How far the walks of lines keep their sums below 0 beyond the widening s, as far as `high`.
+fn kept_up_to(
+    alloc: Global,
+    log: &Log,
+    s: u64,
+    high: u64,
+    lines: &[Line],
+) -> Result<u64, AllocError>
+    requires order { s ≤ high }
+    requires range { high ≤ MAX_WIDENING }
+    requires skews { HasWrittenSkews log.now }
+    ensures from { IfOk result (λ r. s ≤ r) }
+    ensures to { IfOk result (λ r. r ≤ high) }
+{
+    let narrow = widened(alloc, log, s)?;
+    Ok(s + room(&narrow, lines, high - s))
+}
+
+// Whether lines refute the value.
+fn refutes(
+    alloc: Global,
+    log: &Log,
+    nodes: &Nodes,
+    value: bool,
+    lines: &[Line],
+) -> Result<bool, AllocError>
+    requires few { length lines.now < 2 ^ 32 }
+    ensures refutes { IfOk result (λ b. IsTrue b → (f : Form) → AreNodesOf f nodes.now → Refutes log.now f value lines.now) }
+{
+    let mut checker = Checker::by(alloc, log, &nodes.arena, nodes.root, value)?;
+    match checker.check(lines)? {
+        Check::Refutes => Ok(true),
+        Check::Derives | Check::Wrong(_) => Ok(false),
+    }
+}
+
+// Whether lines refute the value with the widening s.
+fn refutes_with(
+    alloc: Global,
+    log: &Log,
+    nodes: &Nodes,
+    value: bool,
+    s: u64,
+    lines: &[Line],
+) -> Result<bool, AllocError>
+    requires range { s ≤ MAX_WIDENING }
+    requires skews { HasWrittenSkews log.now }
+    requires few { length lines.now < 2 ^ 32 }
+    ensures refutes { IfOk result (λ b. IsTrue b → (f : Form) → AreNodesOf f nodes.now → Refutes (wide s log.now) f value lines.now) }
+{
+    let wide = widened(alloc, log, s)?;
+    refutes(alloc, &wide, nodes, value, lines)
+}
+
 /// The greatest widening from s to `high` with which lines refute the value that do with s, so far as their walks tell.
-/// `narrow` is the log with the widening s.
 pub fn refuted_up_to(
     alloc: Global,
     log: &Log,
     f: &Formula,
     nodes: &Nodes,
     value: bool,
-    narrow: &Log,
     s: u64,
     high: u64,
     lines: &[Line],
@@ -144,11 +196,10 @@ pub fn refuted_up_to(
     ensures to { IfOk result (λ r. r ≤ high) }
     ensures refutes { IfOk result (λ r. Refutes (wide r log.now) (form_of f.now) value lines.now) }
 {
-    let r = s + room(narrow, lines, high - s);
-    let wide = widened(alloc, log, r)?;
-    let mut checker = Checker::by(alloc, &wide, &nodes.arena, nodes.root, value)?;
-    match checker.check(lines)? {
-        Check::Refutes => Ok(r),
-        Check::Derives | Check::Wrong(_) => Ok(s),
+    let r = kept_up_to(alloc, log, s, high, lines)?;
+    if refutes_with(alloc, log, nodes, value, r, lines)? {
+        Ok(r)
+    } else {
+        Ok(s)
     }
 }

@@ -1,10 +1,12 @@
 //! One search, and what is known after it.
 
-ghost use Rattle.std.specs.Prelude.{◌≤◌, ◌<◌, ◌-◌, ℕ, IfOk};
-ghost use Rattle.mt_model.specs.Form.{form_of};
+ghost use Rattle.std.specs.Prelude.{◌≤◌, ◌<◌, ◌+◌, ◌-◌, ◌^◌, ℕ, Bool, length, IfOk};
+ghost use Rattle.mt_model.specs.Form.{Form, form_of};
+ghost use Rattle.mt_model.specs.Timing.{Admissible};
 ghost use Rattle.formula_arena.specs.Nodes.{nodes_of};
 ghost use Rattle.mtl_encode.specs.Size.{IsSmall};
-ghost use Rattle.cdcl_core.specs.Values.{AreNodesOf};
+ghost use Rattle.proof_log.specs.Derivations.{Refutes};
+ghost use Rattle.cdcl_core.specs.Values.{AreNodesOf, GivesValue, IsSearched, RefutesWithin};
 ghost use Rattle.least_skew.specs.Brackets.{IsBracket};
 ghost use Rattle.least_skew.specs.Least.{HasWrittenSkews, wide};
 ghost use Rattle.least_skew.specs.Turns.{IsTurned};
@@ -14,7 +16,7 @@ use crate::bracket::Bracket;
 use crate::reach::{admitted_from, refuted_up_to};
 use crate::widening::widened;
 use cdcl_core::{Nodes, Searched, search_log};
-use mt_model::{Formula, Log};
+use mt_model::{Formula, Log, Times};
 use proof_log::Lines;
 use std::alloc::{AllocError, Global};
 
@@ -25,6 +27,72 @@ pub enum Turned {
     Narrowed(Bracket),
     /// The search at the widening s spent its budget.
     Spent { s: u64, lines: Lines },
+}
+
+// Searches with the widening s.
+fn searched_with(
+    alloc: Global,
+    log: &Log,
+    f: &Formula,
+    nodes: &Nodes,
+    value: bool,
+    budget: u32,
+    s: u64,
+) -> Result<Searched, AllocError>
+    requires some { 1 ≤ budget }
+    requires most { budget ≤ 1000000 }
+    requires range { s ≤ MAX_WIDENING }
+    requires skews { HasWrittenSkews log.now }
+    requires nodes { AreNodesOf (form_of f.now) nodes.now }
+    requires small { IsSmall (wide s log.now) (nodes_of (form_of f.now)) }
+    ensures found { IfOk result (IsSearched (wide s log.now) (form_of f.now) value budget) }
+{
+    let wide = widened(alloc, log, s)?;
+    search_log(alloc, &wide, f, nodes, value, budget)
+}
+
+// A bracket narrowed by a timing that is admissible with the widening s.
+fn narrowed_by_timing(
+    alloc: Global,
+    log: &Log,
+    bracket: Bracket,
+    s: u64,
+    times: Times,
+) -> Result<Turned, AllocError>
+    requires range { s ≤ MAX_WIDENING }
+    requires skews { HasWrittenSkews log.now }
+    requires from { bracket.low ≤ s }
+    requires below { s < bracket.high }
+    requires admissible { Admissible (wide s log.now) times }
+    ensures turned { IfOk result (λ turned. (f : Form) (v : Bool) (max budget : ℕ) → IsBracket log.now f v max budget bracket → GivesValue (wide s log.now) f v times → IsTurned log.now f v max budget (bracket.high - bracket.low) turned) }
+{
+    let r = admitted_from(alloc, log, times.as_slice(), bracket.low, s)?;
+    Ok(Turned::Narrowed(bracket.down_to(r, times)))
+}
+
+// A bracket narrowed by lines that refute the value with the widening s.
+fn narrowed_by_lines(
+    alloc: Global,
+    log: &Log,
+    f: &Formula,
+    nodes: &Nodes,
+    value: bool,
+    bracket: Bracket,
+    s: u64,
+    lines: Lines,
+) -> Result<Turned, AllocError>
+    requires range { bracket.high ≤ MAX_WIDENING + 1 }
+    requires skews { HasWrittenSkews log.now }
+    requires nodes { AreNodesOf (form_of f.now) nodes.now }
+    requires from { bracket.low ≤ s }
+    requires below { s < bracket.high }
+    requires few { length lines < 2 ^ 32 }
+    requires refutes { Refutes (wide s log.now) (form_of f.now) value lines }
+    ensures turned { IfOk result (λ turned. (max budget : ℕ) → IsBracket log.now (form_of f.now) value max budget bracket → RefutesWithin (wide s log.now) (form_of f.now) value budget lines → IsTurned log.now (form_of f.now) value max budget (bracket.high - bracket.low) turned) }
+{
+    let high = bracket.high - 1;
+    let r = refuted_up_to(alloc, log, f, nodes, value, s, high, lines.as_slice())?;
+    Ok(Turned::Narrowed(bracket.above(r, lines)))
 }
 
 /// Searches at one widening of a bracket, and narrows it by what is found.
@@ -49,26 +117,10 @@ pub fn turn(
     ensures turned { IfOk result (IsTurned log.now (form_of f.now) value max budget (bracket.high - bracket.low)) }
 {
     let s = bracket.next();
-    let wide = widened(alloc, log, s)?;
-    match search_log(alloc, &wide, f, nodes, value, budget)? {
-        Searched::Timing(times) => {
-            let r = admitted_from(alloc, log, times.as_slice(), bracket.low, s)?;
-            Ok(Turned::Narrowed(bracket.down_to(r, times)))
-        }
+    match searched_with(alloc, log, f, nodes, value, budget, s)? {
+        Searched::Timing(times) => narrowed_by_timing(alloc, log, bracket, s, times),
         Searched::Refuted(lines) => {
-            let high = bracket.high - 1;
-            let r = refuted_up_to(
-                alloc,
-                log,
-                f,
-                nodes,
-                value,
-                &wide,
-                s,
-                high,
-                lines.as_slice(),
-            )?;
-            Ok(Turned::Narrowed(bracket.above(r, lines)))
+            narrowed_by_lines(alloc, log, f, nodes, value, bracket, s, lines)
         }
         Searched::Spent(lines) => Ok(Turned::Spent { s, lines }),
     }
