@@ -242,15 +242,22 @@ fn push_failed_writes(
     push_line(out, line.as_bytes())
 }
 
+// The text of the log of a seed.
+fn demo_text(alloc: Global, seed: u64) -> Option<Vec<u8>> {
+    let log = demo_log(alloc, seed).ok()?;
+    if log.plain() {
+        write_log(alloc, &log).ok()
+    } else {
+        None
+    }
+}
+
 // Adds the log of a seed.
 fn push_demo_log(alloc: Global, seed: &[u8], out: &mut Vec<u8>) -> Option<()> {
-    let log = demo_log(alloc, number_of(text_of(seed)?)?).ok()?;
-    if !log.plain() {
-        return None;
-    }
+    let text = demo_text(alloc, number_of(text_of(seed)?)?)?;
     out.push(b'@').ok()?;
     push_marked(out, b' ', seed)?;
-    out.extend_from_slice(&write_log(alloc, &log).ok()?).ok()
+    out.extend_from_slice(&text).ok()
 }
 
 // The words of `audit` for those of `check`.

@@ -86,11 +86,16 @@ fn push_walk(alloc: Global, log: &Log, line: &Line, out: &mut Vec<u8>) -> Option
     }
 }
 
+// Adds that of a line over the log of a case.
+fn push_walk_of(alloc: Global, case: &LogicCase, line: &Line, out: &mut Vec<u8>) -> Option<()> {
+    let log = case.log(alloc)?;
+    push_walk(alloc, &log, line, out)
+}
+
 // Adds that of the first line of a derivation.
 fn push_first_walk(alloc: Global, case: &LogicCase, out: &mut Vec<u8>) -> Option<()> {
-    let log = case.log(alloc)?;
     let lines = case.lines(alloc)?.ok()?;
-    push_walk(alloc, &log, lines.as_slice().first()?, out)
+    push_walk_of(alloc, case, lines.as_slice().first()?, out)
 }
 
 // Adds what is asked of a derivation.

@@ -89,9 +89,15 @@ fn push_problem(alloc: Global, problem: &Problem, out: &mut Vec<u8>) -> Option<(
     push_atoms(alloc, &problem.atoms, out)
 }
 
+// A timing that the log of a case admits, or bounds of it in conflict.
+fn settled(alloc: Global, case: &LogicCase) -> Option<Consistency> {
+    let log = case.log(alloc)?;
+    settle(alloc, &log).ok()
+}
+
 // Whether the log of a case admits some timing.
 fn is_consistent(alloc: Global, case: &LogicCase) -> Option<bool> {
-    match settle(alloc, &case.log(alloc)?).ok()? {
+    match settled(alloc, case)? {
         Consistency::Timing(_) => Some(true),
         Consistency::Conflict(_) => Some(false),
     }
@@ -115,9 +121,15 @@ fn size(alloc: Global, parsed: &Parsed) -> Option<u128> {
     }
 }
 
+// The size of the problem of a case.
+fn size_of_case(alloc: Global, case: &LogicCase) -> Option<u128> {
+    let parsed = case.parsed(alloc)?;
+    size(alloc, &parsed)
+}
+
 // Adds the size of the problem of a case.
 fn push_size(alloc: Global, case: &LogicCase, out: &mut Vec<u8>) -> Option<()> {
-    let size = size(alloc, &case.parsed(alloc)?)?;
+    let size = size_of_case(alloc, case)?;
     push_items(alloc, "size", &[size], out)
 }
 

@@ -54,6 +54,37 @@ fn searched_nodes(
     search(alloc, problem, asked.budget)
 }
 
+// What a search finds of the nodes of a formula, of which the root is the last, where the problem isn't too large and
+// there is memory.
+fn searched_if_small(
+    alloc: Global,
+    log: &Log,
+    f: &Formula,
+    arena: &Arena,
+    root: NodeId,
+    times: &[i128],
+    asked: Asked,
+) -> Option<Found>
+    requires some { 1 ≤ asked.budget }
+    requires most { asked.budget ≤ 1000000 }
+    requires admissible { Admissible log.now times.now }
+    requires nodes { arena.now ≡ nodes_of (form_of f.now) }
+    requires last { root + 1 ≡ length arena.now }
+{
+    sizes_are_unique();
+    let Ok(system) = system_of(alloc, log) else {
+        return None;
+    };
+    let Ok(tight) = tight_by(alloc, log, &system, times) else {
+        return None;
+    };
+    if size_of(log, arena, Some(&tight)) <= MAX_SIZE {
+        searched_nodes(alloc, log, f, arena, root, times, system, &tight, asked).ok()
+    } else {
+        None
+    }
+}
+
 /// What a search finds, where the problem isn't too large and there is memory. The log admits the times.
 pub fn searched(
     alloc: Global,
@@ -70,16 +101,5 @@ pub fn searched(
     let Ok(root) = arena.intern(f) else {
         return None;
     };
-    sizes_are_unique();
-    let Ok(system) = system_of(alloc, log) else {
-        return None;
-    };
-    let Ok(tight) = tight_by(alloc, log, &system, times) else {
-        return None;
-    };
-    if size_of(log, &arena, Some(&tight)) <= MAX_SIZE {
-        searched_nodes(alloc, log, f, &arena, root, times, system, &tight, asked).ok()
-    } else {
-        None
-    }
+    searched_if_small(alloc, log, f, &arena, root, times, asked)
 }

@@ -97,11 +97,21 @@ fn push_decided(alloc: Global, log: &Log, question: &Question, out: &mut Vec<u8>
     push_audited(alloc, log, question, &report, out)
 }
 
+// Adds what is decided of the log of a case.
+fn push_decided_of(
+    alloc: Global,
+    case: &LogicCase,
+    question: &Question,
+    out: &mut Vec<u8>,
+) -> Option<()> {
+    let log = case.log(alloc)?;
+    push_decided(alloc, &log, question, out)
+}
+
 // Adds what is decided of the formula that a text names.
 fn push_verdict(alloc: Global, case: &LogicCase, text: &str, out: &mut Vec<u8>) -> Option<()> {
     let question = question_of(alloc, text)?;
-    let log = case.log(alloc)?;
-    push_decided(alloc, &log, &question, out)
+    push_decided_of(alloc, case, &question, out)
 }
 
 /// Takes in a line of the section, and adds what it asks for.

@@ -54,12 +54,18 @@ impl Case {
         log_of(alloc, &self.log)
     }
 
-    /// The log and the nodes of the formula, if their texts are ones.
-    pub fn parsed(&self, alloc: Global) -> Option<Parsed> {
+    // The nodes of the formula and its root, if its text is one.
+    fn nodes(&self, alloc: Global) -> Option<(Arena, NodeId)> {
         let formula = self.formula(alloc)?;
-        let log = self.log(alloc)?;
         let mut arena = Arena::new(alloc);
         let root = arena.intern(&formula).ok()?;
+        Some((arena, root))
+    }
+
+    /// The log and the nodes of the formula, if their texts are ones.
+    pub fn parsed(&self, alloc: Global) -> Option<Parsed> {
+        let (arena, root) = self.nodes(alloc)?;
+        let log = self.log(alloc)?;
         Some(Parsed { log, arena, root })
     }
 }

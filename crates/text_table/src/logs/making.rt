@@ -166,6 +166,15 @@ fn widened(log: Log, skew: i128) -> Option<Log> {
     }
 }
 
+// The log that comes about of a log, if there is one.
+fn changed(log: Log, word: &str, rest: &str) -> Option<Log> {
+    match word {
+        "extra" => with_extra(log, &extra_of(rest)?),
+        "widen" => widened(log, number_of(rest)?),
+        _ => None,
+    }
+}
+
 /// The log that comes about of hosts and rows or of a log, if there is one.
 pub fn built(
     alloc: Global,
@@ -177,9 +186,7 @@ pub fn built(
     match word {
         "build" => parts.build(alloc),
         "build_with" => parts.build_with(alloc),
-        "extra" => with_extra(log?, &extra_of(rest)?),
-        "widen" => widened(log?, number_of(rest)?),
-        _ => None,
+        _ => changed(log?, word, rest),
     }
 }
 

@@ -76,6 +76,14 @@ fn replayer_of(alloc: Global, log: &Log, formula: &Formula) -> Option<Result<Rep
     }
 }
 
+// The same of a replayer that isn't used again.
+fn truths_by(alloc: Global, log: &Log, replayer: Replayer, timings: &str) -> Option<String>
+    requires { replayer.log ≡ log.now }
+{
+    let mut replayer = replayer;
+    truths(alloc, log, &mut replayer, timings)
+}
+
 // Adds whether a formula is true in each timing, or that it has too many nodes.
 fn tell_truths_of(
     alloc: Global,
@@ -85,7 +93,7 @@ fn tell_truths_of(
     out: &mut Vec<u8>,
 ) -> Option<()> {
     match replayer_of(alloc, log, formula)? {
-        Ok(mut replayer) => tell(alloc, out, truths(alloc, log, &mut replayer, timings)?),
+        Ok(replayer) => tell(alloc, out, truths_by(alloc, log, replayer, timings)?),
         Err(fault @ ArenaFault::TooManyNodes) => tell(alloc, out, fault),
         Err(ArenaFault::Memory) => None,
     }
@@ -105,9 +113,14 @@ fn plain_replayer(alloc: Global, log: &Log) -> Option<Replayer>
     replayer_of(alloc, log, &formula)?.ok()
 }
 
-fn tell_broken(alloc: Global, log: &Log, timings: &str, out: &mut Vec<u8>) -> Option<()> {
+// The first bound of the log that each timing breaks.
+fn broken_of(alloc: Global, log: &Log, timings: &str) -> Option<String> {
     let replayer = plain_replayer(alloc, log)?;
-    tell(alloc, out, broken(alloc, log, &replayer, timings)?)
+    broken(alloc, log, &replayer, timings)
+}
+
+fn tell_broken(alloc: Global, log: &Log, timings: &str, out: &mut Vec<u8>) -> Option<()> {
+    tell(alloc, out, broken_of(alloc, log, timings)?)
 }
 
 /// Answers a question, which is one on orders if it isn't one of these.

@@ -1,5 +1,5 @@
 use Rattle.std.proofs.Common.{arith}
-use Rattle.logic_table.proofs.searching.searched.Goals as goal
+use Rattle.logic_table.proofs.searching.searched_if_small.Goals as goal
 
 -- the size that was found is the only one
 pub searched_nodes-requires-clause-small : goal.searched_nodes-requires-clause-small
