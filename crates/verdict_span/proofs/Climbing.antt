@@ -1,5 +1,5 @@
 -- How the room above a distance gets less.
-use Rattle.std.proofs.Common.{◌≡◌, ◌∙◌, sym, refl, subst, arith, ℕ, ◌+◌, ◌-◌, ◌≤◌, Bool, List, length, IfOk, Result, ℤ, pos, ◌+ℤ◌, ◌-ℤ◌, ◌≤ℤ◌}
+use Rattle.std.proofs.Common.{◌≡◌, ◌∙◌, sym, refl, subst, arith, ℕ, ◌+◌, ◌≤◌, Bool, List, length, IfOk, IsTrue, Result, ℤ, pos, ◌+ℤ◌, ◌-ℤ◌, ◌≤ℤ◌}
 use Rattle.std.proofs.lemmas.Int.{ints}
 use Rattle.formula_arena.specs.Nodes.{nodes_of}
 use Rattle.mt_model.specs.Form.{Form}
@@ -11,7 +11,8 @@ use Rattle.skew_bounds.specs.Tight.{IsGreatestDifference, difference}
 use Rattle.proof_check.specs.Laws.{RefutedIsNoValue}
 use Rattle.proof_log.specs.declared.line.Line.{Line}
 use Rattle.proof_log.specs.Derivations.{Refutes}
-use Rattle.cdcl_core.specs.Values.{GivesValue, RefuteEachValue, RefutesWithin}
+use Rattle.cdcl_core.specs.declared.value.Searched.{Searched}
+use Rattle.cdcl_core.specs.Values.{GivesValue, IsSearched, RefuteEachValue, RefutesWithin}
 use Rattle.search_ground.specs.Grounds.{HasSmallSize}
 use Rattle.verdict_span.specs.Spaced.{CanBeSpaced, spaced}
 use Rattle.verdict_span.proofs.Extras.{extras-keep-truth, spaced-valid, the-extra, unspaced}
@@ -62,6 +63,16 @@ greatest-at log e to c d is same = subst (λ (x : ℤ). IsGreatestDifference log
 -- the line of a distance, written in another way
 pub refute-at : {X : Type 0} (r : Result (List Line) X) (log : Logged) (e to : ℕ) (c d : ℤ) → IfOk r (RefuteEachValue (spaced e to c log)) → c ≡ d → IfOk r (RefuteEachValue (spaced e to d log))
 refute-at r log e to c d each same = subst (λ (x : ℤ). IfOk r (RefuteEachValue (spaced e to x log))) same each
+
+-- whether lines refute for a distance, written in another way
+pub whether-at : {X : Type 0} (r : Result Bool X) (log : Logged) (f : Form) (v : Bool) (e to : ℕ) (c d : ℤ) (lines : List Line) → IfOk r (λ b. IsTrue b → Refutes (spaced e to c log) f v lines) → c ≡ d
+    → IfOk r (λ b. IsTrue b → Refutes (spaced e to d log) f v lines)
+whether-at r log f v e to c d lines told same = subst (λ (x : ℤ). IfOk r (λ b. IsTrue b → Refutes (spaced e to x log) f v lines)) same told
+
+-- what a search for a distance gives, written in another way
+pub searched-at : {X : Type 0} (r : Result Searched X) (log : Logged) (f : Form) (v : Bool) (e to budget : ℕ) (c d : ℤ) → IfOk r (IsSearched (spaced e to c log) f v budget) → c ≡ d
+    → IfOk r (IsSearched (spaced e to d log) f v budget)
+searched-at r log f v e to budget c d found same = subst (λ (x : ℤ). IfOk r (IsSearched (spaced e to x log) f v budget)) same found
 
 -- the problem of the log with the extra bound is small enough where that of the log is
 pub small-spaced : SizesFall → (log : Logged) (f : Form) (e to : ℕ) → HasSmallSize log f → (c : ℤ) → IsSmall (spaced e to c log) (nodes_of f)

@@ -1,11 +1,13 @@
 //! The greatest distance.
 
-ghost use Rattle.std.specs.Prelude.{◌≡◌, ◌≢◌, ◌≤◌, ◌<◌, Bool, ℕ, ℤ, length, pos, ◌+ℤ◌, IfErr, IfOk, OnOk};
+ghost use Rattle.std.specs.Prelude.{◌≡◌, ◌≢◌, ◌≤◌, ◌<◌, Bool, ℕ, ℤ, length, pos, ◌+ℤ◌, IfErr, IfOk, OnOk, None};
 ghost use Rattle.mt_model.specs.Form.{Form, form_of};
 ghost use Rattle.mt_model.specs.Log.{IsWithin};
+ghost use Rattle.mt_model.specs.State.{unknown_host};
 ghost use Rattle.mt_model.specs.Timing.{Admissible};
 ghost use Rattle.mt_model.specs.declared.limits.TheConstants.{MAX_EXTRAS, MAX_TIME};
 ghost use Rattle.formula_arena.specs.Nodes.{nodes_of as nodes_of_form};
+ghost use Rattle.formula_arena.specs.declared.arena.TheConstants.{MAX_NODES};
 ghost use Rattle.skew_bounds.specs.Tight.{IsConsistent, IsGreatestDifference};
 ghost use Rattle.mtl_encode.specs.Size.{IsSmall};
 ghost use Rattle.cdcl_core.specs.Values.{AreNodesOf, GivesValue, RefuteEachValue};
@@ -144,6 +146,38 @@ fn search_widest(
     }
 }
 
+// The greatest distance, where these are the nodes of the formula.
+fn widest_of_nodes(
+    alloc: Global,
+    log: &Log,
+    f: &Formula,
+    nodes: &Nodes,
+    value: bool,
+    e: EventId,
+    to: EventId,
+    budget: u32,
+) -> Result<Widest, SpanFault>
+    requires some { 1 ≤ budget }
+    requires most { budget ≤ 1000000 }
+    requires pair { CanBeSpaced log.now e to }
+    requires nodes { AreNodesOf (form_of f.now) nodes.now }
+    requires hosts { unknown_host log.now (form_of f.now) ≡ None }
+    requires few { length (nodes_of_form (form_of f.now)) ≤ MAX_NODES }
+    ensures right { IfOk result (WidestRight log.now (form_of f.now) value e to budget) }
+    ensures asked { OnOk result (IsAsked log.now (form_of f.now)) }
+    ensures fault { IfErr result (IsFault log.now (form_of f.now)) }
+{
+    sizes_fall();
+    conflict_excludes_timings();
+    match ground_of(alloc, log, f, nodes)? {
+        Ground::Conflict(steps) => Ok(Widest::Inconsistent(steps)),
+        Ground::Consistent(tight) => {
+            let top = tight.greatest(e, to);
+            Ok(search_widest(alloc, log, f, nodes, value, e, to, budget, top)?)
+        }
+    }
+}
+
 /// How long after e `to` comes at most, in the log's unit of time, in the timings that the log admits and that give the
 /// formula the value; with a timing that shows it, and lines that refute the value where `to` comes later. Each search has
 /// the budget of conflicts, which is from 1 to 1,000,000; where one spends it, its lines are the answer.
@@ -175,15 +209,7 @@ pub fn widest(
     ensures fault { IfErr result (IsFault log.now (form_of f.now)) }
 {
     right_spans_are_greatest();
-    sizes_fall();
-    conflict_excludes_timings();
     log_is_valid(log);
     let nodes = nodes_of(alloc, log, f)?;
-    match ground_of(alloc, log, f, &nodes)? {
-        Ground::Conflict(steps) => Ok(Widest::Inconsistent(steps)),
-        Ground::Consistent(tight) => {
-            let top = tight.greatest(e, to);
-            Ok(search_widest(alloc, log, f, &nodes, value, e, to, budget, top)?)
-        }
-    }
+    widest_of_nodes(alloc, log, f, &nodes, value, e, to, budget)
 }

@@ -1,10 +1,11 @@
 //! How far below a search its lines refute too: those that refute a distance may refute smaller ones.
 
-ghost use Rattle.std.specs.Prelude.{◌<◌, ◌≤◌, ◌^◌, length, pos, ◌-ℤ◌, IfOk};
+ghost use Rattle.std.specs.Prelude.{◌<◌, ◌≤◌, ◌^◌, length, pos, ◌-ℤ◌, IfOk, IsTrue};
 ghost use Rattle.mt_model.specs.Form.{form_of};
 ghost use Rattle.mt_model.specs.Log.{IsWithin};
 ghost use Rattle.mt_model.specs.declared.limits.TheConstants.{MAX_EXTRA};
 ghost use Rattle.proof_log.specs.Derivations.{Refutes};
+ghost use Rattle.proof_check.specs.Answering.{OfSought};
 ghost use Rattle.cdcl_core.specs.Values.{AreNodesOf};
 ghost use Rattle.verdict_span.specs.Spaced.{CanBeSpaced, spaced as spaced_log};
 
@@ -59,8 +60,77 @@ fn room(log: &Log, lines: &[Line], extra: u32, most: u128) -> u128
     room
 }
 
-/// By how much smaller the distance c can be, up to this much, with lines that refute the value at c still refuting it, so
-/// far as their walks tell. `far` is the log in which `to` comes at least c after e.
+// By how much smaller the distance c can be with the sums of all walks below 0, as far as this, where the lines are of the
+// log in which `to` comes at least c after e.
+fn room_at(
+    alloc: Global,
+    log: &Log,
+    e: EventId,
+    to: EventId,
+    c: i128,
+    most: u128,
+    lines: &[Line],
+) -> Result<u128, AllocError>
+    requires pair { CanBeSpaced log.now e to }
+    requires range { IsWithin MAX_EXTRA c }
+    ensures within { IfOk result (λ r. r ≤ most) }
+{
+    let far = spaced(alloc, log, e, to, c)?;
+    Ok(room(&far, lines, log.extras().len() as u32, most))
+}
+
+// Whether the check of a checker says that lines refute.
+fn check_refutes(checker: &mut Checker, lines: &[Line]) -> Result<bool, AllocError>
+    requires few { length lines.now < 2 ^ 32 }
+    ensures refutes { IfOk result (λ b. IsTrue b → OfSought checker.old (λ log f v. Refutes log f v lines.now)) }
+{
+    match checker.check(lines)? {
+        Check::Refutes => Ok(true),
+        Check::Derives | Check::Wrong(_) => Ok(false),
+    }
+}
+
+// Whether lines refute the value.
+fn refutes(
+    alloc: Global,
+    log: &Log,
+    f: &Formula,
+    nodes: &Nodes,
+    value: bool,
+    lines: &[Line],
+) -> Result<bool, AllocError>
+    requires nodes { AreNodesOf (form_of f.now) nodes.now }
+    requires few { length lines.now < 2 ^ 32 }
+    ensures refutes { IfOk result (λ b. IsTrue b → Refutes log.now (form_of f.now) value lines.now) }
+{
+    let mut checker = Checker::by(alloc, log, &nodes.arena, nodes.root, value)?;
+    check_refutes(&mut checker, lines)
+}
+
+// Whether lines refute the value where `to` comes at least c after e.
+fn refutes_at(
+    alloc: Global,
+    log: &Log,
+    f: &Formula,
+    nodes: &Nodes,
+    value: bool,
+    e: EventId,
+    to: EventId,
+    c: i128,
+    lines: &[Line],
+) -> Result<bool, AllocError>
+    requires pair { CanBeSpaced log.now e to }
+    requires range { IsWithin MAX_EXTRA c }
+    requires nodes { AreNodesOf (form_of f.now) nodes.now }
+    requires few { length lines.now < 2 ^ 32 }
+    ensures refutes { IfOk result (λ b. IsTrue b → Refutes (spaced_log e to c log.now) (form_of f.now) value lines.now) }
+{
+    let near = spaced(alloc, log, e, to, c)?;
+    refutes(alloc, &near, f, nodes, value, lines)
+}
+
+/// By how much smaller the distance c can be, up to this much, with lines that refute the value where `to` comes at least c
+/// after e still refuting it, so far as their walks tell.
 pub fn refuted_below(
     alloc: Global,
     log: &Log,
@@ -69,7 +139,6 @@ pub fn refuted_below(
     value: bool,
     e: EventId,
     to: EventId,
-    far: &Log,
     c: i128,
     most: u128,
     lines: &[Line],
@@ -83,14 +152,10 @@ pub fn refuted_below(
     ensures within { IfOk result (λ r. r ≤ most) }
     ensures refutes { IfOk result (λ r. Refutes (spaced_log e to (c -ℤ pos r) log.now) (form_of f.now) value lines.now) }
 {
-    let r = room(far, lines, log.extras().len() as u32, most);
+    let r = room_at(alloc, log, e, to, c, most, lines)?;
     if r == 0 {
         return Ok(0);
     }
-    let near = spaced(alloc, log, e, to, c - r as i128)?;
-    let mut checker = Checker::by(alloc, &near, &nodes.arena, nodes.root, value)?;
-    match checker.check(lines)? {
-        Check::Refutes => Ok(r),
-        Check::Derives | Check::Wrong(_) => Ok(0),
-    }
+    let holds = refutes_at(alloc, log, f, nodes, value, e, to, c - r as i128, lines)?;
+    if holds { Ok(r) } else { Ok(0) }
 }

@@ -1,10 +1,15 @@
 //! One search, and what is known after it.
 
-ghost use Rattle.std.specs.Prelude.{◌≤◌, ◌<◌, ℤ, IfOk};
-ghost use Rattle.mt_model.specs.Form.{form_of};
+ghost use Rattle.std.specs.Prelude.{◌≤◌, ◌<◌, ◌^◌, Bool, ℕ, ℤ, length, pos, ◌+ℤ◌, ◌≤ℤ◌, IfOk};
+ghost use Rattle.mt_model.specs.Form.{Form, form_of};
+ghost use Rattle.mt_model.specs.Log.{IsWithin};
+ghost use Rattle.mt_model.specs.Timing.{Admissible};
+ghost use Rattle.mt_model.specs.declared.limits.TheConstants.{MAX_EXTRA, MAX_TIME};
 ghost use Rattle.formula_arena.specs.Nodes.{nodes_of};
+ghost use Rattle.skew_bounds.specs.Tight.{difference};
 ghost use Rattle.mtl_encode.specs.Size.{IsSmall};
-ghost use Rattle.cdcl_core.specs.Values.{AreNodesOf};
+ghost use Rattle.proof_log.specs.Derivations.{Refutes};
+ghost use Rattle.cdcl_core.specs.Values.{AreNodesOf, GivesValue, IsSearched, RefutesWithin};
 ghost use Rattle.verdict_span.specs.Climbs.{IsClimb, IsTurned};
 ghost use Rattle.verdict_span.specs.Spaced.{CanBeSpaced, spaced as spaced_log};
 
@@ -12,7 +17,7 @@ use crate::climb::Climb;
 use crate::reach::refuted_below;
 use crate::spacing::{distance, spaced};
 use cdcl_core::{Nodes, Searched, search_log};
-use mt_model::{EventId, Formula, Log, log_is_valid};
+use mt_model::{EventId, Formula, Log, Times, log_is_valid};
 use proof_check::refuted_is_no_value;
 use proof_log::Lines;
 use std::alloc::{AllocError, Global};
@@ -24,6 +29,86 @@ pub enum Turned {
     Narrowed(Climb),
     /// The search of the log in which the other event comes at least c after the one spent its budget.
     Spent { c: i128, lines: Lines },
+}
+
+// What a search of the log in which `to` comes at least c after e gives.
+fn searched_at(
+    alloc: Global,
+    log: &Log,
+    f: &Formula,
+    nodes: &Nodes,
+    value: bool,
+    e: EventId,
+    to: EventId,
+    budget: u32,
+    c: i128,
+) -> Result<Searched, AllocError>
+    requires some { 1 ≤ budget }
+    requires most { budget ≤ 1000000 }
+    requires pair { CanBeSpaced log.now e to }
+    requires range { IsWithin MAX_EXTRA c }
+    requires nodes { AreNodesOf (form_of f.now) nodes.now }
+    requires small { (c : ℤ) → IsSmall (spaced_log e to c log.now) (nodes_of (form_of f.now)) }
+    ensures found { IfOk result (IsSearched (spaced_log e to c log.now) (form_of f.now) value budget) }
+{
+    let far = spaced(alloc, log, e, to, c)?;
+    search_log(alloc, &far, f, nodes, value, budget)
+}
+
+// The climb where a timing gives the value with a distance above its own.
+fn narrowed_by_timing(log: &Log, e: EventId, to: EventId, climb: Climb, times: Times) -> Climb
+    requires pair { CanBeSpaced log.now e to }
+    requires admissible { Admissible log.now times }
+    requires near { IsWithin (MAX_TIME +ℤ MAX_TIME) climb.distance }
+    requires top { (climb.distance +ℤ pos climb.room) ≤ℤ (MAX_TIME +ℤ MAX_TIME) }
+    requires from { (climb.distance +ℤ pos 1) ≤ℤ difference times e to }
+    requires to { difference times e to ≤ℤ (climb.distance +ℤ pos climb.room) }
+    ensures room { result.room < climb.room }
+    ensures climb { (f : Form) (v : Bool) (budget : ℕ) → IsClimb log.now f v e to budget climb → GivesValue log.now f v times → IsClimb log.now f v e to budget result }
+{
+    log_is_valid(log);
+    let d = distance(times.as_slice(), e, to);
+    climb.up_to(times, d)
+}
+
+// The climb where lines refute the value so far above its distance, and maybe below that too.
+fn narrowed_by_lines(
+    alloc: Global,
+    log: &Log,
+    f: &Formula,
+    nodes: &Nodes,
+    value: bool,
+    e: EventId,
+    to: EventId,
+    climb: Climb,
+    above: u128,
+    lines: Lines,
+) -> Result<Climb, AllocError>
+    requires pair { CanBeSpaced log.now e to }
+    requires nodes { AreNodesOf (form_of f.now) nodes.now }
+    requires near { IsWithin (MAX_TIME +ℤ MAX_TIME) climb.distance }
+    requires top { (climb.distance +ℤ pos climb.room) ≤ℤ (MAX_TIME +ℤ MAX_TIME) }
+    requires some { 1 ≤ above }
+    requires within { above ≤ climb.room }
+    requires few { length lines < 2 ^ 32 }
+    requires refutes { Refutes (spaced_log e to (climb.distance +ℤ pos above) log.now) (form_of f.now) value lines }
+    ensures room { IfOk result (λ narrowed. narrowed.room < climb.room) }
+    ensures climb { IfOk result (λ narrowed. (budget : ℕ) → IsClimb log.now (form_of f.now) value e to budget climb → RefutesWithin (spaced_log e to (climb.distance +ℤ pos above) log.now) (form_of f.now) value budget lines → IsClimb log.now (form_of f.now) value e to budget narrowed) }
+{
+    let c = climb.distance + above as i128;
+    let r = refuted_below(
+        alloc,
+        log,
+        f,
+        nodes,
+        value,
+        e,
+        to,
+        c,
+        above - 1,
+        lines.as_slice(),
+    )?;
+    Ok(climb.down_to(above - r, lines))
 }
 
 /// Searches at one distance of a climb, and takes from its room by what is found.
@@ -51,27 +136,16 @@ pub fn turn(
     log_is_valid(log);
     let above = climb.next();
     let c = climb.distance + above as i128;
-    let far = spaced(alloc, log, e, to, c)?;
-    match search_log(alloc, &far, f, nodes, value, budget)? {
+    match searched_at(alloc, log, f, nodes, value, e, to, budget, c)? {
         Searched::Timing(times) => {
-            let d = distance(times.as_slice(), e, to);
-            Ok(Turned::Narrowed(climb.up_to(times, d)))
+            let narrowed = narrowed_by_timing(log, e, to, climb, times);
+            Ok(Turned::Narrowed(narrowed))
         }
         Searched::Refuted(lines) => {
-            let r = refuted_below(
-                alloc,
-                log,
-                f,
-                nodes,
-                value,
-                e,
-                to,
-                &far,
-                c,
-                above - 1,
-                lines.as_slice(),
+            let narrowed = narrowed_by_lines(
+                alloc, log, f, nodes, value, e, to, climb, above, lines,
             )?;
-            Ok(Turned::Narrowed(climb.down_to(above - r, lines)))
+            Ok(Turned::Narrowed(narrowed))
         }
         Searched::Spent(lines) => Ok(Turned::Spent { c, lines }),
     }
