@@ -209,7 +209,7 @@ fn audit_of_walk(log: &Log, table: &EdgeTable, steps: &[Step]) -> Audit
 }
 
 // What an audit says of a report on a formula with few enough nodes.
-fn audit_of(
+fn audit_by(
     alloc: Global,
     log: &Log,
     f: &Formula,
@@ -240,6 +240,23 @@ fn audit_of(
     }
 }
 
+// The same by what is given, which is let go.
+fn audit_of(
+    alloc: Global,
+    log: &Log,
+    f: &Formula,
+    given: Given,
+    budget: u32,
+    report: &Report,
+) -> Result<Audit, AllocError>
+    requires few { HasFewNodes log.now (form_of f.now) }
+    requires given { IsGiven log.now (form_of f.now) given }
+    requires spelled { IsSpelled report.now }
+    ensures audit { IfOk result (IsAudit log.now (form_of f.now) budget report.now) }
+{
+    audit_by(alloc, log, f, &given, budget, report)
+}
+
 /// Whether a report shows what it claims of a formula over all timings that a log admits, and else the first part that
 /// doesn't. What an accepted report claims is so, whoever wrote it. The report has a spelling; its unknown sections are to
 /// have as many Learn lines as the budget.
@@ -268,5 +285,5 @@ pub fn audit(
     right_reports_are_accepted();
     log_is_valid(log);
     let given = given_of(alloc, log, f)?;
-    Ok(audit_of(alloc, log, f, &given, budget, report)?)
+    Ok(audit_of(alloc, log, f, given, budget, report)?)
 }

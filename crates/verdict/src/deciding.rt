@@ -10,6 +10,7 @@ ghost use Rattle.report_text.specs.Spelled.{IsSpelledSection};
 ghost use Rattle.cdcl_core.specs.Values.{AreNodesOf};
 ghost use Rattle.verdict.specs.Claims.{Claims};
 ghost use Rattle.verdict.specs.Faults.{IsFault, IsJudged};
+ghost use Rattle.verdict.specs.Given.{IsGiven, IsSettled};
 ghost use Rattle.verdict.specs.Right.{CyclesOnce, IsRight, IsRightSection};
 
 use crate::VerdictFault;
@@ -107,6 +108,55 @@ fn verdicts(
     }
 }
 
+// The report of the formula of these nodes, on a log of which it is known whether its bounds can be met.
+fn report_by(
+    alloc: Global,
+    log: &Log,
+    f: &Formula,
+    nodes: &Nodes,
+    system: BoundSystem,
+    settled: Settled,
+    budget: u32,
+) -> Result<Report, AllocError>
+    requires some { 1 ≤ budget }
+    requires most { budget ≤ 1000000 }
+    requires judged { IsJudged log.now (form_of f.now) }
+    requires nodes { AreNodesOf (form_of f.now) nodes.now }
+    requires system { IsSystemOf log.now system }
+    requires settled { IsSettled log.now settled }
+    ensures right { IfOk result (IsRight log.now (form_of f.now) budget) }
+    ensures once { IfOk result (CyclesOnce log.now) }
+{
+    let events = log.rows().len() as u32;
+    match settled {
+        Settled::Conflict(steps) => Ok(Report::Inconsistent { events, steps }),
+        Settled::Timing { times, tight } => {
+            verdicts(alloc, log, f, nodes, system, &tight, times, budget)
+        }
+    }
+}
+
+// The same by what is given, of which the search of a value takes up the bounds.
+fn report_of(
+    alloc: Global,
+    log: &Log,
+    f: &Formula,
+    given: Given,
+    settled: Settled,
+    budget: u32,
+) -> Result<Report, AllocError>
+    requires some { 1 ≤ budget }
+    requires most { budget ≤ 1000000 }
+    requires judged { IsJudged log.now (form_of f.now) }
+    requires given { IsGiven log.now (form_of f.now) given }
+    requires settled { IsSettled log.now settled }
+    ensures right { IfOk result (IsRight log.now (form_of f.now) budget) }
+    ensures once { IfOk result (CyclesOnce log.now) }
+{
+    let Given { nodes, system } = given;
+    report_by(alloc, log, f, &nodes, system, settled, budget)
+}
+
 /// A report of the values that a formula can have, over all timings that a log admits: a negative cycle where it
 /// admits none, which comes to no moment twice, and else for each value a timing in which the formula has it, lines that refute it, or, of one value
 /// alone, lines with as many fresh clauses learnt as the budget. The budget is from 1 to 1,000,000, for each value.
@@ -123,12 +173,7 @@ pub fn decide(alloc: Global, log: &Log, f: &Formula, budget: u32) -> Result<Repo
     ensures fault { IfErr result (IsFault log.now (form_of f.now)) }
 {
     right_reports_are_true();
-    let events = log.rows().len() as u32;
-    let (Given { nodes, system }, settled) = prepare(alloc, log, f)?;
-    match settled {
-        Settled::Conflict(steps) => Ok(Report::Inconsistent { events, steps }),
-        Settled::Timing { times, tight } => {
-            Ok(verdicts(alloc, log, f, &nodes, system, &tight, times, budget)?)
-        }
-    }
+    log_is_valid(log);
+    let (given, settled) = prepare(alloc, log, f)?;
+    Ok(report_of(alloc, log, f, given, settled, budget)?)
 }

@@ -100,6 +100,35 @@ fn small_enough(
     }
 }
 
+// What is given with a log and a formula. The first test that fails gives the fault, as for the nodes alone.
+fn gathered(alloc: Global, log: &Log, f: &Formula) -> Result<Given, VerdictFault>
+    ensures few { OnOk result (HasFewNodes log.now (form_of f.now)) }
+    ensures given { IfOk result (IsGiven log.now (form_of f.now)) }
+    ensures fault { IfErr result (IsFault log.now (form_of f.now)) }
+{
+    let nodes = nodes_of(alloc, log, f)?;
+    let system = system_of(alloc, log)?;
+    Ok(Given { nodes, system })
+}
+
+// Whether the log's bounds can be met, where its problem with what is given is small enough.
+fn settled_if_small(
+    alloc: Global,
+    log: &Log,
+    f: &Formula,
+    given: &Given,
+) -> Result<Settled, VerdictFault>
+    requires few { HasFewNodes log.now (form_of f.now) }
+    requires given { IsGiven log.now (form_of f.now) given.now }
+    ensures settled { IfOk result (IsSettled log.now) }
+    ensures judged { OnOk result (IsJudged log.now (form_of f.now)) }
+    ensures fault { IfErr result (IsFault log.now (form_of f.now)) }
+{
+    let settled = settled_of(alloc, log, &given.system)?;
+    small_enough(log, f, &given.nodes, differences(log, &settled))?;
+    Ok(settled)
+}
+
 /// What is given with a log and a formula, and whether the log's bounds can be met. The first test that fails gives the
 /// fault: whether the formula's hosts are in the log, whether it has few enough nodes, and whether their problem is small
 /// enough.
@@ -109,11 +138,9 @@ pub fn prepare(alloc: Global, log: &Log, f: &Formula) -> Result<(Given, Settled)
     ensures judged { OnOk result (IsJudged log.now (form_of f.now)) }
     ensures fault { IfErr result (IsFault log.now (form_of f.now)) }
 {
-    let nodes = nodes_of(alloc, log, f)?;
-    let system = system_of(alloc, log)?;
-    let settled = settled_of(alloc, log, &system)?;
-    small_enough(log, f, &nodes, differences(log, &settled))?;
-    Ok((Given { nodes, system }, settled))
+    let given = gathered(alloc, log, f)?;
+    let settled = settled_if_small(alloc, log, f, &given)?;
+    Ok((given, settled))
 }
 
 /// What is given alone: the differences are let go, which take 32 MiB where a log has 1,024 rows. The faults are those of

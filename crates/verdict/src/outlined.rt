@@ -143,7 +143,7 @@ fn events_of(outline: Outline) -> u32
 }
 
 // What an audit says of a report on a formula with few enough nodes.
-fn audit_of(
+fn audit_by(
     alloc: Global,
     log: &Log,
     f: &Formula,
@@ -173,6 +173,23 @@ fn audit_of(
     }
 }
 
+// The same by what is given, which is let go.
+fn audit_of(
+    alloc: Global,
+    log: &Log,
+    f: &Formula,
+    given: Given,
+    budget: u32,
+    outline: Outline,
+) -> Result<Audit, AllocError>
+    requires few { HasFewNodes log.now (form_of f.now) }
+    requires given { IsGiven log.now (form_of f.now) given }
+    requires whole { (bytes : List ℕ) × (length bytes < 2 ^ 31) × IsOutlineIn bytes outline }
+    ensures { IfOk result (λ a. (r : Report) → IsOutlineOf outline.entry r → IsSpelled r → IsAudit log.now (form_of f.now) budget r a) }
+{
+    audit_by(alloc, log, f, &given, budget, outline)
+}
+
 /// What `audit` says of the report of an outline. Beside the outline's text memory is taken for the differences of the
 /// log's rows, which are let go, and then for the clauses of one derivation and for the places of one line's literals.
 pub fn audit_outline(
@@ -195,5 +212,5 @@ pub fn audit_outline(
     right_reports_are_accepted();
     log_is_valid(log);
     let given = given_of(alloc, log, f)?;
-    Ok(audit_of(alloc, log, f, &given, budget, outline)?)
+    Ok(audit_of(alloc, log, f, given, budget, outline)?)
 }

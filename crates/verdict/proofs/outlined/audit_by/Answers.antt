@@ -2,7 +2,7 @@ use Rattle.std.proofs.Common.{◌≡◌, ◌∙◌, ap, arith, length, subst, sy
 use Rattle.mt_model.specs.Form.{form_of}
 use Rattle.report_text.specs.ReportText.{events_of}
 use Rattle.verdict.specs.AuditPlace.{IsAudit}
-use Rattle.verdict.proofs.outlined.audit_of.Goals as goal
+use Rattle.verdict.proofs.outlined.audit_by.Goals as goal
 
 pub returns-in_ok-table-in-Inconsistent : goal.returns-in_ok-table-in-Inconsistent
 returns-in_ok-table-in-Inconsistent c = λ r out spelled.

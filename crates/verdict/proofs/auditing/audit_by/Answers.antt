@@ -1,6 +1,6 @@
 use Rattle.std.proofs.Common.{◌≡◌, ap, arith, length}
 use Rattle.mt_model.specs.Form.{form_of}
-use Rattle.verdict.proofs.auditing.audit_of.Goals as goal
+use Rattle.verdict.proofs.auditing.audit_by.Goals as goal
 
 pub returns-in_ok-table-in-Inconsistent : goal.returns-in_ok-table-in-Inconsistent
 returns-in_ok-table-in-Inconsistent c =
