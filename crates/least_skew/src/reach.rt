@@ -1,8 +1,8 @@
 //! How far beyond a search its answer goes: a timing is admissible with smaller widenings too, and lines refute with
 //! greater ones.
 
-ghost use Rattle.std.specs.Prelude.{◌≡◌, ◌<◌, ◌≤◌, ◌^◌, All, length, IfOk, IsTrue};
-ghost use Rattle.mt_model.specs.Form.{Form, form_of};
+ghost use Rattle.std.specs.Prelude.{◌≡◌, ◌↔◌, ◌<◌, ◌≤◌, ◌^◌, All, length, IfOk, IsTrue};
+ghost use Rattle.mt_model.specs.Form.{form_of};
 ghost use Rattle.mt_model.specs.Log.{IsWithin};
 ghost use Rattle.mt_model.specs.Timing.{Admissible};
 ghost use Rattle.mt_model.specs.declared.limits.TheConstants.{MAX_TIME};
@@ -14,9 +14,8 @@ ghost use Rattle.least_skew.specs.Least.{HasWrittenSkews, wide};
 use crate::widening::widened;
 use cdcl_core::Nodes;
 use mt_model::{Formula, Log, Step, log_is_valid};
-use proof_check::{Check, Checker};
 use proof_log::Line;
-use search_ground::walk_slack;
+use search_ground::{refutes, walk_slack};
 use skew_bounds::{bounds, first_broken};
 use std::alloc::{AllocError, Global};
 
@@ -139,28 +138,11 @@ fn kept_up_to(
     Ok(s + room(&narrow, lines, high - s))
 }
 
-// Whether lines refute the value.
-fn refutes(
-    alloc: Global,
-    log: &Log,
-    nodes: &Nodes,
-    value: bool,
-    lines: &[Line],
-) -> Result<bool, AllocError>
-    requires few { length lines.now < 2 ^ 32 }
-    ensures refutes { IfOk result (λ b. IsTrue b → (f : Form) → AreNodesOf f nodes.now → Refutes log.now f value lines.now) }
-{
-    let mut checker = Checker::by(alloc, log, &nodes.arena, nodes.root, value)?;
-    match checker.check(lines)? {
-        Check::Refutes => Ok(true),
-        Check::Derives | Check::Wrong(_) => Ok(false),
-    }
-}
-
 // Whether lines refute the value with the widening s.
 fn refutes_with(
     alloc: Global,
     log: &Log,
+    f: &Formula,
     nodes: &Nodes,
     value: bool,
     s: u64,
@@ -168,11 +150,12 @@ fn refutes_with(
 ) -> Result<bool, AllocError>
     requires range { s ≤ MAX_WIDENING }
     requires skews { HasWrittenSkews log.now }
+    requires nodes { AreNodesOf (form_of f.now) nodes.now }
     requires few { length lines.now < 2 ^ 32 }
-    ensures refutes { IfOk result (λ b. IsTrue b → (f : Form) → AreNodesOf f nodes.now → Refutes (wide s log.now) f value lines.now) }
+    ensures refutes { IfOk result (λ b. IsTrue b ↔ Refutes (wide s log.now) (form_of f.now) value lines.now) }
 {
     let wide = widened(alloc, log, s)?;
-    refutes(alloc, &wide, nodes, value, lines)
+    refutes(alloc, &wide, f, nodes, value, lines)
 }
 
 /// The greatest widening from s to `high` with which lines refute the value that do with s, so far as their walks tell.
@@ -197,7 +180,7 @@ pub fn refuted_up_to(
     ensures refutes { IfOk result (λ r. Refutes (wide r log.now) (form_of f.now) value lines.now) }
 {
     let r = kept_up_to(alloc, log, s, high, lines)?;
-    if refutes_with(alloc, log, nodes, value, r, lines)? {
+    if refutes_with(alloc, log, f, nodes, value, r, lines)? {
         Ok(r)
     } else {
         Ok(s)

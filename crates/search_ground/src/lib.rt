@@ -4,8 +4,10 @@
 
 mod fault;
 mod nodes;
+mod refuting;
 mod slack;
 
 pub use fault::GroundFault;
 pub use nodes::{Ground, ground_of, nodes_of};
+pub use refuting::refutes;
 pub use slack::walk_slack;

@@ -1,5 +1,5 @@
 -- How the room above a distance gets less.
-use Rattle.std.proofs.Common.{◌≡◌, ◌∙◌, sym, refl, subst, arith, ℕ, ◌+◌, ◌≤◌, Bool, List, length, IfOk, IsTrue, Result, ℤ, pos, ◌+ℤ◌, ◌-ℤ◌, ◌≤ℤ◌}
+use Rattle.std.proofs.Common.{◌≡◌, ◌↔◌, ◌∙◌, sym, refl, subst, arith, ℕ, ◌+◌, ◌≤◌, Bool, List, length, IfOk, IsTrue, Result, ℤ, pos, ◌+ℤ◌, ◌-ℤ◌, ◌≤ℤ◌}
 use Rattle.std.proofs.lemmas.Int.{ints}
 use Rattle.formula_arena.specs.Nodes.{nodes_of}
 use Rattle.mt_model.specs.Form.{Form}
@@ -65,9 +65,9 @@ pub refute-at : {X : Type 0} (r : Result (List Line) X) (log : Logged) (e to : �
 refute-at r log e to c d each same = subst (λ (x : ℤ). IfOk r (RefuteEachValue (spaced e to x log))) same each
 
 -- whether lines refute for a distance, written in another way
-pub whether-at : {X : Type 0} (r : Result Bool X) (log : Logged) (f : Form) (v : Bool) (e to : ℕ) (c d : ℤ) (lines : List Line) → IfOk r (λ b. IsTrue b → Refutes (spaced e to c log) f v lines) → c ≡ d
-    → IfOk r (λ b. IsTrue b → Refutes (spaced e to d log) f v lines)
-whether-at r log f v e to c d lines told same = subst (λ (x : ℤ). IfOk r (λ b. IsTrue b → Refutes (spaced e to x log) f v lines)) same told
+pub whether-at : {X : Type 0} (r : Result Bool X) (log : Logged) (f : Form) (v : Bool) (e to : ℕ) (c d : ℤ) (lines : List Line) → IfOk r (λ b. IsTrue b ↔ Refutes (spaced e to c log) f v lines) → c ≡ d
+    → IfOk r (λ b. IsTrue b ↔ Refutes (spaced e to d log) f v lines)
+whether-at r log f v e to c d lines told same = subst (λ (x : ℤ). IfOk r (λ b. IsTrue b ↔ Refutes (spaced e to x log) f v lines)) same told
 
 -- what a search for a distance gives, written in another way
 pub searched-at : {X : Type 0} (r : Result Searched X) (log : Logged) (f : Form) (v : Bool) (e to budget : ℕ) (c d : ℤ) → IfOk r (IsSearched (spaced e to c log) f v budget) → c ≡ d

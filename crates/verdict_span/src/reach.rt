@@ -1,20 +1,18 @@
 //! How far below a search its lines refute too: those that refute a distance may refute smaller ones.
 
-ghost use Rattle.std.specs.Prelude.{◌<◌, ◌≤◌, ◌^◌, length, pos, ◌-ℤ◌, IfOk, IsTrue};
+ghost use Rattle.std.specs.Prelude.{◌↔◌, ◌<◌, ◌≤◌, ◌^◌, length, pos, ◌-ℤ◌, IfOk, IsTrue};
 ghost use Rattle.mt_model.specs.Form.{form_of};
 ghost use Rattle.mt_model.specs.Log.{IsWithin};
 ghost use Rattle.mt_model.specs.declared.limits.TheConstants.{MAX_EXTRA};
 ghost use Rattle.proof_log.specs.Derivations.{Refutes};
-ghost use Rattle.proof_check.specs.Answering.{OfSought};
 ghost use Rattle.cdcl_core.specs.Values.{AreNodesOf};
 ghost use Rattle.verdict_span.specs.Spaced.{CanBeSpaced, spaced as spaced_log};
 
 use crate::spacing::spaced;
 use cdcl_core::Nodes;
 use mt_model::{EventId, Formula, Log, Step};
-use proof_check::{Check, Checker};
 use proof_log::Line;
-use search_ground::walk_slack;
+use search_ground::{refutes, walk_slack};
 use std::alloc::{AllocError, Global};
 
 // A number from 0 to this one.
@@ -79,34 +77,6 @@ fn room_at(
     Ok(room(&far, lines, log.extras().len() as u32, most))
 }
 
-// Whether the check of a checker says that lines refute.
-fn check_refutes(checker: &mut Checker, lines: &[Line]) -> Result<bool, AllocError>
-    requires few { length lines.now < 2 ^ 32 }
-    ensures refutes { IfOk result (λ b. IsTrue b → OfSought checker.old (λ log f v. Refutes log f v lines.now)) }
-{
-    match checker.check(lines)? {
-        Check::Refutes => Ok(true),
-        Check::Derives | Check::Wrong(_) => Ok(false),
-    }
-}
-
-// Whether lines refute the value.
-fn refutes(
-    alloc: Global,
-    log: &Log,
-    f: &Formula,
-    nodes: &Nodes,
-    value: bool,
-    lines: &[Line],
-) -> Result<bool, AllocError>
-    requires nodes { AreNodesOf (form_of f.now) nodes.now }
-    requires few { length lines.now < 2 ^ 32 }
-    ensures refutes { IfOk result (λ b. IsTrue b → Refutes log.now (form_of f.now) value lines.now) }
-{
-    let mut checker = Checker::by(alloc, log, &nodes.arena, nodes.root, value)?;
-    check_refutes(&mut checker, lines)
-}
-
 // Whether lines refute the value where `to` comes at least c after e.
 fn refutes_at(
     alloc: Global,
@@ -123,7 +93,7 @@ fn refutes_at(
     requires range { IsWithin MAX_EXTRA c }
     requires nodes { AreNodesOf (form_of f.now) nodes.now }
     requires few { length lines.now < 2 ^ 32 }
-    ensures refutes { IfOk result (λ b. IsTrue b → Refutes (spaced_log e to c log.now) (form_of f.now) value lines.now) }
+    ensures refutes { IfOk result (λ b. IsTrue b ↔ Refutes (spaced_log e to c log.now) (form_of f.now) value lines.now) }
 {
     let near = spaced(alloc, log, e, to, c)?;
     refutes(alloc, &near, f, nodes, value, lines)

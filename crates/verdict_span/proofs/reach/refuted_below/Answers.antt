@@ -7,7 +7,7 @@ use Rattle.verdict_span.proofs.reach.refuted_below.Goals as goal
 -- as the check says of the log with this distance
 pub returns-then-holds-clause-refutes : goal.returns-then-holds-clause-refutes
 returns-then-holds-clause-refutes c =
-    let refutes = c.in_ok-holds.ensures.refutes c.if-holds.true in
+    let refutes = c.in_ok-holds.ensures.refutes.0 c.if-holds.true in
     let within = c.in_ok-r.ensures.within in
     let least = c.requires.low.low in
     let most = c.requires.low.high in
