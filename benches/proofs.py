@@ -1,0 +1,156 @@
+"""Tells what proofs take, while `rt ci` or `./skewcheck` runs beside it.
+
+Run as: python3 benches/proofs.py [--modules N] [--idle SECONDS]
+
+Each second it looks at the checks that run: at their crates, at the seconds of
+the processor that they have taken, and at the modules that they have written.
+Once none has run for so many seconds, or at an interrupt, it prints the seconds
+of each crate, with those in which it was under way, counted from the first
+check, and how many processes checked it; and then the dearest modules, N of
+them. A module is told by its crate and function: `Lts` is a function's control
+flow, `Proof` its goals, `Answers` what was written for them. What a module took
+is what its process took from the module before it, so that one of a second or
+less says little; and the modules of a crate that is checked by several
+processes at once aren't all seen.
+"""
+
+import argparse
+import bisect
+import os
+import sys
+import time
+from pathlib import Path
+from typing import NamedTuple
+
+TICK = os.sysconf("SC_CLK_TCK")
+ROOMS = "rattle-logic-built-locked-{}-0"  # where a process writes its modules, below /tmp
+ENDING = ".oantt"
+
+
+class Key(NamedTuple):
+    """A process, told from a later one of the same number."""
+
+    number: int
+    start: int
+
+
+class Check:
+    """What was seen of a process that checks a crate."""
+
+    def __init__(self, crate):
+        self.crate = crate
+        self.times = []  # when it was looked at,
+        self.taken = []  # and the processor's seconds that it had taken then
+        self.modules = {}  # when each was written, by its name
+
+    def taken_at(self, moment):
+        """The processor's seconds taken at a moment, between two looks in proportion."""
+        place = bisect.bisect_left(self.times, moment)
+        if place == 0:
+            return self.taken[0]
+        if place == len(self.times):
+            return self.taken[-1]
+        before, after = self.times[place - 1], self.times[place]
+        share = (moment - before) / (after - before)
+        return self.taken[place - 1] + share * (self.taken[place] - self.taken[place - 1])
+
+    def costs(self):
+        """What each module took that isn't the first one, with its name."""
+        written = sorted((moment, name) for name, moment in self.modules.items())
+        taken = [self.taken_at(moment) for moment, _ in written]
+        return [(taken[i] - taken[i - 1], written[i][1]) for i in range(1, len(written))]
+
+
+def crate_of(process):
+    """The crate that a process checks, or None where it is no check."""
+    words = (process / "cmdline").read_bytes().decode(errors="replace").split("\0")
+    if not words[0].endswith("rattle") or "--crate-name" not in words:
+        return None
+    return words[words.index("--crate-name") + 1]
+
+
+def look(checks):
+    """Takes in what runs now, and says whether a check does."""
+    is_busy = False
+    for process in Path("/proc").iterdir():
+        if not process.name.isdigit():
+            continue
+        try:
+            crate = crate_of(process)
+            if crate is None:
+                continue
+            fields = (process / "stat").read_text().rpartition(") ")[2].split()
+            key = Key(int(process.name), int(fields[19]))
+            check = checks.setdefault(key, Check(crate))
+            check.times.append(time.time())
+            check.taken.append(sum(map(int, fields[11:15])) / TICK)
+            take_in_modules(key.number, check)
+            is_busy = True
+        except (OSError, IndexError):
+            pass  # it has just ended
+    return is_busy
+
+
+def take_in_modules(number, check):
+    """Takes in the modules that a process has written since the last look."""
+    room = Path("/tmp", ROOMS.format(number))
+    if not room.is_dir():
+        return
+    with os.scandir(room) as entries:
+        for entry in entries:
+            if entry.name.endswith(ENDING) and entry.name not in check.modules:
+                check.modules[entry.name] = entry.stat().st_mtime
+
+
+def watch(checks, idle):
+    """Looks each second, until no check has run for so long."""
+    last = None  # when a check was seen last
+    try:
+        while last is None or time.time() - last < idle:
+            if look(checks):
+                last = time.time()
+            time.sleep(1)
+    except KeyboardInterrupt:
+        pass
+
+
+def print_crates(checks):
+    """Prints the seconds of each crate, in the order in which their checks began."""
+    first = min(check.times[0] for check in checks)
+    crates = {}
+    for check in sorted(checks, key=lambda check: check.times[0]):
+        crates.setdefault(check.crate, []).append(check)
+    print("{:<20} {:>9} {:>7} {:>7} {:>10}".format("crate", "processor", "from", "to", "processes"))
+    for crate, parts in crates.items():
+        begun = parts[0].times[0] - first
+        ended = max(check.times[-1] for check in parts) - first
+        taken = sum(check.taken[-1] for check in parts)
+        print(f"{crate:<20} {taken:>9.0f} {begun:>7.0f} {ended:>7.0f} {len(parts):>10}")
+    whole = sum(check.taken[-1] for check in checks)
+    print(f"{'all':<20} {whole:>9.0f}")
+
+
+def print_modules(checks, most):
+    """Prints what took longest, the dearest first."""
+    costs = sorted((cost for check in checks for cost in check.costs()), reverse=True)
+    print(f"\n{'seconds':>7} module")
+    for seconds, name in costs[:most]:
+        print(f"{seconds:>7.1f} {name.removeprefix('Rattle-').removesuffix(ENDING)}")
+
+
+def main():
+    """Watches, and prints the tables."""
+    parser = argparse.ArgumentParser(description="tell what proofs take, while rt ci runs")
+    parser.add_argument("--modules", type=int, default=30, help="how many modules to print")
+    parser.add_argument("--idle", type=int, default=60, help="seconds without a check after which to end")
+    arguments = parser.parse_args()
+    checks = {}
+    watch(checks, arguments.idle)
+    if not checks:
+        sys.exit("no check was seen")
+    print_crates(checks.values())
+    print_modules(checks.values(), arguments.modules)
+
+
+if __name__ == "__main__":
+    main()
