@@ -1,5 +1,5 @@
-//! What is known of a question before a search: the nodes of the formula, and whether the log admits a timing, with how
-//! far apart its events are.
+//! What a question stands on and what answers it: the nodes of its formula, whether the log admits a timing, with how
+//! far apart its events are, and whether lines refute a value.
 #![tactic(auto)]
 
 mod fault;
