@@ -1,14 +1,15 @@
 -- What a shelf and a sink tell, and what their calls do to it.
-use Rattle.std.specs.Prelude.{◌≡◌, ℕ, ◌+◌, ◌^◌, ◌-◌, ◌<◌, ◌≤◌, min, List, [], ◌++◌, take, Option, None, Some, Result, OnErr, bytes_eq, find, option_map}
+use Rattle.std.specs.Prelude.{◌≡◌, ℕ, ◌+◌, ◌^◌, ◌-◌, ◌<◌, ◌≤◌, min, List, [], ◌++◌, take, Option, None, Some, Result, OnErr, OnOk, bytes_eq, find, option_map}
 
 -- a count rose, or stands at its end
 abbrev pub Rose : ℕ → ℕ → Type 0
 Rose before now = min (before + 1) (2 ^ 64 - 1) ≤ now
 
--- a count of faults didn't fall in a call, and rose where the call failed
+-- a count of faults didn't fall in a call, rose where the call failed, and stayed where it didn't
 pub record HasCause {T E : Type 0} (before now : ℕ) (result : Result T E) : Type 0 where
   pub later : before ≤ now
   pub failed : OnErr result (Rose before now)
+  pub quiet : OnOk result (now ≡ before)
 
 -- a count that is told is one more, or stands at its end
 abbrev pub IsOneMore : Option ℕ → Option ℕ → Type 0

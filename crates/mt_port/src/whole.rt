@@ -56,6 +56,7 @@ pub fn read_all<S: Shelf>(
     ensures once { IsOneMore (S.openings shelf.old) (S.openings shelf.new) }
 
     ensures failed { IsErrOf result ReadFault.Failed → Rose (S.faults shelf.old) (S.faults shelf.new) }
+    ensures told { ¬ IsErrOf result ReadFault.Failed → S.faults shelf.new ≡ S.faults shelf.old }
     ensures never { S.steady shelf.old → S.tells shelf.old ≡ true → IsSome (file_of (S.files shelf.old) name.now) → IsErrOf result ReadFault.Failed → ⊥ }
 
     ensures later { S.faults shelf.old ≤ S.faults shelf.new }

@@ -28,6 +28,7 @@ fn finish<K: Sink>(out: &mut K, text: &[u8], status: Status) -> Status
     ensures ends { K.tells out.old ≡ true → Ends (λ b s. (b ≡ text.now) × (s ≡ status)) (K.bytes out.old) (K.bytes out.new) result }
     ensures status { (result ≡ status) ⊎ (result ≡ Status.WriteFailed) }
     ensures failed { result ≡ Status.WriteFailed → Rose (K.faults out.old) (K.faults out.new) }
+    ensures told { ¬ (result ≡ Status.WriteFailed) → K.faults out.new ≡ K.faults out.old }
     ensures later { K.faults out.old ≤ K.faults out.new }
 {
     match write_all(out, text) {
@@ -45,6 +46,7 @@ fn work<S: Shelf>(alloc: Global, shelf: &mut S, call: Call<'_>) -> Result<Reply,
     ensures possible { Gives (IsPossibleOf (command_in call.entry)) result }
     ensures verdict { IfOk result (λ r. IsVerdict r.status) }
     ensures failed { IsErrOf result Stop.ReadFailed → Rose (S.faults shelf.old) (S.faults shelf.new) }
+    ensures told { ¬ IsErrOf result Stop.ReadFailed → S.faults shelf.new ≡ S.faults shelf.old }
     ensures never { S.steady shelf.old → S.tells shelf.old ≡ true → HoldsFiles (S.files shelf.old) (command_in call.entry) → IsErrOf result Stop.ReadFailed → ⊥ }
     ensures later { S.faults shelf.old ≤ S.faults shelf.new }
     ensures openings { OpensAtMost (files_named (command_in call.entry)) (S.openings shelf.old) (S.openings shelf.new) }
@@ -101,6 +103,7 @@ fn reply<S: Shelf>(alloc: Global, shelf: &mut S, call: Call<'_>) -> Result<Reply
     ensures refused { IfOk result (λ r. IsRefusal r.status → IsRefusalOf r.status r.text.items) }
     ensures stop { IfErr result (λ s. HasReason s (λ r. ⊥)) }
     ensures failed { IsErrOf result Stop.ReadFailed → Rose (S.faults shelf.old) (S.faults shelf.new) }
+    ensures told { ¬ IsErrOf result Stop.ReadFailed → S.faults shelf.new ≡ S.faults shelf.old }
     ensures never { S.steady shelf.old → S.tells shelf.old ≡ true → HoldsFiles (S.files shelf.old) (command_in call.entry) → IsErrOf result Stop.ReadFailed → ⊥ }
     ensures later { S.faults shelf.old ≤ S.faults shelf.new }
     ensures openings { OpensAtMost (files_named (command_in call.entry)) (S.openings shelf.old) (S.openings shelf.new) }
@@ -143,10 +146,12 @@ pub fn run<S: Shelf, K: Sink>(
     // What is refused for what a file holds has its one line written, whatever the shelf tells.
     ensures refused { K.tells out.old ≡ true → IsRefusal result → (line : List ℕ) × IsRefusalOf result line × (K.bytes out.new ≡ K.bytes out.old ++ line) }
 
-    // A failure of a device is answered only where its count rose.
+    // A failure of a device is answered only where its count rose, and where it rose it is answered.
     ensures read { result ≡ Status.ReadFailed → Rose (S.faults shelf.old) (S.faults shelf.new) }
+    ensures read_told { ¬ (result ≡ Status.ReadFailed) → S.faults shelf.new ≡ S.faults shelf.old }
     ensures never { S.steady shelf.old → S.tells shelf.old ≡ true → HoldsNamed (map string_bytes words.now.items) (S.files shelf.old) → result ≡ Status.ReadFailed → ⊥ }
     ensures write { result ≡ Status.WriteFailed → Rose (K.faults out.old) (K.faults out.new) }
+    ensures write_told { ¬ (result ≡ Status.WriteFailed) → K.faults out.new ≡ K.faults out.old }
 
     // On a shelf that counts its openings no more files are opened than the words name.
     ensures openings { OpensNamed (map string_bytes words.now.items) (S.openings shelf.old) (S.openings shelf.new) }

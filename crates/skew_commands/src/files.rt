@@ -40,6 +40,7 @@ pub fn file<S: Shelf>(
     ensures refused { RefusesFor result (λ r. (r ≡ Refusal.Length named) × (S.tells shelf.old ≡ true → IsLonger (file_of (S.files shelf.old) name.now) limit)) }
     ensures too_long { RefusesFor result (λ r. r ≡ Refusal.Length named) }
     ensures failed { IsErrOf result Stop.ReadFailed → Rose (S.faults shelf.old) (S.faults shelf.new) }
+    ensures told { ¬ IsErrOf result Stop.ReadFailed → S.faults shelf.new ≡ S.faults shelf.old }
     ensures never { S.steady shelf.old → S.tells shelf.old ≡ true → IsSome (file_of (S.files shelf.old) name.now) → IsErrOf result Stop.ReadFailed → ⊥ }
     ensures later { S.faults shelf.old ≤ S.faults shelf.new }
     ensures once { IsOneMore (S.openings shelf.old) (S.openings shelf.new) }

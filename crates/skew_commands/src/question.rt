@@ -42,6 +42,7 @@ pub fn read_question<S: Shelf>(
     ensures some_refused { RefusesFor result RefusesSomeQuestion }
     ensures refused { S.tells shelf.old ≡ true → RefusesFor result (λ r. OnQuestion (S.files shelf.old) formula.now log.now NoAnswer (line (text_of r)) (status_of r)) }
     ensures failed { IsErrOf result Stop.ReadFailed → Rose (S.faults shelf.old) (S.faults shelf.new) }
+    ensures told { ¬ IsErrOf result Stop.ReadFailed → S.faults shelf.new ≡ S.faults shelf.old }
     ensures never { S.steady shelf.old → S.tells shelf.old ≡ true → HoldsQuestion (S.files shelf.old) formula.now log.now NoThird → IsErrOf result Stop.ReadFailed → ⊥ }
     ensures later { S.faults shelf.old ≤ S.faults shelf.new }
     ensures openings { OpensAtMost 2 (S.openings shelf.old) (S.openings shelf.new) }

@@ -95,6 +95,7 @@ fn replay_of_file<S: Shelf>(
     ensures possible { (f : Form) → core_of f ≡ replayer.old.core → GivesForSome (λ files name. OnFile files name TIMES_LIMIT Named.Times (λ file. OnTimes file log.now (ReplayOfTimes log.now f))) result }
     ensures verdict { IfOk result (λ r. IsVerdict r.status) }
     ensures failed { IsErrOf result Stop.ReadFailed → Rose (S.faults shelf.old) (S.faults shelf.new) }
+    ensures told { ¬ IsErrOf result Stop.ReadFailed → S.faults shelf.new ≡ S.faults shelf.old }
     ensures never { S.steady shelf.old → S.tells shelf.old ≡ true → IsSome (file_of (S.files shelf.old) times.now) → IsErrOf result Stop.ReadFailed → ⊥ }
     ensures later { S.faults shelf.old ≤ S.faults shelf.new }
     ensures once { IsOneMore (S.openings shelf.old) (S.openings shelf.new) }
@@ -116,6 +117,7 @@ fn replay_of_question<S: Shelf>(
     ensures possible { GivesForSome (λ files name. ReplayOfLog files name question.now.text.items (form_of question.now.formula) question.now.log) result }
     ensures verdict { IfOk result (λ r. IsVerdict r.status) }
     ensures failed { IsErrOf result Stop.ReadFailed → Rose (S.faults shelf.old) (S.faults shelf.new) }
+    ensures told { ¬ IsErrOf result Stop.ReadFailed → S.faults shelf.new ≡ S.faults shelf.old }
     ensures never { S.steady shelf.old → S.tells shelf.old ≡ true → HoldsThird (S.files shelf.old) times.now (form_of question.now.formula) question.now.log → IsErrOf result Stop.ReadFailed → ⊥ }
     ensures later { S.faults shelf.old ≤ S.faults shelf.new }
     ensures openings { OpensAtMost 1 (S.openings shelf.old) (S.openings shelf.new) }
@@ -137,6 +139,7 @@ pub fn replay<S: Shelf>(
     ensures possible { Gives (OfSomeThird ReplayOutcome) result }
     ensures verdict { IfOk result (λ r. IsVerdict r.status) }
     ensures failed { IsErrOf result Stop.ReadFailed → Rose (S.faults shelf.old) (S.faults shelf.new) }
+    ensures told { ¬ IsErrOf result Stop.ReadFailed → S.faults shelf.new ≡ S.faults shelf.old }
     ensures never { S.steady shelf.old → S.tells shelf.old ≡ true → HoldsQuestion (S.files shelf.old) formula.now log.now (HoldsThird (S.files shelf.old) times.now) → IsErrOf result Stop.ReadFailed → ⊥ }
     ensures later { S.faults shelf.old ≤ S.faults shelf.new }
     ensures openings { OpensAtMost 3 (S.openings shelf.old) (S.openings shelf.new) }

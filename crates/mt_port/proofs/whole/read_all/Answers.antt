@@ -15,8 +15,8 @@ memory_not_long same = cc
 memory_not_failed : {T : Type 0} → (let r : Result T ReadFault = Err Memory in r ≡ Err Failed) → ⊥
 memory_not_failed same = cc
 
-rose_later : (first mid last : ℕ) → first ≤ mid → Rose mid last → Rose first last
-rose_later first mid last before rose = omega (arith, before, rose)
+rose_later : (first mid last : ℕ) → mid ≡ first → Rose mid last → Rose first last
+rose_later first mid last same rose = rw same at rose
 
 pub returns-in-Ok-read-clause-given : goal.returns-in-Ok-read-clause-given
 returns-in-Ok-read-clause-given g c = λ _ told.
@@ -58,7 +58,7 @@ returns-in-Err-read-clause-at_most g c = λ told _ _.
     gave_within _ c.loop-bytes.bytes.items _ _ c.args.limit (inv.bytes told) (c.in-Err-read.ensures.place (inv.telling ∙ told)) short
 
 pub returns-in-Err-read-clause-failed : goal.returns-in-Err-read-clause-failed
-returns-in-Err-read-clause-failed g c = λ _. rose_later _ _ _ c.loop-bytes.invariant.later c.in-Err-read.ensures.cause.failed
+returns-in-Err-read-clause-failed g c = λ _. rose_later _ _ _ c.loop-bytes.invariant.quiet c.in-Err-read.ensures.cause.failed
 
 pub returns-in-Err-read-clause-never : goal.returns-in-Err-read-clause-never
 returns-in-Err-read-clause-never g c = λ steady _ _ _. false≢true (c.in-Err-read.ensures.never (c.loop-bytes.invariant.steady steady))

@@ -8,7 +8,7 @@ invariant-loop-bytes g l = record {
   size : length l.buf ≡ 4096;
   within : vec_len l.bytes ≤ l.limit;
   bytes : g.S.Shelf.tells l.fn.shelf ≡ true → file_of (g.S.Shelf.files l.fn.shelf) l.name ≡ Some (l.bytes.items ++ g.S.Shelf.left l.shelf);
-  later : g.S.Shelf.faults l.fn.shelf ≤ g.S.Shelf.faults l.shelf;
+  quiet : g.S.Shelf.faults l.shelf ≡ g.S.Shelf.faults l.fn.shelf;
   in_range : g.S.Shelf.faults l.shelf < 2 ^ 64;
   steady : g.S.Shelf.steady l.fn.shelf → g.S.Shelf.steady l.shelf;
   files : g.S.Shelf.files l.shelf ≡ g.S.Shelf.files l.fn.shelf;

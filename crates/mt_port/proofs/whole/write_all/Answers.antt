@@ -10,5 +10,5 @@ loop-done-preserved g c =
       within = grind (arith, common_steps, c.in_ok-taken.ensures.count);
       taken = λ told. took_more _ _ _ c.args.bytes.now c.loop-done.done c.in_ok-taken.taken (c.in_ok-taken.ensures.taken (inv.telling ∙ told)) (inv.taken told);
       telling = c.write.ensures.telling ∙ inv.telling;
-      later = omega (arith, c.write.ensures.cause.later);
+      quiet = c.in_ok-taken.ensures.cause.quiet ∙ inv.quiet;
     }
