@@ -2,21 +2,22 @@
 
 Run as: python3 benches/proofs.py [--modules N] [--idle SECONDS]
 
-Each second it looks at the checks that run: at their crates, at the seconds of
-the processor that they have taken, and at the modules that they have written.
-Once none has run for so many seconds, or at an interrupt, it prints the seconds
-of each crate, with those in which it was under way, counted from the first
-check, and how many processes checked it; and then the dearest modules, N of
-them. A module is told by its crate and function: `Lts` is a function's control
-flow, `Proof` its goals, `Answers` what was written for them. What a module took
-is what its process took from the module before it, so that one of a second or
-less says little; and the modules of a crate that is checked by several
-processes at once aren't all seen.
+Each second it looks at the checks that run on the machine, whoever began them:
+at their crates, at the seconds of the processor that they have taken, and at
+the modules that they have written. Once none has run for so many seconds, or at
+an interrupt, it prints the seconds of each crate, with those in which it was
+under way, counted from the first check, and how many processes checked it; and
+then the dearest modules, N of them. A module is told by its crate and function:
+`Lts` is a function's control flow, `Proof` its goals, `Answers` what was
+written for them. What a module took is what its process took from the module
+before it, so that one of a second or less says little; and the modules of a
+crate that is checked by several processes at once aren't all seen.
 """
 
 import argparse
 import bisect
 import os
+import signal
 import sys
 import time
 from pathlib import Path
@@ -144,6 +145,8 @@ def main():
     parser.add_argument("--modules", type=int, default=30, help="how many modules to print")
     parser.add_argument("--idle", type=int, default=60, help="seconds without a check after which to end")
     arguments = parser.parse_args()
+    for number in (signal.SIGINT, signal.SIGTERM):  # a shell's script has the first one ignored behind &
+        signal.signal(number, signal.default_int_handler)
     checks = {}
     watch(checks, arguments.idle)
     if not checks:
