@@ -23,11 +23,6 @@ def status_of(words, text=b""):
     return subprocess.run([find_program(None), *words], input=text, capture_output=True, timeout=PATIENCE).returncode
 
 
-def reads_pulses():
-    """Whether the program reads logs with pulses, which an older one refuses."""
-    return status_of(["times", "-"], PULSED) == 0
-
-
 @contextlib.contextmanager
 def standing_in(folder):
     """Has a folder as the one in which names are looked up."""

@@ -25,7 +25,7 @@ def long_log():
     return text
 
 
-@unittest.skipUnless(browser_path(), "there is no chromium here")
+@unittest.skipUnless(browser_path(), "for want of the package chromium")
 class Pages(unittest.TestCase):
     @classmethod
     def setUpClass(cls):

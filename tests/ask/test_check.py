@@ -7,7 +7,7 @@ import tempfile
 import unittest
 from pathlib import Path
 
-from common import PATIENCE, PULSED, asked, reads_pulses
+from common import PATIENCE, PULSED, asked
 import formats
 import generate
 import logs
@@ -69,7 +69,6 @@ class AgainstProgramAndReference(unittest.TestCase):
             self.assertEqual(reference.truth(log, stamps, tree), told == "true")
 
 
-@unittest.skipUnless(reads_pulses(), "the program refuses logs with pulses")
 class Pulses(unittest.TestCase):
     def asked_of(self, formula, rows, *words):
         with tempfile.TemporaryDirectory() as folder:

@@ -6,8 +6,9 @@ import random
 import tempfile
 import unittest
 from pathlib import Path
+from unittest import mock
 
-from common import PULSED, ROOT, asked, asked_apart, reads_pulses
+from common import PULSED, ROOT, asked, asked_apart
 
 HEAD = "kind,host,time,name\nhost,a,2,1\n"
 EXAMPLES = ROOT / "examples"
@@ -166,9 +167,13 @@ class Refusals(unittest.TestCase):
         ):
             self.refused("a.p", text, 66, *parts)
 
-    @unittest.skipIf(reads_pulses(), "the program reads pulses")
     def test_kinds_that_an_older_program_refuses(self):
-        self.refused("a.p", PULSED, 66, "line 3, column 1", "doesn't know the kind pulse", "older than ask")
+        with tempfile.TemporaryDirectory() as folder:
+            older = Path(folder, "older")
+            older.write_text("#!/bin/sh\necho refused log 3 at record 3\nexit 66\n")
+            older.chmod(0o755)
+            with mock.patch.dict(os.environ, SKEWCHECK=str(older)):
+                self.refused("a.p", PULSED, 66, "line 3, column 1", "doesn't know the kind pulse", "older than ask")
 
     def test_sizes(self):
         rows = HEAD + "".join(f"note,a,{3 * n},n\n" for n in range(1000))

@@ -11,9 +11,9 @@ the program, cat or python3 is in, has to write what stands below it (those with
 left out where there is none), each clause that a block of text quotes has to stand in
 the code, and each link has to lead to a file, and to a heading of it where it names
 one. What the tables of refusals show has to be refused so, and the picture of the
-crates has to be that of crates.txt. Every difference is printed, and the end is 1
-where there is one. With --write the reports that differ and the picture are kept
-anew.
+crates has to be that of crates.txt. Every difference is printed. The last line says
+how many of these checks passed, and the end is 1 where one failed. With --write the
+reports that differ and the picture are kept anew.
 """
 
 import argparse
@@ -163,7 +163,7 @@ def is_left_out(command):
     """Whether a command of a page needs what isn't here, which is told."""
     if "jq " not in command or shutil.which("jq"):
         return False
-    print(f"tests/examples: left out, since there is no jq here: {command}")
+    print(f"left out: tests/examples, {command}: for want of the package jq")
     return True
 
 
@@ -234,22 +234,31 @@ def differences_of_links():
                 yield f"{page.name}: the link {link} leads nowhere"
 
 
+def checks(program, is_written):
+    """Each check with its name and the differences that it finds."""
+    yield "runs", differences_of_runs(program, is_written)
+    yield "pages", differences_of_pages(program)
+    yield "many rows", differences_of_many_rows(program)
+    yield "clauses", differences_of_clauses()
+    yield "links", differences_of_links()
+    yield "picture of the crates", crates_picture.differences(is_written)
+    yield "refusals", differences_of_refusals(program)
+
+
 def main():
     """Prints the differences, and ends with 0 where there is none and with 1 where there is one."""
     parser = argparse.ArgumentParser(description="run skewcheck on its examples")
     parser.add_argument("program")
     parser.add_argument("--write", action="store_true", help="keep the reports that differ and the picture anew")
     arguments = parser.parse_args()
-    program = os.path.abspath(arguments.program)
-    found = [*differences_of_runs(program, arguments.write), *differences_of_pages(program)]
-    found += [*differences_of_many_rows(program), *differences_of_clauses(), *differences_of_links()]
-    found += crates_picture.differences(arguments.write)
-    found += differences_of_refusals(program)
-    for line in found:
-        print(f"tests/examples: {line}")
-    if found:
-        sys.exit(1)
-    print("examples and pages: no difference")
+    passed, failed = 0, 0
+    for name, differences in checks(os.path.abspath(arguments.program), arguments.write):
+        lines = list(differences)
+        for line in lines:
+            print(f"tests/examples, {name}: {line}")
+        passed, failed = passed + (not lines), failed + bool(lines)
+    print(f"{passed} passed, {failed} failed")
+    sys.exit(1 if failed else 0)
 
 
 if __name__ == "__main__":

@@ -176,9 +176,9 @@ class AnotherMachine(WithRoom):
     def setUp(self):
         super().setUp()
         server = shutil.which("sshd", path=os.environ["PATH"] + ":/usr/sbin")
-        for name in ("ssh", "ssh-keygen", "rsync"):
+        for name, package in (("ssh", "openssh-client"), ("ssh-keygen", "openssh-client"), ("rsync", "rsync")):
             if not shutil.which(name) or not server:
-                self.skipTest(f"there is no {name if server else 'sshd'} here")
+                self.skipTest(f"for want of the package {package if server else 'openssh-server'}")
         for name in ("key", "host"):
             subprocess.run(["ssh-keygen", "-q", "-t", "ed25519", "-N", "", "-f", self.room / name], check=True)
         port = 20000 + os.getpid() % 20000

@@ -1,0 +1,179 @@
+"""./skewcheck in a small repository of its own, with a command that stands in for rt."""
+
+import os
+import pty
+import re
+import shutil
+import signal
+import subprocess
+import tempfile
+import time
+import unittest
+from pathlib import Path
+
+ROOT = Path(__file__).resolve().parents[2]
+PATIENCE = 30
+
+# Proves the crates of the folder that it is run in: a line each, with other lines before. It has KEEPS where the kit keeps
+# proofs, FAILS where a crate isn't proved, and WAITS where it goes on until it is ended.
+RT = """\
+#!/bin/bash
+case $1 in
+  help) [ -z "$KEEPS" ] || echo '  rt ci NAME..   the same for these crates' ; exit ;;
+  ci) shift ;;
+  *) exit 2 ;;
+esac
+echo "$*" >>"$CALLS"
+touch "$TMPDIR/rt-left"
+for name in $(sed 's/:.*//' crates.txt); do
+  echo "== $name"
+  echo "fn $name::first: proved"
+  if [ "$name" = "$FAILS" ]; then
+    echo "fn $name::second: not proved"
+    echo "rt: $name NOT PROVED"
+    exit 1
+  fi
+  echo "rt: $name proved"
+done
+[ -z "$WAITS" ] || exec sleep 60
+mkdir -p crates/skewcheck/out
+printf '#!/bin/sh\\necho "asked $*"\\nexit 3\\n' >crates/skewcheck/out/skewcheck
+chmod +x crates/skewcheck/out/skewcheck
+"""
+
+
+class WithRepository(unittest.TestCase):
+    def setUp(self):
+        room = tempfile.TemporaryDirectory()
+        self.addCleanup(room.cleanup)
+        self.room = Path(room.name)
+        self.top = self.room / "top"
+        self.tmp = self.room / "tmp"
+        for folder in (self.top, self.tmp, self.room / "bin"):
+            folder.mkdir()
+        shutil.copy(ROOT / "skewcheck", self.top)
+        (self.top / "HANDLES").write_text("Handles allowed: none.\n")
+        (self.top / "crates.txt").write_text("# lower ones first\nlow:\nhigh: low\nskewcheck: high csv\nbeside: low\n")
+        for name in ("low", "high", "skewcheck", "beside"):
+            (self.top / "crates" / name / "src").mkdir(parents=True)
+            (self.top / "crates" / name / "src" / "lib.rt").write_text("")
+        (self.room / "bin" / "rt").write_text(RT)
+        (self.room / "bin" / "rt").chmod(0o755)
+        path = f"{self.room}/bin:{os.environ['PATH']}"
+        self.environment = {**os.environ, "PATH": path, "TMPDIR": str(self.tmp), "CALLS": str(self.room / "calls")}
+
+    def asked(self, *words, **environment):
+        """How a run of ./skewcheck ended."""
+        return subprocess.run(
+            [self.top / "skewcheck", *words], stdin=subprocess.DEVNULL, capture_output=True, text=True, timeout=PATIENCE,
+            env={**self.environment, **environment},
+        )
+
+    def calls(self):
+        """What rt was called with."""
+        return sorted((self.room / "calls").read_text().split("\n")[:-1])
+
+    def assertNothingLeft(self):
+        self.assertEqual(os.listdir(self.tmp), [])
+        built = self.top / "crates" / "skewcheck" / "out"
+        self.assertEqual(os.listdir(built) if built.exists() else [], [])
+
+
+class Building(WithRepository):
+    def test_answer_comes_at_the_end_of_the_build(self):
+        done = self.asked("demo", "7")
+        self.assertEqual((done.returncode, done.stdout), (3, "asked demo 7\n"), done.stderr)
+        self.assertEqual(os.listdir(self.tmp), [])
+        self.assertEqual(self.calls(), [""])
+
+    def test_a_line_a_crate(self):
+        said = self.asked("demo", "7").stderr.splitlines()
+        lines = [line for line in said if "is proved, " in line]
+        self.assertEqual([line.split(", ")[1] for line in lines], ["1 of 3", "2 of 3", "3 of 3"])
+        self.assertEqual({line.split()[1] for line in lines}, {"low", "high", "skewcheck"})
+        self.assertTrue(all(re.fullmatch(r"skewcheck: \w+ is proved, \d of 3, 0 min", line) for line in lines), lines)
+        self.assertNotIn("first", "".join(said))
+
+    def test_once(self):
+        self.asked("demo", "7")
+        done = self.asked("times", "-")
+        self.assertEqual((done.returncode, done.stdout, done.stderr), (3, "asked times -\n", ""))
+        self.assertEqual(self.calls(), [""])
+
+    def test_again_after_a_change(self):
+        self.asked("demo", "7")
+        later = time.time() + 5
+        os.utime(self.top / "crates" / "beside" / "src" / "lib.rt", (later, later))
+        self.assertEqual(self.asked("demo", "7").stderr, "")
+        os.utime(self.top / "crates" / "low" / "src" / "lib.rt", (later, later))
+        self.assertIn("is proved", self.asked("demo", "7").stderr)
+        self.assertEqual(self.calls(), ["", ""])
+
+    def test_some_crates_have_a_run_of_their_own_where_proofs_are_kept(self):
+        done = self.asked("demo", "7", KEEPS="1")
+        self.assertEqual((done.returncode, done.stdout), (3, "asked demo 7\n"), done.stderr)
+        self.assertEqual(self.calls(), ["", "formula_arena", "mt_port analyze"])
+        self.assertEqual(sum("is proved, " in line for line in done.stderr.splitlines()), 3)
+
+    def test_a_terminal_has_one_line(self):
+        ours, theirs = pty.openpty()
+        process = subprocess.Popen(
+            [self.top / "skewcheck", "demo", "7"], stdin=subprocess.DEVNULL, stdout=subprocess.PIPE, stderr=theirs,
+            env={**self.environment, "WAITS": "1"},
+        )
+        os.close(theirs)
+        said = b""
+        while b"3 of 3 crates proved" not in said:
+            said += os.read(ours, 4096)
+        process.send_signal(signal.SIGINT)
+        process.communicate(timeout=PATIENCE)
+        os.close(ours)
+        self.assertEqual(process.returncode, 130)
+        self.assertRegex(said.decode(), r"\r\x1b\[Kskewcheck: 3 of 3 crates proved, 0 min")
+        self.assertNothingLeft()
+
+
+class Trouble(WithRepository):
+    def test_a_crate_that_is_not_proved(self):
+        done = self.asked("demo", "7", FAILS="high")
+        self.assertEqual((done.returncode, done.stdout), (72, ""))
+        self.assertIn("fn high::second: not proved\nrt: high NOT PROVED\n", done.stderr)
+        self.assertNotIn("fn low::first", done.stderr)
+        self.assertEqual(done.stderr.splitlines()[-1], "skewcheck: the program could not be proved and built")
+        self.assertNothingLeft()
+
+    def test_no_rt(self):
+        (self.room / "bin" / "rt").unlink()
+        bare = self.room / "bare"
+        bare.mkdir()
+        for name in ("bash", "awk", "sed", "find", "readlink", "dirname", "env"):
+            (bare / name).symlink_to(shutil.which(name))
+        done = self.asked("demo", "7", PATH=str(bare))
+        self.assertEqual((done.returncode, done.stdout), (72, ""))
+        self.assertIn("the Rattle kit's command rt isn't there", done.stderr)
+        self.assertNothingLeft()
+
+    def test_no_room(self):
+        done = self.asked("demo", "7", TMPDIR=str(self.room / "nowhere"))
+        self.assertEqual((done.returncode, done.stdout), (72, ""))
+        self.assertNothingLeft()
+
+    def test_signals_leave_nothing(self):
+        for number in (signal.SIGTERM, signal.SIGHUP, signal.SIGINT):
+            process = subprocess.Popen(
+                [self.top / "skewcheck", "demo", "7"], stdin=subprocess.DEVNULL, stdout=subprocess.PIPE, stderr=subprocess.PIPE,
+                text=True, env={**self.environment, "WAITS": "1", "KEEPS": "1"},
+                preexec_fn=lambda: signal.signal(signal.SIGINT, signal.default_int_handler),
+            )
+            for line in process.stderr:
+                if "3 of 3" in line:
+                    break
+            process.send_signal(number)
+            written, said = process.communicate(timeout=PATIENCE)
+            self.assertEqual((process.returncode, written), (128 + number, ""))
+            self.assertIn("interrupted", said)
+            self.assertNothingLeft()
+
+
+if __name__ == "__main__":
+    unittest.main()
