@@ -15,12 +15,13 @@ ROOT = Path(__file__).resolve().parents[2]
 PATIENCE = 30
 
 # Proves the crates of the folder that it is run in: a line each, with other lines before. It has KEEPS where the kit keeps
-# proofs, FAILS where a crate isn't proved, and WAITS where it goes on until it is ended.
+# proofs, FAILS where a crate isn't proved, and WAITS where it goes on until it is ended. As rt it takes no names of crates
+# in continuous integration.
 RT = """\
 #!/bin/bash
 case $1 in
   help) [ -z "$KEEPS" ] || echo '  rt ci NAME..   the same for these crates' ; exit ;;
-  ci) shift ;;
+  ci) shift; [ -z "$1" ] || [ "$CI" != true ] || exit 2 ;;
   *) exit 2 ;;
 esac
 echo "$*" >>"$CALLS"
@@ -114,6 +115,10 @@ class Building(WithRepository):
         self.assertEqual((done.returncode, done.stdout), (3, "asked demo 7\n"), done.stderr)
         self.assertEqual(self.calls(), ["", "formula_arena", "mt_port analyze"])
         self.assertEqual(sum("is proved, " in line for line in done.stderr.splitlines()), 3)
+
+    def test_in_continuous_integration(self):
+        done = self.asked("demo", "7", KEEPS="1", CI="true")
+        self.assertEqual((done.returncode, done.stdout), (3, "asked demo 7\n"), done.stderr)
 
     def test_a_terminal_has_one_line(self):
         ours, theirs = pty.openpty()
