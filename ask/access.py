@@ -216,7 +216,7 @@ def events_of(host: str, request: Request, words: AccessWords) -> Iterator[Event
             default = BOTH[name] if len(request.known) == 2 else [(words.without_kind, "asked")]
             for kind, pattern in words.rows.get(name, default):
                 shown = filled(pattern, request.fields, request.where)
-                yield Event(host, stamp, f"of the {name}", kind, shown, id_, request.where)
+                yield Event(host, stamp, f"of the {name}", kind, shown, id_, request.where, None, name)
 
 
 def on_hosts(requests: Sequence[Request], name: str) -> Iterator[Tuple[str, Request]]:

@@ -2,7 +2,8 @@
 
 from __future__ import annotations
 
-from typing import Iterator, List, NamedTuple, Optional, Sequence, Tuple
+import argparse
+from typing import Any, Dict, Iterator, List, NamedTuple, Optional, Sequence, Tuple
 
 from ask.formulas import Tree, beyond_the_end, parts_written, propositions, subtrees, text_of
 from ask.logs import Log
@@ -12,7 +13,9 @@ from ask.texts import Source, place_of
 from ask.words import Answer, lines_words, listed, shortened, yellow
 
 MOST_PARTS = 4000  # of a formula that is made of another one
-KINDS = ("unset", "no-proposition", "never", "end", "unasked")
+BY_THE_LOG = ("unset", "no-proposition")  # the kinds that are told without a run
+KINDS = (*BY_THE_LOG, "never", "end", "unasked")
+WARNED = 65  # the status where --strict makes an error of a warning
 
 
 class Caution(NamedTuple):
@@ -23,31 +26,61 @@ class Caution(NamedTuple):
     run: Optional[str] = None
 
 
+def add_strict_words(words: argparse.ArgumentParser) -> None:
+    """Adds the options that make an error of a warning."""
+    words.add_argument("--strict", action="store_true", help="end with 65 where there is a warning")
+    words.add_argument(
+        "--strict-for", action="append", choices=KINDS, default=[], help="the same for one kind of warning",
+    )
+
+
+def strict_status(arguments: argparse.Namespace, cautions: Sequence[Caution], status: int) -> int:
+    """The status of an answer, or that of a warning which the words make an error of."""
+    is_warned = any(arguments.strict or caution.kind in arguments.strict_for for caution in cautions)
+    return WARNED if is_warned else status
+
+
+def wants_runs(arguments: argparse.Namespace) -> bool:
+    """Whether the words make an error of a warning that only a run of the program can tell."""
+    return bool(arguments.strict or set(arguments.strict_for) - set(BY_THE_LOG))
+
+
+def caution_facts(cautions: Sequence[Caution]) -> List[Dict[str, Any]]:
+    """The warnings for programs."""
+    return [caution._asdict() for caution in cautions]
+
+
 def caution_lines(cautions: Sequence[Caution]) -> List[str]:
     """A line for each warning."""
     runs = [f" [{caution.run}]" if caution.run else "" for caution in cautions]
     return [yellow(f"Warning ({c.kind}): {c.sentence}.{run}") for c, run in zip(cautions, runs)]
 
 
-def with_cautions(answer: Answer, cautions: Sequence[Caution]) -> Answer:
-    """An answer with its warnings right below the sentence that it begins with."""
+def with_cautions(answer: Answer, cautions: Sequence[Caution], arguments: argparse.Namespace) -> Answer:
+    """An answer with its warnings right below the sentence that it begins with, and the status that they give it."""
     answer.lines[1:1] = caution_lines(cautions)
-    answer.facts["warnings"] = [caution._asdict() for caution in cautions]
+    answer.facts["warnings"] = caution_facts(cautions)
+    answer.status = strict_status(arguments, cautions, answer.status)
     return answer
 
 
 def cautions_of_names(question: Question, log: Log, tree: Tree) -> Iterator[Caution]:
-    """The propositions that no row sets or pulses, and that `check` finds to be false throughout."""
+    """The propositions that no row sets or pulses, and that `check` finds to be false throughout.
+
+    Of a log that admits no timing, as one whose skews `tolerance` widens may be, it is said by the log alone.
+    """
     for host, part in never_set(log, tree):
         run = run_of(question, f"F {text_of(part)}")
-        if run is None or run.status != 1:
+        if run and run.status == 3:
+            yield caution_of_name(question.formula, log, host, part)
+        elif run is None or run.status != 1:
             yield unasked(f"whether {text_of(part)} is ever true", run)
         else:
             yield caution_of_name(question.formula, log, host, part, run.words)
 
 
 def cautions_without_runs(formula: Source, log: Log, tree: Optional[Tree]) -> List[Caution]:
-    """The same by the log alone, of a formula in which `?` may stand for numbers, or of none."""
+    """The propositions that no row sets or pulses by the log alone; `?` may stand for numbers of the formula."""
     return [caution_of_name(formula, log, host, part) for host, part in never_set(log, tree)] if tree else []
 
 
@@ -112,11 +145,10 @@ def unasked(what: str, run: Optional[Run]) -> Caution:
     return Caution("unasked", f"{what} isn't known: {why}", run.words if run else None)
 
 
-def cautions_of_the_end(question: Question, log: Log, tree: Tree, status: int) -> Iterator[Caution]:
-    """A value that the formula has only since no rows come after the last one."""
-    for value, status_of_other in ((False, 0), (True, 1)):
-        if status not in (1 - value, 2):
-            continue
+def cautions_of_the_end(question: Question, log: Log, tree: Tree, values: Sequence[bool]) -> Iterator[Caution]:
+    """Of the values that the formula has those that it has only since no rows come after the last one."""
+    for value in values:
+        status_of_other = 1 if value else 0
         word = str(value).lower()
         changed = beyond_the_end(tree, wanted=not value)
         if parts_written(changed) > MOST_PARTS:
@@ -137,10 +169,24 @@ def cautions_of_the_end(question: Question, log: Log, tree: Tree, status: int) -
             ), run.words)
 
 
-def cautions_of(question: Question, log: Log, tree: Tree, status: int) -> List[Caution]:
-    """All warnings of a question that has a verdict."""
+def cautions_of(question: Question, log: Log, tree: Tree, values: Sequence[bool]) -> List[Caution]:
+    """All warnings of a formula that has these values on a log."""
     return [
         *cautions_of_names(question, log, tree),
         *cautions_of_implications(question, tree),
-        *cautions_of_the_end(question, log, tree, status),
+        *cautions_of_the_end(question, log, tree, values),
     ]
+
+
+def cautions_wanted(
+    arguments: argparse.Namespace, question: Question, log: Log, tree: Optional[Tree], values: Sequence[bool],
+) -> List[Caution]:
+    """The warnings by the log alone, or all of them where the words make an error of one that wants a run."""
+    if tree and wants_runs(arguments):
+        return cautions_of(question, log, tree, values)
+    return cautions_without_runs(question.formula, log, tree)
+
+
+def values_of_status(status: int) -> List[bool]:
+    """The values that a formula has by the status of `check`, where it tells both."""
+    return {0: [True], 1: [False], 2: [False, True]}.get(status, [])

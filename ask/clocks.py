@@ -1,16 +1,18 @@
-"""What a time service says of a clock: the lines of chronyd and ntpd on steps, and chrony's tracking log."""
+"""What a time service says of a clock: lines of chronyd and ntpd on steps, chrony's tracking log, chronyc's report."""
 
 from __future__ import annotations
 
+import math
 import re
 from dataclasses import dataclass, field
-from typing import List, NamedTuple, Sequence
+from fractions import Fraction
+from typing import Dict, List, NamedTuple, Sequence
 
 from ask.events import WRONG, read_stamp
 from ask.making import Line, Making, moment_in
 from ask.stamps import MONTHS, UNITS, Stamp, duration_in_units, stamp_of
 from ask.texts import Trouble, read_source
-from ask.words import USAGE, counted
+from ask.words import USAGE, counted, printable
 
 STEPPED = re.compile(
     r"(?:was stepped by|clock_step|time reset) ([+-]?)(\d{1,9}(?:\.\d{1,9})?) ?(?:seconds|s)\b", re.ASCII
@@ -18,6 +20,8 @@ STEPPED = re.compile(
 SYSLOG = re.compile(r"(?:(\d\d?) ([A-Z][a-z]{2})|([A-Z][a-z]{2}) +(\d\d?)) (\d\d:\d\d:\d\d)\b", re.ASCII)
 TRACKING_FIELDS = 14
 DAY = 86400
+REPORTED = ("System time", "Root delay", "Root dispersion")  # the lines of chronyc's report that make its error
+SECONDS = re.compile(r"([+-]?\d{1,9}(?:\.\d{1,18})?) seconds\b", re.ASCII)
 
 
 class ClockStep(NamedTuple):
@@ -42,6 +46,7 @@ class Clock:
     second: int
     steps: List[ClockStep] = field(default_factory=list)
     updates: List[Update] = field(default_factory=list)
+    reported: int = 0  # the greatest error by a report of chronyc
 
     def errors(self, lines: Sequence[Line]) -> List[int]:
         """By how much the stamp of each row of a host, in their order, may be off beside the skew."""
@@ -49,7 +54,8 @@ class Clock:
         for line in lines:
             while passed < len(steps) and line.stamp > steps[passed].last:
                 passed += 1
-            found.append(step_error(steps, line.stamp, passed) + self.tracked_error(line))
+            tracked = max(self.tracked_error(line), self.reported)
+            found.append(step_error(steps, line.stamp, passed) + tracked)
         return found
 
     def tracked_error(self, line: Line) -> int:
@@ -135,20 +141,62 @@ def moment_of_line(making: Making, line: str, where: str) -> Stamp:
 # Tracking
 
 
-def updates_of_file(making: Making, name: str) -> List[Update]:
-    """The updates of a tracking log of chrony, whose titles and rules are left out."""
+class Tracked(NamedTuple):
+    """What a file tells of the errors of a clock: the updates of a tracking log, or the error of a report."""
+
+    updates: List[Update]
+    reported: int = 0
+
+
+def tracking_of_file(making: Making, name: str) -> Tracked:
+    """What a file tells that is a tracking log of chrony, or what `chronyc tracking` wrote."""
     source = read_source(name)
+    lines = source.data.decode("utf-8", "replace").splitlines()
+    report = {key.strip(): value.strip() for key, colon, value in (line.partition(" : ") for line in lines) if colon}
+    if set(REPORTED) <= set(report):
+        return Tracked([], reported_error(report, making, source.name))
+    return Tracked(updates_of_lines(making, lines, source.name))
+
+
+def updates_of_lines(making: Making, lines: Sequence[str], name: str) -> List[Update]:
+    """The updates of a tracking log of chrony, whose titles and rules are left out."""
     updates = []
-    for number, line in enumerate(source.data.decode("utf-8", "replace").splitlines(), start=1):
+    for number, line in enumerate(lines, start=1):
         fields = line.split()
         if len(fields) != TRACKING_FIELDS or not fields[0][:1].isdigit():
             continue
-        where = f"{source.name}, line {number}"
+        where = f"{name}, line {number}"
         moment = moment_in(making, read_stamp(f"{fields[0]}T{fields[1]}Z", where))
         updates.append(Update(moment, error_of(fields[-1], making, where)))
     if len(updates) < 2:
-        raise Trouble(WRONG, f"{source.name} is no tracking log of chrony: it has {counted(len(updates), 'update')}")
+        raise Trouble(WRONG, (
+            f"{name} is no tracking log of chrony, with {counted(len(updates), 'update')}, and nothing that `chronyc "
+            "tracking` wrote"
+        ))
     return updates
+
+
+def reported_error(report: Dict[str, str], making: Making, name: str) -> int:
+    """The greatest error of a clock by a report of `chronyc tracking`, in units, rounded up.
+
+    By chrony's manual it is the offset of the system's time, half of the root delay and the root dispersion.
+    """
+    if report.get("Leap status") == "Not synchronised":
+        raise Trouble(WRONG, f"{name}: the clock isn't synchronised, so that nothing is known of its error")
+    texts = []
+    for key in REPORTED:
+        found = SECONDS.match(report[key])
+        if not found:
+            raise Trouble(WRONG, f"{name}: {key} is {report[key]!r}, and no number of seconds")
+        texts.append(found.group(1))
+    offset, delay, dispersion = (Fraction(text) for text in texts)
+    error = math.ceil((abs(offset) + delay / 2 + dispersion) * 10 ** UNITS[making.unit or "s"])
+    moment = printable(report.get("Ref time (UTC)", "not told"))
+    making.notes.append(
+        f"{name}: the clock was off by up to {error} at the moment of this report, whose reference time is {moment}: "
+        "rows of other moments may be off by more"
+    )
+    return error
 
 
 def error_of(text: str, making: Making, where: str) -> int:

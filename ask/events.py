@@ -5,11 +5,11 @@ from __future__ import annotations
 import json
 import re
 from dataclasses import dataclass, field
-from typing import Any, Dict, Iterator, List, Optional, Sequence, Tuple
+from typing import Any, Dict, Iterator, List, Optional, Sequence, Set, Tuple
 
 from ask.logs import NAME, ROW_KINDS, is_log_in_json, records_of
 from ask.refusals import log_in_json_words
-from ask.stamps import Stamp, stamp_of
+from ask.stamps import Stamp, stamp_fault, stamp_of
 from ask.texts import BYTE_ORDER_MARK, Source, Trouble
 from ask.words import USAGE, listed, shortened
 
@@ -60,15 +60,20 @@ class Event:
     id: str
     where: str
     limits: Optional[Limits] = None
+    event: str = ""  # the name of what it is a row of
 
 
 @dataclass
 class Found:
-    """What files have: events in their order, the hosts that are declared, and how long messages to them took."""
+    """What files have: events in their order, the hosts that are declared, and how long messages to them took.
+
+    Of a host that several files declare it is the declaration of one that has rows of it, where one has.
+    """
 
     events: List[Event] = field(default_factory=list)
     hosts: Dict[str, Limits] = field(default_factory=dict)
     latencies: Dict[str, Latency] = field(default_factory=dict)
+    seen: Set[str] = field(default_factory=set)  # hosts with rows in the files before
 
 
 Fields = Dict[str, str]
@@ -156,6 +161,8 @@ def fields_of_table(source: Source, keys: Keys) -> Iterator[Tuple[Fields, str]]:
 def read_events(source: Source, keys: Keys, rows: Rows, found: Found) -> None:
     """Adds the events of a file, in its order, and what it says of hosts."""
     limits: Dict[str, Limits] = {}
+    declared: Dict[str, Limits] = {}
+    start = len(found.events)
     for fields, where in fields_of_file(source, keys):
         kind = fields.get(keys.kind, "")
         if kind in ("host", "resync", "latency"):
@@ -164,7 +171,8 @@ def read_events(source: Source, keys: Keys, rows: Rows, found: Found) -> None:
                 declare(found.latencies, name, Latency(first, second, where), "latency")
                 continue
             if kind == "host":
-                declare(found.hosts, name, Limits(first, second, where), "skew or gap")
+                declare(declared, name, Limits(first, second, where), "skew or gap")
+                found.hosts.setdefault(name, declared[name])
             elif name not in limits:
                 raise Trouble(WRONG, f"{where}: no host {name!r} is declared before this resync")
             limits[name] = Limits(first, second, where)
@@ -172,9 +180,14 @@ def read_events(source: Source, keys: Keys, rows: Rows, found: Found) -> None:
         host = "_".join(part(fields, key, where) for key in keys.host)
         text, name = part(fields, keys.time, where), part(fields, keys.name, where)
         stamp, id_ = read_stamp(text, where), fields.get(keys.id, "")
+        if host in declared and host in found.seen:
+            declare(found.hosts, host, declared[host], "skew or gap")
+        elif host in declared:
+            found.hosts[host] = declared[host]
         for kind, pattern in rows_of(fields, name, keys, rows, where):
             shown = filled(pattern, fields, where)
-            found.events.append(Event(host, stamp, text, kind, shown, id_, where, limits.get(host)))
+            found.events.append(Event(host, stamp, text, kind, shown, id_, where, limits.get(host), name))
+    found.seen.update(event.host for event in found.events[start:])
 
 
 def declare(known: Dict[str, Any], name: str, said: Any, what: str) -> None:
@@ -199,9 +212,7 @@ def read_stamp(text: str, where: str) -> Stamp:
     """The stamp that a text is."""
     stamp = stamp_of(text)
     if stamp is None:
-        raise Trouble(
-            WRONG, f"{where}: the stamp {text!r} is no whole number, no number of seconds and no ISO 8601 time",
-        )
+        raise Trouble(WRONG, f"{where}: the stamp {text!r} {stamp_fault(text)}")
     return stamp
 
 

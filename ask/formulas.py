@@ -6,10 +6,11 @@ A text that the program refuses needn't have a tree here; what is wrong with it 
 from __future__ import annotations
 
 import re
-from dataclasses import dataclass
+from dataclasses import dataclass, replace
 from typing import Dict, Iterator, List, NamedTuple, Optional, Tuple
 
 TOKEN = re.compile(r"([0-9]+|\?)|([a-z][a-z0-9_]*)|(->|[()\[\],.!&|USFGOH])")
+INTERVAL = re.compile(r"[FGOHUS][ \t\r\n]*\[[ \t\r\n]*([0-9]+|\?)[ \t\r\n]*,[ \t\r\n]*([0-9]+|\?|inf)[ \t\r\n]*\]")
 BLANKS = " \t\r\n"
 TIGHTNESS = {"->": 1, "|": 2, "&": 3, "U": 4, "S": 4}
 PREFIX = 5  # how tightly `!`, F, G, O and H bind
@@ -193,6 +194,17 @@ def subtrees(tree: Tree) -> Iterator[Tree]:
         yield from subtrees(part)
 
 
+def is_higher(tree: Tree, most: int) -> bool:
+    """Whether a tree has more levels than so many."""
+    waiting = [(tree, 1)]
+    while waiting:
+        part, height = waiting.pop()
+        if height > most:
+            return True
+        waiting += [(inner, height + 1) for inner in part.parts]
+    return False
+
+
 def propositions(tree: Tree) -> List[Tree]:
     """The propositions of a tree, each host and name once, at its first place."""
     found: Dict[Tuple[str, str], Tree] = {}
@@ -280,6 +292,19 @@ def beyond_the_end(tree: Tree, wanted: bool) -> Tree:
     if tree.form == "G" and not wanted and high != "inf":
         return made("&", same, is_over)
     return same
+
+
+def with_number(tree: Tree, number: int) -> Tree:
+    """The tree with a number in place of each `?`, its places those of the text with `?`."""
+    interval = tuple(str(number) if bound == "?" else bound for bound in tree.interval)
+    parts = tuple(with_number(part, number) for part in tree.parts)
+    return replace(tree, interval=interval, parts=parts)
+
+
+def stray_mark(text: str) -> Optional[int]:
+    """The place of the first `?` of a text that is no bound of an interval, or None."""
+    rest = INTERVAL.sub(lambda found: " " * len(found.group()), text)
+    return rest.index("?") if "?" in rest else None
 
 
 def grows_truer(tree: Tree, is_positive: bool = True) -> List[bool]:

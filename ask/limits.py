@@ -5,14 +5,16 @@ from __future__ import annotations
 from dataclasses import dataclass
 from typing import Dict, Iterator, List, NamedTuple, Optional, Sequence, Tuple
 
-from ask.clocks import Clock, steps_of_file, steps_told, updates_of_file
+from ask.clocks import Clock, steps_of_file, steps_told, tracking_of_file
 from ask.events import WRONG, Found, Latency, Limits, name_map
 from ask.logs import MOST_HOSTS, MOST_SKEW, NO_HOST_NAMES
 from ask.making import Line, Making
+from ask.spelling import spelling_warnings
 from ask.stamps import UNITS, duration_in_units
 from ask.texts import Trouble
-from ask.words import USAGE, counted, listed
+from ask.words import USAGE, counted, listed, printable
 
+FEWER = "fewer timings are admissible than by that file"
 Span = Tuple[int, Optional[int]]  # the least and the greatest latency, None where there is no greatest
 
 
@@ -35,32 +37,31 @@ class LogHost:
     latency: Optional[Span] = None
 
 
-def by_host(words: Sequence[str], option: str, hosts: Sequence[str]) -> Iterator[Tuple[Optional[str], str]]:
+def by_host(words: Sequence[str], option: str, making: Making) -> Iterator[Tuple[Optional[str], str]]:
     """The host of each word, None where it is for all, and what is said of it."""
     for word in words:
-        host, equals, text = word.rpartition("=")
-        if equals and host not in hosts:
-            raise Trouble(USAGE, f"{option} {word}: there is no host {host}. The hosts: {listed(hosts)}")
-        yield (host if equals else None), text
+        spelled, equals, text = word.rpartition("=")
+        host = making.host_named(spelled) if equals else None
+        if equals and host is None:
+            known = listed([printable(name) for name in making.hosts()])
+            raise Trouble(USAGE, f"{option} {word}: there is no host {spelled}. The hosts: {known}")
+        yield host, text
+
+
+Told = Dict[Optional[str], int]  # what an option says of hosts, and of all others under None
 
 
 # Skews and gaps
 
 
-def settle_limits(making: Making, words: LimitWords) -> None:
-    """Gives each row its skew and its gap."""
-    hosts = making.hosts()
-    skews = durations(words.skew, "--skew", hosts, making.unit)
-    gaps = durations(words.gap, "--gap", hosts, making.unit)
+def settle_limits(making: Making, words: LimitWords) -> Dict[str, Tuple[int, int]]:
+    """Gives each row its skew and its gap, and tells those of the hosts without rows."""
+    skews = durations(words.skew, "--skew", making)
+    gaps = durations(words.gap, "--gap", making, is_down=True)
     for line in making.lines:
-        of_file = limits_in_units(line.limits, making) if line.limits else (None, 0)
-        skew = skews.get(line.host, skews.get(None) if of_file[0] is None else of_file[0])
-        if skew is None:
-            raise Trouble(USAGE, (
-                f"how far may the stamps of {line.host} be off? Say it by --skew {line.host}=D, or by --skew D for "
-                "all hosts"
-            ))
-        line.skew, line.gap = skew, gaps.get(line.host, gaps.get(None, of_file[1]))
+        line.skew, line.gap = limits_of(line.host, line.limits, making, skews, gaps)
+    idle = {host: limits_of(host, limits, making, skews, gaps) for host, limits in making.idle.items()}
+    warn_of_narrowed(making, skews, gaps)
     for host, clock in clocks_of(making, words).items():
         lines = [line for line in making.lines if line.host == host and not line.is_carried]
         for line, error in zip(lines, clock.errors(lines)):
@@ -68,9 +69,50 @@ def settle_limits(making: Making, words: LimitWords) -> None:
         for line in making.lines:
             if line.host == host and line.is_carried and lines:
                 line.skew = lines[0].skew
-    if any(line.skew > MOST_SKEW for line in making.lines):
+    note_cut_digits(making)
+    if any(skew > MOST_SKEW for skew in [line.skew for line in making.lines] + [skew for skew, _ in idle.values()]):
         raise Trouble(WRONG, "a skew is above 10^18 in units: choose a coarser --unit")
     note_stamps_that_go_back(making)
+    return idle
+
+
+def limits_of(host: str, limits: Optional[Limits], making: Making, skews: Told, gaps: Told) -> Tuple[int, int]:
+    """The skew and the gap of rows of a host: those of the words, else those of their file."""
+    of_file: Tuple[Optional[int], int] = limits_in_units(limits, making) if limits else (None, 0)
+    skew = skews.get(host, skews.get(None, of_file[0]))
+    if skew is None:
+        raise Trouble(USAGE, (
+            f"how far may the stamps of {host} be off? Say it by --skew {host}=D, or by --skew D for all hosts"
+        ))
+    return skew + (1 if making.cut.get(host) else 0), gaps.get(host, gaps.get(None, of_file[1]))
+
+
+def warn_of_narrowed(making: Making, skews: Told, gaps: Told) -> None:
+    """Tells of each host of which the words allow less than its file, with the first place where they do."""
+    warned = set()
+    for host, limits in [(line.host, line.limits) for line in making.lines] + list(making.idle.items()):
+        if not limits:
+            continue
+        skew, gap = limits_in_units(limits, making)
+        told_skew, told_gap = skews.get(host, skews.get(None, skew)), gaps.get(host, gaps.get(None, gap))
+        for what, told, of_file, is_less in (
+            ("skew", told_skew, skew, told_skew < skew), ("gap", told_gap, gap, told_gap > gap),
+        ):
+            if is_less and (host, what) not in warned:
+                warned.add((host, what))
+                said = f"the {what} of {printable(host)} is {told}, and {limits.where} says {of_file}"
+                making.warnings.append(f"--{what}: {said}: {FEWER}")
+
+
+def note_cut_digits(making: Making) -> None:
+    """Tells of the hosts whose stamps lost digits, which a skew that is one unit greater covers."""
+    for host in making.hosts():
+        count = making.cut.get(host, 0)
+        if count:
+            stamps = f"{counted(count, 'stamp')} of {printable(host)}"
+            making.notes.append(
+                f"digits below a unit are cut off in {stamps}: each skew of it is 1 unit greater for that"
+            )
 
 
 def note_stamps_that_go_back(making: Making) -> None:
@@ -89,15 +131,13 @@ def note_stamps_that_go_back(making: Making) -> None:
             latest[line.host] = line
 
 
-def durations(
-    words: Sequence[str], option: str, hosts: Sequence[str], unit: Optional[str]
-) -> Dict[Optional[str], int]:
-    """The durations that an option gives to hosts, and to all others under None."""
-    found: Dict[Optional[str], int] = {}
-    for host, text in by_host(words, option, hosts):
-        duration = duration_in_units(text, unit)
+def durations(words: Sequence[str], option: str, making: Making, is_down: bool = False) -> Told:
+    """The durations that an option gives to hosts, and to all others under None, rounded up or down."""
+    found: Told = {}
+    for host, text in by_host(words, option, making):
+        duration = duration_in_units(text, making.unit, is_down)
         if duration is None or duration > MOST_SKEW:
-            raise Trouble(USAGE, f"{option} {text}: it is {duration_rule(unit)}")
+            raise Trouble(USAGE, f"{option} {text}: it is {duration_rule(making.unit)}")
         found[host] = duration
     return found
 
@@ -115,8 +155,8 @@ def in_file(text: str, making: Making, is_down: bool = False) -> Optional[int]:
 
 
 def limits_in_units(limits: Limits, making: Making) -> Tuple[int, int]:
-    """The skew and the gap that a file gives, in units."""
-    skew, gap = in_file(limits.skew, making), in_file(limits.gap, making)
+    """The skew and the gap that a file gives, in units; the skew is rounded up, the gap down."""
+    skew, gap = in_file(limits.skew, making), in_file(limits.gap, making, is_down=True)
     if skew is None or gap is None:
         raise Trouble(WRONG, f"{limits.where}: the skew {limits.skew!r} or the gap {limits.gap!r} is no duration")
     return skew, gap
@@ -135,14 +175,15 @@ def clocks_of(making: Making, words: LimitWords) -> Dict[str, Clock]:
         return [clocks.setdefault(name, Clock(10 ** UNITS[making.unit or "s"])) for name in names]
 
     for option, texts, read in (("--step", words.step, steps_told), ("--clock", words.clock, steps_of_file)):
-        for host, text in by_host(texts, option, hosts):
+        for host, text in by_host(texts, option, making):
             steps = read(making, text)
             for clock in clocks_named(host):
                 clock.steps += steps
-    for host, text in by_host(words.tracking, "--tracking", hosts):
-        updates = updates_of_file(making, text)
+    for host, text in by_host(words.tracking, "--tracking", making):
+        tracked = tracking_of_file(making, text)
         for clock in clocks_named(host):
-            clock.updates += updates
+            clock.updates += tracked.updates
+            clock.reported = max(clock.reported, tracked.reported)
     return clocks
 
 
@@ -157,13 +198,29 @@ def hosts_of(making: Making, found: Found, words: LimitWords) -> Dict[str, LogHo
             WRONG, f"{counted(len(names), 'host')}; at most 64: cut a window by --only or by --from and --to",
         )
     mapped = name_map(names, NO_HOST_NAMES)
-    told = {host: latency_told(text, making) for host, text in by_host(words.latency, "--latency", names)}
+    told = {host: latency_told(text, making) for host, text in by_host(words.latency, "--latency", making)}
     hosts = {}
     for name in names:
         of_file = latency_in_units(found.latencies[name], making) if name in found.latencies else None
-        hosts[name] = LogHost(mapped[name], told.get(name, of_file or told.get(None)))
+        latency = told.get(name, told.get(None, of_file))
+        if of_file and latency and is_narrower(latency, of_file):
+            told_words = f"messages to {printable(name)} take {latency_words(latency)}"
+            of_file_words = f"{found.latencies[name].where} says {latency_words(of_file)}"
+            making.warnings.append(f"--latency: {told_words}, and {of_file_words}: {FEWER}")
+        hosts[name] = LogHost(mapped[name], latency)
+    making.warnings += spelling_warnings("hosts", names, mapped)
     making.notes += [f"host: {name!r} is {host.name}" for name, host in hosts.items() if name != host.name]
     return hosts
+
+
+def is_narrower(latency: Span, other: Span) -> bool:
+    """Whether a latency excludes some that another one allows."""
+    return latency[0] > other[0] or latency[1] is not None and (other[1] is None or latency[1] < other[1])
+
+
+def latency_words(latency: Span) -> str:
+    """A latency in words."""
+    return f"{latency[0]} to {'inf' if latency[1] is None else latency[1]}"
 
 
 def latency_told(text: str, making: Making) -> Span:

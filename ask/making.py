@@ -3,6 +3,7 @@
 from __future__ import annotations
 
 import argparse
+from collections import Counter
 from dataclasses import dataclass, field
 from typing import Dict, List, Optional, Sequence, Tuple
 
@@ -37,10 +38,19 @@ class Making:
     unit: Optional[str]  # None where nobody named it
     is_whole: bool  # whether the stamps were units already
     notes: List[str] = field(default_factory=list)
+    warnings: List[str] = field(default_factory=list)  # what may be otherwise than whoever asks thinks
+    cut: Dict[str, int] = field(default_factory=dict)  # how many stamps of each host lost digits below a unit
+    idle: Dict[str, Limits] = field(default_factory=dict)  # hosts without rows that stay, with what their file says
+    spellings: Dict[str, str] = field(default_factory=dict)  # hosts that were taken as another one
 
     def hosts(self) -> List[str]:
-        """The hosts in the order of their first rows, by their names in the files."""
-        return list(dict.fromkeys(line.host for line in self.lines))
+        """The hosts in the order of their first rows, by their names in the files, and those without rows."""
+        return list(dict.fromkeys([*(line.host for line in self.lines), *self.idle]))
+
+    def host_named(self, word: str) -> Optional[str]:
+        """The host that a word names, or None."""
+        host = self.spellings.get(word, word)
+        return host if host in self.hosts() else None
 
 
 def making_of(events: Sequence[Event], wanted: Optional[str]) -> Making:
@@ -65,11 +75,7 @@ def making_of(events: Sequence[Event], wanted: Optional[str]) -> Making:
         return making
     since = "since 1970-01-01T00:00:00Z" if any(s.kind == "iso" for s in stamps) else "of the seconds in the file"
     making.notes.append(f"unit: {UNIT_WORDS[unit or 's']} {since}")
-    cut = sum(loses_digits(stamp, unit or "s") for stamp in stamps)
-    if cut:
-        making.notes.append(
-            f"digits below a unit are cut off in {counted(cut, 'stamp')}: the skew has to cover one unit more"
-        )
+    making.cut = Counter(event.host for event in events if loses_digits(event.stamp, unit or "s"))
     bare = sum(not stamp.has_zone for stamp in stamps)
     if bare:
         making.notes.append(f"{counted(bare, 'stamp')} without a zone {'is' if bare == 1 else 'are'} taken as UTC")
@@ -82,7 +88,7 @@ def are_whole(events: Sequence[Event]) -> bool:
     if "iso" in kinds and len(kinds) > 1:
         odd = next(event for event in events if event.stamp.kind != "iso")
         raise Trouble(WRONG, f"{odd.where}: the stamp {odd.text} is a plain number, and others are ISO 8601 times")
-    return kinds == {"whole"}
+    return kinds <= {"whole"}
 
 
 def moment_in(making: Making, stamp: Stamp) -> int:

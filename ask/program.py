@@ -2,6 +2,7 @@
 
 from __future__ import annotations
 
+import argparse
 import os
 import subprocess
 import sys
@@ -45,6 +46,7 @@ class Program:
     path: str
     seconds: Optional[float] = None
     runs: List[Run] = field(default_factory=list)
+    is_quiet: bool = False
 
     def run(self, command: str, sources: Sequence[Source], options: Sequence[str] = ()) -> Run:
         """Runs a command on files whose bytes are handed over as they were read."""
@@ -68,7 +70,6 @@ class Program:
         except (OSError, ValueError) as error:
             raise Trouble(NOT_THERE, f"{self.path} can't be run: {error}") from None
         began = time.monotonic()
-        waits = PATIENCE
         told = False
         try:
             while True:
@@ -76,16 +77,15 @@ class Program:
                 if left is not None and left <= 0:
                     raise Stopped
                 try:
-                    output, _ = process.communicate(timeout=waits if left is None else min(waits, left))
+                    output, _ = process.communicate(timeout=PATIENCE if left is None else min(PATIENCE, left))
                     return process.returncode, output
                 except subprocess.TimeoutExpired:
                     taken = time.monotonic() - began
-                    if taken >= PATIENCE:
+                    if taken >= PATIENCE and sys.stderr.isatty() and not self.is_quiet:
                         told = True
                         tell(shown, taken)
-                        waits = PATIENCE if sys.stderr.isatty() else min(2 * waits, 60)
         finally:
-            if told and sys.stderr.isatty():
+            if told:
                 print(file=sys.stderr)
             if process.poll() is None:
                 process.kill()
@@ -93,10 +93,9 @@ class Program:
 
 
 def tell(shown: str, taken: float) -> None:
-    """Says on the standard error how long a run has taken."""
-    end = "\r" if sys.stderr.isatty() else "\n"
+    """Says on the terminal how long a run has taken."""
     short = shown if len(shown) <= 60 else shown[:57] + ".."
-    print(f"ask: {taken:.0f} s: {short}", end=end, file=sys.stderr, flush=True)
+    print(f"ask: {taken:.0f} s: {short}", end="\r", file=sys.stderr, flush=True)
 
 
 def handed(data: bytes) -> IO[bytes]:
@@ -122,3 +121,8 @@ def find_program(named: Optional[str]) -> str:
         f"the program isn't built: there is no {path}.\n"
         f"Run {ROOT / 'skewcheck'} once, which proves and builds it, or name one by --program FILE.",
     )
+
+
+def program_of(arguments: argparse.Namespace) -> Program:
+    """The program that words ask for, with what they say of its runs."""
+    return Program(find_program(arguments.program), arguments.seconds, is_quiet=arguments.quiet)

@@ -6,6 +6,7 @@ import re
 from dataclasses import dataclass
 from typing import List, Optional, Sequence, Tuple
 
+from ask.encoding import refuse_marks
 from ask.formulas import Tree, read_formula
 from ask.logs import Log, read_log
 from ask.program import NOT_THERE, Program, Run
@@ -14,6 +15,7 @@ from ask.reports import Best, Report, Unreadable, read_best, read_report
 from ask.texts import Source, Trouble, is_existing_file, read_source
 from ask.words import TYPED, counted, shortened
 
+REFUSED = 65  # the status where a text is no formula
 UNKNOWN_WORDS = 64  # the status of the program where it doesn't know a command
 VERDICTS = {0: "true", 1: "false", 2: "either", 3: "no timing", 4: "unknown"}
 
@@ -53,10 +55,12 @@ def times_source(times: Sequence[int]) -> Source:
 def formula_source(word: str) -> Source:
     """A formula by the name of its file, or its text."""
     if word == "-" or is_existing_file(word):
-        return read_source(word)
-    if "/" in word or word.endswith((".formula", ".txt")) or not word.strip():
-        raise Trouble(74, f"{word or 'an empty word'} is no file, and no formula either")
-    return Source(TYPED, word.encode("utf-8", "surrogateescape"))
+        return refuse_marks(read_source(word), REFUSED)
+    if not word.strip():
+        raise Trouble(REFUSED, "the formula is empty")
+    if "/" in word or word.endswith((".formula", ".txt")):
+        raise Trouble(74, f"{word} is no file, and no formula either")
+    return refuse_marks(Source(TYPED, word.encode("utf-8", "surrogateescape")), REFUSED)
 
 
 def sources_of(formula: str, log: str) -> Tuple[Source, Source]:

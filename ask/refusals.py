@@ -5,6 +5,7 @@ from __future__ import annotations
 import re
 from typing import Optional, Sequence
 
+from ask.encoding import wide_words
 from ask.logs import HEADERS, KINDS, Record, declared_hosts, is_log_in_json, number as number_of, records_of
 from ask.program import NOT_THERE, Run
 from ask.texts import Source, Trouble, place_of, shown_text
@@ -152,6 +153,9 @@ def log_refusal(words: Sequence[str], log: Source) -> str:
     place = int(words[-1])
     if place > len(records):
         return f"{log.name} is empty: the first line has to be kind,host,time,name"
+    wide = wide_words(log)
+    if number == "1" and wide:
+        return wide
     if number == "1" and is_log_in_json(log.data):
         return log_in_json_words(log)
     record = records[place - 1]
@@ -163,7 +167,7 @@ def log_refusal(words: Sequence[str], log: Source) -> str:
 def header_hint(line: str) -> str:
     """What a first line that is no header may come of."""
     if "\0" in line:
-        return ". It has NUL bytes, as a file in UTF-16 has: the file has to be in UTF-8 or ASCII"
+        return ". It has NUL bytes: the file has to be in UTF-8 or ASCII"
     if line.lstrip("\ufeff \t")[:1] in ("{", "["):
         return ". This is JSON: ask log makes a log of lines of JSON, an event each"
     return ". Its fields are to be separated by commas" if re.search("[;\t|]", line) else ""

@@ -4,13 +4,17 @@ from __future__ import annotations
 
 import re
 from datetime import date
-from typing import NamedTuple, Optional, Sequence
+from typing import NamedTuple, Optional, Sequence, Tuple
 
 UNITS = {"s": 0, "ms": 3, "us": 6, "ns": 9}  # the digits behind the point of a second
+MOST_ZONE_HOURS = 23
 MONTHS = ("Jan", "Feb", "Mar", "Apr", "May", "Jun", "Jul", "Aug", "Sep", "Oct", "Nov", "Dec")
 UNIT_WORDS = {"s": "seconds", "ms": "milliseconds", "us": "microseconds", "ns": "nanoseconds"}
 ISO = re.compile(
-    r"(\d{4})-(\d\d)-(\d\d)[Tt ](\d\d):(\d\d)(?::(\d\d)(?:[.,](\d{1,30}))?)?\s*([Zz]|[+-]\d\d:?\d\d)?", re.ASCII
+    r"(\d{4})-(\d\d)-(\d\d)[Tt ](\d\d):(\d\d)(?::(\d\d)(?:[.,](\d{1,30}))?)?\s*([Zz]|[+-]\d\d(?::?\d\d)?)?", re.ASCII
+)
+BASIC = re.compile(
+    r"(\d{4})(\d\d)(\d\d)[Tt](\d\d)(\d\d)(?:(\d\d)(?:[.,](\d{1,30}))?)?([Zz]|[+-]\d\d(?::?\d\d)?)?", re.ASCII
 )
 DECIMAL = re.compile(r"(-?)(\d{1,20})(?:\.(\d{1,30}))?", re.ASCII)
 DURATION = re.compile(r"(\d{1,20})(?:\.(\d{1,30}))?(s|ms|us|ns)?", re.ASCII)
@@ -28,9 +32,9 @@ class Stamp(NamedTuple):
 def stamp_of(text: str) -> Optional[Stamp]:
     """The stamp that a text is, or None."""
     text = text.strip()
-    found = ISO.fullmatch(text)
-    if found:
-        return iso_stamp(found)
+    iso = iso_match(text)
+    if iso:
+        return None if iso_fault(iso) else iso_stamp(iso)
     found = DECIMAL.fullmatch(text)
     if not found:
         return None
@@ -46,27 +50,48 @@ def stamp_of(text: str) -> Optional[Stamp]:
     return Stamp("decimal", -int(whole) - 1, str(rest).rjust(len(digits), "0"))
 
 
-def iso_stamp(found: "re.Match[str]") -> Optional[Stamp]:
-    """The stamp of an ISO 8601 text, or None where there is no such day or hour."""
+def stamp_fault(text: str) -> str:
+    """Why a text is no stamp, as a sentence goes on behind it."""
+    found = iso_match(text.strip())
+    return found and iso_fault(found) or "is no whole number, no number of seconds and no ISO 8601 time"
+
+
+def iso_match(text: str) -> "Optional[re.Match[str]]":
+    """The parts of a text that has the form of an ISO 8601 time, the extended or the basic one."""
+    return ISO.fullmatch(text) or BASIC.fullmatch(text)
+
+
+def iso_fault(found: "re.Match[str]") -> str:
+    """Which part of a text in the form of an ISO 8601 time is none, or nothing."""
+    year, month, day, hour, minute = (int(found.group(place)) for place in range(1, 6))
+    try:
+        date(year, month, day)
+    except ValueError:
+        return "has a day that there isn't"
+    if hour > 23 or minute > 59 or int(found.group(6) or 0) > 60:
+        return "has a time of day that there isn't"
+    hours, minutes = zone_parts(found.group(8))
+    return f"has the zone {found.group(8)}, which there isn't" if hours > MOST_ZONE_HOURS or minutes > 59 else ""
+
+
+def iso_stamp(found: "re.Match[str]") -> Stamp:
+    """The stamp of an ISO 8601 text without a fault."""
     year, month, day, hour, minute = (int(found.group(place)) for place in range(1, 6))
     second = int(found.group(6) or 0)
-    try:
-        days = (date(year, month, day) - date(1970, 1, 1)).days
-    except ValueError:
-        return None
-    if hour > 23 or minute > 59 or second > 60:
-        return None
+    days = (date(year, month, day) - date(1970, 1, 1)).days
     zone = found.group(8)
-    seconds = 86400 * days + 3600 * hour + 60 * minute + second - zone_seconds(zone)
+    hours, minutes = zone_parts(zone)
+    ahead = (3600 * hours + 60 * minutes) * (-1 if zone and zone[0] == "-" else 1)
+    seconds = 86400 * days + 3600 * hour + 60 * minute + second - ahead
     return Stamp("iso", seconds, found.group(7) or "", zone is not None)
 
 
-def zone_seconds(zone: Optional[str]) -> int:
-    """How far a zone is before UTC."""
+def zone_parts(zone: Optional[str]) -> Tuple[int, int]:
+    """The hours and the minutes by which a zone is off UTC, to either side."""
     if zone is None or zone in "Zz":
-        return 0
-    hours, minutes = int(zone[1:3]), int(zone[-2:])
-    return (3600 * hours + 60 * minutes) * (-1 if zone[0] == "-" else 1)
+        return 0, 0
+    digits = zone[1:].replace(":", "")
+    return int(digits[:2]), int(digits[2:] or 0)
 
 
 def iso_moment(seconds: int, digits: str) -> Stamp:

@@ -12,6 +12,7 @@ from ask.logs import Log, bound_of
 from ask.reports import Step
 
 USAGE = 64  # the status of words that are no command
+MOST_EXACT = 2**53  # the magnitude up to which all whole numbers are floats of 64 bits
 TYPED = "the formula"  # the name of a formula that is in the words themselves
 
 
@@ -27,9 +28,23 @@ class Answer:
 def print_answer(answer: Answer, is_json: bool) -> None:
     """Writes an answer to the standard output."""
     if is_json:
-        print(json.dumps({"status": answer.status, **answer.facts}, indent=2, ensure_ascii=False))
+        print_facts({"status": answer.status, **answer.facts})
     else:
         print("\n".join(answer.lines))
+
+
+def print_facts(facts: Dict[str, Any]) -> None:
+    """Writes facts as JSON to the standard output."""
+    print(json.dumps(with_exact_numbers(facts), indent=2, ensure_ascii=False))
+
+
+def with_exact_numbers(value: Any) -> Any:
+    """A value with the whole numbers as strings that a reader of JSON may take for others, as it reads floats."""
+    if isinstance(value, dict):
+        return {key: with_exact_numbers(inner) for key, inner in value.items()}
+    if isinstance(value, (list, tuple)):
+        return [with_exact_numbers(inner) for inner in value]
+    return str(value) if isinstance(value, int) and abs(value) > MOST_EXACT else value
 
 
 # Looks
@@ -62,6 +77,11 @@ def listed(words: Sequence[str], most: int = 12) -> str:
     """Words with commas between them, no more than so many."""
     shown = ", ".join(words[:most])
     return f"{shown} and {len(words) - most} more" if len(words) > most else shown
+
+
+def printable(name: str) -> str:
+    """A name of a file as it is, in quotes where some sign of it can't be printed."""
+    return name if name.isprintable() else repr(name)
 
 
 def signed(number: int) -> str:

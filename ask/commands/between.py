@@ -5,9 +5,10 @@ from __future__ import annotations
 import argparse
 from typing import Any, Dict, List
 
+from ask.cautions import add_strict_words, with_cautions
 from ask.grounds import ground_facts, ground_lines
 from ask.logs import Log
-from ask.program import NOT_THERE, Program, find_program
+from ask.program import NOT_THERE, program_of
 from ask.question import Question, best_of_run, log_with_rows, run_facts, run_lines
 from ask.reports import Best
 from ask.rows import RULE, row_of
@@ -29,6 +30,7 @@ def add_words(commands: "argparse._SubParsersAction[argparse.ArgumentParser]", c
     words.add_argument("log", metavar="LOG")
     words.add_argument("first", metavar="ROW", help=RULE)
     words.add_argument("second", metavar="ROW", help="in the same way")
+    add_strict_words(words)
     words.add_argument("--all", action="store_true", help="show all bounds that an end rests on")
     words.add_argument("--runs", action="store_true", help="name all runs of the program")
     words.set_defaults(do=do)
@@ -36,13 +38,13 @@ def add_words(commands: "argparse._SubParsersAction[argparse.ArgumentParser]", c
 
 def do(arguments: argparse.Namespace) -> Answer:
     """The answer of the command."""
-    program = Program(find_program(arguments.program), arguments.seconds)
+    program = program_of(arguments)
     question = Question(program, ANY, read_source(arguments.log))
     log = log_with_rows(program, question.log_source)
     first, second = row_of(log, arguments.first), row_of(log, arguments.second)
     if first == second:
         raise Trouble(USAGE, f"both are {row_words(log, first)}: a delay is between two rows")
-    answer = Between(question, log, first, second, arguments.all).answer()
+    answer = with_cautions(Between(question, log, first, second, arguments.all).answer(), [], arguments)
     answer.facts["runs"] = run_facts(program.runs)
     if arguments.runs:
         answer.lines += run_lines(program.runs)
@@ -67,7 +69,8 @@ class Between:
             return self.contradiction(greatest)
         least = self.span(self.second, self.first)
         if greatest.number is None or least.number is None:
-            return Answer(4, [bold("Unknown: the program didn't find the delay within its conflicts.")], self.facts)
+            said = "Unknown: the program didn't find the delay within its conflicts."
+            return Answer(4, [bold(said)], {**self.facts, "sentence": said})
         return self.found(greatest, greatest.number, least, -least.number)
 
     def span(self, start: int, end: int) -> Best:
@@ -82,9 +85,9 @@ class Between:
         """The answer of a log without a timing."""
         walk = best.walk or []
         name = self.question.log_source.name
-        lines = [bold(f"No timing: {name} admits none, since these bounds contradict each other.")]
-        self.facts["contradiction"] = walk_facts(self.log, walk)
-        return Answer(3, lines + walk_words(self.log, walk), self.facts)
+        said = f"No timing: {name} admits none, since these bounds contradict each other."
+        self.facts.update(sentence=said, contradiction=walk_facts(self.log, walk))
+        return Answer(3, [bold(said), *walk_words(self.log, walk)], self.facts)
 
     def found(self, greatest: Best, most: int, least: Best, fewest: int) -> Answer:
         """The answer with both ends."""

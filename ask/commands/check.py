@@ -6,19 +6,20 @@ import argparse
 from typing import Any, Dict, List, Optional, Sequence, Set, Tuple
 
 from ask import explain
-from ask.cautions import KINDS, Caution, caution_lines, cautions_of
+from ask.cautions import (
+    Caution, add_strict_words, caution_facts, caution_lines, cautions_of, strict_status, values_of_status,
+)
 from ask.grounds import ground_facts, ground_lines
 from ask.nearer import brought_nearer
-from ask.program import STOPPED, Program, Run, Stopped, find_program
+from ask.program import STOPPED, Run, Stopped, program_of
 from ask.question import (
     VERDICTS, Question, accepted_log, accepted_tree, answered, report_of_run, run_facts, run_lines, shown_formula,
     sources_of, text_of_source,
 )
 from ask.reports import Report, Section, Step
-from ask.texts import Trouble
-from ask.words import Answer, bold, counted, grouped, signed, step_words, table, walk_facts, walk_words
+from ask.texts import Trouble, write_text
+from ask.words import USAGE, Answer, bold, counted, grouped, signed, step_words, table, walk_facts, walk_words
 
-WARNED = 65  # the status where --strict makes an error of a warning
 FEW_CONFLICTS = 100  # what is tried where a run was stopped
 MOST_ROWS_SHOWN = 40
 SPREAD_NOTE = "a skew is a range for each row by itself, and no offset of the clock"
@@ -33,9 +34,9 @@ def add_words(commands: "argparse._SubParsersAction[argparse.ArgumentParser]", c
     words.add_argument("formula", metavar="FORMULA", help="a file, or the formula itself")
     words.add_argument("log", metavar="LOG")
     words.add_argument("--conflicts", metavar="N", help="of the search for each value, as for the program")
-    words.add_argument("--strict", action="store_true", help="end with 65 where there is a warning")
+    add_strict_words(words)
     words.add_argument(
-        "--strict-for", action="append", choices=KINDS, default=[], help="the same for one kind of warning",
+        "--report", metavar="FILE", help="keep the report of the program's check, which skewcheck audit takes",
     )
     words.add_argument(
         "--as-found", action="store_true", help="show the program's own timings, not brought nearer to the stamps",
@@ -50,15 +51,20 @@ def add_words(commands: "argparse._SubParsersAction[argparse.ArgumentParser]", c
 def do(arguments: argparse.Namespace) -> Answer:
     """The answer of the command."""
     options = ["--conflicts", arguments.conflicts] if arguments.conflicts else []
-    program = Program(find_program(arguments.program), arguments.seconds)
+    program = program_of(arguments)
     question = Question(program, *sources_of(arguments.formula, arguments.log), options)
     refuse_wrong_conflicts(arguments.conflicts)
+    if arguments.report == "-":
+        raise Trouble(USAGE, "--report names a file, since the standard output has the answer")
     notes: List[str] = []
     try:
         run = answered(question.check(), question)
     except Stopped:
         run = with_few_conflicts(question, notes)
-    return Reading(question, run, notes, arguments).answer()
+    answer = Reading(question, run, notes, arguments).answer()
+    if arguments.report is not None:
+        write_text(arguments.report, run.output.decode("ascii"))
+    return answer
 
 
 def refuse_wrong_conflicts(text: Optional[str]) -> None:
@@ -98,7 +104,9 @@ class Reading:
 
     def answer(self) -> Answer:
         """The answer: its sections one after another."""
-        warnings = [] if self.run.status == 3 else cautions_of(self.question, self.log, self.tree, self.run.status)
+        status = self.run.status
+        values = values_of_status(status)
+        warnings = [] if status == 3 else cautions_of(self.question, self.log, self.tree, values)
         self.say_verdict()
         self.say_warnings(warnings)
         self.say_contradiction()
@@ -109,8 +117,7 @@ class Reading:
         self.say_reasons(reasons)
         self.say_grounds()
         self.say_runs()
-        strict = [w for w in warnings if self.arguments.strict or w.kind in self.arguments.strict_for]
-        return Answer(WARNED if strict else self.run.status, self.lines, self.facts)
+        return Answer(strict_status(self.arguments, warnings, status), self.lines, self.facts)
 
     # The verdict
 
@@ -122,7 +129,7 @@ class Reading:
         self.facts.update(formula=formula, log=log, notes=self.notes)
 
     def say_warnings(self, warnings: Sequence[Caution]) -> None:
-        self.facts["warnings"] = [w._asdict() for w in warnings]
+        self.facts["warnings"] = caution_facts(warnings)
         self.lines += caution_lines(warnings)
 
     def say_stamps(self) -> None:
@@ -153,6 +160,7 @@ class Reading:
     def say_timings(self, timings: Dict[bool, List[int]], named: Set[int]) -> None:
         """The timings side by side, a line a row."""
         self.facts["timings"] = {str(value).lower(): times for value, times in timings.items()}
+        self.facts["remarks"] = self.remarks
         if not timings:
             return
         shown = self.rows_shown(timings, named)
@@ -172,7 +180,6 @@ class Reading:
             self.lines.append("  both: a row that isn't at its stamp in either timing")
         self.remarks += self.spreads(timings)
         self.lines += [f"  {remark}" for remark in self.remarks]
-        self.facts["remarks"] = self.remarks
 
     def cells(self, event: int, timings: Dict[bool, List[int]]) -> List[str]:
         """The line of a row in the table of timings."""

@@ -5,19 +5,20 @@ from __future__ import annotations
 import argparse
 from typing import Any, Dict, Optional, Tuple
 
-from ask.cautions import cautions_without_runs, with_cautions
+from ask.cautions import add_strict_words, cautions_wanted, values_of_status, with_cautions
 from ask.commands.check import refuse_wrong_conflicts
-from ask.formulas import Tree, grows_truer, read_formula, subtrees
+from ask.formulas import Tree, grows_truer, is_higher, read_formula, stray_mark, subtrees, with_number
 from ask.logs import Log
-from ask.program import Program, Run, find_program
+from ask.program import Run, program_of
 from ask.question import (
-    Question, accepted_log, answered, run_facts, run_lines, shown_formula, sources_of, text_of_source,
+    REFUSED, Question, accepted_log, answered, run_facts, run_lines, shown_formula, sources_of, text_of_source,
 )
 from ask.refusals import file_hint
-from ask.texts import Source, Trouble
+from ask.texts import Source, Trouble, place_of
 from ask.words import USAGE, Answer, bold
 
 MOST_NUMBER = 10**18  # in an interval
+MOST_LEVELS = 200  # of a formula that the program takes
 SAID = {
     0: "true by every timing", 1: "false by every timing", 2: "true by some timings and false by others",
     4: "false by some timing",
@@ -29,14 +30,16 @@ def add_words(commands: "argparse._SubParsersAction[argparse.ArgumentParser]", c
     words = commands.add_parser(
         "deadline", parents=[common], allow_abbrev=False, help="the least number in place of `?` that a log shows",
         description="The least number in place of `?` with which the formula is true by every timing, by check of one "
-        "number after another; of a formula that is harder to meet with a greater number, the greatest. The status is "
-        "0 where there is one, 1 where there is none, 3 without a timing, and 4 where a check left a value unknown.",
+        "number after another; of a formula that is harder to meet with a greater number, the greatest; or that any "
+        "number will do. The status is 0 where some number will do, 1 where none will, 3 without a timing, and 4 where "
+        "a check left a value unknown.",
     )
     words.add_argument(
         "formula", metavar="FORMULA-WITH-?", help="a file, or the formula itself, as 'G (a.req -> F[0,?] b.ack)'",
     )
     words.add_argument("log", metavar="LOG")
     words.add_argument("--conflicts", metavar="N", help="of the search for each value, as for the program")
+    add_strict_words(words)
     words.add_argument("--runs", action="store_true", help="name all runs of the program")
     words.set_defaults(do=do)
 
@@ -53,10 +56,10 @@ def do(arguments: argparse.Namespace) -> Answer:
     """The answer of the command."""
     refuse_wrong_conflicts(arguments.conflicts)
     options = ["--conflicts", arguments.conflicts] if arguments.conflicts else []
-    program = Program(find_program(arguments.program), arguments.seconds)
+    program = program_of(arguments)
     template, source = sources_of(arguments.formula, arguments.log)
     question = Question(program, template, source, options)
-    answer = Search(question, tree_of(template)).answer()
+    answer = Search(question, tree_of(template), arguments).answer()
     answer.facts["runs"] = run_facts(program.runs)
     if arguments.runs:
         answer.lines += run_lines(program.runs)
@@ -64,12 +67,20 @@ def do(arguments: argparse.Namespace) -> Answer:
 
 
 def tree_of(template: Source) -> Optional[Tree]:
-    """The tree of a formula with `?`, or None where it is no formula, which the program then says."""
+    """The tree of a formula with `?`, or None where it is no formula or too high, which the program then says."""
     text = text_of_source(template)
     if "?" not in text:
         wanted = "write it in place of the number that is asked for, as F[0,?]"
         raise Trouble(USAGE, f"the formula has no `?`: {wanted}{file_hint(template)}")
-    return read_formula(text)
+    tree = read_formula(text)
+    stray = None if tree else stray_mark(text)
+    if stray is not None:
+        place = place_of(template.data, len(text[:stray].encode()))
+        raise Trouble(REFUSED, (
+            f"{template.name}, line {place.line}, column {place.column}: this `?` is no bound of an interval. It "
+            f"stands in place of a whole number, as in F[0,?]{file_hint(template)}"
+        ))
+    return None if tree and is_higher(tree, MOST_LEVELS) else tree
 
 
 def is_rising(tree: Optional[Tree]) -> bool:
@@ -94,11 +105,15 @@ def range_of(tree: Optional[Tree]) -> Tuple[int, int]:
 
 
 class Search:
-    """The bisection of a question whose formula has `?`."""
+    """The bisection of a question whose formula has `?`.
 
-    def __init__(self, question: Question, tree: Optional[Tree]):
-        self.question, self.tree, self.rises = question, tree, is_rising(tree)
+    From `last` on no number that fits changes what the formula says: no two rows are so far apart by any timing.
+    """
+
+    def __init__(self, question: Question, tree: Optional[Tree], arguments: argparse.Namespace):
+        self.question, self.tree, self.arguments, self.rises = question, tree, arguments, is_rising(tree)
         self.least, self.most = range_of(tree)
+        self.last = self.least
         self.template = text_of_source(question.formula)
         self.runs: Dict[int, Run] = {}
 
@@ -121,31 +136,35 @@ class Search:
         return status == 0
 
     def answer(self) -> Answer:
-        """The number at the edge, with the check of it and of its neighbour."""
+        """Which numbers will do, with the checks that show it."""
         first = self.run_at(self.least)
         if first.status == 3:
-            line = f"No timing: {self.question.log_source.name} admits none, so there is nothing to ask."
-            return Answer(3, [bold(line)], {"number": None})
+            said = f"No timing: {self.question.log_source.name} admits none, so there is nothing to ask."
+            return Answer(3, [bold(said)], self.facts(said, None, None))
         log = accepted_log(self.question.log_source)
-        self.most = max(self.least, min(self.most, greatest_distance(log)))
-        return with_cautions(self.answer_at_edge(), cautions_without_runs(self.question.formula, log, self.tree))
-
-    def answer_at_edge(self) -> Answer:
-        """The answer of a log that admits a timing."""
+        self.last = max(self.least, min(self.most, greatest_distance(log) + 1))
         try:
-            number = self.edge()
+            answer, number = self.answer_at_edge()
         except Unknown as unknown:
-            line = f"Unknown: with {unknown.number} it wasn't found within the conflicts whether it can be false."
-            return Answer(4, [bold(line)], {"number": None, "unknown_at": unknown.number})
-        return self.none() if number is None else self.found(number)
+            answer, number = self.unknown(unknown.number), unknown.number
+        tree = self.tree and with_number(self.tree, number)
+        values = values_of_status(self.run_at(number).status)
+        return with_cautions(
+            answer, cautions_wanted(self.arguments, self.question, log, tree, values), self.arguments,
+        )
 
-    def edge(self) -> Optional[int]:
-        """The least number that is met where a formula rises, and the greatest where it falls."""
-        met, failed = (self.most, self.least) if self.rises else (self.least, self.most)
-        if not self.is_met(met):
-            return None
-        if self.is_met(failed):
-            return failed
+    def answer_at_edge(self) -> Tuple[Answer, int]:
+        """The answer, and the number whose check it is about."""
+        easiest, hardest = (self.last, self.least) if self.rises else (self.least, self.last)
+        if not self.is_met(easiest):
+            return self.none(easiest), easiest
+        if self.is_met(hardest):
+            return self.any_number(hardest), hardest
+        number = self.edge(easiest, hardest)
+        return self.found(number), number
+
+    def edge(self, met: int, failed: int) -> int:
+        """The number that is met beside one that isn't, between a number that is met and one that isn't."""
         while abs(met - failed) > 1:
             middle = (met + failed) // 2
             if self.is_met(middle):
@@ -155,48 +174,78 @@ class Search:
         return met
 
     def found(self, number: int) -> Answer:
-        """The answer where there is a number."""
+        """The answer where a number is the last one that will do."""
         beyond = number - 1 if self.rises else number + 1
         which = "least" if self.rises else "greatest"
-        asked = shown_formula(self.question.formula)
-        lines = [bold(f"{number} is the {which} number with which {asked} is true by every timing.")]
-        lines.append(f"  {number}: {end_words(self.run_at(number))}")
-        facts: Dict[str, Any] = {"number": number, "which": which}
-        facts["statuses"] = {str(number): self.run_at(number).status}
-        if beyond in self.runs:
-            lines.append(f"  {beyond}: {end_words(self.run_at(beyond))}")
-            facts["statuses"][str(beyond)] = self.run_at(beyond).status
-        else:
-            lines.append(f"  {beyond} isn't asked about: {self.limit_words(beyond)}")
-        return Answer(0, lines, facts)
+        said = f"{number} is the {which} number with which {self.asked()} is true by every timing."
+        lines = [bold(said), self.line_of(number), self.line_of(beyond)]
+        least, greatest = (number, self.greatest_that_fits()) if self.rises else (self.least, number)
+        facts = self.facts(said, number, which, number, beyond)
+        return Answer(0, lines, {**facts, "least": least, "greatest": greatest})
 
-    def limit_words(self, beyond: int) -> str:
-        """Why no number beyond one is tried."""
-        if beyond < self.least:
-            return "an interval would end before it begins" if self.least else "there is no number below 0"
-        return "no two rows of the log can be further apart, or an interval would end before it begins"
+    def any_number(self, number: int) -> Answer:
+        """The answer where every number that fits will do, as the check with the hardest to meet shows."""
+        greatest = self.greatest_that_fits()
+        span = "Any number" if self.least == 0 else f"Any number from {self.least} on"
+        ends = f"{self.least} is the least" if self.rises else "there is no greatest one"
+        if greatest is not None:
+            span = f"Any number from {self.least} to {greatest}"
+            ends = "with others an interval would end before it begins"
+        elif self.rises and self.least == 0:
+            span = "Any number, 0 included,"
+        said = f"{span} will do: {self.asked()} is true by every timing with each of them, and {ends}."
+        lines = [bold(said), self.line_of(number)]
+        lines += [self.end_of_log()] * (not self.rises and number < self.most)
+        told = self.least if self.rises else greatest
+        facts = self.facts(said, told, "any", number)
+        return Answer(0, lines, {**facts, "least": self.least, "greatest": greatest})
 
-    def none(self) -> Answer:
-        """The answer where no number will do."""
-        number = self.most if self.rises else self.least
-        asked = shown_formula(self.question.formula)
-        lines = [bold(f"None: {asked} isn't true by every timing with any number in place of `?`.")]
-        lines.append(f"  {number}: {end_words(self.run_at(number))}")
-        if self.rises:
-            lines.append(
-                "  A greater number brings nothing: no two rows of the log can be further apart, or no interval "
-                "can be."
-            )
-        return Answer(1, lines, {"number": None, "statuses": {str(number): self.run_at(number).status}})
+    def none(self, number: int) -> Answer:
+        """The answer where no number will do, as the check with the easiest to meet shows."""
+        said = f"None: {self.asked()} isn't true by every timing with any number in place of `?`."
+        lines = [bold(said), self.line_of(number)]
+        if self.rises and number < self.most:
+            lines.append(self.end_of_log())
+        elif self.rises:
+            lines.append("  With a greater number an interval would end before it begins.")
+        elif self.least:
+            lines.append("  With a smaller number an interval would end before it begins.")
+        return Answer(1, lines, self.facts(said, None, None, number))
 
+    def unknown(self, number: int) -> Answer:
+        """The answer where a check left open whether the formula can be false."""
+        said = f"Unknown: with {number} it wasn't found within the conflicts whether it can be false."
+        facts = self.facts(said, None, None, number)
+        return Answer(4, [bold(said), self.line_of(number)], {**facts, "unknown_at": number})
 
-def end_words(run: Run) -> str:
-    """What the check of an end said."""
-    return f"{SAID[run.status]} [{run.words}]"
+    def asked(self) -> str:
+        """The formula with `?`, as sentences show it."""
+        return shown_formula(self.question.formula)
+
+    def greatest_that_fits(self) -> Optional[int]:
+        """The greatest number with which no interval ends before it begins, None where there is none."""
+        return None if self.most == MOST_NUMBER else self.most
+
+    def line_of(self, number: int) -> str:
+        """What the check with a number said."""
+        run = self.run_at(number)
+        return f"  {number}: {SAID[run.status]} [{run.words}]"
+
+    def end_of_log(self) -> str:
+        """Why no number beyond the last one that was tried changes anything."""
+        return f"  A greater number changes nothing: by no timing are two rows of the log {self.last} apart, or more."
+
+    def facts(self, sentence: str, number: Optional[int], which: Optional[str], *shown: int) -> Dict[str, Any]:
+        """The answer for programs, with the statuses of the checks that show it."""
+        statuses = {str(other): self.run_at(other).status for other in shown}
+        return {
+            "sentence": sentence, "number": number, "which": which, "least": None, "greatest": None,
+            "statuses": statuses, "warnings": [],
+        }
 
 
 def greatest_distance(log: Log) -> int:
     """A distance that no two rows of the log exceed by any timing."""
     first = min(row.stamp - row.skew for row in log.rows)
     last = max(row.stamp + row.skew for row in log.rows)
-    return min(last - first, MOST_NUMBER)
+    return last - first

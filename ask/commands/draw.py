@@ -6,12 +6,12 @@ import argparse
 import sys
 from typing import List, Optional, Sequence
 
-from ask.cautions import caution_lines, cautions_without_runs
+from ask.cautions import Caution, add_strict_words, caution_facts, caution_lines, cautions_wanted, strict_status
 from ask.logs import Log
 from ask.nearer import Nearer, brought_nearer
 from ask.page import page_of
 from ask.picture import Panel, picture
-from ask.program import NOT_THERE, Program, Run, find_program
+from ask.program import NOT_THERE, Run, program_of
 from ask.question import (
     Question, accepted_log, accepted_tree, answered, formula_source, report_of_run, run_facts, shown_formula,
 )
@@ -36,6 +36,7 @@ def add_words(commands: "argparse._SubParsersAction[argparse.ArgumentParser]", c
     which.add_argument("--report", metavar="FILE", help="a report of check")
     which.add_argument("--times", metavar="FILE", help="a file of times, as the program's times writes them")
     words.add_argument("--formula", metavar="FORMULA", help="a file, or the formula itself")
+    add_strict_words(words)
     words.add_argument("--svg", action="store_true", help="write the picture alone, without a page")
     words.add_argument(
         "--as-found",
@@ -47,29 +48,31 @@ def add_words(commands: "argparse._SubParsersAction[argparse.ArgumentParser]", c
 
 def do(arguments: argparse.Namespace) -> Answer:
     """The answer of the command."""
-    program = Program(find_program(arguments.program), arguments.seconds)
-    formula = formula_source(arguments.formula) if arguments.formula else None
+    program = program_of(arguments)
+    formula = formula_source(arguments.formula) if arguments.formula is not None else None
     drawing = Drawing(Question(program, formula or ANY, read_source(arguments.log)), formula)
-    if arguments.times:
+    if arguments.times is not None:
         panels = drawing.panels_of_times(read_source(arguments.times))
-    elif arguments.report:
+    elif arguments.report is not None:
         panels = drawing.panels_of_report(read_source(arguments.report))
     elif formula:
         panels = drawing.panels_of_check(arguments.as_found)
     else:
         panels = drawing.panels_of_stamps()
     log = drawing.log()
-    cautions = cautions_without_runs(formula, log, accepted_tree(formula)) if formula else []
-    if not arguments.json:
+    cautions = drawing.cautions(arguments)
+    if not arguments.json and not arguments.quiet:
         for line in [*caution_lines(cautions), *dict.fromkeys(drawing.remarks)]:
             print(f"ask: {line}", file=sys.stderr)
     heading = drawing.question.log_source.name + (f": {shown_formula(formula)}" if formula else "")
     svg = picture(log, panels, heading if arguments.svg else "")
     text = svg if arguments.svg else page_of(heading, svg)
     titles = [{"title": panel.title, "times": list(panel.times)} for panel in panels]
-    warnings = [caution._asdict() for caution in cautions]
-    facts = {"panels": titles, "picture": text, "warnings": warnings, "runs": run_facts(program.runs)}
-    return Answer(0, [text], facts)
+    facts = {
+        "panels": titles, "picture": text, "remarks": list(dict.fromkeys(drawing.remarks)),
+        "warnings": caution_facts(cautions), "runs": run_facts(program.runs),
+    }
+    return Answer(strict_status(arguments, cautions, 0), [text], facts)
 
 
 class Drawing:
@@ -78,6 +81,14 @@ class Drawing:
     def __init__(self, question: Question, formula: Optional[Source]):
         self.question, self.formula = question, formula
         self.remarks: List[str] = []  # on timings that were brought nearer to the stamps
+        self.values: List[bool] = []  # that the formula has in the panels
+        self.has_timing = True
+
+    def cautions(self, arguments: argparse.Namespace) -> List[Caution]:
+        """The warnings of the formula, where there is one and the log has a timing."""
+        if not self.formula or not self.has_timing:
+            return []
+        return cautions_wanted(arguments, self.question, self.log(), accepted_tree(self.formula), self.values)
 
     def log(self) -> Log:
         return accepted_log(self.question.log_source)
@@ -109,6 +120,7 @@ class Drawing:
         return step_words(self.log(), Step(kind, (int(number),)))
 
     def contradiction(self, walk: Sequence[Step]) -> Panel:
+        self.has_timing = False
         return Panel("No timing is admissible: these bounds contradict each other", self.log().stamps(), walk)
 
     def panels_of_times(self, times: Source) -> List[Panel]:
@@ -185,6 +197,7 @@ class Drawing:
                 if nearer:
                     timing = brought_nearer(nearer, self.log(), section.times, value)
                 self.remarks += [timing.remark] * bool(timing.remark)
+                self.values.append(value)
                 panels.append(Panel(self.title(report, value), timing.times))
         return panels or [Panel("By the stamps", self.log().stamps())]
 

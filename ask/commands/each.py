@@ -5,18 +5,23 @@ from __future__ import annotations
 import argparse
 import re
 from collections import Counter
-from typing import Dict, List, NamedTuple, Pattern, Sequence, Tuple
+from typing import Any, Dict, List, NamedTuple, Optional, Pattern, Sequence, Tuple
 
-from ask.cautions import cautions_of_names
+from ask.cautions import (
+    Caution, add_strict_words, caution_facts, cautions_of, cautions_of_names, strict_status, values_of_status,
+    wants_runs,
+)
 from ask.commands.check import refuse_wrong_conflicts
 from ask.logs import Log
-from ask.program import STOPPED, Program, Stopped, find_program
+from ask.program import STOPPED, Program, Stopped, program_of
 from ask.question import (
-    VERDICTS, Question, accepted_tree, log_with_rows, run_facts, shown_formula, sources_of, text_of_source,
+    VERDICTS, Question, accepted_tree, log_with_rows, report_of_run, run_facts, shown_formula, sources_of,
+    text_of_source,
 )
 from ask.refusals import file_hint, refusal
+from ask.reports import Step
 from ask.texts import Source, Trouble
-from ask.words import USAGE, Answer, bold, counted, table
+from ask.words import USAGE, Answer, bold, counted, table, walk_facts, walk_words
 
 # Which status the table has: the first of these that a line has.
 ORDER = (3, 1, 2, 4, STOPPED, 0)
@@ -31,7 +36,8 @@ def add_words(commands: "argparse._SubParsersAction[argparse.ArgumentParser]", c
         description="Checks a formula for each name of the log that a regular expression matches as a whole. In "
         "the template {} stands for the name that matches, and {1}, {2} and so on for the expression's groups. An "
         "expression with \\. in it is matched with HOST.NAME, any other with names alone. The status is the first of "
-        "3, 1, 2, 4, 124 and 0 that a formula has, or that of a refusal.",
+        "3, 1, 2, 4, 124 and 0 that a formula has, or that of a refusal. A log without a timing is told with the "
+        "bounds that contradict each other.",
     )
     words.add_argument(
         "template",
@@ -41,23 +47,33 @@ def add_words(commands: "argparse._SubParsersAction[argparse.ArgumentParser]", c
     words.add_argument("log", metavar="LOG")
     words.add_argument("--over", metavar="REGEX", required=True, help="the names, as '(\\w+)\\.(\\w+)_asked'")
     words.add_argument("--conflicts", metavar="N", help="of the search for each value, as for the program")
+    add_strict_words(words)
     words.set_defaults(do=do)
 
 
 class Line(NamedTuple):
-    """A line of the table: the name that matched, its formula, its status and its warnings."""
+    """A line of the table: the name that matched, its formula, its status, its warnings, and a walk if no timing is."""
 
     name: str
     formula: str
     status: int
-    warnings: List[str]
+    warnings: Sequence[Caution] = ()
+    walk: Optional[Sequence[Step]] = None
+
+    def facts(self) -> Dict[str, Any]:
+        """The line for programs."""
+        verdict = SHOWN[self.status]
+        warnings = caution_facts(self.warnings)
+        return {
+            "name": self.name, "formula": self.formula, "status": self.status, "verdict": verdict, "warnings": warnings,
+        }
 
 
 def do(arguments: argparse.Namespace) -> Answer:
     """The answer of the command."""
     refuse_wrong_conflicts(arguments.conflicts)
     options = ["--conflicts", arguments.conflicts] if arguments.conflicts else []
-    program = Program(find_program(arguments.program), arguments.seconds)
+    program = program_of(arguments)
     template, source = sources_of(arguments.template, arguments.log)
     if not re.search(PLACE, text_of_source(template)):
         said = f"{shown_formula(template)} has no {{}} for the names: each of them would have this formula"
@@ -67,11 +83,19 @@ def do(arguments: argparse.Namespace) -> Answer:
     matches = matching(log, pattern)
     if not matches:
         raise Trouble(USAGE, f"{arguments.over} matches no name of {source.name} as a whole")
-    lines = [line_of(program, template, source, log, options, name, groups) for name, groups in matches.items()]
+    table_of = Table(program, template, source, log, options, wants_runs(arguments))
+    lines = [table_of.line(name, groups) for name, groups in matches.items()]
     status = next(status for status in ORDER if any(line.status == status for line in lines))
-    return Answer(
-        status, shown(lines), {"lines": [line._asdict() for line in lines], "runs": run_facts(program.runs)},
-    )
+    facts: Dict[str, Any] = {"lines": [line.facts() for line in lines]}
+    walk = next((line.walk for line in lines if line.walk is not None), None)
+    text = shown(lines)
+    if walk is not None:
+        said = f"No timing: {source.name} admits none, since these bounds contradict each other."
+        text = [bold(said), *walk_words(log, walk), "", *text]
+        facts["contradiction"] = walk_facts(log, walk)
+    warnings = [warning for line in lines for warning in line.warnings]
+    facts["runs"] = run_facts(program.runs)
+    return Answer(strict_status(arguments, warnings, status), text, facts)
 
 
 def pattern_of(text: str) -> Pattern:
@@ -106,22 +130,35 @@ def filled(template: str, name: str, groups: Sequence[str]) -> str:
     return re.sub(PLACE, place, template)
 
 
-def line_of(
-    program: Program, template: Source, source: Source, log: Log, options: Sequence[str], name: str,
-    groups: Sequence[str],
-) -> Line:
-    """The line of a name."""
-    text = " ".join(filled(text_of_source(template), name, groups).split())
-    formula = Source(f"the formula for {name}", text.encode("utf-8", "surrogateescape"))
-    question = Question(program, formula, source, options)
-    try:
-        run = question.check()
-    except Stopped:
-        return Line(name, text, STOPPED, [])
-    if run.status not in VERDICTS:
-        raise refusal(run, formula, source)
-    warnings = [caution.sentence for caution in cautions_of_names(question, log, accepted_tree(formula))]
-    return Line(name, text, run.status, warnings)
+class Table(NamedTuple):
+    """A template and a log, and how the program is asked for each name."""
+
+    program: Program
+    template: Source
+    source: Source
+    log: Log
+    options: Sequence[str]
+    is_warned_by_runs: bool  # whether all kinds of warnings are asked for
+
+    def line(self, name: str, groups: Sequence[str]) -> Line:
+        """The line of a name."""
+        text = " ".join(filled(text_of_source(self.template), name, groups).split())
+        formula = Source(f"the formula for {name}", text.encode("utf-8", "surrogateescape"))
+        question = Question(self.program, formula, self.source, self.options)
+        try:
+            run = question.check()
+        except Stopped:
+            return Line(name, text, STOPPED)
+        if run.status not in VERDICTS:
+            raise refusal(run, formula, self.source)
+        if run.status == 3:
+            return Line(name, text, 3, (), report_of_run(run).walk)
+        tree = accepted_tree(formula)
+        if self.is_warned_by_runs:
+            warnings = cautions_of(question, self.log, tree, values_of_status(run.status))
+        else:
+            warnings = list(cautions_of_names(question, self.log, tree))
+        return Line(name, text, run.status, warnings)
 
 
 def shown(lines: Sequence[Line]) -> List[str]:
@@ -131,4 +168,4 @@ def shown(lines: Sequence[Line]) -> List[str]:
     counts = [f"{statuses[status]} {SHOWN[status]}" for status in sorted(statuses)]
     text = table(["name", "verdict", "status", "formula"], rows, left=(0, 1, 3))
     text.append(bold(f"{counted(len(lines), 'formula')}: {', '.join(counts)}."))
-    return text + [f"Warning: {line.name}: {warning}." for line in lines for warning in line.warnings]
+    return text + [f"Warning: {line.name}: {w.sentence}." for line in lines for w in line.warnings]

@@ -7,13 +7,15 @@ import sys
 from typing import Dict, List, Sequence, Tuple
 
 from ask.access import AccessWords, access_events, format_of
+from ask.encoding import refuse_wide
 from ask.events import WRONG, Found, Keys, Rows, name_map, read_events
 from ask.limits import LimitWords, LogHost, hosts_of, settle_limits
 from ask.logs import MOST_ROWS, ROW_KINDS
 from ask.making import Making, cut_window, making_of, settle_messages, spread_carried
+from ask.spelling import Spellings, spelling_warnings, take_as_one
 from ask.stamps import UNITS
-from ask.texts import Trouble, read_source, write_text
-from ask.words import USAGE, Answer, counted, listed
+from ask.texts import Source, Trouble, read_source, write_text
+from ask.words import USAGE, Answer, counted, listed, printable
 
 
 def add_words(commands: "argparse._SubParsersAction[argparse.ArgumentParser]", common: argparse.ArgumentParser) -> None:
@@ -36,7 +38,10 @@ def add_words(commands: "argparse._SubParsersAction[argparse.ArgumentParser]", c
     words.add_argument(
         "--part",
         action="store_true",
-        help="the log is joined with others later: receives whose send is elsewhere stay, and there may be no row",
+        help=(
+            "the log is joined with others later: receives whose send is elsewhere stay, hosts without rows too, and "
+            "there may be no row"
+        ),
     )
     add_words_on_events(words.add_argument_group("what an event is, and what it becomes"))
     add_words_on_clocks(words.add_argument_group("clocks and messages; without a HOST it is for all hosts"))
@@ -80,6 +85,11 @@ def add_words_on_events(words: argparse._ArgumentGroup) -> None:
         ),
     )
     words.add_argument(
+        "--same-name",
+        action="store_true",
+        help="names that differ in the case of letters alone are one, of hosts and of what happened",
+    )
+    words.add_argument(
         "--pulses",
         action="store_true",
         help="events without a kind become pulses, propositions that are true at one instant",
@@ -89,12 +99,13 @@ def add_words_on_events(words: argparse._ArgumentGroup) -> None:
 def add_words_on_clocks(words: argparse._ArgumentGroup) -> None:
     """Adds the words on clocks and messages."""
     for option, metavar, what in (
-        ("--skew", "[HOST=]D", "how far each stamp may be off, as 5ms or, in units, 5"),
+        ("--skew", "[HOST=]D", "how far each stamp may be off, as 5ms or, in units, 5, whatever the file says"),
         ("--gap", "[HOST=]D", "the least distance of two rows on end; else 0"),
         ("--latency", "[HOST=]LEAST,GREATEST", "how long messages to it took; GREATEST may be inf"),
         ("--step", "[HOST=]STAMP,D", "the clock was stepped by D at STAMP: rows before it may be off by D more"),
         ("--clock", "[HOST=]FILE", "the same by the lines of chronyd or ntpd on steps in a file"),
-        ("--tracking", "[HOST=]FILE", "a tracking log of chrony, whose greatest errors are added to the skew"),
+        ("--tracking", "[HOST=]FILE", "a tracking log of chrony, or what `chronyc tracking` wrote: its greatest errors "
+         "are added to the skew"),
     ):
         words.add_argument(option, action="append", default=[], metavar=metavar, help=what)
 
@@ -119,22 +130,47 @@ def do(arguments: argparse.Namespace) -> Answer:
     found = found_in_files(arguments)
     if not found.events and not arguments.part:
         raise Trouble(WRONG, f"there is no row in {listed(arguments.files)}")
+    spellings = take_as_one(found) if arguments.same_name else Spellings({}, {})
     making = making_of(found.events, arguments.unit)
+    making.spellings = spellings.hosts
+    making.notes += spellings.notes()
+    making.warnings += warnings_of_rows(arguments, found)
     cut_window(making, arguments)
     if not making.lines and not arguments.part:
         raise Trouble(WRONG, "no row is left in the window")
     settle_messages(making, arguments.part)
+    settle_idle_hosts(making, found, arguments.part)
     words = LimitWords(
         arguments.skew, arguments.gap, arguments.latency, arguments.step, arguments.clock, arguments.tracking,
     )
-    settle_limits(making, words)
+    idle = settle_limits(making, words)
     spread_carried(making)
-    text = log_text(making, hosts_of(making, found, words))
-    if arguments.notes:
-        write_text(arguments.notes, "".join(f"{note}\n" for note in making.notes))
-    elif not arguments.json:
-        tell(making.notes)
-    return Answer(0, text, {"log": "".join(f"{line}\n" for line in text), "notes": making.notes})
+    text = log_text(making, hosts_of(making, found, words), idle)
+    warnings = [f"warning: {warning}" for warning in making.warnings]
+    if arguments.notes is not None:
+        write_text(arguments.notes, "".join(f"{note}\n" for note in [*warnings, *making.notes]))
+    if not arguments.json and not arguments.quiet:
+        tell(warnings if arguments.notes is not None else [*warnings, *making.notes])
+    facts = {"log": "".join(f"{line}\n" for line in text), "warnings": making.warnings, "notes": making.notes}
+    return Answer(0, text, facts)
+
+
+def warnings_of_rows(arguments: argparse.Namespace, found: Found) -> List[str]:
+    """A warning for each event of --row that the files don't have."""
+    names = list(dict.fromkeys(event.event for event in found.events))
+    missing = [event for event in row_table(arguments.row) if names and event not in names]
+    known = listed([printable(name) for name in names])
+    return [f"--row {event}: no event of the files has this name. They have: {known}" for event in missing]
+
+
+def settle_idle_hosts(making: Making, found: Found, is_part: bool) -> None:
+    """Keeps the hosts of a part that are declared and have no row, and makes a note of those of a log."""
+    hosts = making.hosts()
+    idle = {host: limits for host, limits in found.hosts.items() if host not in hosts}
+    if is_part:
+        making.idle = idle
+    elif idle:
+        making.notes.append(f"left out, since no row is of them: the hosts {listed([printable(host) for host in idle])}")
 
 
 def found_in_files(arguments: argparse.Namespace) -> Found:
@@ -144,15 +180,20 @@ def found_in_files(arguments: argparse.Namespace) -> Found:
     if arguments.access is not None:
         form = format_of(arguments.access)
         words = AccessWords(arguments.time, arguments.id, arguments.only, rows, arguments.as_host, without_kind)
-        found.events = access_events([read_source(name) for name in arguments.files], form, words)
+        found.events = access_events([input_file(name) for name in arguments.files], form, words)
         return found
     keys = Keys(
         tuple(arguments.host.split(",")), arguments.time or "time", arguments.name, arguments.kind, arguments.id,
         without_kind,
     )
     for name in arguments.files:
-        read_events(read_source(name), keys, rows, found)
+        read_events(input_file(name), keys, rows, found)
     return found
+
+
+def input_file(name: str) -> Source:
+    """A file of events in an encoding that is read."""
+    return refuse_wide(read_source(name), WRONG)
 
 
 def tell(notes: Sequence[str]) -> None:
@@ -171,6 +212,10 @@ def row_table(words: Sequence[str]) -> Rows:
             raise Trouble(
                 USAGE, f"--row {word}: it is EVENT=KIND:NAME[,KIND:NAME], with a KIND of {', '.join(ROW_KINDS)}",
             )
+        if event in rows:
+            raise Trouble(USAGE, f"--row {word}: {event} has a --row already: all rows of an event stand in one")
+        if not event.strip():
+            raise Trouble(USAGE, f"--row {word}: it names no event")
         rows[event] = [(part[0], part[1]) for part in parts]
     return rows
 
@@ -178,9 +223,10 @@ def row_table(words: Sequence[str]) -> Rows:
 # The log
 
 
-def log_text(making: Making, hosts: Dict[str, LogHost]) -> List[str]:
+def log_text(making: Making, hosts: Dict[str, LogHost], idle: Dict[str, Tuple[int, int]]) -> List[str]:
     """The lines of the log, of version 2 where a latency, a pulse or a change of a skew needs it."""
     mapped = name_map([line.name for line in making.lines])
+    making.warnings += spelling_warnings("names", [line.name for line in making.lines], mapped)
     making.notes += [f"name: {name!r} is {short}" for name, short in mapped.items() if name != short]
     if len(making.lines) > MOST_ROWS:
         raise Trouble(
@@ -188,18 +234,18 @@ def log_text(making: Making, hosts: Dict[str, LogHost]) -> List[str]:
             f"{counted(len(making.lines), 'row')}; at most 1,024: cut a window by --only or by --from and --to "
             "(docs/real-logs.md)",
         )
-    heads, latencies, body = [], [], []
-    known: Dict[str, Tuple[int, int]] = {}
+    known: Dict[str, Tuple[int, int]] = {}  # the skew and the gap of each host from here on
+    heads, body = [], []
     for line in making.lines:
-        host, limits = hosts[line.host], (line.skew, line.gap)
+        host, limits = hosts[line.host].name, (line.skew, line.gap)
         if line.host not in known:
-            heads.append(f"host,{host.name},{line.skew},{line.gap}")
-            if host.latency:
-                least, most = host.latency
-                latencies.append(f"latency,{host.name},{least},{'inf' if most is None else most}")
+            heads.append(f"host,{host},{line.skew},{line.gap}")
         elif known[line.host] != limits:
-            body.append(f"resync,{host.name},{line.skew},{line.gap}")
+            body.append(f"resync,{host},{line.skew},{line.gap}")
         known[line.host] = limits
-        body.append(f"{line.kind},{host.name},{line.stamp},{mapped[line.name]}")
+        body.append(f"{line.kind},{host},{line.stamp},{mapped[line.name]}")
+    heads += [f"host,{hosts[name].name},{skew},{gap}" for name, (skew, gap) in idle.items()]
+    told = [(host.name, host.latency) for host in hosts.values() if host.latency]
+    latencies = [f"latency,{name},{least},{'inf' if most is None else most}" for name, (least, most) in told]
     is_second = bool(latencies) or any(text.startswith(("resync,", "pulse,")) for text in body)
     return [f"{'skewlog2' if is_second else 'kind'},host,time,name", *heads, *latencies, *body]

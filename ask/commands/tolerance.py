@@ -6,12 +6,12 @@ import argparse
 from dataclasses import replace
 from typing import Any, Dict, List, Optional
 
-from ask.cautions import cautions_without_runs, with_cautions
+from ask.cautions import add_strict_words, cautions_wanted, with_cautions
 from ask.commands.check import refuse_wrong_conflicts
 from ask.grounds import ground_facts, ground_lines
 from ask.logs import MOST_SKEW, Log, number, records_of
 from ask.nearer import brought_nearer
-from ask.program import Program, find_program
+from ask.program import program_of
 from ask.question import (
     Question, accepted_tree, best_of_run, log_with_rows, run_facts, run_lines, shown_formula, sources_of,
 )
@@ -36,6 +36,7 @@ def add_words(commands: "argparse._SubParsersAction[argparse.ArgumentParser]", c
     words.add_argument("log", metavar="LOG")
     words.add_argument("--up-to", dest="most", metavar="MAX", help="the greatest number that is tried, else 10^18")
     words.add_argument("--conflicts", metavar="N", help="of each search, as for the program")
+    add_strict_words(words)
     words.add_argument("--all", action="store_true", help="show all rows, and all bounds")
     words.add_argument("--runs", action="store_true", help="name all runs of the program")
     words.set_defaults(do=do)
@@ -45,7 +46,7 @@ def do(arguments: argparse.Namespace) -> Answer:
     """The answer of the command."""
     refuse_wrong_conflicts(arguments.conflicts)
     options = ["--conflicts", arguments.conflicts] if arguments.conflicts else []
-    program = Program(find_program(arguments.program), arguments.seconds)
+    program = program_of(arguments)
     question = Question(program, *sources_of(arguments.formula, arguments.log), options)
     log = log_with_rows(program, question.log_source)
     most = most_of(arguments.most)
@@ -56,9 +57,12 @@ def do(arguments: argparse.Namespace) -> Answer:
     except Trouble as trouble:
         more = f"; the size is that with all skews {most_words(most)} greater, and a smaller --up-to may make it smaller"
         raise Trouble(trouble.status, trouble.message + more * run.line().startswith("refused size")) from None
-    answer = Tolerance(question, log, arguments.value, most, arguments.all).answer(run.status, best)
+    tolerance = Tolerance(question, log, arguments.value, most, arguments.all)
+    answer = tolerance.answer(run.status, best)
     if run.status != 3:
-        with_cautions(answer, cautions_without_runs(question.formula, log, accepted_tree(question.formula)))
+        tree = accepted_tree(question.formula)
+        wide = replace(question, log_source=widened_source(question.log_source, best.number or 0))
+        with_cautions(answer, cautions_wanted(arguments, wide, log, tree, tolerance.values_told(run.status)), arguments)
     answer.facts["runs"] = run_facts(program.runs)
     if arguments.runs:
         answer.lines += run_lines(program.runs)
@@ -85,7 +89,7 @@ class Tolerance:
 
     def __init__(self, question: Question, log: Log, value: str, most: int, is_all: bool):
         self.question, self.log, self.value, self.most, self.is_all = question, log, value, most, is_all
-        self.facts: Dict[str, Any] = {"value": value, "most": most}
+        self.facts: Dict[str, Any] = {"value": value, "most": most, "warnings": []}
 
     def answer(self, status: int, best: Best) -> Answer:
         """The answer: a sentence, the timing, and why less isn't enough."""
@@ -105,8 +109,13 @@ class Tolerance:
             self.facts["contradiction"] = walk_facts(wide, best.walk)
         elif status == 1 and best.why:
             lines += ["The derivation rests on", *ground_lines(wide, best.why, self.is_all)]
+            self.facts["rests_on"] = ground_facts(wide, best.why)
         self.facts.update(sentence=said, least=None)
         return Answer(status, lines, self.facts)
+
+    def values_told(self, status: int) -> List[bool]:
+        """The value that the answer is about: the one that is possible, or the other one where it can't be."""
+        return {0: [self.value == "true"], 1: [self.value == "false"]}.get(status, [])
 
     def found(self, best: Best, least: int, what: str) -> Answer:
         """The answer where there is a number."""

@@ -2,7 +2,9 @@
 
 import contextlib
 import io
+import json
 import os
+import re
 import subprocess
 import sys
 from pathlib import Path
@@ -16,6 +18,21 @@ from ask.main import main
 from ask.program import find_program
 
 PULSED = b"skewlog2,host,time,name\nhost,a,0,0\npulse,a,10,p\n"
+
+
+def facts_of_text(text):
+    """The facts of an answer in JSON, with whole numbers also where they stand as strings, since they are great."""
+    return with_numbers(json.loads(text))
+
+
+def with_numbers(value):
+    """A value with the great whole numbers that are strings as numbers."""
+    if isinstance(value, dict):
+        return {key: with_numbers(inner) for key, inner in value.items()}
+    if isinstance(value, list):
+        return [with_numbers(inner) for inner in value]
+    is_great = isinstance(value, str) and re.fullmatch(r"-?[0-9]{16,}", value) and abs(int(value)) > 2**53
+    return int(value) if is_great else value
 
 
 def status_of(words, text=b""):

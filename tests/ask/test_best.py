@@ -1,12 +1,11 @@
 """`ask between` and `ask tolerance`: what they make of the program's `span` and `tolerance`."""
 
-import json
 import random
 import tempfile
 import unittest
 from pathlib import Path
 
-from common import ROOT, asked
+from common import ROOT, asked, facts_of_text
 import generate
 import logs
 import reference
@@ -19,7 +18,7 @@ def facts_of(words, status, folder=EXAMPLES):
     """What words answer, as facts."""
     ended, text, said = asked([*words, "--json"], folder)
     assert ended == status, f"{words}: {ended}, {said}"
-    return json.loads(text)
+    return facts_of_text(text)
 
 
 class Between(unittest.TestCase):
@@ -76,7 +75,7 @@ class Between(unittest.TestCase):
                 ended, text, said = asked(["between", "l", str(first), str(second), "--json"], folder)
                 self.assertIn(ended, (0, 3), said)
                 if ended == 0:
-                    self.check_ends(json.loads(text), log, first, second)
+                    self.check_ends(facts_of_text(text), log, first, second)
 
     def check_ends(self, facts, log, first, second):
         """Asserts that the timings of both ends are admissible and have the delays."""

@@ -1,13 +1,12 @@
 """`ask check` on generated formulas and logs: what it says is the program's, and so it is by the reference."""
 
-import json
 import random
 import subprocess
 import tempfile
 import unittest
 from pathlib import Path
 
-from common import PATIENCE, PULSED, asked
+from common import PATIENCE, PULSED, asked, facts_of_text
 import formats
 import generate
 import logs
@@ -43,7 +42,7 @@ class AgainstProgramAndReference(unittest.TestCase):
         status, text, said = asked(["check", "f", "l", "--json"], folder)
         self.assertEqual(status, done.returncode, said)
         self.assertNotEqual(text, "")
-        facts = json.loads(text)
+        facts = facts_of_text(text)
         self.assertEqual("refusal" in facts, status >= 64)
         if status < 3:
             self.check_values(facts, formats.read_formula(formula), logs.read_log(log), status)

@@ -1,4 +1,4 @@
-"""The commands of docs/asking.md write what stands below them, and its pictures are what the commands draw."""
+"""The commands of pages with ask write what stands below them, and pictures are what the commands draw."""
 
 import os
 import re
@@ -10,20 +10,21 @@ from common import PATIENCE, ROOT
 
 from ask.program import find_program
 
-PAGE = ROOT / "docs" / "asking.md"
+PAGES = ("asking.md", "real-logs.md")
 
 
-def shown_commands():
-    """The commands of the shell blocks of the page, each with what stands below it."""
-    for block in re.findall(r"^```sh\n(.*?)^```$", PAGE.read_text(), re.M | re.S):
+def shown_commands(page):
+    """The commands with ask of the shell blocks of a page, each with what stands below it."""
+    for block in re.findall(r"^```sh\n(.*?)^```$", (ROOT / "docs" / page).read_text(), re.M | re.S):
         for part in re.split(r"^\$ ", block, flags=re.M)[1:]:
             command, _, below = part.partition("\n")
-            yield command, below
+            if "./ask/ask" in command:
+                yield command, below
 
 
 class Pages(unittest.TestCase):
     def test_commands(self):
-        for command, below in shown_commands():
+        for command, below in [shown for page in PAGES for shown in shown_commands(page)]:
             with self.subTest(command=command):
                 shown, _, kept = command.partition(" > ") if command.endswith(".svg") else (command, "", "")
                 done = subprocess.run(

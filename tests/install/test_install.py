@@ -264,19 +264,28 @@ class Pages(WithRoom):
         page = (ROOT / "docs" / "usage.md").read_text()
         step = re.search(r"### In a job of continuous integration.*?```sh\n(.*?)```", page, re.S)[1]
         self.put()
+        asking = self.prefix / "bin" / "skewask"
+        if not asking.exists():
+            asking.write_text(f'#!/bin/sh\nexec "{ROOT}/ask/ask" "$@"\n')
+            asking.chmod(0o755)
         environment = {**os.environ, "PATH": f"{self.prefix}/bin:{os.environ['PATH']}"}
+        within_5 = (ROOT / "examples" / "within_5.formula").read_text()
         for log, formula, status, said in (
-            ("requests/met.csv", "within_5.formula", 0, "met, whatever the true times were\naccepted\n"),
-            ("requests/late.csv", "within_5.formula", 1, "not met"),
-            ("requests/unclear.csv", "within_5.formula", 1, "the log doesn't tell"),
-            ("requests/impossible.csv", "within_5.formula", 1, "no timing is admissible"),
-            ("requests/faulty.csv", "within_5.formula", 1, "no answer, status 66: refused log 7 at record 5"),
+            ("requests/met.csv", within_5, 0, "met, whatever the true times were\naccepted\n"),
+            ("requests/late.csv", within_5, 1, "not met"),
+            ("requests/unclear.csv", within_5, 1, "the log doesn't tell"),
+            ("requests/impossible.csv", within_5, 1, "no timing is admissible"),
+            ("requests/faulty.csv", within_5, 1, "no answer, status 66"),
+            ("requests/met.csv", "G (a.rqe -> F[0,5] b.ack)", 1, "less was asked than was meant"),
+            ("requests/met.csv", "G (a.req -> F[0,5] c.ack)", 1, "the formula is refused"),
         ):
             shutil.copy(ROOT / "examples" / log, self.room / "events.csv")
-            shutil.copy(ROOT / "examples" / formula, self.room / "deadline.formula")
+            (self.room / "deadline.formula").write_text(formula)
+            (self.room / "report").unlink(missing_ok=True)
             done = subprocess.run(["sh", "-e", "-c", step], cwd=self.room, env=environment, stdout=subprocess.PIPE, text=True)
             self.assertEqual(done.returncode, status, log)
             self.assertIn(said, done.stdout)
+            self.assertEqual((self.room / "report").exists(), "faulty" not in log and "c.ack" not in formula, formula)
 
 
 if __name__ == "__main__":

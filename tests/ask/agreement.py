@@ -1,0 +1,260 @@
+#!/usr/bin/env python3
+"""Compares the answers of ask on generated questions with what is enumerated, and with the program.
+
+Run as: tests/ask/agreement.py [--cases N] [--of COMMAND ..] [--seed N]
+
+Each of deadline, between, tolerance and each is asked N questions of small logs, and what it answers has to be so by
+all timings of the log, which the reference in tests/reference goes through. `ask check` is asked N questions of
+generated files, some of them broken, and has to end with the status of the program. The end is 1 where one differs.
+"""
+
+import argparse
+import random
+import re
+import sys
+import tempfile
+from pathlib import Path
+from typing import NamedTuple
+
+sys.dont_write_bytecode = True  # leaves no compiled files beside the sources
+
+from common import asked, facts_of_text, status_of
+import formats
+import generate
+import invent_reports
+import logs
+import meanings
+import reference
+
+TIMINGS_MOST = 250  # ways to give each row a time of its window that are gone through for a question
+WIDEST = 2  # by which skews are widened
+INTERVAL = re.compile(rb"\[([ \t\r\n]*)([0-9]+)([ \t\r\n]*,[ \t\r\n]*)([0-9]+|inf)([ \t\r\n]*\])")
+MARKED = re.compile(rb"\[[ \t\r\n]*([0-9]+|\?)[ \t\r\n]*,[ \t\r\n]*([0-9]+|inf|\?)[ \t\r\n]*\]")
+PROPOSITION = re.compile(rb"(?<![a-z0-9_])([a-z][a-z0-9_]*)[ \t\r\n]*\.[ \t\r\n]*([a-z][a-z0-9_]*)")
+PLACES = b"{1}.{2}"
+MOST_NUMBER = 10**18
+
+
+class Timings(NamedTuple):
+    """A small log with all timings that it admits."""
+
+    log: logs.Log
+    all: list
+
+    def values(self, text):
+        """The values of a formula over all timings."""
+        tree = formats.read_formula(text)
+        return {reference.truth(self.log, times, tree) for times in self.all}
+
+    def is_always_true(self, text):
+        """Whether a formula is true by every timing."""
+        tree = formats.read_formula(text)
+        return all(reference.truth(self.log, times, tree) for times in self.all)
+
+
+def small_question(draw, widening=0):
+    """A log and the text of a formula, such that the log has few timings also where its skews are greater."""
+    while True:
+        question = invent_reports.small_question(draw)
+        ways = 1
+        for event in range(len(question.log.rows)):
+            ways *= 2 * (reference.skew_of(question.log, event) + widening) + 1
+        if ways <= TIMINGS_MOST:
+            return question.log, question.formula_text
+
+
+def answer_of(folder, words, formula, log):
+    """How ask ends on a formula and a log, and its facts."""
+    Path(folder, "f").write_bytes(formula)
+    Path(folder, "l").write_bytes(logs.log_text(log))
+    ended, text, _ = asked([*words, "--json"], folder)
+    return ended, facts_of_text(text)
+
+
+# deadline
+
+
+def with_marks(draw, formula):
+    """A formula with `?` in place of a number of an interval, seldom of several, or None where it has none."""
+    found = list(INTERVAL.finditer(formula))
+    if not found:
+        return None
+    count = min(len(found), draw.choice((1, 1, 1, 2)))
+    for one in sorted(draw.sample(found, count), key=lambda match: -match.start()):
+        group = draw.choice((2, 4))
+        formula = formula[: one.start(group)] + b"?" + formula[one.end(group) :]
+    return formula
+
+
+def fitting(template):
+    """The least and the greatest number with which no interval with `?` ends before it begins."""
+    ends = [match.groups() for match in MARKED.finditer(template) if b"?" in match.groups()]
+    least = max((int(low) for low, _ in ends if low != b"?"), default=0)
+    return least, min((int(high) for low, high in ends if low == b"?" and high != b"inf"), default=MOST_NUMBER)
+
+
+def numbers_tried(timings, least, most):
+    """Numbers from the least one that fits to beyond every distance of rows, and the greatest one that fits."""
+    local = [row.local for row in timings.log.rows]
+    skews = [reference.skew_of(timings.log, event) for event in range(len(local))]
+    far = max(local) - min(local) + 2 * max(skews) + 2
+    near = range(least, min(most, max(least, far) + 2) + 1)
+    return sorted({*near, most})
+
+
+def deadline_complaint(draw, folder):
+    """What `ask deadline` says that isn't so, or nothing."""
+    log, formula = small_question(draw)
+    template = with_marks(draw, formula)
+    while template is None:
+        log, formula = small_question(draw)
+        template = with_marks(draw, formula)
+    least, most = fitting(template)
+    ended, facts = answer_of(folder, ["deadline", "f", "l"], template, log)
+    timings = Timings(log, list(meanings.admissible_timings(log)))
+    if ended == 64 and template.count(b"?") > 1:
+        return ""  # one makes the formula easier to meet and another harder, or no number fits
+    if least > most or not timings.all:
+        return "" if ended == 3 and least <= most else f"no timing or no number for {template!r}, and {ended}"
+    tried = numbers_tried(timings, least, most)
+    good = [number for number in tried if timings.is_always_true(template.replace(b"?", b"%d" % number))]
+    right = deadline_facts(tried, good, most)
+    said = {key: facts.get(key) for key in right}
+    words = facts.get("sentence", "")
+    if said != right or not words.startswith(deadline_words(right)):
+        return f"{template!r}: {said}, {words!r}, and right is {right}"
+    return ""
+
+
+def deadline_facts(tried, good, most):
+    """What `ask deadline` has to answer where these of the numbers that were tried will do."""
+    if not good:
+        return {"status": 1, "number": None, "which": None, "least": None, "greatest": None}
+    greatest = None if good[-1] == most == MOST_NUMBER else good[-1]
+    if good == tried:
+        which, number = "any", None
+    elif good[0] > tried[0]:
+        which, number = "least", good[0]
+    else:
+        which, number = "greatest", good[-1]
+    right = {"status": 0, "which": which, "least": good[0], "greatest": greatest}
+    return right if which == "any" else {**right, "number": number}
+
+
+def deadline_words(right):
+    """How the sentence has to begin."""
+    if right["status"] == 1:
+        return "None: "
+    if right["which"] != "any":
+        return f"{right['number']} is the {right['which']} number with which "
+    if right["greatest"] is not None:
+        return f"Any number from {right['least']} to {right['greatest']} will do: "
+    return f"Any number from {right['least']} on will do: " if right["least"] else "Any number"
+
+
+# The others
+
+
+def between_complaint(draw, folder):
+    """What `ask between` says that isn't so, or nothing."""
+    log, formula = small_question(draw)
+    while len(log.rows) < 2:
+        log, formula = small_question(draw)
+    first, second = draw.sample(range(len(log.rows)), 2)
+    ended, facts = answer_of(folder, ["between", "l", str(first), str(second)], formula, log)
+    delays = [times[second] - times[first] for times in meanings.admissible_timings(log)]
+    right = (0, min(delays), max(delays)) if delays else (3, None, None)
+    said = (ended, facts.get("least"), facts.get("greatest"))
+    return "" if said == right else f"rows {first} and {second}: {said}, and right is {right}"
+
+
+def tolerance_complaint(draw, folder):
+    """What `ask tolerance` says that isn't so, or nothing."""
+    log, formula = small_question(draw, WIDEST)
+    value, most = draw.choice(("true", "false")), draw.randint(0, WIDEST)
+    ended, facts = answer_of(folder, ["tolerance", value, "f", "l", "--up-to", str(most)], formula, log)
+    found = [Timings(wide, list(meanings.admissible_timings(wide))) for wide in widenings(log, most)]
+    least = next((number for number, timings in enumerate(found) if (value == "true") in timings.values(formula)), None)
+    right = (0 if least is not None else 1 if found[-1].all else 3, least)
+    said = (ended, facts.get("least"))
+    return "" if said == right else f"{value} {formula!r} up to {most}: {said}, and right is {right}"
+
+
+def widenings(log, most):
+    """The log with its skews greater by 0, 1 and so on."""
+    return [logs.widened(log, number) for number in range(most + 1)]
+
+
+def each_complaint(draw, folder):
+    """What `ask each` says that isn't so, or nothing."""
+    log, formula = small_question(draw)
+    template = PROPOSITION.sub(PLACES, formula, count=1)
+    if PLACES not in template:
+        template = b"F " + PLACES
+    ended, facts = answer_of(folder, ["each", "f", "l", "--over", r"(\w+)\.(\w+)"], template, log)
+    timings = Timings(log, list(meanings.admissible_timings(log)))
+    names = dict.fromkeys(log.hosts[row.host].name + b"." + row.name for row in log.rows)
+    right = {name.decode(): status_of_values(timings, template.replace(PLACES, name)) for name in names}
+    verdicts = {0: "true", 1: "false", 2: "either", 3: "no timing"}
+    said = {line["name"]: line["status"] for line in facts.get("lines", [])}
+    whole = next((status for status in (3, 1, 2, 0) if status in right.values()), None)
+    words_are_right = all(line["verdict"] == verdicts.get(line["status"]) for line in facts.get("lines", []))
+    has_walk = ("contradiction" in facts) == (whole == 3)
+    if (said, ended) != (right, whole) or not words_are_right or not has_walk:
+        return f"{template!r}: {ended}, {said}, and right is {whole}, {right}"
+    return ""
+
+
+def status_of_values(timings, text):
+    """The status of `check` of a formula by all timings."""
+    values = timings.values(text)
+    return 3 if not values else 2 if len(values) == 2 else 0 if True in values else 1
+
+
+def check_complaint(draw, folder):
+    """Where `ask check` ends otherwise than the program, or nothing."""
+    log = generate.some_log(draw)
+    formula, text = generate.formula_file(draw, log), generate.log_file(draw, log, 0.1)
+    Path(folder, "f").write_bytes(formula)
+    Path(folder, "l").write_bytes(text)
+    words = ["check", "f", "l", *draw.choice((["--as-found"], ["--quiet"], ["--json"], []))]
+    ended, written, said = asked(words, folder)
+    right = status_of(["check", str(Path(folder, "f")), str(Path(folder, "l"))])
+    if ended != right or "--quiet" in words and written or (ended >= 64) != bool(said):
+        return f"{words} of {formula[:200]!r} and {text[:400]!r}: {ended}, {said!r}, and the program {right}"
+    return ""
+
+
+COMPLAINTS = {
+    "check": check_complaint, "deadline": deadline_complaint, "between": between_complaint,
+    "tolerance": tolerance_complaint, "each": each_complaint,
+}
+
+
+def differences(command, cases, seed):
+    """What a command says that isn't so in so many cases, as lines with the number of the case."""
+    with tempfile.TemporaryDirectory() as folder:
+        for place in range(cases):
+            found = COMPLAINTS[command](random.Random(f"{seed} {command} {place}"), folder)
+            if found:
+                log = Path(folder, "l").read_text(errors="replace")
+                yield f"{command}, case {place} of seed {seed}: {found}\n{log}"
+
+
+def main():
+    """Prints what differs, and ends with 0 where nothing does."""
+    parser = argparse.ArgumentParser(description=__doc__.splitlines()[0])
+    parser.add_argument("--cases", type=int, default=100, metavar="N", help="questions of each command")
+    parser.add_argument("--of", nargs="+", choices=list(COMPLAINTS), default=list(COMPLAINTS), metavar="COMMAND")
+    parser.add_argument("--seed", type=int, default=38, metavar="N")
+    arguments = parser.parse_args()
+    count = 0
+    for command in arguments.of:
+        found = list(differences(command, arguments.cases, arguments.seed))
+        count += len(found)
+        print("\n".join([*found, f"{command}: {arguments.cases} questions, {len(found)} answered otherwise"]), flush=True)
+    return 1 if count else 0
+
+
+if __name__ == "__main__":
+    sys.exit(main())
