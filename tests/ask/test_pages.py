@@ -10,12 +10,12 @@ from common import PATIENCE, ROOT
 
 from ask.program import find_program
 
-PAGES = ("asking.md", "real-logs.md")
+PAGES = ("README.md", "docs/asking.md", "docs/real-logs.md")
 
 
 def shown_commands(page):
     """The commands with ask of the shell blocks of a page, each with what stands below it."""
-    for block in re.findall(r"^```sh\n(.*?)^```$", (ROOT / "docs" / page).read_text(), re.M | re.S):
+    for block in re.findall(r"^```sh\n(.*?)^```$", (ROOT / page).read_text(), re.M | re.S):
         for part in re.split(r"^\$ ", block, flags=re.M)[1:]:
             command, _, below = part.partition("\n")
             if "./ask/ask" in command:
