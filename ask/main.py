@@ -48,7 +48,7 @@ def common_words() -> argparse.ArgumentParser:
     words.add_argument("--json", action="store_true", help="write the answer as JSON (docs/asking-json.md)")
     words.add_argument("--quiet", action="store_true", help="write nothing but refusals: the status is the answer")
     words.add_argument(
-        "--program", metavar="FILE", help="the program; else SKEWCHECK of the environment, else the built one",
+        "--program", metavar="FILE", help="the program; else SKEWCHECK of the environment, the built or installed one, or that of the path",
     )
     words.add_argument("--seconds", type=seconds, metavar="S", help="stop a run of the program that takes longer")
     return words

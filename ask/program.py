@@ -4,6 +4,7 @@ from __future__ import annotations
 
 import argparse
 import os
+import shutil
 import subprocess
 import sys
 import tempfile
@@ -17,6 +18,8 @@ from ask.texts import Source, Trouble
 
 ROOT = Path(__file__).resolve().parent.parent
 BUILT = ROOT / "crates" / "skewcheck" / "out" / "skewcheck"
+IS_SOURCE = BUILT.parent.parent.is_dir()  # whether this is the repository, and not what ./install puts elsewhere
+REMEDY = f"run {ROOT / 'skewcheck'} once, which proves and builds it" if IS_SOURCE else "install skewcheck again"
 NOT_THERE = 72  # the status where there is no program, which is also that of ./skewcheck
 STOPPED = 124  # the status where a run took longer than --seconds allows, which is also that of timeout
 MOST_SHOWN = 400  # letters of the words of a run
@@ -68,7 +71,7 @@ class Program:
                 words, stdin=subprocess.DEVNULL, stdout=subprocess.PIPE, pass_fds=descriptors
             )
         except (OSError, ValueError) as error:
-            raise Trouble(NOT_THERE, f"{self.path} can't be run: {error}") from None
+            raise Trouble(NOT_THERE, f"{self.path} can't be run: {error}; name another one by --program FILE") from None
         began = time.monotonic()
         told = False
         try:
@@ -109,18 +112,26 @@ def handed(data: bytes) -> IO[bytes]:
 
 
 def find_program(named: Optional[str]) -> str:
-    """The program that was named, that of the environment, or the one that ./skewcheck built."""
-    path = named or os.environ.get("SKEWCHECK") or str(BUILT)
-    if os.path.isfile(path) and os.access(path, os.X_OK):
-        return os.path.abspath(path)
-    if named or os.environ.get("SKEWCHECK"):
+    """The program that was named, that of the environment, the one that belongs to ask, or the one in the path."""
+    told = named or os.environ.get("SKEWCHECK")
+    if told and not is_program(told):
         by = "--program" if named else "SKEWCHECK in the environment"
-        raise Trouble(NOT_THERE, f"{path}, which {by} names, isn't a program that can be run")
-    raise Trouble(
-        NOT_THERE,
-        f"the program isn't built: there is no {path}.\n"
-        f"Run {ROOT / 'skewcheck'} once, which proves and builds it, or name one by --program FILE.",
-    )
+        raise Trouble(NOT_THERE, f"{told}, which {by} names, isn't a program that can be run: name another one, or none")
+    own = own_program()
+    found = told or (own if is_program(own) else shutil.which("skewcheck"))
+    if not found:
+        raise Trouble(NOT_THERE, f"there is no {own}, and no skewcheck in the path: {REMEDY}, or name one by --program FILE")
+    return os.path.abspath(found)
+
+
+def is_program(path: str) -> bool:
+    """Whether there is a file of that name that can be run."""
+    return os.path.isfile(path) and os.access(path, os.X_OK)
+
+
+def own_program() -> str:
+    """The program that ./skewcheck built, or where ask is installed the one beside its command."""
+    return str(BUILT if IS_SOURCE else Path(sys.argv[0]).resolve().parent / "skewcheck")
 
 
 def program_of(arguments: argparse.Namespace) -> Program:

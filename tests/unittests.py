@@ -1,14 +1,31 @@
 """Runs the unittest cases of a folder, and says at the end what was left out and how many passed.
 
-Run as: python3 tests/unittests.py FOLDER [WORDS..], where WORDS are those of `unittest discover`, as -k NAME. Each case
-that was left out has a line `left out: CASE: REASON`, and the last line is `N passed, M failed`. The end is 0 where
-none failed and at least one was run.
+Run as: python3 tests/unittests.py FOLDER [--side-by-side] [WORDS..], where WORDS are those of `unittest discover`, as
+-k NAME. With --side-by-side each file of cases has a process of its own, and all run at once. Each case that was left out
+has a line `left out: CASE: REASON`, and the last line is `N passed, M failed`. The end is 0 where none failed and at
+least one was run or left out.
 """
 
+import re
+import subprocess
 import sys
 import unittest
+from pathlib import Path
+from typing import NamedTuple
 
 sys.dont_write_bytecode = True  # leaves no compiled files beside the sources
+
+BESIDE = "--side-by-side"
+PART = "--part"  # one of the processes of those: its cases need not be any
+CLOSING = re.compile(r"^(\d+) passed, (\d+) failed$", re.M)
+
+
+class Counts(NamedTuple):
+    """How many cases passed, failed and were left out."""
+
+    passed: int
+    failed: int
+    left_out: int
 
 
 def case_of(test):
@@ -16,17 +33,43 @@ def case_of(test):
     return getattr(test, "test_case", test)
 
 
-def main(folder, words):
-    """Runs the cases, prints the closing lines, and gives the status."""
+def run(folder, words):
+    """Runs the cases of a folder, and tells of those that are left out."""
     done = unittest.main(None, argv=["unittest", "discover", "-s", folder, *words], exit=False).result
     for test, reason in done.skipped:
         print(f"left out: {folder}, {case_of(test).id()}: {reason}")
     wrong = {case_of(test).id() for test, _ in [*done.failures, *done.errors]}
     wrong |= {test.id() for test in done.unexpectedSuccesses}
-    skipped = {case_of(test).id() for test, _ in done.skipped}
-    passed = max(0, done.testsRun - len(wrong) - len(skipped - wrong))
-    failed = len(wrong) or int(done.testsRun == 0)
-    print(f"{passed} passed, {failed} failed")
+    skipped = {case_of(test).id() for test, _ in done.skipped} - wrong
+    return Counts(max(0, done.testsRun - len(wrong) - len(skipped)), len(wrong), len(skipped))
+
+
+def part_of(folder, file, words):
+    """A process that runs the cases of one file."""
+    command = [sys.executable, __file__, folder, PART, "-p", file.name, *words]
+    return subprocess.Popen(command, stdout=subprocess.PIPE, stderr=subprocess.STDOUT, text=True)
+
+
+def run_beside(folder, words):
+    """Runs the cases of each file of a folder in a process of its own, all at once."""
+    parts = [(file, part_of(folder, file, words)) for file in sorted(Path(folder).glob("test_*.py"))]
+    passed = failed = left_out = 0
+    for file, process in parts:
+        said = process.communicate()[0]
+        print(f"{file}\n{said}", end="", flush=True)
+        closing = CLOSING.findall(said)
+        numbers = map(int, closing[-1]) if closing else (0, 1)
+        passed, failed = (sum(pair) for pair in zip((passed, failed), numbers))
+        left_out += len(re.findall("^left out: ", said, re.M))
+    return Counts(passed, failed, left_out)
+
+
+def main(folder, words):
+    """Runs the cases, prints the closing line, and gives the status."""
+    is_beside, is_part = words[:1] == [BESIDE], words[:1] == [PART]
+    counts = run_beside(folder, words[1:]) if is_beside else run(folder, words[int(is_part) :])
+    failed = counts.failed or int(not is_part and counts == (0, 0, 0))
+    print(f"{counts.passed} passed, {failed} failed")
     return 1 if failed else 0
 
 

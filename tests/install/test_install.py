@@ -5,30 +5,11 @@ import re
 import shutil
 import subprocess
 import tarfile
-import tempfile
 import unittest
-from pathlib import Path
 
-ROOT = Path(__file__).resolve().parent.parent.parent
-PROGRAM = os.environ["SKEWCHECK"]
-PATIENCE = 60
-INSTALLED = [
-    "bin/skewcheck",
-    "share/man/man1/skewcheck.1",
-    "share/bash-completion/completions/skewcheck",
-    "share/zsh/site-functions/_skewcheck",
-    "share/fish/vendor_completions.d/skewcheck.fish",
-]
-ABOUT = "share/doc/skewcheck"
+from common import ABOUT, BASH, COMMANDS, FISH, LIST, PATIENCE, PROGRAM, ROOT, ZSH, WithRoom, expected, installed, needs_commit, tree
+
 FILES = ("FORMULA", "LOG", "REPORT", "TIMES", "FILE")  # operands that are names of files
-
-
-def installed(*words, **environment):
-    """How a run of ./install ended."""
-    return subprocess.run(
-        [ROOT / "install", *words], stdin=subprocess.DEVNULL, capture_output=True, text=True, timeout=PATIENCE,
-        env={**os.environ, **environment},
-    )
 
 
 def commands():
@@ -43,28 +24,10 @@ def operands_of(words):
     return [word for word in words if word.isupper() and "]" not in word]
 
 
-def tree(folder):
-    """All that stands below a folder."""
-    return sorted(str(path.relative_to(folder)) for path in Path(folder).rglob("*"))
-
-
-class WithRoom(unittest.TestCase):
-    def setUp(self):
-        room = tempfile.TemporaryDirectory()
-        self.addCleanup(room.cleanup)
-        self.room = Path(room.name)
-        self.prefix = self.room / "prefix"
-
-    def put(self):
-        done = installed("--prefix", self.prefix)
-        self.assertEqual(done.returncode, 0, done.stderr)
-        return done
-
-
 class Installing(WithRoom):
     def test_files(self):
-        names = [str(self.prefix / name) for name in [*INSTALLED, f"{ABOUT}/made"]]
-        self.assertEqual(self.put().stdout.splitlines(), names)
+        names = sorted(str(self.prefix / name) for name in [*expected(), LIST, f"{ABOUT}/made"])
+        self.assertEqual(sorted(self.put().stdout.splitlines()), names)
         self.assertEqual([name for name in names if not os.path.isfile(name)], [])
         self.assertEqual(len([path for path in self.prefix.rglob("*") if path.is_file()]), len(names))
         done = subprocess.run([self.prefix / "bin" / "skewcheck", "demo", "7"], capture_output=True, text=True)
@@ -100,14 +63,6 @@ class Installing(WithRoom):
 
 
 class Refusals(WithRoom):
-    def assertRefused(self, words, status, said, **environment):
-        before = tree(self.room)
-        done = installed(*words, **environment)
-        self.assertEqual(done.returncode, status, done.stderr)
-        self.assertIn(said, done.stderr)
-        self.assertEqual(len(done.stderr.splitlines()), 1)
-        self.assertEqual((done.stdout, tree(self.room)), ("", before))
-
     def test_words(self):
         self.assertRefused(["--prefx", self.prefix], 64, "--prefx is no option")
         self.assertRefused(["--prefix"], 64, "--prefix wants a name")
@@ -160,8 +115,7 @@ class Refusals(WithRoom):
 class Packing(WithRoom):
     def setUp(self):
         super().setUp()
-        if not shutil.which("rt") or not (ROOT / ".git").exists():
-            self.skipTest("there is no rt, or no commit, here")
+        needs_commit(self)
 
     def pack(self, name):
         done = installed("--dist", self.room / name)
@@ -178,9 +132,9 @@ class Packing(WithRoom):
         other.mkdir()
         with tarfile.open(self.pack("a.tar")) as archive:
             archive.extractall(other)
-        for name in INSTALLED:
+        for name in expected():
             self.assertEqual((other / name).read_bytes(), (self.prefix / name).read_bytes(), name)
-        self.assertTrue(os.access(other / "bin" / "skewcheck", os.X_OK))
+        self.assertEqual([name for name in COMMANDS if not os.access(other / name, os.X_OK)], [])
         sums = subprocess.run(["sha256sum", "--quiet", "-c", f"{ABOUT}/sha256sums"], cwd=other, capture_output=True)
         self.assertEqual((sums.returncode, sums.stdout), (0, b""))
         version = (other / ABOUT / "version").read_text().splitlines()
@@ -194,7 +148,7 @@ class Packing(WithRoom):
 class Completions(WithRoom):
     def completed(self, shell, *words):
         """What a shell offers for the last word."""
-        place = self.prefix / INSTALLED[2 if shell == "bash" else 4]
+        place = self.prefix / (BASH if shell == "bash" else FISH)
         if shell == "bash":
             script = f'. {place}; COMP_WORDS=("$@"); COMP_CWORD=$(($# - 1)); _skewcheck; printf "%s\\n" "${{COMPREPLY[@]}}"'
             run = ["bash", "-c", script, "bash", *words]
@@ -227,16 +181,16 @@ class Completions(WithRoom):
 
     def test_fish(self):
         if not shutil.which("fish"):
-            self.skipTest("there is no fish here")
+            self.skipTest("for want of the package fish")
         self.offers("fish")
 
     def test_zsh(self):
         if not shutil.which("zsh"):
-            self.skipTest("there is no zsh here")
+            self.skipTest("for want of the package zsh")
         self.put()
-        done = subprocess.run(["zsh", "-n", self.prefix / INSTALLED[3]], capture_output=True, text=True)
+        done = subprocess.run(["zsh", "-n", self.prefix / ZSH], capture_output=True, text=True)
         self.assertEqual((done.returncode, done.stderr), (0, ""))
-        text = (self.prefix / INSTALLED[3]).read_text()
+        text = (self.prefix / ZSH).read_text()
         self.assertEqual(re.findall(r"^  '?([a-z]+)[:)]", text, re.M), 2 * [words[0] for words in commands()])
 
 

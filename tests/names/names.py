@@ -64,12 +64,14 @@ class Looker:
 
     def has_path(self, path: str, page: Path) -> bool:
         """Whether there is a file of this path, from the top, from the page's folder, or from a folder anywhere."""
-        path = re.sub(r"\b[A-Z][A-Z_]+\b", "*", path.strip("/").removeprefix("./"))
+        path = re.sub(r"\b[A-Z][A-Z_]+\b", "*", re.sub(r"^(\.\.?/)+", "", path.strip("/")))
         places = [path, f"*/{path}", f"{page.parent.relative_to(ROOT)}/{path}"]
         crate, _, rest = path.partition("/")
         if rest and crate in self.names.owned:
             places.append(f"crates/{crate}/*/{rest}")  # the pages leave out src and specs
-        return path in self.others or any(fnmatchcase(known, place) for known in self.names.paths for place in places)
+        if any(fnmatchcase(path, other) for other in self.others):
+            return True
+        return any(fnmatchcase(known, place) for known in self.names.paths for place in places)
 
     def lacks_of_span(self, span: str, page: Path) -> Iterator[str]:
         """The names of a span that there aren't."""

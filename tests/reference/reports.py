@@ -6,7 +6,8 @@ FORMULA, LOG and REPORT are files. N is the number of conflicts that an unknown
 section must have spent, 200000 where it isn't given. The answer is one line.
 `accepted`: each claim of the report holds. `refused report at line L`: line L
 is the first with which no report goes on. `refused PART at line K`: that part
-of the report is the first that doesn't hold. The end is 0 or 5.
+of the report is the first that doesn't hold. The command itself, with all its
+ends, is audit.py.
 
 A report claims of the admissible timings of the log: that there is none, by a
 closed walk of bounds whose sum is negative; or of true and of false, that some
@@ -19,7 +20,6 @@ part, the verdict. Lines of derivations are those of derivations.py; timings,
 bounds and truth those of reference.py. It searches for nothing.
 """
 
-import argparse
 import sys
 from typing import NamedTuple, Union
 
@@ -33,6 +33,7 @@ from derivations import Learn, NotInGrammar, SyntaxFault, Words
 TITLE = b"skewcheck 1"
 CONFLICTS = 200_000  # the number where none is given
 CONFLICTS_MOST = 1_000_000
+ACCEPTED = "accepted"
 
 
 # Reports
@@ -287,39 +288,23 @@ def learned(lines):
 
 def audit(log, formula, conflicts, data):
     """The line that says whether the bytes are a report that is accepted."""
-    report = read_report(data)
+    return line_on(log, formula, conflicts, read_report(data))
+
+
+def line_on(log, formula, conflicts, report):
+    """The line on a report as it was read."""
     if isinstance(report, SyntaxFault):
         return f"refused report at line {report.line}"
     place = first_faulty_place(log, formula, conflicts, report)
-    return "accepted" if place is None else f"refused {place.part} at line {place.line}"
+    return ACCEPTED if place is None else f"refused {place.part} at line {place.line}"
 
 
 def conflicts_number(text):
     """The number of conflicts that a word spells, or None."""
-    return formats.number(text.encode(), CONFLICTS_MOST) or None
-
-
-def read_arguments():
-    """The files and the number of conflicts of the command line."""
-    parser = argparse.ArgumentParser(description="audit a report of skewcheck")
-    for name in ("formula", "log", "report"):
-        parser.add_argument(name)
-    parser.add_argument("--conflicts", default=str(CONFLICTS), help="a number from 1 to 1000000")
-    arguments = parser.parse_args()
-    if conflicts_number(arguments.conflicts) is None:
-        parser.error("the conflicts aren't a number from 1 to 1000000")
-    return arguments
-
-
-def main():
-    """Prints the line on a report, and ends with 0 where it is accepted and with 5 else."""
-    arguments = read_arguments()
-    formula, log = derivations.read_inputs(arguments.formula, arguments.log)
-    data = derivations.read_file(arguments.report)
-    line = audit(log, formula, conflicts_number(arguments.conflicts), data)
-    print(line)
-    sys.exit(0 if line == "accepted" else 5)
+    return formats.number(text.encode(errors="replace"), CONFLICTS_MOST) or None
 
 
 if __name__ == "__main__":
-    main()
+    import audit as command  # which reads this module by its name
+
+    sys.exit(command.main(sys.argv[1:]))
