@@ -2,6 +2,6 @@
 
 import sys
 
-from ask.main import main
+from ask.main import run
 
-sys.exit(main(sys.argv[1:]))
+run(sys.argv[1:])

@@ -2,8 +2,8 @@
 
 from __future__ import annotations
 
+import heapq
 import re
-from dataclasses import dataclass
 from typing import Callable, Dict, Iterator, List, NamedTuple, Optional, Pattern, Sequence, Tuple
 
 from ask.events import WRONG, Event, Fields, Rows, filled
@@ -44,11 +44,16 @@ def format_of(text: str) -> Format:
     if not found:
         raise Trouble(USAGE, f"--access {text}: it has no variable, as $msec of nginx or %t of Apache")
     pattern, keys, place = "", [], 0
-    for match in found:
+    ends = [match.end() for match in found]
+    for number, match in enumerate(found):
         pattern += re.escape(whole[place : match.start()])
+        # Of variables with nothing between them the first has all letters, since no line tells where they part.
+        is_behind_another = number > 0 and place == match.start()
         place = match.end()
         key = key_of(match)
-        pattern += r"\[([^\]]*)\]" if key == "t" else f"({letters_before(whole[place : place + 1])})"
+        last = next(end for end in ends[number:] if not VARIABLE.match(whole, end))
+        letters = "" if is_behind_another else letters_before(whole[last : last + 1])
+        pattern += r"\[([^\]]*)\]" if key == "t" else f"({letters})"
         keys.append(key)
     return Format(re.compile(pattern + re.escape(whole[place:])), keys, text)
 
@@ -125,8 +130,7 @@ DURATIONS: Dict[str, Reading] = {
 # Requests
 
 
-@dataclass
-class Request:
+class Request(NamedTuple):
     """A request: when it began and ended, which of the two is known, the fields of its line, and where it stands."""
 
     began: Stamp
@@ -183,7 +187,7 @@ def read_by(reading: Reading, fields: Fields, key: str, where: str) -> Stamp:
     """The moment or the duration under a key."""
     found = reading(fields[key])
     if found is None:
-        raise Trouble(WRONG, f"{where}: {key} is {fields[key]!r}, which is no time")
+        raise Trouble(WRONG, f"{where}: {key} is {shortened(fields[key])!r}, which is no time")
     return found
 
 
@@ -204,7 +208,8 @@ def access_events(sources: Sequence[Source], form: Format, words: AccessWords) -
         known = listed(form.keys)
         raise Trouble(USAGE, f"--only: the format has no {words.id}; say by --id which field is the id: {known}")
     requests = [request for source in sources for request in requests_of(source, form, words.time)]
-    kept = [request for request in requests if not words.only or request.fields[words.id] in words.only]
+    only = set(words.only)
+    kept = [request for request in requests if not only or request.fields[words.id] in only]
     return [event for host, request in on_hosts(kept, words.host) for event in events_of(host, request, words)]
 
 
@@ -221,12 +226,15 @@ def events_of(host: str, request: Request, words: AccessWords) -> Iterator[Event
 
 def on_hosts(requests: Sequence[Request], name: str) -> Iterator[Tuple[str, Request]]:
     """The requests in the order of their beginnings, each with the first host that has none at the same time."""
-    free_from: List[Tuple[int, str]] = []
-    for request in sorted(requests, key=lambda request: (order(request.began), order(request.ended))):
-        places = range(len(free_from))
-        place = next((place for place in places if free_from[place] < order(request.began)), len(free_from))
-        free_from[place : place + 1] = [order(request.ended)]
-        yield f"{name}_{place + 1}", request
+    busy: List[Tuple[Tuple[int, str], int]] = []  # the ends of requests with the places that they have
+    free: List[int] = []
+    spans = [(order(request.began), order(request.ended), number) for number, request in enumerate(requests)]
+    for began, ended, number in sorted(spans):
+        while busy and busy[0][0] < began:
+            heapq.heappush(free, heapq.heappop(busy)[1])
+        place = heapq.heappop(free) if free else len(busy)
+        heapq.heappush(busy, (ended, place))
+        yield f"{name}_{place + 1}", requests[number]
 
 
 def order(stamp: Stamp) -> Tuple[int, str]:

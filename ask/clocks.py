@@ -2,17 +2,19 @@
 
 from __future__ import annotations
 
+import heapq
 import math
 import re
+from bisect import bisect_right
 from dataclasses import dataclass, field
 from fractions import Fraction
-from typing import Dict, List, NamedTuple, Sequence
+from typing import Dict, List, NamedTuple, Sequence, Tuple
 
 from ask.events import WRONG, read_stamp
 from ask.making import Line, Making, moment_in
 from ask.stamps import MONTHS, UNITS, Stamp, duration_in_units, stamp_of
 from ask.texts import Trouble, read_source
-from ask.words import USAGE, counted, printable
+from ask.words import USAGE, counted, shortened
 
 STEPPED = re.compile(
     r"(?:was stepped by|clock_step|time reset) ([+-]?)(\d{1,9}(?:\.\d{1,9})?) ?(?:seconds|s)\b", re.ASCII
@@ -51,34 +53,43 @@ class Clock:
     def errors(self, lines: Sequence[Line]) -> List[int]:
         """By how much the stamp of each row of a host, in their order, may be off beside the skew."""
         steps, passed, found = sorted(self.steps), 0, []
+        firsts, sizes = [step.first for step in steps], [step.size for step in steps] + [0]
+        tracked = self.tracked_errors(lines)
         for line in lines:
             while passed < len(steps) and line.stamp > steps[passed].last:
                 passed += 1
-            tracked = max(self.tracked_error(line), self.reported)
-            found.append(step_error(steps, line.stamp, passed) + tracked)
+            # The size of the step that comes next, 0 where no more comes; of those that may be next, the greatest.
+            end = max(passed, bisect_right(firsts, line.stamp))
+            found.append(max(sizes[passed : end + 1]) + max(tracked.get(line.stamp, 0), self.reported))
         return found
 
-    def tracked_error(self, line: Line) -> int:
-        """The greatest error by the tracking log. A stamp in the second of an update may be before it and after it."""
+    def tracked_errors(self, lines: Sequence[Line]) -> Dict[int, int]:
+        """The greatest error of each stamp by the tracking log, where there is one.
+
+        A stamp in the second of an update may be before it and after it.
+        """
         if not self.updates:
-            return 0
-        errors = [
-            update.error
+            return {}
+        spans = sorted(
+            (before.moment, update.moment + self.second, update.error)
             for before, update in zip(self.updates, self.updates[1:])
-            if before.moment <= line.stamp < update.moment + self.second
-        ]
-        if not errors:
-            raise Trouble(WRONG, f"{line.where}: the stamp {line.stamp} isn't between two updates of the tracking log")
-        return max(errors)
-
-
-def step_error(steps: Sequence[ClockStep], stamp: int, passed: int) -> int:
-    """The size of the step that comes next, none where no more comes; of those that may be next, the greatest."""
-    sizes = [step.size for step in steps] + [0]
-    end = passed
-    while end < len(steps) and stamp >= steps[end].first:
-        end += 1
-    return max(sizes[passed : end + 1])
+        )
+        found: Dict[int, int] = {}
+        open_spans: List[Tuple[int, int]] = []  # those that have begun: their errors, the greatest first, and their ends
+        begun = 0
+        for line in sorted(lines, key=lambda line: line.stamp):
+            while begun < len(spans) and spans[begun][0] <= line.stamp:
+                heapq.heappush(open_spans, (-spans[begun][2], spans[begun][1]))
+                begun += 1
+            while open_spans and open_spans[0][1] <= line.stamp:
+                heapq.heappop(open_spans)
+            if open_spans:
+                found[line.stamp] = -open_spans[0][0]
+        outside = next((line for line in lines if line.stamp not in found), None)
+        if outside:
+            words = f"the stamp {outside.stamp} isn't between two updates of the tracking log"
+            raise Trouble(WRONG, f"{outside.where}: {words}")
+        return found
 
 
 # Steps
@@ -102,7 +113,7 @@ def steps_of_file(making: Making, name: str) -> List[ClockStep]:
     source = read_source(name)
     second = 10 ** UNITS[making.unit or "s"]
     steps = []
-    for number, line in enumerate(source.data.decode("utf-8", "replace").splitlines(), start=1):
+    for number, line in enumerate(source.data.decode("utf-8-sig", "replace").splitlines(), start=1):
         found = STEPPED.search(line)
         if not found:
             continue
@@ -191,7 +202,7 @@ def reported_error(report: Dict[str, str], making: Making, name: str) -> int:
         texts.append(found.group(1))
     offset, delay, dispersion = (Fraction(text) for text in texts)
     error = math.ceil((abs(offset) + delay / 2 + dispersion) * 10 ** UNITS[making.unit or "s"])
-    moment = printable(report.get("Ref time (UTC)", "not told"))
+    moment = shortened(report.get("Ref time (UTC)", "not told"))
     making.notes.append(
         f"{name}: the clock was off by up to {error} at the moment of this report, whose reference time is {moment}: "
         "rows of other moments may be off by more"
@@ -203,7 +214,7 @@ def error_of(text: str, making: Making, where: str) -> int:
     """The greatest error of a line in units, as `2.944e-02` of seconds, rounded up."""
     found = re.fullmatch(r"(\d{1,9})(?:\.(\d{1,18}))?(?:e([+-]\d{1,2}))?", text, re.ASCII)
     if not found:
-        raise Trouble(WRONG, f"{where}: the greatest error {text!r} is no number")
+        raise Trouble(WRONG, f"{where}: the greatest error {shortened(text)!r} is no number")
     whole, digits, power = found.group(1), found.group(2) or "", int(found.group(3) or 0)
     shift = UNITS[making.unit or "s"] + power - len(digits)
     number = int(whole + digits)

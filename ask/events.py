@@ -5,9 +5,9 @@ from __future__ import annotations
 import json
 import re
 from dataclasses import dataclass, field
-from typing import Any, Dict, Iterator, List, Optional, Sequence, Set, Tuple
+from typing import Any, Dict, Iterator, List, NamedTuple, Optional, Sequence, Set, Tuple
 
-from ask.logs import NAME, ROW_KINDS, is_log_in_json, records_of
+from ask.logs import NAME, ROW_KINDS, is_log_in_json, records_in
 from ask.refusals import log_in_json_words
 from ask.stamps import Stamp, stamp_fault, stamp_of
 from ask.texts import BYTE_ORDER_MARK, Source, Trouble
@@ -15,7 +15,10 @@ from ask.words import USAGE, listed, shortened
 
 WRONG = 66  # the status where a file can't be made into a log
 MOST_NAME = 32
+MOST_LEVELS = 100  # of objects within one another
+SAME_BEGINNING = 24  # letters of a name, by which the numbers behind names are counted
 CUT = re.compile(r"(.*):\.(\d{1,3})", re.S)  # a field of which only the beginning is taken
+BRACED = re.compile(r"(\{\{\})|\{([^}]*)\}|(\{)")  # an opening brace itself, a field, and one that isn't closed
 
 
 @dataclass(frozen=True)
@@ -48,8 +51,7 @@ class Latency:
     where: str
 
 
-@dataclass
-class Event:
+class Event(NamedTuple):
     """A row to be: names and the stamp as the file has them, where it stands, and what the file says of its clock."""
 
     host: str
@@ -126,14 +128,19 @@ def fields_of_object(found: Any, where: str) -> Fields:
     """The fields of a JSON object."""
     if not isinstance(found, dict):
         raise Trouble(WRONG, f"{where}: this is no JSON object, as {{\"time\": ..}}")
-    return dict(flat(found))
+    try:
+        return dict(flat(found))
+    except RecursionError:
+        raise Trouble(WRONG, f"{where}: it nests deeper than {MOST_LEVELS} levels") from None
 
 
-def flat(found: Dict[str, Any], before: str = "") -> Iterator[Tuple[str, str]]:
+def flat(found: Dict[str, Any], before: str = "", level: int = 1) -> Iterator[Tuple[str, str]]:
     """The fields of an object, and with points in their names those of objects within it."""
+    if level > MOST_LEVELS:
+        raise RecursionError
     for key, value in found.items():
         if isinstance(value, dict):
-            yield from flat(value, f"{before}{key}.")
+            yield from flat(value, f"{before}{key}.", level + 1)
         elif isinstance(value, str):
             yield before + key, value
         elif value is not None:
@@ -142,17 +149,18 @@ def flat(found: Dict[str, Any], before: str = "") -> Iterator[Tuple[str, str]]:
 
 def fields_of_table(source: Source, keys: Keys) -> Iterator[Tuple[Fields, str]]:
     """The fields of a table by the names of its first line; a log of the program is such a table."""
-    records = records_of(source.data)
-    if not records:
+    records = records_in(source.data)
+    first = next(records, None)
+    if first is None:
         raise Trouble(WRONG, f"{source.name} is empty: there is no line with the names of columns")
-    heads = [head.strip() for head in records[0].fields]
+    heads = [head.strip() for head in first.fields]
     if heads[:1] == ["skewlog2"]:
         heads[0] = keys.kind
-    for record in records[1:]:
+    for record in records:
         where = f"{source.name}, line {record.line}"
         if len(record.fields) != len(heads):
             raise Trouble(WRONG, f"{where}: it has {len(record.fields)} fields, and the first line {len(heads)}")
-        yield dict(zip(heads, (part.strip() for part in record.fields))), where
+        yield dict(zip(heads, [part.strip() for part in record.fields])), where
 
 
 # Events
@@ -177,7 +185,7 @@ def read_events(source: Source, keys: Keys, rows: Rows, found: Found) -> None:
                 raise Trouble(WRONG, f"{where}: no host {name!r} is declared before this resync")
             limits[name] = Limits(first, second, where)
             continue
-        host = "_".join(part(fields, key, where) for key in keys.host)
+        host = "_".join([part(fields, key, where) for key in keys.host])
         text, name = part(fields, keys.time, where), part(fields, keys.name, where)
         stamp, id_ = read_stamp(text, where), fields.get(keys.id, "")
         if host in declared and host in found.seen:
@@ -200,7 +208,7 @@ def declare(known: Dict[str, Any], name: str, said: Any, what: str) -> None:
 def part(fields: Fields, key: str, where: str) -> str:
     """The field under a key."""
     if key not in fields:
-        has = shortened(listed(list(fields)), 120) or "nothing"
+        has = shortened(listed([shortened(name) for name in list(fields)[:13]]), 120) or "nothing"
         raise Trouble(WRONG, (
             f"{where}: there is no {key!r}. It has: {has}. --host, --time and --name say which keys these are, and "
             "--access what the lines of a web server look like"
@@ -212,7 +220,7 @@ def read_stamp(text: str, where: str) -> Stamp:
     """The stamp that a text is."""
     stamp = stamp_of(text)
     if stamp is None:
-        raise Trouble(WRONG, f"{where}: the stamp {text!r} {stamp_fault(text)}")
+        raise Trouble(WRONG, f"{where}: the stamp {shortened(text)!r} {stamp_fault(text)}")
     return stamp
 
 
@@ -224,27 +232,25 @@ def rows_of(fields: Fields, name: str, keys: Keys, rows: Rows, where: str) -> Li
     if kind not in ROW_KINDS:
         known = ", ".join(("host", "resync", "latency") + ROW_KINDS)
         hint = f"--kind says under which key it stands, else {keys.kind}"
-        raise Trouble(WRONG, f"{where}: there is no kind {kind!r}. The kinds: {known}. {hint}")
+        raise Trouble(WRONG, f"{where}: there is no kind {shortened(kind)!r}. The kinds: {known}. {hint}")
     return [(kind, name.replace("{", "{{}"))]
 
 
 def filled(pattern: str, fields: Fields, where: str) -> str:
     """A pattern with the fields that it names in braces in their places, of `{KEY:.12}` the first 12 letters."""
-    text, place = "", 0
-    while place < len(pattern):
-        if pattern[place] != "{":
-            text, place = text + pattern[place], place + 1
-            continue
-        if pattern.startswith("{{}", place):
-            text, place = text + "{", place + 3
-            continue
-        end = pattern.find("}", place)
-        if end < 0:
-            raise Trouble(USAGE, f"{pattern!r} has a brace that isn't closed")
-        key, cut = pattern[place + 1 : end], CUT.fullmatch(pattern, place + 1, end)
-        found = part(fields, cut.group(1), where)[: int(cut.group(2))] if cut else part(fields, key, where)
-        text, place = text + found, end + 1
-    return text
+    if "{" not in pattern:
+        return pattern
+
+    def field_of(found: "re.Match[str]") -> str:
+        """What stands in place of braces."""
+        if found.group(1):
+            return "{"
+        if found.group(3):
+            raise Trouble(USAGE, f"{shortened(pattern)!r} has a brace that isn't closed")
+        cut = CUT.fullmatch(found.group(2))
+        return part(fields, cut.group(1), where)[: int(cut.group(2))] if cut else part(fields, found.group(2), where)
+
+    return BRACED.sub(field_of, pattern)
 
 
 # Names
@@ -255,24 +261,29 @@ def name_map(names: Sequence[str], forbidden: Sequence[str] = ()) -> Dict[str, s
     distinct = list(dict.fromkeys(names))
     mapped = {name: name for name in distinct if NAME.fullmatch(name) and name not in forbidden}
     taken = set(mapped.values()) | set(forbidden)
+    numbers: Dict[str, int] = {}
     for name in distinct:
         if name not in mapped:
-            mapped[name] = free_name(plain_name(name), taken)
+            mapped[name] = free_name(plain_name(name), taken, numbers)
             taken.add(mapped[name])
     return mapped
 
 
+NO_LETTER = re.compile(r"[^a-z0-9]")
+
+
 def plain_name(name: str) -> str:
     """A text in small letters, digits and underscores, a letter first; a long one keeps its beginning and its end."""
-    text = "".join(c if c.isascii() and (c.isalnum()) else "_" for c in name.lower())
+    text = NO_LETTER.sub("_", name.lower())
     text = text if text[:1].isalpha() else "n" + text
     return text if len(text) <= MOST_NAME else f"{text[:16]}_{text[-15:]}"
 
 
-def free_name(name: str, taken: "set[str]") -> str:
-    """A name, with a number behind it where it is taken."""
-    found, number = name, 2
+def free_name(name: str, taken: "set[str]", numbers: Dict[str, int]) -> str:
+    """A name, with a number behind it where it is taken: the least one that no name of the same beginning has had."""
+    found, beginning = name, name[:SAME_BEGINNING]
     while found in taken:
-        ending = f"_{number}"
-        found, number = name[: MOST_NAME - len(ending)] + ending, number + 1
+        numbers[beginning] = numbers.get(beginning, 1) + 1
+        ending = f"_{numbers[beginning]}"
+        found = name[: MOST_NAME - len(ending)] + ending
     return found

@@ -18,6 +18,7 @@ RIGHTWARD = ("->", "U", "S")
 TIMED = ("F", "G", "O", "H", "U", "S")
 NO_BOUND = ("0", "inf")
 MOST_DIGITS = 19  # of a number that the program accepts
+MOST_LEVELS = 200  # of a formula that the program accepts
 
 
 class Token(NamedTuple):
@@ -79,6 +80,7 @@ class Parser:
         self.tokens = tokens
         self.place = 0
         self.operands: List[Tree] = []
+        self.heights: List[int] = []  # of the operands, in levels
         self.operators: List[Operator] = []
 
     def tree(self) -> Optional[Tree]:
@@ -112,8 +114,15 @@ class Parser:
             elif token.kind in ("F", "G", "O", "H"):
                 self.operators.append(Operator(token.kind, self.interval(), token.start))
             else:
-                self.operands.append(self.atom(token))
+                self.push(self.atom(token), 1)
                 return
+
+    def push(self, tree: Tree, height: int) -> None:
+        """Has a formula wait for what takes it; one that is higher than the program accepts is none."""
+        if height > MOST_LEVELS:
+            raise ValueError("too high")
+        self.operands.append(tree)
+        self.heights.append(height)
 
     def atom(self, token: Token) -> Tree:
         if token.kind != "word":
@@ -168,12 +177,12 @@ class Parser:
         operator = self.operators.pop()
         if operator.sign == "(":
             raise ValueError("(")
-        right = self.operands.pop()
+        right, height = self.operands.pop(), self.heights.pop() + 1
         if operator.sign not in TIGHTNESS:
-            self.operands.append(Tree(operator.sign, (right,), operator.start, right.end, operator.interval))
+            self.push(Tree(operator.sign, (right,), operator.start, right.end, operator.interval), height)
             return
-        left = self.operands.pop()
-        self.operands.append(Tree(operator.sign, (left, right), left.start, right.end, operator.interval))
+        left, height = self.operands.pop(), max(height, self.heights.pop() + 1)
+        self.push(Tree(operator.sign, (left, right), left.start, right.end, operator.interval), height)
 
 
 def widened(tree: Tree, start: int, end: int) -> Tree:
@@ -189,9 +198,11 @@ def read_formula(text: str) -> Optional[Tree]:
 
 def subtrees(tree: Tree) -> Iterator[Tree]:
     """A tree and all of its parts, from left to right."""
-    yield tree
-    for part in tree.parts:
-        yield from subtrees(part)
+    waiting = [tree]
+    while waiting:
+        part = waiting.pop()
+        yield part
+        waiting += reversed(part.parts)
 
 
 def is_higher(tree: Tree, most: int) -> bool:

@@ -12,7 +12,7 @@ from ask.making import Line, Making
 from ask.spelling import spelling_warnings
 from ask.stamps import UNITS, duration_in_units
 from ask.texts import Trouble
-from ask.words import USAGE, counted, listed, printable
+from ask.words import USAGE, counted, listed, shortened
 
 FEWER = "fewer timings are admissible than by that file"
 Span = Tuple[int, Optional[int]]  # the least and the greatest latency, None where there is no greatest
@@ -43,7 +43,7 @@ def by_host(words: Sequence[str], option: str, making: Making) -> Iterator[Tuple
         spelled, equals, text = word.rpartition("=")
         host = making.host_named(spelled) if equals else None
         if equals and host is None:
-            known = listed([printable(name) for name in making.hosts()])
+            known = listed([shortened(name) for name in making.hosts()])
             raise Trouble(USAGE, f"{option} {word}: there is no host {spelled}. The hosts: {known}")
         yield host, text
 
@@ -100,7 +100,7 @@ def warn_of_narrowed(making: Making, skews: Told, gaps: Told) -> None:
         ):
             if is_less and (host, what) not in warned:
                 warned.add((host, what))
-                said = f"the {what} of {printable(host)} is {told}, and {limits.where} says {of_file}"
+                said = f"the {what} of {shortened(host)} is {told}, and {limits.where} says {of_file}"
                 making.warnings.append(f"--{what}: {said}: {FEWER}")
 
 
@@ -109,7 +109,7 @@ def note_cut_digits(making: Making) -> None:
     for host in making.hosts():
         count = making.cut.get(host, 0)
         if count:
-            stamps = f"{counted(count, 'stamp')} of {printable(host)}"
+            stamps = f"{counted(count, 'stamp')} of {shortened(host)}"
             making.notes.append(
                 f"digits below a unit are cut off in {stamps}: each skew of it is 1 unit greater for that"
             )
@@ -171,7 +171,7 @@ def clocks_of(making: Making, words: LimitWords) -> Dict[str, Clock]:
 
     def clocks_named(host: Optional[str]) -> List[Clock]:
         """The clock of a host, or those of all."""
-        names = [host] if host else hosts
+        names = [host] if host is not None else hosts
         return [clocks.setdefault(name, Clock(10 ** UNITS[making.unit or "s"])) for name in names]
 
     for option, texts, read in (("--step", words.step, steps_told), ("--clock", words.clock, steps_of_file)):
@@ -204,12 +204,12 @@ def hosts_of(making: Making, found: Found, words: LimitWords) -> Dict[str, LogHo
         of_file = latency_in_units(found.latencies[name], making) if name in found.latencies else None
         latency = told.get(name, told.get(None, of_file))
         if of_file and latency and is_narrower(latency, of_file):
-            told_words = f"messages to {printable(name)} take {latency_words(latency)}"
+            told_words = f"messages to {shortened(name)} take {latency_words(latency)}"
             of_file_words = f"{found.latencies[name].where} says {latency_words(of_file)}"
             making.warnings.append(f"--latency: {told_words}, and {of_file_words}: {FEWER}")
         hosts[name] = LogHost(mapped[name], latency)
     making.warnings += spelling_warnings("hosts", names, mapped)
-    making.notes += [f"host: {name!r} is {host.name}" for name, host in hosts.items() if name != host.name]
+    making.notes += [f"host: {shortened(name)!r} is {host.name}" for name, host in hosts.items() if name != host.name]
     return hosts
 
 

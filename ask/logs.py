@@ -9,9 +9,9 @@ from __future__ import annotations
 import json
 import re
 from dataclasses import dataclass, field
-from typing import Dict, Iterator, List, NamedTuple, Optional, Sequence, Tuple, Union
+from typing import Dict, Iterable, Iterator, List, NamedTuple, Optional, Sequence, Tuple, Union
 
-from ask.texts import BYTE_ORDER_MARK
+from ask.texts import BYTE_ORDER_MARK, LINE_END
 
 MOST_HOSTS = 64
 MOST_ROWS = 1024
@@ -26,11 +26,11 @@ KINDS = {1: ("host",) + ROW_KINDS[:-1], 2: ("host", "resync", "latency") + ROW_K
 
 
 class Record(NamedTuple):
-    """A record of a file: its fields, the line at which it begins, and the byte at which each field begins."""
+    """A record of a file: its fields, and the line and the byte at which it begins."""
 
     fields: List[str]
     line: int
-    offsets: List[int]
+    start: int
 
 
 class Fault(NamedTuple):
@@ -70,6 +70,8 @@ class Log:
     version: int = 1
     hosts: List[Host] = field(default_factory=list)
     rows: List[Row] = field(default_factory=list)
+    before: List[Optional[int]] = field(default_factory=list, repr=False, compare=False)  # what rows_before found
+    sent_by: Dict[int, Dict[str, int]] = field(default_factory=dict, repr=False, compare=False)  # what sends found
 
     def host_of(self, event: int) -> str:
         """The name of the host of a row."""
@@ -85,88 +87,112 @@ class Log:
 
     def sends(self) -> Dict[str, int]:
         """The row that sends each message."""
-        return {row.name: event for event, row in enumerate(self.rows) if row.kind == "send"}
+        rows = len(self.rows)
+        if rows not in self.sent_by:
+            self.sent_by = {rows: {row.name: event for event, row in enumerate(self.rows) if row.kind == "send"}}
+        return self.sent_by[rows]
 
     def rows_before(self) -> List[Optional[int]]:
         """For each row the last earlier one of its host."""
-        last: Dict[int, int] = {}
-        before = []
-        for event, row in enumerate(self.rows):
-            before.append(last.get(row.host))
-            last[row.host] = event
-        return before
+        if len(self.before) != len(self.rows):
+            last: Dict[int, int] = {}
+            self.before = []
+            for event, row in enumerate(self.rows):
+                self.before.append(last.get(row.host))
+                last[row.host] = event
+        return self.before
 
 
 # Records
 
 
 def records_of(data: bytes) -> List[Record]:
-    """The records of a text of comma-separated fields, as the program's reader takes them.
+    """The records of a text of comma-separated fields, as the program's reader takes them."""
+    return list(records_in(data))
+
+
+def records_in(data: bytes) -> Iterator[Record]:
+    """The same, one after another.
 
     A quote opens a quoted field as its first byte alone, and what follows the closing one is added as it is.
     Blank lines are no records, and a byte order mark at the beginning is left out.
     """
     start = len(BYTE_ORDER_MARK) if data.startswith(BYTE_ORDER_MARK) else 0
-    if b'"' in data:
-        return list(quoted_records(data, start))
-    return list(plain_records(data, start))
+    return quoted_records(data, start) if b'"' in data else plain_records(data, start)
+
+
+PLAIN_LINE = re.compile(rb"[^\r\n]+")
+BLANK_LINES = re.compile(rb"[\r\n]*")
+END_OF_LINE = re.compile(rb"[\r\n]|\Z")
+MOST_PLAIN = 1 << 20  # bytes of a line that is looked at as a whole
+PLAIN_FIELDS = re.compile(rb'(?:"[^",]*"(?=,|\Z)|[^",]*)(?:,(?:"[^",]*"(?=,|\Z)|[^",]*))*')  # with nothing odd in quotes
+FIELD = re.compile(rb'(?:"([^"]*(?:""[^"]*)*)(?:"|\Z))?([^,\r\n]*)')  # what is in quotes, and what is behind that
 
 
 def plain_records(data: bytes, start: int) -> Iterator[Record]:
     """The records of a text without quotes: its lines that aren't blank."""
-    line, seen = 1, 0
-    for found in re.compile(rb"[^\r\n]+").finditer(data, start):
-        line += lines_between(data, seen, found.start())
-        seen = found.start()
-        offsets, fields = [found.start()], []
-        for part in found.group().split(b","):
-            fields.append(shown_field(part))
-            offsets.append(offsets[-1] + len(part) + 1)
-        yield Record(fields, line, offsets[:-1])
+    line, seen = 1, start
+    for found in PLAIN_LINE.finditer(data, start):
+        begin = found.start()
+        line += 1 if begin == seen + 1 else lines_between(data, seen, begin)
+        seen = found.end()
+        yield Record(shown_field(found.group()).split(","), line, begin)
 
 
 def lines_between(data: bytes, start: int, end: int) -> int:
     """How many lines end between two places."""
-    return len(re.findall(rb"\r\n|\n|\r", data[start:end]))
+    return len(LINE_END.findall(data[start:end]))
 
 
 def quoted_records(data: bytes, start: int) -> Iterator[Record]:
-    """The records of a text with quotes, byte by byte."""
+    """The records of a text with quotes."""
+    line, seen = 1, start
+    while True:
+        start += len(BLANK_LINES.match(data, start)[0])
+        if start >= len(data):
+            return
+        line += 1 if start == seen + 1 else lines_between(data, seen, start)
+        fields, seen = fields_of_record(data, start)
+        yield Record(fields, line, start)
+        if data.count(b"\n", start, seen) or data.count(b"\r", start, seen):  # in quotes
+            line += lines_between(data, start, seen)
+        start = seen
+
+
+def fields_of_record(data: bytes, start: int) -> Tuple[List[str], int]:
+    """The fields of the record that begins at a byte, and the byte at which it ends."""
     fields: List[str] = []
-    offsets: List[int] = []
-    text = bytearray()
-    state = "record"
-    for place in range(start, len(data)):
-        byte = data[place : place + 1]
-        if state == "record":
-            if byte in b"\r\n":
-                continue
-            fields, offsets, state = [], [place], "field"
-        if state == "quoted":
-            state = "closed" if byte == b'"' else state
-            text += b"" if byte == b'"' else byte
-        elif byte == b'"' and state in ("field", "closed"):
-            text += b'"' if state == "closed" else b""
-            state = "quoted"
-        elif byte == b",":
-            fields.append(shown_field(bytes(text)))
-            offsets.append(place + 1)
-            text.clear()
-            state = "field"
-        elif byte in b"\r\n":
-            yield Record(fields + [shown_field(bytes(text))], line_at(data, offsets[0]), offsets)
-            text.clear()
-            state = "record"
-        else:
-            text += byte
-            state = "plain"
-    if state != "record":
-        yield Record(fields + [shown_field(bytes(text))], line_at(data, offsets[0]), offsets)
+    stop = END_OF_LINE.search(data, start).start()
+    is_short, quotes = stop - start <= MOST_PLAIN, data.count(b'"', start, stop)
+    if is_short and quotes % 2 == 0 and (quotes == 0 or PLAIN_FIELDS.fullmatch(data, start, stop)):
+        return shown_field(data[start:stop].replace(b'"', b"")).split(","), stop
+    while True:
+        if data.startswith(b'"', start):
+            found = FIELD.match(data, start)
+            quoted, rest = found.groups()
+            end = found.end()
+            if b'"' in quoted:
+                quoted = quoted.replace(b'""', b'"')
+            fields.append(shown_field(quoted + rest))
+        else:  # all fields before the next one in quotes are taken at once
+            stop = stop if stop >= start else END_OF_LINE.search(data, start).start()
+            next_quoted = data.find(b',"', start, stop)
+            end = stop if next_quoted < 0 else next_quoted
+            fields += shown_field(data[start:end]).split(",")
+        if not data.startswith(b",", end):
+            return fields, end
+        start = end + 1
 
 
-def line_at(data: bytes, place: int) -> int:
-    """The line of a place, from 1."""
-    return 1 + lines_between(data, 0, place)
+def field_start(data: bytes, record: Record, number: int) -> Optional[int]:
+    """The byte at which a field of a record begins, or None where it has fewer."""
+    start = record.start
+    for _ in range(number):
+        start = FIELD.match(data, start).end()
+        if data[start : start + 1] != b",":
+            return None
+        start += 1
+    return start
 
 
 def shown_field(part: bytes) -> str:
@@ -184,7 +210,7 @@ def is_log_in_json(data: bytes) -> bool:
     """
     text = data.decode("utf-8", "replace")
     try:
-        found = json.loads(text)
+        found = json.loads(text, parse_int=str, parse_float=str)  # a number may have any number of digits
     except (ValueError, RecursionError):
         return bool(re.match(r'\s*\{\s*"(hosts|events)"\s*:\s*\[', text))
     return isinstance(found, dict) and {"hosts", "events"} <= found.keys()
@@ -304,13 +330,14 @@ class Reader:
 
 def read_log(data: bytes) -> Union[Log, Fault]:
     """The log that bytes are, or its fault."""
-    records = records_of(data)
-    version = HEADERS.get(tuple(records[0].fields)) if records else None
+    records = records_in(data)
+    header = next(records, None)
+    version = HEADERS.get(tuple(header.fields)) if header else None
     if version is None:
         return Fault(1, 1)
     reader = Reader(version)
     places: List[int] = []
-    for place, record in enumerate(records[1:], start=2):
+    for place, record in enumerate(records, start=2):
         fault = reader.take(record)
         if fault:
             return Fault(fault, place)
@@ -322,7 +349,7 @@ def read_log(data: bytes) -> Union[Log, Fault]:
     return reader.log if reader.log.rows else Fault(11, None)
 
 
-def declared_hosts(records: Sequence[Record]) -> List[str]:
+def declared_hosts(records: Iterable[Record]) -> List[str]:
     """The names of the hosts that records declare, whatever else is wrong with them."""
     return [record.fields[1] for record in records if record.fields[0] == "host" and len(record.fields) > 1]
 

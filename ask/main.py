@@ -3,14 +3,15 @@
 from __future__ import annotations
 
 import argparse
-import io
-import os
+import functools
+import gc
 import sys
 from typing import List, NoReturn, Sequence
 
 from ask.commands import between, check, deadline, draw, each, log, tolerance
+from ask.ends import ended, limit_time, run_script
 from ask.program import STOPPED, Stopped
-from ask.texts import Trouble
+from ask.texts import Trouble, say, write_output
 from ask.version import answer_of_version
 from ask.words import USAGE, Answer, print_answer, print_facts
 
@@ -21,9 +22,12 @@ statuses:
   0 to 6      those of the program (docs/usage.md): of check 0 is true, 1 false, 2 either, 3 no timing,
               4 not found within the conflicts
   64          the words are no command of ask
-  65 to 75    the program's refusals and failures; 65 also a warning with --strict or --strict-for
+  65 to 75    the program's refusals and failures, and those of ask; 65 also a warning with --strict or --strict-for
+  70          memory runs out, or ask has an error
   72          the program isn't there, or has no such command
-  124         a run took longer than --seconds
+  74, 75      a file can't be read, or written, nor can the standard output
+  124         it took longer than --seconds
+  129 to 143  a signal ended it: 128 and its number
 """
 
 
@@ -32,6 +36,9 @@ class Parser(argparse.ArgumentParser):
 
     def error(self, message: str) -> NoReturn:
         raise Trouble(USAGE, message)
+
+    def print_help(self, file: object = None) -> None:
+        write_output(self.format_help())
 
 
 def seconds(text: str) -> float:
@@ -50,7 +57,7 @@ def common_words() -> argparse.ArgumentParser:
     words.add_argument(
         "--program", metavar="FILE", help="the program; else SKEWCHECK of the environment, the built or installed one, or that of the path",
     )
-    words.add_argument("--seconds", type=seconds, metavar="S", help="stop a run of the program that takes longer")
+    words.add_argument("--seconds", type=seconds, metavar="S", help="stop where all of it takes longer")
     return words
 
 
@@ -70,48 +77,38 @@ def parser() -> Parser:
 
 def main(words: Sequence[str]) -> int:
     """Does what the words say, and gives the status."""
-    for stream in (sys.stdout, sys.stderr):
-        if isinstance(stream, io.TextIOWrapper):
-            stream.reconfigure(errors="backslashreplace")  # names of files may have any bytes
-    try:
-        return finished(words)
-    except Trouble as trouble:
-        return refused(words, trouble.status, trouble.message)
-    except Stopped:
-        return refused(words, STOPPED, "stopped, since a run took longer than --seconds allows")
-    except BrokenPipeError:
-        os.dup2(os.open(os.devnull, os.O_WRONLY), sys.stdout.fileno())
-        return 75
-    except KeyboardInterrupt:
-        print("ask: interrupted", file=sys.stderr)
-        return 130
-    except (MemoryError, RecursionError):
-        print("ask: this is more than the memory of ask holds", file=sys.stderr)
-        return 70
-    except OSError as error:
-        print(f"ask: {error}", file=sys.stderr)
-        return 74
+    return ended(functools.partial(finished, words), functools.partial(refused, words))
 
 
 def refused(words: Sequence[str], status: int, message: str) -> int:
     """Says why there is no answer, and gives the status."""
-    if "--json" in words and "--quiet" not in words:
-        print_facts({"status": status, "refusal": message})
-    print(f"ask: {message}", file=sys.stderr)
+    say(f"ask: {message}")
     if status == USAGE:
         named = "".join(f"{word} " for word in words[:1] if word in names())
-        print(f"usage: ask {named}--help says how", file=sys.stderr)
+        say(f"usage: ask {named}--help says how")
+    if "--json" in words and "--quiet" not in words:
+        try:
+            print_facts({"status": status, "refusal": message})
+        except Trouble as trouble:
+            return trouble.status
     return status
 
 
 def finished(words: Sequence[str]) -> int:
     """The status of a command that came to its end."""
-    arguments = parsed(words)
+    try:
+        arguments = parsed(words)
+    except SystemExit as end:  # the words ask for help
+        return int(end.code or 0)
     refuse_second_input(arguments)
-    answer: Answer = arguments.do(arguments)
+    if arguments.seconds:
+        limit_time(arguments.seconds)
+    try:
+        answer: Answer = arguments.do(arguments)
+    except Stopped:
+        raise Trouble(STOPPED, "stopped, since a run took longer than --seconds allows") from None
     if not arguments.quiet:
         print_answer(answer, arguments.json)
-        sys.stdout.flush()
     return answer.status
 
 
@@ -136,6 +133,12 @@ def parsed(words: Sequence[str]) -> argparse.Namespace:
     return alone.parse_args(list(words[1:] if words[0] in names() else words))
 
 
+def run(words: Sequence[str]) -> NoReturn:
+    """Does what the words say, as a process of its own."""
+    gc.disable()  # nearly all that is made of a file lives to the end
+    run_script(functools.partial(finished, words), functools.partial(refused, words))
+
+
 def is_input(word: object) -> bool:
     """Whether a word names the standard input, by itself or for a host."""
     return isinstance(word, str) and (word == "-" or word.endswith("=-"))
@@ -151,4 +154,4 @@ def refuse_second_input(arguments: argparse.Namespace) -> None:
 
 
 if __name__ == "__main__":
-    sys.exit(main(sys.argv[1:]))
+    run(sys.argv[1:])

@@ -101,7 +101,7 @@ def moment_in(making: Making, stamp: Stamp) -> int:
 
 def cut_window(making: Making, arguments: argparse.Namespace) -> None:
     """Leaves out the rows outside the window, and carries in what they have set."""
-    only = arguments.only
+    only = set(arguments.only)
     begin, end = (limit_of(text, making) for text in (arguments.begin, arguments.end))
     is_kept = [
         (not only or line.id in only)
@@ -110,7 +110,8 @@ def cut_window(making: Making, arguments: argparse.Namespace) -> None:
         for line in making.lines
     ]
     left_out = is_kept.count(False)
-    missing = [id_ for id_ in only if all(line.id != id_ for line in making.lines)]
+    known = {line.id for line in making.lines}
+    missing = [id_ for id_ in arguments.only if id_ not in known]
     if missing and not arguments.part:
         raise Trouble(WRONG, f"no row has the id {listed(missing)}")
     if missing:

@@ -2,7 +2,9 @@
 
 from __future__ import annotations
 
-from html import escape
+import re
+
+from ask.texts import markup
 
 PAGE = """<!doctype html>
 <html lang="en">
@@ -203,4 +205,5 @@ fit();
 
 def page_of(title: str, svg: str) -> str:
     """The page that shows a picture."""
-    return PAGE.replace("@TITLE@", escape(title)).replace("@SVG@", svg)
+    parts = {"@TITLE@": markup(title), "@SVG@": svg}
+    return re.sub("|".join(parts), lambda found: parts[found.group()], PAGE)

@@ -5,7 +5,6 @@ A picture has a panel for each timing that is shown.
 
 from __future__ import annotations
 
-from html import escape
 from typing import Dict, List, NamedTuple, Optional, Sequence, Tuple
 
 from ask.logs import Log, bound_of, is_set_at, proposition_names
@@ -14,6 +13,7 @@ from ask.plot import (
     STRIP, STYLE, Canvas, Scale, curve, data, draw_axis, mark,
 )
 from ask.reports import Step
+from ask.texts import markup
 from ask.words import signed, step_words
 
 
@@ -92,8 +92,9 @@ def draw_panel(canvas: Canvas, log: Log, panel: Panel, scale: Scale, number: int
     for moment in positions:
         at = scale.at(moment)
         canvas.line(kind, (at, at), (top - 4, bottom + 4))
+    colours = colours_of(log)
     for place, lane in enumerate(lanes):
-        draw_states(canvas, log, panel, scale, place, lane)
+        draw_states(canvas, log, panel, scale, place, lane, colours)
     draw_messages(canvas, log, panel, scale, lanes)
     draw_rows(canvas, log, panel, scale, lanes, number)
     if panel.walk:
@@ -157,11 +158,13 @@ def strip_top(lane: Lane, place: int) -> int:
     return lane.top + LANE + STRIP * place - 4
 
 
-def draw_states(canvas: Canvas, log: Log, panel: Panel, scale: Scale, host: int, lane: Lane) -> None:
+def draw_states(
+    canvas: Canvas, log: Log, panel: Panel, scale: Scale, host: int, lane: Lane, colours: Dict[str, str]
+) -> None:
     """The stretches in which each proposition of a host is set, and the pulses, at whose instants it is true."""
     positions = sorted(set(panel.times))
     for place, name in enumerate(lane.names):
-        colour = COLOURS[names_of_log(log).index(name) % len(COLOURS)]
+        colour = colours[name]
         shown = f"{log.hosts[host].name}.{name}"
         for begin, end in stretches(log, panel.times, positions, host, name):
             a, b = scale.at(begin), PLOT + BEYOND if end is None else scale.at(end)
@@ -170,19 +173,20 @@ def draw_states(canvas: Canvas, log: Log, panel: Panel, scale: Scale, host: int,
             canvas.parts.append(
                 f'<rect class="w" {data(a=a, b=b)} x="{LEFT + a:g}" y="{strip_top(lane, place)}" '
                 f'width="{max(b - a, 2):g}" height="{STRIP - 4}" rx="2" fill="{colour}">'
-                f"<title>{escape(words)}</title></rect>"
+                f"<title>{markup(words)}</title></rect>"
             )
         for event, row in enumerate(log.rows):
             if (row.kind, row.host, row.name) == ("pulse", host, name):
                 words = f"{shown} is true at {panel.times[event]}, by the pulse of line {row.line}"
-                diamond = f'<path class="pulse" d="{DIAMOND}" fill="{colour}"/><title>{escape(words)}</title>'
+                diamond = f'<path class="pulse" d="{DIAMOND}" fill="{colour}"/><title>{markup(words)}</title>'
                 height = strip_top(lane, place) + (STRIP - 4) / 2
                 canvas.parts.append(mark(scale.at(panel.times[event]), height, diamond))
 
 
-def names_of_log(log: Log) -> List[str]:
-    """The names of all propositions, each once; those of one name have one colour."""
-    return list(dict.fromkeys(name for host in range(len(log.hosts)) for name in proposition_names(log, host)))
+def colours_of(log: Log) -> Dict[str, str]:
+    """The colour of each name of a proposition; those of one name have one."""
+    names = dict.fromkeys(name for host in range(len(log.hosts)) for name in proposition_names(log, host))
+    return {name: COLOURS[place % len(COLOURS)] for place, name in enumerate(names)}
 
 
 def stretches(
@@ -240,10 +244,10 @@ def draw_rows(canvas: Canvas, log: Log, panel: Panel, scale: Scale, lanes: Seque
         anchor = "end" if is_left else "start"
         label = f"{row.kind} {row.name}"
         dot = f'<path class="row" d="{DIAMOND}"/>' if row.kind == "pulse" else '<circle class="row" r="4"/>'
-        parts = f"{dot}<title>{escape(row_title(log, panel, event))}</title>"
+        parts = f"{dot}<title>{markup(row_title(log, panel, event))}</title>"
         parts += (
             f'<text class="label{off}" data-lane="{number}.{row.host}" data-wide="{LETTER * len(label):g}" '
-            f'x="{3 if is_left else -3}" y="{-8 - 11 * level}" text-anchor="{anchor}">{escape(label)}</text>'
+            f'x="{3 if is_left else -3}" y="{-8 - 11 * level}" text-anchor="{anchor}">{markup(label)}</text>'
         )
         off = "" if has_room[event] else " off"
         anchor = "middle" if at > EDGE else "start"  # the names begin left of the plot
@@ -312,6 +316,6 @@ def draw_walk(canvas: Canvas, log: Log, panel: Panel, scale: Scale, lanes: Seque
         ends = data(a=a, b=b, y=y, z=z)
         path, (x, height) = curve(LEFT + a, y, LEFT + b, z)
         canvas.parts.append(
-            f'<path class="step c" {ends} d="{path}" marker-end="url(#redhead)"><title>{escape(words)}</title></path>'
+            f'<path class="step c" {ends} d="{path}" marker-end="url(#redhead)"><title>{markup(words)}</title></path>'
         )
         canvas.parts.append(f'<text class="number m" {ends} x="{x:g}" y="{height:g}">{number}: {bound.most}</text>')

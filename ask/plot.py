@@ -8,8 +8,9 @@ from __future__ import annotations
 
 import math
 from dataclasses import dataclass, field
-from html import escape
 from typing import List, Tuple
+
+from ask.texts import markup
 
 LEFT = 120  # where the plot begins
 PLOT = 980  # its width
@@ -68,13 +69,13 @@ class Canvas:
     height: int = 0
 
     def text(self, x: float, y: float, words: str, kind: str = "", anchor: str = "start") -> None:
-        self.parts.append(f'<text class="{kind}" x="{x:g}" y="{y:g}" text-anchor="{anchor}">{escape(words)}</text>')
+        self.parts.append(f'<text class="{kind}" x="{x:g}" y="{y:g}" text-anchor="{anchor}">{markup(words)}</text>')
 
     def line(
         self, kind: str, ends: Tuple[float, float], heights: Tuple[float, float], title: str = "", more: str = ""
     ) -> None:
         """A line between two moments of the plot."""
-        hover = f"<title>{escape(title)}</title>" if title else ""
+        hover = f"<title>{markup(title)}</title>" if title else ""
         self.parts.append(
             f'<line class="{kind} l" {data(a=ends[0], b=ends[1])} x1="{LEFT + ends[0]:g}" '
             f'x2="{LEFT + ends[1]:g}" y1="{heights[0]:g}" y2="{heights[1]:g}"{more}>{hover}</line>'

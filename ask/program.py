@@ -4,17 +4,20 @@ from __future__ import annotations
 
 import argparse
 import os
+import selectors
 import shutil
+import signal
 import subprocess
 import sys
 import tempfile
 import time
-from contextlib import ExitStack
+from contextlib import ExitStack, suppress
 from dataclasses import dataclass, field
 from pathlib import Path
-from typing import IO, List, NamedTuple, Optional, Sequence
+from typing import IO, List, NamedTuple, Optional, Sequence, Tuple
 
-from ask.texts import Source, Trouble
+from ask.ends import limit_time, uninterrupted
+from ask.texts import Source, Trouble, escaped, say
 
 ROOT = Path(__file__).resolve().parent.parent
 BUILT = ROOT / "crates" / "skewcheck" / "out" / "skewcheck"
@@ -24,6 +27,9 @@ NOT_THERE = 72  # the status where there is no program, which is also that of ./
 STOPPED = 124  # the status where a run took longer than --seconds allows, which is also that of timeout
 MOST_SHOWN = 400  # letters of the words of a run
 PATIENCE = 1.0  # seconds after which a run is spoken of
+MOST_TO_TELL = 1.0  # seconds in which what was found has to be told, when those of --seconds are over
+MOST_TO_END = 0.3  # seconds that a run has to end by itself, when it is told to
+MOST_OUTPUT = 1 << 28  # bytes that a run may write
 
 
 class Run(NamedTuple):
@@ -39,66 +45,152 @@ class Run(NamedTuple):
 
 
 class Stopped(Exception):
-    """A run took longer than it may."""
+    """A run took longer than it may, or there was no time left for it."""
 
 
 @dataclass
 class Program:
-    """The program, how long a run may take, and the runs so far."""
+    """The program, how long all runs may take together, and the runs so far.
+
+    The first run may take all of that, and each further one half of what is left, so that there is always time for
+    what comes behind it.
+    """
 
     path: str
     seconds: Optional[float] = None
     runs: List[Run] = field(default_factory=list)
     is_quiet: bool = False
 
+    def __post_init__(self) -> None:
+        self.begin()
+
+    def begin(self) -> None:
+        """Has the time begin, also once more."""
+        self.ends = None if self.seconds is None else time.monotonic() + self.seconds
+        self.is_first = True
+
+    def time_for_run(self) -> Optional[float]:
+        """The seconds that the next run may take, None where there is no limit."""
+        if self.ends is None:
+            return None
+        left = self.ends - time.monotonic()
+        if left <= 0:
+            raise Stopped
+        limit_time(left + MOST_TO_TELL)
+        part, self.is_first = left if self.is_first else left / 2, False
+        return part
+
     def run(self, command: str, sources: Sequence[Source], options: Sequence[str] = ()) -> Run:
         """Runs a command on files whose bytes are handed over as they were read."""
-        shown = " ".join(" ".join([command, *options, *(source.name for source in sources)]).split())
+        shown = escaped(" ".join(" ".join([command, *options, *(source.name for source in sources)]).split()))
+        seconds = self.time_for_run()
         with ExitStack() as stack:
             files = [stack.enter_context(handed(source.data)) for source in sources]
             words = [self.path, command, *options, *(f"/dev/fd/{file.fileno()}" for file in files)]
-            status, output = self.finish(words, [file.fileno() for file in files], shown)
+            numbers = [file.fileno() for file in files]
+            status, output = finish(words, numbers, shown, seconds, not self.is_quiet)
         if status < 0:
-            raise Trouble(NOT_THERE, f"{self.path} was ended by signal {-status}, at: {shown}")
+            raise Trouble(NOT_THERE, f"{escaped(self.path)} was ended by signal {-status}, at: {shown}")
         run = Run(shown if len(shown) <= MOST_SHOWN else shown[: MOST_SHOWN - 2] + "..", status, output)
         self.runs.append(run)
         return run
 
-    def finish(self, words: List[str], descriptors: List[int], shown: str) -> "tuple[int, bytes]":
-        """Starts words, waits for their end, and tells of long runs on the standard error."""
-        try:
-            process = subprocess.Popen(
-                words, stdin=subprocess.DEVNULL, stdout=subprocess.PIPE, pass_fds=descriptors
-            )
-        except (OSError, ValueError) as error:
-            raise Trouble(NOT_THERE, f"{self.path} can't be run: {error}; name another one by --program FILE") from None
-        began = time.monotonic()
-        told = False
-        try:
+
+def finish(
+    words: List[str], descriptors: List[int], shown: str, seconds: Optional[float], is_told: bool
+) -> Tuple[int, bytes]:
+    """Starts words, waits for their end, and tells of long runs on a terminal, where that is wanted."""
+    watch: Optional[Watch] = None
+    try:
+        with uninterrupted():
+            watch = Watch(started(words, descriptors), shown, seconds, is_told and sys.stderr.isatty())
+        return watch.end()
+    except BaseException:
+        with uninterrupted():
+            if watch is not None:
+                watch.kill()
+        raise
+    finally:
+        if watch is not None:
+            watch.close()
+
+
+def started(words: List[str], descriptors: List[int]) -> "subprocess.Popen[bytes]":
+    """A run that has been started, in a group of its own, so that it can be ended with all that it starts."""
+    try:
+        return subprocess.Popen(
+            words, stdin=subprocess.DEVNULL, stdout=subprocess.PIPE, pass_fds=descriptors, start_new_session=True,
+        )
+    except (OSError, ValueError) as error:
+        told = f"{escaped(words[0])} can't be run: {error.args[-1]}; name another one by --program FILE"
+        raise Trouble(NOT_THERE, told) from None
+
+
+class Watch:
+    """A run under way: since when, until when at most, and when it is told next how long it takes."""
+
+    def __init__(self, process: "subprocess.Popen[bytes]", shown: str, seconds: Optional[float], is_told: bool):
+        self.process, self.shown, self.is_told = process, shown, is_told
+        self.began = time.monotonic()
+        self.ends = None if seconds is None else self.began + seconds
+        self.tells = self.began + PATIENCE
+
+    def end(self) -> Tuple[int, bytes]:
+        """The status of the run and all that it wrote, once it has ended."""
+        output = self.output()
+        while self.process.poll() is None:
+            with suppress(subprocess.TimeoutExpired):
+                self.process.wait(self.patience())
+        return self.process.returncode, output
+
+    def output(self) -> bytes:
+        """All that the run writes. Whoever holds its output still when it has ended isn't waited for."""
+        assert self.process.stdout
+        written = bytearray()
+        with selectors.DefaultSelector() as selector:
+            selector.register(self.process.stdout, selectors.EVENT_READ)
             while True:
-                left = None if self.seconds is None else began + self.seconds - time.monotonic()
-                if left is not None and left <= 0:
-                    raise Stopped
-                try:
-                    output, _ = process.communicate(timeout=PATIENCE if left is None else min(PATIENCE, left))
-                    return process.returncode, output
-                except subprocess.TimeoutExpired:
-                    taken = time.monotonic() - began
-                    if taken >= PATIENCE and sys.stderr.isatty() and not self.is_quiet:
-                        told = True
-                        tell(shown, taken)
-        finally:
-            if told:
-                print(file=sys.stderr)
-            if process.poll() is None:
-                process.kill()
-                process.communicate()
+                if selector.select(self.patience()):
+                    part = os.read(self.process.stdout.fileno(), 1 << 20)
+                    written += part
+                    if len(written) > MOST_OUTPUT:
+                        raise Trouble(NOT_THERE, f"the program writes more than {MOST_OUTPUT:,} bytes, at: {self.shown}")
+                    if not part:
+                        return bytes(written)
+                elif self.process.poll() is not None:
+                    return bytes(written)
+
+    def patience(self) -> float:
+        """The seconds to wait before the run is looked at again; one that takes too long is stopped here."""
+        now = time.monotonic()
+        if self.ends is not None and now >= self.ends:
+            raise Stopped
+        if now >= self.tells:
+            if self.is_told:
+                tell(self.shown, now - self.began)
+            self.tells = now + PATIENCE
+        return max(0.001, min(self.tells, self.tells if self.ends is None else self.ends) - now)
+
+    def kill(self) -> None:
+        """Ends the run with all that it has started, by force where it doesn't end by itself."""
+        for number in (signal.SIGTERM, signal.SIGKILL):
+            with suppress(OSError):
+                os.killpg(self.process.pid, number)
+            with suppress(subprocess.TimeoutExpired):
+                self.process.wait(MOST_TO_END)
+
+    def close(self) -> None:
+        """Leaves the run, and the line on a terminal that tells of it."""
+        assert self.process.stdout
+        self.process.stdout.close()
+        if self.is_told and time.monotonic() - self.began >= PATIENCE:
+            say("")
 
 
 def tell(shown: str, taken: float) -> None:
     """Says on the terminal how long a run has taken."""
     short = shown if len(shown) <= 60 else shown[:57] + ".."
-    print(f"ask: {taken:.0f} s: {short}", end="\r", file=sys.stderr, flush=True)
+    say(f"ask: {taken:.0f} s: {short}", "\r")
 
 
 def handed(data: bytes) -> IO[bytes]:

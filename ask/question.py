@@ -11,8 +11,8 @@ from ask.formulas import Tree, read_formula
 from ask.logs import Log, read_log
 from ask.program import NOT_THERE, Program, Run
 from ask.refusals import refusal
-from ask.reports import Best, Report, Unreadable, read_best, read_report
-from ask.texts import Source, Trouble, is_existing_file, read_source
+from ask.reports import Best, Report, Unreadable, read_best, read_report, verdict_of
+from ask.texts import LIMITS, TOO_LONG, Source, Trouble, is_existing_file, read_source
 from ask.words import TYPED, counted, shortened
 
 REFUSED = 65  # the status where a text is no formula
@@ -32,12 +32,18 @@ class Question:
     def check(self, text: Optional[str] = None, options: Optional[Sequence[str]] = None) -> Run:
         """Runs `check` on the formula, or on another text in its place."""
         formula = self.formula if text is None else Source(f"'{text}'", text.encode())
-        return self.program.run("check", [formula, self.log_source], self.options if options is None else options)
+        run = self.program.run("check", [formula, self.log_source], self.options if options is None else options)
+        if run.status in VERDICTS and verdict_of(run.output) != run.status:
+            raise unreadable("report", run)
+        return run
 
     def replay(self, text: str, times: Sequence[int]) -> Run:
         """Runs `replay` of a text on a timing."""
         sources = [Source(f"'{text}'", text.encode()), self.log_source, times_source(times)]
-        return self.program.run("replay", sources)
+        run = self.program.run("replay", sources)
+        if run.status in (0, 1) and run.output != (b"false\n" if run.status else b"true\n"):
+            raise unreadable("answer", run)
+        return run
 
     def is_true(self, text: str, times: Sequence[int]) -> bool:
         """Whether a text is true on an admissible timing, as `replay` says."""
@@ -55,19 +61,22 @@ def times_source(times: Sequence[int]) -> Source:
 def formula_source(word: str) -> Source:
     """A formula by the name of its file, or its text."""
     if word == "-" or is_existing_file(word):
-        return refuse_marks(read_source(word), REFUSED)
+        return refuse_marks(read_source(word, "formula"), REFUSED)
     if not word.strip():
         raise Trouble(REFUSED, "the formula is empty")
     if "/" in word or word.endswith((".formula", ".txt")):
         raise Trouble(74, f"{word} is no file, and no formula either")
-    return refuse_marks(Source(TYPED, word.encode("utf-8", "surrogateescape")), REFUSED)
+    data = word.encode("utf-8", "surrogateescape")
+    if len(data) > LIMITS["formula"].most:
+        raise Trouble(TOO_LONG, LIMITS["formula"].words)
+    return refuse_marks(Source(TYPED, data), REFUSED)
 
 
 def sources_of(formula: str, log: str) -> Tuple[Source, Source]:
     """A formula and the file of a log."""
     first = formula_source(formula)
     try:
-        return first, read_source(log)
+        return first, read_source(log, "log")
     except Trouble as trouble:
         is_turned = re.match(rb"\W*(kind|skewlog2),host,", first.data)
         hint = f", and {first.name} is a log: the formula stands before the log" if is_turned else ""
@@ -113,7 +122,12 @@ def report_of_run(run: Run) -> Report:
     try:
         return read_report(run.output)
     except Unreadable:
-        raise Trouble(NOT_THERE, f"what the program wrote is no report that ask can read, at: {run.words}") from None
+        raise unreadable("report", run) from None
+
+
+def unreadable(what: str, run: Run) -> Trouble:
+    """The trouble that a run has a status of the program and didn't write what the program writes with it."""
+    return Trouble(NOT_THERE, f"what the program wrote is no {what} that ask can read, at: {run.words}")
 
 
 def best_of_run(run: Run, question: Question, log: Log, value: str) -> Best:
@@ -131,7 +145,7 @@ def best_of_run(run: Run, question: Question, log: Log, value: str) -> Best:
     except Unreadable:
         best = None
     if best is None or best.status() != run.status:
-        raise Trouble(NOT_THERE, f"what the program wrote is no answer that ask can read, at: {run.words}")
+        raise unreadable("answer", run)
     return best
 
 

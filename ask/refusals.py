@@ -3,12 +3,13 @@
 from __future__ import annotations
 
 import re
+from itertools import islice
 from typing import Optional, Sequence
 
 from ask.encoding import wide_words
-from ask.logs import HEADERS, KINDS, Record, declared_hosts, is_log_in_json, number as number_of, records_of
+from ask.logs import HEADERS, KINDS, Record, declared_hosts, field_start, is_log_in_json, number as number_of, records_in
 from ask.program import NOT_THERE, Run
-from ask.texts import Source, Trouble, place_of, shown_text
+from ask.texts import LIMITS, Source, Trouble, escaped, place_of, shown_text, width_of
 from ask.words import TYPED, counted, grouped, listed, shortened
 
 
@@ -21,7 +22,7 @@ def refusal(run: Run, formula: Optional[Source], log: Optional[Source]) -> Troub
     if kind == "log" and log:
         return Trouble(run.status, log_refusal(words, log))
     if kind == "length":
-        return Trouble(run.status, LENGTHS.get(words[-1], run.line()))
+        return Trouble(run.status, LIMITS[words[-1]].words if words[-1] in LIMITS else run.line())
     if kind == "nodes":
         return Trouble(
             run.status, "the formula has more than 512 different parts, which is the limit: ask for it in parts",
@@ -43,18 +44,10 @@ def refusal(run: Run, formula: Optional[Source], log: Optional[Source]) -> Troub
     )
 
 
-LENGTHS = {
-    "log": "the log is longer than 1,048,576 bytes, which is the limit: cut a window of it (ask log --help)",
-    "formula": "the formula is longer than 65,536 bytes, which is the limit",
-    "report": "the report is longer than 1,073,741,824 bytes, which is the limit",
-    "times": "the file of times is longer than 65,536 bytes, which is the limit",
-}
-
-
 def size_refusal(size: int, log: Optional[Source]) -> str:
     """What to do where a formula and a log are too large together."""
     no_rows = ("kind", "skewlog2", "host", "resync", "latency")
-    rows = sum(1 for record in records_of(log.data) if record.fields[0] not in no_rows) if log else 0
+    rows = sum(record.fields[0] not in no_rows for record in records_in(log.data)) if log else 0
     return (
         f"the formula on a log of {counted(rows, 'row')} has the size {grouped(size)}, and the limit is 4,194,304. "
         f"Each F, G, O, H, U and S counts with the square of the rows: cut a window (ask log --help), leave out "
@@ -81,11 +74,12 @@ def formula_refusal(words: Sequence[str], formula: Source, log: Optional[Source]
     rest = formula.data[offset:]
     if number == "8":
         host = re.match(rb"[a-z0-9_]*", rest)
-        hosts = declared_hosts(records_of(log.data)) if log else []
+        hosts = declared_hosts(records_in(log.data)) if log else []
         name = host.group().decode() if host else ""
         before = formula.data[:offset][-1:].decode("ascii", "replace")
         hint = f". {before} before it is an operator; names are in small letters" if re.match("[A-Z]", before) else ""
-        return f"{where}: the log has no host {name}. Its hosts: {listed(hosts) or 'none'}{hint}{file_hint(formula)}"
+        known = f"Its hosts: {listed(hosts) or 'none'}{hint}{file_hint(formula)}"
+        return f"{where}: the log has no host {shortened(name)}. {known}"
     said = FORMULA_FAULTS.get(number, " ".join(words))
     if re.match(rb"\W*(kind|skewlog2),host,", formula.data):
         return f"{formula.name} is a log; the formula stands before the log"
@@ -95,25 +89,40 @@ def formula_refusal(words: Sequence[str], formula: Source, log: Optional[Source]
         said = "the formula ends too early"
     said += interval_hint(formula.data, offset) or spelling_hint(number, formula.data[:offset], rest)
     said += file_hint(formula)
-    lines = re.split(r"\r\n|\n|\r", formula.data.decode("utf-8", "replace").lstrip("\ufeff"))
-    line = lines[place.line - 1] if place.line <= len(lines) else ""
-    start = max(0, place.column - 60)
-    shown = line[start : start + 100].replace("\t", " ")
-    pointer = " " * (place.column - 1 - start) + "^"
-    return f"{where}: {said}\n  {shown}\n  {pointer}"
+    return f"{where}: {said}\n{shown_place(formula.data, offset)}"
+
+
+def shown_place(data: bytes, offset: int) -> str:
+    """What stands about a place of a text, on one line, and below it a sign that points to the place."""
+    column = place_of(data, offset).column
+    start = offset - len(before_on_line(data[:offset]))
+    end = re.compile(rb"[\r\n]").search(data, offset)
+    line = data[start : end.start() if end else len(data)].decode("utf-8", "replace").lstrip("\ufeff")
+    first = max(0, column - 60)
+    before, behind = (
+        escaped(part.replace("\t", " ")) for part in (line[first : column - 1], line[column - 1 : first + 100])
+    )
+    return f"  {before}{behind}\n  {' ' * width_of(before)}^"
+
+
+def before_on_line(data: bytes) -> bytes:
+    """What stands on the last line of a text."""
+    return data[max(data.rfind(b"\n"), data.rfind(b"\r")) + 1 :]
 
 
 def file_hint(formula: Source) -> str:
     """That there is no such file, where a formula in the words looks like the name of one."""
-    word = shown_text(formula.data)
+    word = shown_text(formula.data, 1000)
     if formula.name != TYPED or re.search(r"[\s()\[\]!&|<>=]", word):
         return ""
     return f". There is no file {shortened(word)}, so this was read as a formula"
 
 
 # An operator with numbers behind it, in any brackets or none, as intervals are written elsewhere.
+# There are few blanks at each place, so that no text takes long.
 INTERVAL = re.compile(
-    rb"[FGOHUS]\s*[\[({\]]?\s*(?:<=?\s*)?(?:([0-9]+|\?)\s*(?:[,;:-]|\.\.|\s)\s*)?([0-9]+|inf|\?)\s*[\])}\[]?"
+    rb"[FGOHUS]\s{0,9}[\[({\]]?\s{0,9}(?:<=?\s{0,9})?(?:([0-9]+|\?)\s{0,9}(?:[,;:-]|\.\.|\s)\s{0,9})?([0-9]+|inf|\?)"
+    rb"\s{0,9}[\])}\[]?"
 )
 RIGHT_INTERVAL = re.compile(rb"[FGOHUS]\s*\[\s*([0-9]+|\?)\s*,\s*([0-9]+|inf|\?)\s*\]")
 
@@ -122,8 +131,8 @@ def interval_hint(data: bytes, offset: int) -> str:
     """How an interval is written, where the place of a fault is in one that is written otherwise."""
     for found in INTERVAL.finditer(data):
         if found.start() < offset < found.end() and not RIGHT_INTERVAL.fullmatch(found.group()):
-            low, high = (number or b"0" for number in found.groups())
-            return f": an interval is [{low.decode()},{high.decode()}]"
+            low, high = (shortened((number or b"0").decode(), 20) for number in found.groups())
+            return f": an interval is [{low},{high}]"
     return ""
 
 
@@ -138,19 +147,20 @@ def spelling_hint(number: str, before: bytes, rest: bytes) -> str:
     sign = rest[:1].decode("ascii", "replace")
     if sign in OTHER_SPELLINGS and (number == "1" or number == "2" and before.endswith(rest[:1])):
         return f": {OTHER_SPELLINGS[sign]}"
-    word = re.search(rb"(?<![a-z0-9_.])([a-z][a-z0-9_]*)[ \t\r\n]*$", before)
+    word = re.search(rb"(?<![a-z0-9_.])([a-z][a-z0-9_]*)\Z", before.rstrip(b" \t\r\n"))
     if number == "2" and word and word.group(1) not in (b"true", b"false"):
-        return f" after {word.group(1).decode()}: a proposition is HOST.NAME, and the operators are ! & | -> F G O H U S"
+        name = shortened(word.group(1).decode())
+        return f" after {name}: a proposition is HOST.NAME, and the operators are ! & | -> F G O H U S"
     return ""
 
 
 def log_refusal(words: Sequence[str], log: Source) -> str:
     """What is wrong with a log, and where."""
-    records = records_of(log.data)
     number = words[2]
     if number == "11":
         return f"{log.name} has no row: only its header and hosts"
     place = int(words[-1])
+    records = list(islice(records_in(log.data), place))
     if place > len(records):
         return f"{log.name} is empty: the first line has to be kind,host,time,name"
     wide = wide_words(log)
@@ -159,8 +169,9 @@ def log_refusal(words: Sequence[str], log: Source) -> str:
     if number == "1" and is_log_in_json(log.data):
         return log_in_json_words(log)
     record = records[place - 1]
-    said, wrong = log_fault_words(number, record, records)
-    column = place_of(log.data, record.offsets[wrong]).column if wrong < len(record.offsets) else 1
+    said, wrong = log_fault_words(number, record, records, log.data)
+    start = field_start(log.data, record, wrong)
+    column = 1 if start is None else place_of(log.data, start).column
     return f"{log.name}, line {record.line}, column {column}: {said}"
 
 
@@ -181,14 +192,20 @@ def log_in_json_words(log: Source) -> str:
     )
 
 
-def log_fault_words(number: str, record: Record, records: Sequence[Record]) -> "tuple[str, int]":
-    """What is wrong with a record, and with which of its fields."""
+def is_declared(data: bytes, name: str) -> bool:
+    """Whether a host is declared anywhere in a log."""
+    return re.search(rb'(?:^|[\r\n])"?host"?,"?%s"?,' % re.escape(name.encode()), data) is not None
+
+
+def log_fault_words(number: str, record: Record, records: Sequence[Record], data: bytes) -> "tuple[str, int]":
+    """What is wrong with a record, which is the last of these, and with which of its fields."""
     fields = record.fields + [""] * 4
     version = HEADERS.get(tuple(records[0].fields), 1)
     kinds = ", ".join(KINDS[version])
     if number == "1":
-        line = shown_text(",".join(record.fields).encode())
-        hint = header_hint(",".join(record.fields))
+        line = ",".join(record.fields[:100])[:1000]
+        hint = header_hint(line)
+        line = shown_text(line.encode())
         wanted = "kind,host,time,name or skewlog2,host,time,name"
         return f"the first line has to be {wanted}, and is {shortened(line)}{hint}", 0
     if number == "2":
@@ -201,10 +218,11 @@ def log_fault_words(number: str, record: Record, records: Sequence[Record]) -> "
     if number == "4":
         return f"{shortened(fields[1])!r} is no host's name: {name_rule()}, and none is named true, false or inf", 1
     if number == "5":
-        return f"the host {fields[1]} is declared twice", 1
+        return f"the host {shortened(fields[1])} is declared twice", 1
     if number == "6":
         hosts = declared_hosts(records)
-        later = " It is declared further down, and has to be before its first row." if fields[1] in hosts else ""
+        is_later = is_declared(data, fields[1])
+        later = " It is declared further down, and has to be before its first row." if is_later else ""
         known = listed(hosts) or "none"
         return f"no host {shortened(fields[1])!r} is declared before this.{later} The hosts: {known}", 1
     if number == "7":
@@ -223,10 +241,10 @@ def log_fault_words(number: str, record: Record, records: Sequence[Record]) -> "
     if number == "16":
         return f"the greatest latency, {shortened(fields[3])}, is below the least, {shortened(fields[2])}", 3
     if number == "12":
-        count = len(declared_hosts(records))
+        count = len(declared_hosts(records_in(data)))
         return f"{counted(count, 'host')}; at most 64: leave out hosts that the formula and the messages don't need", 0
     if number == "13":
-        rows = sum(1 for other in records[1:] if other.fields[0] not in ("host", "resync", "latency"))
+        rows = sum(other.fields[0] not in ("host", "resync", "latency") for other in records_in(data)) - 1
         return f"{counted(rows, 'row')}; at most 1,024: cut a window (ask log --help, docs/real-logs.md)", 0
     return f"fault {number}", 0
 

@@ -2,9 +2,12 @@
 
 from __future__ import annotations
 
+import re
 from dataclasses import dataclass, field
 from typing import Dict, List, NamedTuple, Optional, Tuple
 
+SECTION = re.compile(rb"^(true|false) (witness|refuted|unknown)\b", re.M)
+STATUSES = {(b"witness", b"refuted"): 0, (b"refuted", b"witness"): 1, (b"witness", b"witness"): 2}
 STEP_WORDS = {"low": 2, "high": 2, "rise": 2, "message": 2, "late": 2, "extra": 2, "order": 4}
 
 
@@ -50,6 +53,18 @@ def read_report(data: bytes) -> Report:
         return report_of(data.decode("ascii").split("\n"))
     except (ValueError, IndexError, KeyError):
         raise Unreadable from None
+
+
+def verdict_of(data: bytes) -> Optional[int]:
+    """The status that `check` has with a report, by the heads of its sections; None where it is none."""
+    if not data.startswith(b"skewcheck 1\nevents ") or not data.endswith(b"\nend\n"):
+        return None
+    heads = tuple(kind for _, kind in SECTION.findall(data))
+    if b"unknown" in heads and len(heads) == 2:
+        return 4
+    if not heads:
+        return 3 if b"\ninconsistent " in data else None
+    return STATUSES.get(heads)
 
 
 def report_of(lines: List[str]) -> Report:

@@ -6,8 +6,9 @@ import re
 
 from ask.logs import Log
 from ask.texts import Trouble
-from ask.words import USAGE, listed, row_words
+from ask.words import USAGE, listed, row_words, shortened
 
+MOST_WORD = 100  # letters; a host and a name have fewer
 RULE = "a number from 0, line:N, or HOST.NAME where one row fits"
 
 
@@ -15,18 +16,19 @@ def row_of(log: Log, word: str) -> int:
     """The row that a word names."""
     if re.fullmatch(r"[0-9]+", word):
         return row_numbered(log, word)
-    if word.startswith("line:"):
+    if word.startswith("line:") and len(word) <= MOST_WORD:
         return row_at_line(log, word)
-    if "." in word:
+    if "." in word and len(word) <= MOST_WORD:
         return row_named(log, word)
-    raise Trouble(USAGE, f"{word!r} names no row: it is {RULE}")
+    raise Trouble(USAGE, f"{shortened(word)!r} names no row: it is {RULE}")
 
 
 def row_numbered(log: Log, word: str) -> int:
     """The row of a number from 0, as the program counts them."""
     if len(word) > 9 or int(word) >= len(log.rows):
         last = f"{len(log.rows) - 1} ({row_words(log, len(log.rows) - 1)})"
-        raise Trouble(USAGE, f"{word} is no row: they are numbered from 0 to {last}. A line of the file is line:N")
+        numbers = f"they are numbered from 0 to {last}. A line of the file is line:N"
+        raise Trouble(USAGE, f"{shortened(word)} is no row: {numbers}")
     return int(word)
 
 

@@ -44,8 +44,10 @@ def take_as_one(found: Found) -> Spellings:
     """Takes names as one that differ so, of hosts and of rows."""
     hosts = kept_spellings([*(event.host for event in found.events), *found.hosts, *found.latencies])
     names = kept_spellings(event.name for event in found.events)
-    for event in found.events:
-        event.host, event.name = hosts.get(event.host, event.host), names.get(event.name, event.name)
+    found.events = [
+        event._replace(host=hosts.get(event.host, event.host), name=names.get(event.name, event.name))
+        for event in found.events
+    ]
     for told, what in ((found.hosts, "skew or gap"), (found.latencies, "latency")):
         said = list(told.items())
         told.clear()

@@ -32,6 +32,8 @@ class Stamp(NamedTuple):
 def stamp_of(text: str) -> Optional[Stamp]:
     """The stamp that a text is, or None."""
     text = text.strip()
+    if len(text) <= 20 and text.isascii() and text.isdigit():
+        return Stamp("whole", int(text), "")
     iso = iso_match(text)
     if iso:
         return None if iso_fault(iso) else iso_stamp(iso)

@@ -10,6 +10,7 @@ from typing import Any, Dict, List, Sequence
 
 from ask.logs import Log, bound_of
 from ask.reports import Step
+from ask.texts import escaped_json, escaped_lines, write_output
 
 USAGE = 64  # the status of words that are no command
 MOST_EXACT = 2**53  # the magnitude up to which all whole numbers are floats of 64 bits
@@ -26,16 +27,17 @@ class Answer:
 
 
 def print_answer(answer: Answer, is_json: bool) -> None:
-    """Writes an answer to the standard output."""
+    """Writes an answer to the standard output, or refuses where that can't be."""
     if is_json:
         print_facts({"status": answer.status, **answer.facts})
     else:
-        print("\n".join(answer.lines))
+        lines = (line if isinstance(line, Coloured) else escaped_lines(line) for line in answer.lines)
+        write_output("\n".join(lines) + "\n")
 
 
 def print_facts(facts: Dict[str, Any]) -> None:
-    """Writes facts as JSON to the standard output."""
-    print(json.dumps(with_exact_numbers(facts), indent=2, ensure_ascii=False))
+    """Writes facts as JSON to the standard output, or refuses where that can't be."""
+    write_output(escaped_json(json.dumps(with_exact_numbers(facts), indent=2, ensure_ascii=False)) + "\n")
 
 
 def with_exact_numbers(value: Any) -> Any:
@@ -50,17 +52,26 @@ def with_exact_numbers(value: Any) -> Any:
 # Looks
 
 
+class Coloured(str):
+    """A line with colours of its own, in which all else is escaped."""
+
+
 def is_coloured() -> bool:
     """Whether the output is a terminal that shows colours."""
     return sys.stdout.isatty() and "NO_COLOR" not in os.environ and os.environ.get("TERM") != "dumb"
 
 
 def bold(text: str) -> str:
-    return f"\x1b[1m{text}\x1b[0m" if is_coloured() else text
+    return coloured("1", text)
 
 
 def yellow(text: str) -> str:
-    return f"\x1b[33m{text}\x1b[0m" if is_coloured() else text
+    return coloured("33", text)
+
+
+def coloured(colour: str, text: str) -> str:
+    """A line in a colour, where the output shows colours."""
+    return Coloured(f"\x1b[{colour}m{escaped_lines(text)}\x1b[0m") if is_coloured() else text
 
 
 def grouped(number: int) -> str:
@@ -77,11 +88,6 @@ def listed(words: Sequence[str], most: int = 12) -> str:
     """Words with commas between them, no more than so many."""
     shown = ", ".join(words[:most])
     return f"{shown} and {len(words) - most} more" if len(words) > most else shown
-
-
-def printable(name: str) -> str:
-    """A name of a file as it is, in quotes where some sign of it can't be printed."""
-    return name if name.isprintable() else repr(name)
 
 
 def signed(number: int) -> str:

@@ -19,7 +19,7 @@ from pathlib import Path
 sys.dont_write_bytecode = True  # leaves no compiled files beside the sources
 sys.path.insert(0, str(Path(__file__).resolve().parent.parent))
 
-from ask.main import main
+from ask.main import run
 
 WORDS = [
     "log", "--part", "--unit", "ms", "--access", "$msec $request_time $request_id", "--id", "request_id",
@@ -29,4 +29,4 @@ WORDS = [
 ]
 
 if __name__ == "__main__":
-    sys.exit(main(WORDS + sys.argv[1:]))
+    run(WORDS + sys.argv[1:])

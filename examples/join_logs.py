@@ -15,7 +15,7 @@ from typing import List, Sequence
 sys.dont_write_bytecode = True  # leaves no compiled files beside the sources
 sys.path.insert(0, str(Path(__file__).resolve().parent.parent))
 
-from ask.main import main
+from ask.main import run
 
 
 def words_of(given: Sequence[str]) -> List[str]:
@@ -28,4 +28,4 @@ def words_of(given: Sequence[str]) -> List[str]:
 
 
 if __name__ == "__main__":
-    sys.exit(main(words_of(sys.argv[1:])))
+    run(words_of(sys.argv[1:]))

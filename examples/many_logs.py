@@ -5,7 +5,9 @@ Run as: python3 many_logs.py [options] LOGS FORMULA..
 
 Each NAME.csv of the folder LOGS is checked for each formula. Questions go out in bundles, one job of
 parallel each; its joblog says what is done, so that a run that was broken off goes on where it was.
-The folder of answers has a report for each question, a line for each status, and what was asked.
+The folder of answers has a report for each question, a line for each status, and what was asked. A folder
+that isn't empty has to have this script's mark, and of the files in it those alone are removed that the script
+has named itself.
 At the end stands a table, and the status is that of the whole: the greatest one from 64 on that some
 question has, 125 being a question without an answer; else the first of 3, 1, 2, 4 and 0.
 """
@@ -13,7 +15,10 @@ question has, 125 being a question without an answer; else the first of 3, 1, 2,
 import argparse
 import io
 import os
+import re
 import shutil
+import signal
+import stat
 import subprocess
 import sys
 import tarfile
@@ -21,17 +26,33 @@ from collections import Counter
 from hashlib import sha256
 from pathlib import Path
 from shlex import quote
+from typing import NamedTuple
+
+if signal.getsignal(signal.SIGINT) is signal.default_int_handler:
+    signal.signal(signal.SIGINT, signal.SIG_DFL)  # until there is something that an interrupt could leave behind
+sys.dont_write_bytecode = True  # leaves no compiled files beside the sources
+sys.path.insert(0, str(Path(__file__).resolve().parent.parent))
+
+from ask.ends import refuse_as, run_script, uninterrupted
+from ask.logs import number
+from ask.reports import verdict_of
+from ask.texts import CANNOT_READ, CANNOT_WRITE, LIMITS, Trouble, escaped, read_file, reason_of, say, width_of, write_output
 
 BUILT = Path(__file__).resolve().parent.parent / "crates" / "skewcheck" / "out" / "skewcheck"
 WORDS = {0: "true", 1: "false", 2: "either", 3: "no timing", 4: "unknown"}
 ORDER = (3, 1, 2, 4, 0)  # of answers: the first that some question has is the status of the whole
 TROUBLES = 10  # lines of them that are told
 REFUSED = 64  # the least status that is no answer
-WRONG_WORDS, UNAVAILABLE, NO_FILE, NOT_ASKED, BROKEN_OFF = 64, 72, 74, 125, 130
+WRONG_WORDS, UNAVAILABLE, NO_ROOM, NOT_ASKED = 64, 72, 73, 125
+MOST_TO_END = 10  # seconds that parallel has to end its jobs
+MARK, MARK_TEXT = "many_logs.mark", b"This folder has answers of examples/many_logs.py.\n"
+MOST_NAME = 255  # bytes of the name of a file
+ANSWER = re.compile(r"(?:\./)?([0-9]+)/([0-9]+)\.(report|status)")
 
 # A job: unpacks a bundle in a folder of its own, asks its questions, and writes the reports as an archive.
 JOB = """\
-command -v {program} >/dev/null || {{ echo "many_logs: {program} isn't there" >&2; exit 72; }}
+brace=$(printf '\\173')
+command -v -- {program} >/dev/null || {{ printf "many_logs: %s isn't there\\n" {program} >&2; exit 72; }}
 room=$(mktemp -d) || exit 74
 trap 'rm -rf "$room"' EXIT
 trap 'exit 130' INT TERM
@@ -45,41 +66,84 @@ tar -C answers -cf - .
 """
 
 
-class Refused(Exception):
-    """What can't be done, in words, and the status that says so."""
+def tell(words):
+    """Says something that doesn't end the script."""
+    say(f"many_logs: {words}")
 
-    def __init__(self, status, words):
-        super().__init__(words)
-        self.status = status
+
+# Files
 
 
 def files_of(options):
     """The logs and the formulas by their names."""
     folder = Path(options.logs)
     if not folder.is_dir():
-        raise Refused(NO_FILE, f"{folder} is no folder")
+        raise Trouble(CANNOT_READ, f"{shown(folder)} is no folder")
     logs = {path.name: path for path in sorted(folder.glob("*.csv"))}
     formulas = {Path(name).name: Path(name) for name in options.formulas}
     if not logs:
-        raise Refused(NO_FILE, f"{folder} has no file NAME.csv")
+        raise Trouble(CANNOT_READ, f"{shown(folder)} has no file NAME.csv")
     others = sum(path.name not in logs for path in folder.iterdir())
     if others:
-        print(f"many_logs: left out of {folder}, being no NAME.csv: {others}", file=sys.stderr)
+        tell(f"left out of {shown(folder)}, being no NAME.csv: {others}")
     if len(formulas) < len(options.formulas):
-        raise Refused(WRONG_WORDS, "two formulas have one name")
-    for name in [*logs, *formulas]:
-        if "\t" in name or "\n" in name:
-            raise Refused(WRONG_WORDS, f"the name {name!r} has a tab or a newline")
+        raise Trouble(WRONG_WORDS, "two formulas have one name")
     return logs, formulas
 
 
-def bundle(questions, logs, formulas):
-    """An archive of some questions with their files, the same bytes each time."""
-    text = "".join(f"{formula}\t{log}\n" for formula, log in questions).encode()
-    parts = {"questions": text}
-    for formula, log in questions:
-        parts["formulas/" + formula] = formulas[formula].read_bytes()
-        parts["logs/" + log] = logs[log].read_bytes()
+def shown(name):
+    """A name as it is shown, on one line, so that no two are shown alike."""
+    return escaped(str(name).replace("\\", "\\\\"))
+
+
+def bytes_of(path, kind):
+    """The bytes of a file, of one that is too long as many as show that it is."""
+    try:
+        return read_file(path, LIMITS[kind].most + 1)
+    except (OSError, ValueError) as error:
+        raise Trouble(CANNOT_READ, f"{shown(path)} can't be read: {reason_of(error)}") from None
+
+
+def log_of(path):
+    """The bytes of a log, or None where it is no file that can be read, which is said."""
+    try:
+        if not stat.S_ISREG(os.stat(path).st_mode):  # the others may have no end, or wait for somebody
+            raise Trouble(CANNOT_READ, f"{shown(path)} can't be read: it is no regular file")
+        return bytes_of(path, "log")
+    except OSError as error:
+        tell(f"{shown(path)} can't be read: {reason_of(error)}")
+    except Trouble as trouble:
+        tell(trouble.message)
+    return None
+
+
+def write(path, data):
+    """Writes a file, and the folders that it lies in."""
+    try:
+        path.parent.mkdir(parents=True, exist_ok=True)
+        path.write_bytes(data)
+    except OSError as error:
+        raise Trouble(CANNOT_WRITE, f"{shown(path)} can't be written: {reason_of(error)}") from None
+
+
+# Questions
+
+
+class Question(NamedTuple):
+    """A formula and a log, each by its number from 1 and by its bytes."""
+
+    formula: int
+    log: int
+    text: bytes
+    data: bytes
+
+
+def bundle(questions):
+    """An archive of some questions with their files, the same bytes each time. A file is named by its number."""
+    parts = {"questions": "".join(f"{question.formula}\t{question.log}\n" for question in questions).encode()}
+    for question in questions:
+        parts[f"formulas/{question.formula}"] = question.text
+        parts[f"logs/{question.log}"] = question.data
     whole = io.BytesIO()
     with tarfile.open(fileobj=whole, mode="w") as archive:
         for name, data in parts.items():
@@ -89,104 +153,224 @@ def bundle(questions, logs, formulas):
     return whole.getvalue()
 
 
-def prepare(options, command):
-    """Writes the bundles into a folder named by what is asked, and answers it with the questions."""
-    logs, formulas = files_of(options)
-    questions = [(formula, log) for log in logs for formula in formulas]
-    pieces = [questions[at : at + options.bundle] for at in range(0, len(questions), options.bundle)]
-    bundles = [bundle(piece, logs, formulas) for piece in pieces]
-    digest = sha256(b"".join([command.encode(), *(sha256(data).digest() for data in bundles)])).hexdigest()
-    folder = Path(options.to) / f"questions-{digest[:12]}"
-    if any(other != folder for other in Path(options.to).glob("questions-????????????")):
-        raise Refused(WRONG_WORDS, f"{options.to} has answers of other logs, formulas or options; name another folder by --to")
-    if not folder.exists():
-        room = folder.with_suffix(".new")
-        shutil.rmtree(room, ignore_errors=True)
-        room.mkdir(parents=True)
-        for number, data in enumerate(bundles, 1):
-            (room / f"{number:05}.tar").write_bytes(data)
-        room.rename(folder)
-    return folder, questions
+def bundles_of(options, logs, formulas):
+    """The bundles of all questions, and the status of each question as far as it is known."""
+    texts = [bytes_of(path, "formula") for path in formulas.values()]
+    statuses, bundles, waiting = {}, [], []
+    for log, path in enumerate(logs.values(), 1):
+        data = log_of(path)
+        for formula, text in enumerate(texts, 1):
+            statuses[formula, log] = CANNOT_READ if data is None else NOT_ASKED
+            if data is not None:
+                waiting.append(Question(formula, log, text, data))
+            if len(waiting) == options.bundle:
+                bundles.append(bundle(waiting))
+                waiting = []
+    return bundles + [bundle(waiting)] * bool(waiting), statuses
 
 
-def jobs_done(folder):
+def refuse_folder(folder):
+    """Refuses a folder of answers that is somebody else's."""
+    if not os.path.lexists(folder):
+        return
+    if not folder.is_dir():
+        raise Trouble(CANNOT_READ, f"{shown(folder)} is no folder")
+    mark = folder / MARK
+    is_own = mark.is_file() and not mark.is_symlink() and read_file(mark, len(MARK_TEXT) + 1) == MARK_TEXT
+    if not is_own and any(folder.iterdir()):
+        words = "isn't empty, and it has no mark of answers; name another folder by --to"
+        raise Trouble(NO_ROOM, f"{shown(folder)} {words}")
+
+
+def make_folder(folder):
+    """Makes the folder of answers, with its mark."""
+    try:
+        folder.mkdir(parents=True, exist_ok=True)
+    except OSError as error:
+        raise Trouble(NO_ROOM, f"{shown(folder)} can't be made: {reason_of(error)}") from None
+    write(folder / MARK, MARK_TEXT)
+
+
+class Questions:
+    """What is asked: the names of logs and formulas, the status of each question, and the bundles in their folder."""
+
+    def __init__(self, options, command):
+        refuse_folder(Path(options.to))
+        logs, formulas = files_of(options)
+        self.logs, self.formulas = list(logs), list(formulas)
+        bundles, self.statuses = bundles_of(options, logs, formulas)
+        names = [os.fsencode(name) for name in [command, *self.logs, "", *self.formulas]]
+        digest = sha256(b"\0".join([*names, *(sha256(data).digest() for data in bundles)])).hexdigest()
+        self.top = Path(options.to)
+        self.folder = self.top / f"questions-{digest[:12]}"
+        self.bundles = [f"{number:05}.tar" for number in range(1, len(bundles) + 1)]
+        self.write(bundles)
+
+    def write(self, bundles):
+        """Writes the bundles into a folder named by what is asked."""
+        if any(other != self.folder for other in self.top.glob("questions-????????????")):
+            words = "has answers of other logs, formulas or options; name another folder by --to"
+            raise Trouble(WRONG_WORDS, f"{shown(self.top)} {words}")
+        make_folder(self.top)
+        if not self.folder.exists():
+            room = self.folder.with_suffix(".new")
+            for name, data in zip(self.bundles, bundles):
+                write(room / name, data)
+            room.mkdir(exist_ok=True)
+            room.rename(self.folder)
+
+    def name_of(self, formula, log):
+        """The names of the formula and the log of a question."""
+        return self.formulas[formula - 1], self.logs[log - 1]
+
+
+# Jobs
+
+
+def jobs_done(questions):
     """The jobs of the joblog that didn't fail, by the names of their bundles, each with its line."""
-    log = folder / "jobs"
-    lines = log.read_text().splitlines()[1:] if log.exists() else []
-    fields = ((line.split("\t"), line) for line in lines)
-    return {f"{int(parts[0]):05}.tar": line for parts, line in fields if parts[6:8] == ["0", "0"]}
+    log = questions.top / "jobs"
+    lines = log.read_bytes().splitlines()[1:] if log.exists() else []
+    fields = ((line.split(b"\t"), line) for line in lines)
+    done = {f"{int(parts[0]):05}.tar": line for parts, line in fields if parts[6:8] == [b"0", b"0"] and parts[0].isdigit()}
+    return {name: line for name, line in done.items() if name in questions.bundles}
 
 
-def clear_undone(folder):
-    """Leaves in the joblog the jobs that are done, and of the answers theirs, since parallel passes over all others."""
-    done = jobs_done(folder)
-    if (folder / "jobs").exists():
-        title = (folder / "jobs").read_text().splitlines()[:1]
-        (folder / "jobs").write_text("".join(line + "\n" for line in [*title, *done.values()]))
-    (folder / "answers").mkdir(exist_ok=True)
-    for path in (folder / "answers").iterdir():
-        if path.name.split(".")[0] + ".tar" not in done:
-            path.unlink()
+def clear_undone(questions):
+    """Leaves in the joblog the jobs that are done, and of the answers theirs, since parallel passes over all others.
+
+    What parallel writes of a bundle has its name, so nothing else is removed.
+    """
+    done = jobs_done(questions)
+    jobs, answers = questions.top / "jobs", questions.top / "answers"
+    if jobs.exists():
+        title = jobs.read_bytes().splitlines()[:1]
+        write(jobs, b"".join(line + b"\n" for line in [*title, *done.values()]))
+    answers.mkdir(exist_ok=True)
+    for name in questions.bundles:
+        for ending in ("", ".err", ".seq"):
+            if name not in done and (answers / (name + ending)).is_file():
+                (answers / (name + ending)).unlink()
 
 
 def ask(options, command, questions):
-    """Has parallel run the jobs of a folder of bundles that aren't done."""
-    folder = Path(options.to)
-    clear_undone(folder)
+    """Has parallel run the jobs of the bundles that aren't done."""
+    clear_undone(questions)
     words = ["parallel", "--will-cite", "--joblog", "jobs", "--resume", "--results", "answers/{/}", "--jobs", options.jobs]
+    words += ["--termseq", "TERM,300,KILL,50"]
     words += ["--sshlogin", options.machines, "--transferfile", "{}", "--cleanup"] if options.machines else []
     words += ["--bar"] if sys.stderr.isatty() else []
-    bundles = sorted(f"{questions.name}/{path.name}" for path in questions.glob("*.tar"))
-    job = JOB.format(program=quote(options.program), command=command)
-    subprocess.run(
-        [*words, job], cwd=folder, input="\n".join(bundles) + "\n", text=True, stdout=subprocess.DEVNULL,
-        env={**os.environ, "PARALLEL_SHELL": "/bin/sh"},
-    )
+    bundles = "".join(f"{questions.folder.name}/{name}\n" for name in questions.bundles)
+    job = JOB.format(program=in_job(options.program), command=command)
+    run_parallel([*words, job], questions.top, bundles.encode())
 
 
-def troubles(folder):
+def in_job(word):
+    """A word in the shell of a job. In braces parallel would see something to be replaced."""
+    return quote(word).replace("{", "'\"$brace\"'")
+
+
+def run_parallel(words, folder, text):
+    """Runs parallel, and ends it with its jobs where something ends the script."""
+    process = None
+    try:
+        with uninterrupted():
+            process = subprocess.Popen(
+                words, cwd=folder, stdin=subprocess.PIPE, stdout=subprocess.DEVNULL, start_new_session=True,
+                env={**os.environ, "PARALLEL_SHELL": "/bin/sh"},
+            )
+        process.communicate(text)
+    except BaseException:
+        with uninterrupted():
+            if process is not None:
+                end_parallel(process)
+        raise
+
+
+def end_parallel(process):
+    """Ends parallel: told once it waits for its jobs, told twice it ends them, and then it is ended by force."""
+    for number, seconds in ((signal.SIGTERM, 0.2), (signal.SIGTERM, MOST_TO_END), (signal.SIGKILL, MOST_TO_END)):
+        if process.poll() is None:
+            os.killpg(process.pid, number)
+        try:
+            process.wait(seconds)
+        except subprocess.TimeoutExpired:
+            pass
+
+
+def troubles(questions):
     """What the jobs said on their standard error, each line once."""
-    lines = (line for path in sorted((folder / "answers").glob("*.err")) for line in path.read_text(errors="replace").splitlines())
+    paths = [questions.top / "answers" / f"{name}.err" for name in questions.bundles]
+    lines = (line for path in paths if path.is_file() for line in path.read_text(errors="replace").splitlines())
     return list(dict.fromkeys(lines))
 
 
+# Answers
+
+
 def answers_of(path):
-    """What a job gave: of each formula the reports and statuses of logs, by their names."""
-    with tarfile.open(path) as archive:
-        for entry in archive:
-            if entry.isfile():
-                formula, name = entry.name.removeprefix("./").split("/")
-                yield formula, name, archive.extractfile(entry).read()
+    """What a job gave: the report and the status of each question, by its numbers and by which of the two it is."""
+    found = {}
+    try:
+        with tarfile.open(path) as archive:
+            for entry in archive:
+                match = ANSWER.fullmatch(entry.name)
+                if entry.isfile() and match:
+                    found[int(match[1]), int(match[2]), match[3]] = archive.extractfile(entry).read()
+    except (OSError, EOFError, ValueError, tarfile.TarError) as error:
+        tell(f"{shown(path)} is no archive of answers: {error}")
+    return found
 
 
-def collect(options, questions):
-    """Writes the reports of the jobs that are done, and answers the status of each question."""
-    folder = Path(options.to)
-    statuses = dict.fromkeys(questions, NOT_ASKED)
-    for bundle_name in jobs_done(folder):
-        for formula, name, data in answers_of(folder / "answers" / bundle_name):
-            if name.endswith(".status"):
-                statuses[formula, name.removesuffix(".status")] = int(data)
-            else:
-                target = folder / "reports" / formula / name
-                target.parent.mkdir(parents=True, exist_ok=True)
-                target.write_bytes(data)
-    lines = [f"{status}\t{formula}\t{log}\n" for (formula, log), status in statuses.items()]
-    (folder / "statuses").write_text("".join(lines))
-    return statuses
+def collect(questions):
+    """Writes the reports of the jobs that are done, and the status of each question."""
+    for name in jobs_done(questions):
+        found = answers_of(questions.top / "answers" / name)
+        for formula, log, kind in found:
+            if kind == "report" and (formula, log) in questions.statuses:
+                formula_name, log_name = questions.name_of(formula, log)
+                report = found[formula, log, kind]
+                write(questions.top / "reports" / formula_name / report_name(log_name), report)
+                status = found.get((formula, log, "status"), b"").strip()
+                questions.statuses[formula, log] = status_of_answer(status, report)
+    count = sum(status == UNAVAILABLE for status in questions.statuses.values())
+    if count:
+        tell(f"to {count} questions what the program wrote isn't what check writes with such a status")
+    lines = []
+    for (formula, log), status in questions.statuses.items():
+        formula_name, log_name = questions.name_of(formula, log)
+        lines.append(f"{status}\t{shown(formula_name)}\t{shown(log_name)}\n")
+    write(questions.top / "statuses", "".join(lines).encode())
 
 
-def table(statuses):
+def report_name(log):
+    """The name of the report on a log: that of the log and `.report`, cut where it would be too long for a file."""
+    name = os.fsencode(log) + b".report"
+    if len(name) > MOST_NAME:
+        name = name[: MOST_NAME - 40] + b"-" + sha256(name).hexdigest()[:16].encode() + b".report"
+    return os.fsdecode(name)
+
+
+def status_of_answer(text, report):
+    """The status of a question: that of its run, where the run was one of skewcheck."""
+    if not text.isdigit():
+        return NOT_ASKED
+    status = int(text[:4])
+    return status if REFUSED <= status <= 255 or verdict_of(report) == status else UNAVAILABLE
+
+
+def table(questions):
     """How many logs have which answer, a line for each formula."""
     heads = ["formula", *WORDS.values(), "none"]
     rows = []
-    for formula in dict.fromkeys(formula for formula, _ in statuses):
-        counts = Counter(status for (name, _), status in statuses.items() if name == formula)
+    for number, name in enumerate(questions.formulas, 1):
+        counts = Counter(status for (formula, _), status in questions.statuses.items() if formula == number)
         none = sum(counts.values()) - sum(counts[status] for status in WORDS)
-        rows.append([formula, *(str(counts[status]) for status in WORDS), str(none)])
-    widths = [max(map(len, column)) for column in zip(heads, *rows)]
+        rows.append([shown(name), *(str(counts[status]) for status in WORDS), str(none)])
+    widths = [max(map(width_of, column)) for column in zip(heads, *rows)]
     for row in [heads, *rows]:
-        yield "  ".join([row[0].ljust(widths[0]), *(cell.rjust(width) for cell, width in zip(row[1:], widths[1:]))])
+        first = row[0] + " " * (widths[0] - width_of(row[0]))
+        yield "  ".join([first, *(cell.rjust(width) for cell, width in zip(row[1:], widths[1:]))])
 
 
 def status_of(statuses):
@@ -195,28 +379,66 @@ def status_of(statuses):
     return max((status for status in found if status >= REFUSED), default=None) or next(s for s in ORDER if s in found)
 
 
+# Words
+
+
 class Parser(argparse.ArgumentParser):
     """A parser whose refusals have a status that no answer has."""
 
     def error(self, message):
-        raise Refused(WRONG_WORDS, f"{message} (--help says the words)")
+        raise Trouble(WRONG_WORDS, f"{escaped(message)} (--help says the words)")
+
+    def print_help(self, file=None):
+        write_output(self.format_help())
+
+
+def number_of_seconds(text):
+    """A number of seconds above 0."""
+    try:
+        value = float(text)
+    except ValueError:
+        value = 0.0
+    if not 0 < value < 10**7:
+        raise argparse.ArgumentTypeError(f"a number of seconds is above 0, and not {text!r}")
+    return value
+
+
+def number_of_conflicts(text):
+    """A number of conflicts that check takes."""
+    value = number(text, 10**6)
+    if not value:
+        raise argparse.ArgumentTypeError(f"a number of conflicts is from 1 to 1,000,000, and not {text!r}")
+    return value
+
+
+def number_of_jobs(text):
+    """A number of jobs, or a share of the cores."""
+    if not re.fullmatch(r"[+-]?[0-9]{1,6}%?", text, re.ASCII):
+        raise argparse.ArgumentTypeError(f"a number of jobs is as 4, +1 or 50%, and not {text!r}")
+    return text
 
 
 def options_of(words):
     """What is asked for."""
-    parser = Parser(prog="many_logs.py", description="ask formulas of each log of a folder")
+    parser = Parser(prog="many_logs.py", description="ask formulas of each log of a folder", allow_abbrev=False)
     parser.add_argument("logs", metavar="LOGS", help="the folder of the logs, each a file NAME.csv")
     parser.add_argument("formulas", metavar="FORMULA", nargs="+")
     parser.add_argument("--to", metavar="FOLDER", help="where the answers go (LOGS.answers)")
-    parser.add_argument("--jobs", metavar="N", default="100%", help="jobs at a time on each machine (one a core)")
+    parser.add_argument(
+        "--jobs", metavar="N", type=number_of_jobs, default="100%", help="jobs at a time on each machine (one a core)",
+    )
     parser.add_argument("--machines", metavar="LIST", help="other machines, as parallel's --sshlogin takes them; : is this one")
     parser.add_argument("--program", metavar="FILE", help="skewcheck on each machine (that of the path, else the built one)")
-    parser.add_argument("--conflicts", metavar="N", type=int, help="as of check")
-    parser.add_argument("--seconds", metavar="S", type=float, help="stop a question that takes longer; its status is 124")
+    parser.add_argument("--conflicts", metavar="N", type=number_of_conflicts, help="as of check")
+    parser.add_argument(
+        "--seconds", metavar="S", type=number_of_seconds, help="stop a question that takes longer; its status is 124",
+    )
     parser.add_argument("--bundle", metavar="N", type=int, default=16, help="questions of one job (16)")
     options = parser.parse_intermixed_args(words)
     if options.bundle < 1:
         parser.error("a bundle has at least one question")
+    if any("\0" in word for word in words):
+        parser.error("a word has a NUL byte")
     options.to = options.to or options.logs.rstrip("/") + ".answers"
     options.program = options.program or ("skewcheck" if shutil.which("skewcheck") or options.machines else str(BUILT))
     if "/" in options.program and not options.machines:
@@ -225,32 +447,31 @@ def options_of(words):
 
 
 def main():
-    """Asks, prints the table, and ends with the status of the whole."""
-    options = options_of(sys.argv[1:])
-    command = f"{quote(options.program)} check" + (f" --conflicts {options.conflicts}" if options.conflicts is not None else "")
-    command = f"timeout {options.seconds:g} {command}" if options.seconds else command
+    """Asks, prints the table, and gives the status of the whole."""
+    try:
+        options = options_of(sys.argv[1:])
+    except SystemExit as end:  # the words ask for help
+        return int(end.code or 0)
+    command = f"{in_job(options.program)} check" + (f" --conflicts {options.conflicts}" if options.conflicts else "")
+    command = f"timeout -k 5 {options.seconds:f} {command}" if options.seconds else command
     if not shutil.which("parallel"):
-        raise Refused(UNAVAILABLE, "GNU parallel isn't there (Debian's package parallel)")
+        raise Trouble(UNAVAILABLE, "GNU parallel isn't there (Debian's package parallel)")
     if not options.machines and not shutil.which(options.program):
-        raise Refused(UNAVAILABLE, f"{options.program} isn't there; ./skewcheck demo 7 builds it")
-    folder, questions = prepare(options, command)
-    ask(options, command, folder)
-    statuses = collect(options, questions)
-    for line in troubles(Path(options.to))[:TROUBLES]:
-        print(line, file=sys.stderr)
-    print(*table(statuses), sep="\n")
-    sys.exit(status_of(statuses))
+        raise Trouble(UNAVAILABLE, f"{shown(options.program)} isn't there; ./skewcheck demo 7 builds it")
+    questions = Questions(options, command)
+    ask(options, command, questions)
+    collect(questions)
+    for line in troubles(questions)[:TROUBLES]:
+        say(line)
+    write_output("".join(f"{line}\n" for line in table(questions)))
+    return status_of(questions.statuses)
+
+
+def refuse(status, message):
+    """Says what the script can't do, and after an interrupt that nothing is lost; gives the status."""
+    is_end = 128 < status < 160
+    return refuse_as("many_logs")(status, f"{message}: broken off; the same words go on from here" if is_end else message)
 
 
 if __name__ == "__main__":
-    try:
-        main()
-    except Refused as refused:
-        print(f"many_logs: {refused}", file=sys.stderr)
-        sys.exit(refused.status)
-    except OSError as error:
-        print(f"many_logs: {error.filename}: {error.strerror}", file=sys.stderr)
-        sys.exit(NO_FILE)
-    except KeyboardInterrupt:
-        print("many_logs: broken off; the same words go on from here", file=sys.stderr)
-        sys.exit(BROKEN_OFF)
+    run_script(main, refuse)

@@ -39,7 +39,7 @@ def add_words(commands: "argparse._SubParsersAction[argparse.ArgumentParser]", c
 def do(arguments: argparse.Namespace) -> Answer:
     """The answer of the command."""
     program = program_of(arguments)
-    question = Question(program, ANY, read_source(arguments.log))
+    question = Question(program, ANY, read_source(arguments.log, "log"))
     log = log_with_rows(program, question.log_source)
     first, second = row_of(log, arguments.first), row_of(log, arguments.second)
     if first == second:

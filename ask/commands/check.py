@@ -79,6 +79,7 @@ def with_few_conflicts(question: Question, notes: List[str]) -> Run:
     """What a search with few conflicts found, where the whole one was stopped."""
     question.options = ["--conflicts", str(FEW_CONFLICTS)]
     seconds = question.program.seconds
+    question.program.begin()
     notes.append(f"The check was stopped after {seconds:g} seconds. This is what {FEW_CONFLICTS} conflicts found; "
                  f"--seconds and --conflicts set other limits.")
     try:

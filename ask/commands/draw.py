@@ -3,7 +3,6 @@
 from __future__ import annotations
 
 import argparse
-import sys
 from typing import List, Optional, Sequence
 
 from ask.cautions import Caution, add_strict_words, caution_facts, caution_lines, cautions_wanted, strict_status
@@ -13,11 +12,11 @@ from ask.page import page_of
 from ask.picture import Panel, picture
 from ask.program import NOT_THERE, Run, program_of
 from ask.question import (
-    Question, accepted_log, accepted_tree, answered, formula_source, report_of_run, run_facts, shown_formula,
+    Question, accepted_log, accepted_tree, answered, formula_source, report_of_run, run_facts, shown_formula, unreadable,
 )
 from ask.refusals import refusal
 from ask.reports import Report, Step, Unreadable, read_report, steps_of
-from ask.texts import Source, Trouble, read_source
+from ask.texts import Source, Trouble, read_source, say
 from ask.words import Answer, step_words
 
 ANY = Source("true", b"true")  # a formula that every timing has, where only the timing is asked about
@@ -50,11 +49,11 @@ def do(arguments: argparse.Namespace) -> Answer:
     """The answer of the command."""
     program = program_of(arguments)
     formula = formula_source(arguments.formula) if arguments.formula is not None else None
-    drawing = Drawing(Question(program, formula or ANY, read_source(arguments.log)), formula)
+    drawing = Drawing(Question(program, formula or ANY, read_source(arguments.log, "log")), formula)
     if arguments.times is not None:
-        panels = drawing.panels_of_times(read_source(arguments.times))
+        panels = drawing.panels_of_times(read_source(arguments.times, "times"))
     elif arguments.report is not None:
-        panels = drawing.panels_of_report(read_source(arguments.report))
+        panels = drawing.panels_of_report(read_source(arguments.report, "report"))
     elif formula:
         panels = drawing.panels_of_check(arguments.as_found)
     else:
@@ -63,7 +62,7 @@ def do(arguments: argparse.Namespace) -> Answer:
     cautions = drawing.cautions(arguments)
     if not arguments.json and not arguments.quiet:
         for line in [*caution_lines(cautions), *dict.fromkeys(drawing.remarks)]:
-            print(f"ask: {line}", file=sys.stderr)
+            say(f"ask: {line}")
     heading = drawing.question.log_source.name + (f": {shown_formula(formula)}" if formula else "")
     svg = picture(log, panels, heading if arguments.svg else "")
     text = svg if arguments.svg else page_of(heading, svg)
@@ -108,6 +107,8 @@ class Drawing:
         if run.status != 0:
             raise self.refused(run)
         stamps = self.log().stamps()
+        if len(run.output.split(b"\n")) != len(stamps) + 1:
+            raise unreadable("timing", run)
         run = self.question.replay("true", stamps)
         title = "By the stamps"
         return [

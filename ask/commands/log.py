@@ -3,7 +3,6 @@
 from __future__ import annotations
 
 import argparse
-import sys
 from typing import Dict, List, Sequence, Tuple
 
 from ask.access import AccessWords, access_events, format_of
@@ -14,8 +13,8 @@ from ask.logs import MOST_ROWS, ROW_KINDS
 from ask.making import Making, cut_window, making_of, settle_messages, spread_carried
 from ask.spelling import Spellings, spelling_warnings, take_as_one
 from ask.stamps import UNITS
-from ask.texts import Source, Trouble, read_source, write_text
-from ask.words import USAGE, Answer, counted, listed, printable
+from ask.texts import Source, Trouble, escaped, read_source, say, write_text
+from ask.words import USAGE, Answer, counted, listed, shortened
 
 
 def add_words(commands: "argparse._SubParsersAction[argparse.ArgumentParser]", common: argparse.ArgumentParser) -> None:
@@ -138,6 +137,7 @@ def do(arguments: argparse.Namespace) -> Answer:
     cut_window(making, arguments)
     if not making.lines and not arguments.part:
         raise Trouble(WRONG, "no row is left in the window")
+    refuse_too_many(making)
     settle_messages(making, arguments.part)
     settle_idle_hosts(making, found, arguments.part)
     words = LimitWords(
@@ -148,7 +148,7 @@ def do(arguments: argparse.Namespace) -> Answer:
     text = log_text(making, hosts_of(making, found, words), idle)
     warnings = [f"warning: {warning}" for warning in making.warnings]
     if arguments.notes is not None:
-        write_text(arguments.notes, "".join(f"{note}\n" for note in [*warnings, *making.notes]))
+        write_text(arguments.notes, "".join(f"{escaped(note)}\n" for note in [*warnings, *making.notes]))
     if not arguments.json and not arguments.quiet:
         tell(warnings if arguments.notes is not None else [*warnings, *making.notes])
     facts = {"log": "".join(f"{line}\n" for line in text), "warnings": making.warnings, "notes": making.notes}
@@ -159,7 +159,7 @@ def warnings_of_rows(arguments: argparse.Namespace, found: Found) -> List[str]:
     """A warning for each event of --row that the files don't have."""
     names = list(dict.fromkeys(event.event for event in found.events))
     missing = [event for event in row_table(arguments.row) if names and event not in names]
-    known = listed([printable(name) for name in names])
+    known = listed([shortened(name) for name in names])
     return [f"--row {event}: no event of the files has this name. They have: {known}" for event in missing]
 
 
@@ -170,7 +170,7 @@ def settle_idle_hosts(making: Making, found: Found, is_part: bool) -> None:
     if is_part:
         making.idle = idle
     elif idle:
-        making.notes.append(f"left out, since no row is of them: the hosts {listed([printable(host) for host in idle])}")
+        making.notes.append(f"left out, since no row is of them: the hosts {listed([shortened(host) for host in idle])}")
 
 
 def found_in_files(arguments: argparse.Namespace) -> Found:
@@ -196,10 +196,20 @@ def input_file(name: str) -> Source:
     return refuse_wide(read_source(name), WRONG)
 
 
+def refuse_too_many(making: Making) -> None:
+    """Refuses more rows than a log may have, before anything else is asked of them."""
+    if len(making.lines) > MOST_ROWS:
+        raise Trouble(
+            WRONG,
+            f"{counted(len(making.lines), 'row')}; at most 1,024: cut a window by --only or by --from and --to "
+            "(docs/real-logs.md)",
+        )
+
+
 def tell(notes: Sequence[str]) -> None:
     """Says on the standard error what was changed."""
     for note in notes:
-        print(f"ask: {note}", file=sys.stderr)
+        say(f"ask: {escaped(note)}")
 
 
 def row_table(words: Sequence[str]) -> Rows:
@@ -227,13 +237,7 @@ def log_text(making: Making, hosts: Dict[str, LogHost], idle: Dict[str, Tuple[in
     """The lines of the log, of version 2 where a latency, a pulse or a change of a skew needs it."""
     mapped = name_map([line.name for line in making.lines])
     making.warnings += spelling_warnings("names", [line.name for line in making.lines], mapped)
-    making.notes += [f"name: {name!r} is {short}" for name, short in mapped.items() if name != short]
-    if len(making.lines) > MOST_ROWS:
-        raise Trouble(
-            WRONG,
-            f"{counted(len(making.lines), 'row')}; at most 1,024: cut a window by --only or by --from and --to "
-            "(docs/real-logs.md)",
-        )
+    making.notes += [f"name: {shortened(name)!r} is {short}" for name, short in mapped.items() if name != short]
     known: Dict[str, Tuple[int, int]] = {}  # the skew and the gap of each host from here on
     heads, body = [], []
     for line in making.lines:

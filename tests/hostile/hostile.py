@@ -2,8 +2,9 @@
 
 Run as: python3 hostile.py PROGRAM [--only KIND] [--longest]
 
-KIND is words, log, json, formula, times, report, best or size. With --longest the two reports of a gibibyte are run too,
-which ask for some gibibytes of memory. Each case has a status and a first line that the formats ask for, or for a
+KIND is words, log, json, formula, times, report, best or size; ask for runs of the companion, and scripts for those of
+the scripts in examples/ and of the second checker. With --longest the two reports of a gibibyte are run too, which ask for
+some gibibytes of memory. Each case has a status and a first line that the formats ask for, or for a
 search some statuses of which each may be right. What `check` writes is audited too, what `json` writes is compared as
 a whole, and what `tolerance` and `span` write of few rows is judged by tests/reference. A run that has taken
 20 seconds of processor time is stopped, which only a search may. A row of the table is
@@ -27,6 +28,7 @@ sys.dont_write_bytecode = True  # leaves no compiled files beside the sources
 HERE = Path(__file__).resolve().parent
 sys.path.insert(0, str(HERE.parent / "reference"))
 
+import ask_cases
 import best_limits
 import cuts
 import formula_limits
@@ -36,6 +38,8 @@ import json_strings
 import judge
 import log_limits
 import report_limits
+import script_cases
+import script_runs
 import second_limits
 import sizes
 import word_limits
@@ -47,6 +51,7 @@ LONG = 2  # seconds from which on a run is marked
 LARGE = 500_000_000  # bytes from which on a run is marked
 MEBIBYTE = 1024 * 1024
 SHOWN = 48  # bytes of a first line that the table shows
+OF_SCRIPTS = {"ask": ask_cases, "scripts": script_cases}  # the runs of scripts, by their kinds
 
 
 class Outcome(NamedTuple):
@@ -188,19 +193,39 @@ def main():
     """Prints the table and what differs, and ends with 0 where nothing does and with 1 else."""
     parser = argparse.ArgumentParser(description="run skewcheck on hostile files")
     parser.add_argument("program")
-    parser.add_argument("--only", metavar="KIND", help="words, log, json, formula, times, report, best or size")
+    kinds = ("words", "log", "json", "formula", "times", "report", "best", "size", *OF_SCRIPTS)
+    parser.add_argument("--only", metavar="KIND", choices=kinds, help=", ".join(kinds))
     parser.add_argument("--longest", action="store_true", help="run the reports of a gibibyte too")
     arguments = parser.parse_args()
+    program = os.path.abspath(arguments.program)
+    is_right = arguments.only in OF_SCRIPTS or run_files(program, arguments)
+    if arguments.only in (None, *OF_SCRIPTS):
+        is_right = run_scripts(program, arguments.only) and is_right
+    sys.exit(0 if is_right else 1)
+
+
+def run_files(program, arguments):
+    """Runs the program on hostile files, prints the table, and says whether there is no difference."""
     cases = [case for case in all_cases(arguments.longest) if arguments.only in (None, case.kind)]
     print_row(["kind", "case", "bytes", "status", "first line", "seconds", "MiB", ""])
     with tempfile.TemporaryDirectory() as folder:
-        runner = Runner(os.path.abspath(arguments.program), folder)
+        runner = Runner(program, folder)
         count, found = run_all(runner, cases)
         runner.ended()
     for line in found:
         print(f"tests/hostile: {line}")
     print(f"{count} hostile files, {len(found)} differences" if found else f"{count} hostile files, no difference")
-    sys.exit(1 if found else 0)
+    return not found
+
+
+def run_scripts(program, kind):
+    """Runs the companion and the scripts, prints a table, and says whether there is no failure."""
+    runs = [run for kind_of, module in OF_SCRIPTS.items() if kind in (None, kind_of) for run in module.cases()]
+    count, found = script_runs.run_all(runs, program)
+    for line in found:
+        print(f"tests/hostile: {line}")
+    print(f"{count} hostile runs of scripts, {len(found) or 'no'} failure{'s' * (len(found) > 1)}")
+    return not found
 
 
 if __name__ == "__main__":

@@ -1,7 +1,6 @@
 """Installing where others can write, where something fails on the way, and by names that are more than names."""
 
 import os
-import re
 import shutil
 import subprocess
 import tarfile

@@ -1,0 +1,249 @@
+"""How ask ends: on streams that are closed or full, on signals, when its time is over, and on files without an end."""
+
+import json
+import os
+import re
+import signal
+import subprocess
+import sys
+import tempfile
+import time
+import unittest
+from pathlib import Path
+from unittest import mock
+
+from common import PATIENCE, ROOT, asked
+
+from ask import ends, main, texts
+from ask.program import MOST_TO_TELL
+
+ASK = [sys.executable, "-B", str(ROOT / "ask" / "ask")]
+EXAMPLES = ROOT / "examples"
+LEASE = ["check", "lease.formula", "lease.csv"]
+SLOW = "#!/bin/bash\necho $$ >begun.new\nmv begun.new begun\nexec sleep 50\n"
+STUBBORN = "#!/bin/bash\ntrap '' TERM INT HUP\nsleep 50 &\necho $$ $! >begun.new\nmv begun.new begun\nsleep 50\nsleep 50\n"
+
+
+def turned(words, turns):
+    """The status of ask with its streams turned by the shell, and what it said where that can be read."""
+    done = subprocess.run(
+        ["bash", "-c", f'exec "$@" {turns}', "bash", *ASK, *words], cwd=EXAMPLES, capture_output=True, timeout=PATIENCE,
+        stdin=subprocess.DEVNULL,
+    )
+    return done.returncode, done.stderr.decode()
+
+
+class Streams(unittest.TestCase):
+    def test_an_output_that_fails_is_75(self):
+        for words in (LEASE, [*LEASE, "--json"], ["draw", "lease.csv"], ["log", "lease.csv", "--json"], ["--help"], ["check", "--help"]):
+            for turns in (">&-", ">/dev/full", "<&- >&-"):
+                with self.subTest(words=words, turns=turns):
+                    status, said = turned(words, turns)
+                    self.assertEqual((status, said.count("\n")), (75, 1), said)
+                    self.assertIn("the standard output can't be written", said)
+
+    def test_a_pipe_that_nobody_reads_is_75(self):
+        for words in (LEASE, ["--help"]):
+            reader, writer = os.pipe()
+            os.close(reader)
+            done = subprocess.run([*ASK, *words], cwd=EXAMPLES, stdout=writer, stderr=subprocess.PIPE, timeout=PATIENCE)
+            os.close(writer)
+            self.assertEqual((done.returncode, done.stderr), (75, b"ask: the standard output can't be written: Broken pipe\n"))
+
+    def test_a_refusal_that_fails_is_75_in_json_alone(self):
+        self.assertEqual(turned(["check", "lease.formula", "nothing", "--json"], ">/dev/full")[0], 75)
+        self.assertEqual(turned(["check", "lease.formula", "nothing"], ">/dev/full")[0], 74)
+
+    def test_a_closed_input_and_a_closed_error_change_no_answer(self):
+        for turns in ("<&-", "2>&-", "2>/dev/full", "<&- 2>&-"):
+            self.assertEqual(turned(LEASE, turns)[0], 2, turns)
+
+    def test_a_closed_input_can_not_be_read(self):
+        status, said = turned(["check", "-", "lease.csv"], "<&-")
+        self.assertEqual((status, said), (74, "ask: the standard input can't be read: Bad file descriptor\n"))
+
+
+class Signals(unittest.TestCase):
+    def setUp(self):
+        room = tempfile.TemporaryDirectory()
+        self.addCleanup(room.cleanup)
+        self.room = Path(room.name)
+
+    def program(self, text):
+        """A program of a shell script."""
+        path = self.room / "program"
+        path.write_text(text)
+        path.chmod(0o755)
+        return str(path)
+
+    def begun(self, process):
+        """The processes that the program is, once it has begun."""
+        until = time.monotonic() + PATIENCE
+        while not (self.room / "begun").exists() and time.monotonic() < until and process.poll() is None:
+            time.sleep(0.02)
+        return [int(number) for number in (self.room / "begun").read_text().split()]
+
+    def assertGone(self, numbers):
+        """Asserts that no process of these numbers goes on."""
+        for number in numbers:
+            try:
+                state = Path("/proc", str(number), "stat").read_text().rpartition(")")[2].split()[0]
+            except OSError:
+                continue
+            self.assertEqual(state, "Z")
+
+    def test_a_signal_ends_the_program_with_its_children(self):
+        for text in (SLOW, STUBBORN):
+            for number in (signal.SIGINT, signal.SIGTERM, signal.SIGHUP):
+                with self.subTest(text=text, number=number):
+                    words = ["check", "a.p", str(EXAMPLES / "set.csv"), "--program", self.program(text)]
+                    process = subprocess.Popen(
+                        [*ASK, *words], cwd=self.room, stdout=subprocess.PIPE, stderr=subprocess.PIPE,
+                        preexec_fn=lambda: signal.signal(signal.SIGINT, signal.SIG_DFL),
+                    )
+                    numbers = self.begun(process)
+                    process.send_signal(number)
+                    _, said = process.communicate(timeout=10)
+                    words = "interrupted" if number == signal.SIGINT else f"ended by {number.name}"
+                    self.assertEqual((process.returncode, said.decode()), (128 + number, f"ask: {words}\n"))
+                    self.assertGone(numbers)
+                    (self.room / "begun").unlink()
+
+    def test_the_end_of_the_time_ends_the_program_with_its_children(self):
+        program = self.program(STUBBORN)
+        for words in (["tolerance", "true", "a.p"], ["deadline", "F[0,?] a.p"]):
+            began = time.monotonic()
+            done = subprocess.run(
+                [*ASK, *words, str(EXAMPLES / "set.csv"), "--program", program, "--seconds", "0.5"], cwd=self.room,
+                capture_output=True, timeout=PATIENCE,
+            )
+            self.assertEqual((done.returncode, done.stderr.count(b"\n")), (124, 1), done.stderr)
+            self.assertLess(time.monotonic() - began, 10)
+            self.assertGone(self.begun(mock.Mock(**{"poll.return_value": None})))
+
+    def test_time_bounds_what_ask_reads(self):
+        os.mkfifo(self.room / "fifo")
+        writer = os.open(self.room / "fifo", os.O_RDWR)  # which never writes
+        self.addCleanup(os.close, writer)
+        for words in (["check", "a.p", "fifo"], ["log", "fifo"], ["between", "fifo", "0", "1"]):
+            began = time.monotonic()
+            ended, _, said = asked([*words, "--seconds", "0.3"], self.room)
+            self.assertEqual((ended, said), (124, "ask: stopped, since it took longer than --seconds allows\n"))
+            self.assertLess(time.monotonic() - began, 5)
+
+    def test_time_bounds_what_ask_works_out(self):
+        pattern = "(a|a)*b.*|(p|p)*x"
+        (self.room / "l").write_text("kind,host,time,name\nhost,a,0,0\nset,a,1,%s\n" % ("p" * 32))
+        began = time.monotonic()
+        ended, _, said = asked(["each", "F a.{}", "l", "--over", pattern, "--seconds", "0.5"], self.room)
+        self.assertEqual((ended, said), (124, "ask: stopped, since it took longer than --seconds allows\n"))
+        self.assertLess(time.monotonic() - began, 10)
+
+    def test_all_formulas_share_the_time(self):
+        rows = "".join(f"set,a,{row},p{row}\n" for row in range(40))
+        (self.room / "l").write_text("kind,host,time,name\nhost,a,0,0\n" + rows)
+        began = time.monotonic()
+        words = ["each", "F a.{}", "l", "--over", "p.*", "--seconds", "0.4", "--program", self.program(SLOW)]
+        ended, text, _ = asked(words, self.room)
+        self.assertEqual((ended, len(re.findall("stopped +124", text))), (124, 40))
+        self.assertLess(time.monotonic() - began, 0.4 + MOST_TO_TELL + 5)
+
+
+class Files(unittest.TestCase):
+    def test_a_fifo_without_a_writer_is_refused(self):
+        with tempfile.TemporaryDirectory() as folder, mock.patch.object(texts, "WRITER_PATIENCE", 0.2):
+            os.mkfifo(Path(folder, "fifo"))
+            ended, _, said = asked(["check", "a.p", "fifo"], folder)
+            self.assertEqual((ended, "a FIFO to which nobody has written" in said), (74, True))
+            ended, _, said = asked(["log", str(EXAMPLES / "set.csv"), "--notes", "fifo"], folder)
+            self.assertEqual((ended, "fifo can't be written" in said), (75, True))
+
+    def test_a_fifo_with_a_writer_is_read(self):
+        with tempfile.TemporaryDirectory() as folder:
+            os.mkfifo(Path(folder, "fifo"))
+            writer = subprocess.Popen(["bash", "-c", 'sleep 0.3; cat "$1" >"$2"', "bash", EXAMPLES / "lease.csv", Path(folder, "fifo")])
+            ended, _, said = asked(["check", str(EXAMPLES / "lease.formula"), "fifo"], folder)
+            self.assertEqual((ended, said, writer.wait()), (2, "", 0))
+
+    def test_pipes_are_read(self):
+        done = subprocess.run(
+            ["bash", "-c", '"$@" check <(cat lease.formula) <(cat lease.csv)', "bash", *ASK], cwd=EXAMPLES, capture_output=True,
+            timeout=PATIENCE,
+        )
+        self.assertEqual((done.returncode, done.stderr), (2, b""))
+
+    def test_files_without_an_end_are_refused(self):
+        for words, part in (
+            (["check", "a.p", "/dev/zero"], "the log is longer than 1,048,576 bytes"), (["between", "/dev/zero", "0", "1"], "the log is longer"),
+            (["check", "/dev/zero", "lease.csv"], "the formula is longer than 65,536 bytes"),
+            (["draw", "lease.csv", "--times", "/dev/zero"], "the file of times is longer than 65,536 bytes"),
+            (["draw", "lease.csv", "--report", "/dev/zero"], "the report is longer than"), (["log", "/dev/zero"], "the file is longer than"),
+        ):
+            ended, _, said = asked(words, EXAMPLES)
+            self.assertEqual((ended, part in said), (67, True), said)
+
+    def test_a_formula_in_the_words_that_is_too_long(self):
+        ended, _, said = asked(["check", "a.p" + " " * 65_534, "set.csv"], EXAMPLES)
+        self.assertEqual((ended, "the formula is longer than 65,536 bytes" in said), (67, True), said)
+
+
+class Programs(unittest.TestCase):
+    """A status of the program counts with what it writes alone."""
+
+    def answered(self, text, words):
+        """How ask ends on a program of a shell script."""
+        with tempfile.TemporaryDirectory() as folder:
+            program = Path(folder, "program")
+            program.write_text(f"#!/bin/sh\n{text}\n")
+            program.chmod(0o755)
+            return asked([*words, "--program", str(program)], EXAMPLES)[0]
+
+    def test_a_status_without_a_report(self):
+        for words in (
+            LEASE, ["deadline", "F[0,?] a.holds", "lease.csv"], ["between", "lease.csv", "0", "1"], ["tolerance", "true", "lease.formula", "lease.csv"],
+            ["each", "F a.{}", "lease.csv", "--over", ".*"], ["draw", "lease.csv"],
+        ):
+            for text in ("exit 0", "exit 1", "exit 2", "exit 4", "echo true", "printf 'skewcheck 1\\nevents 4\\nend\\n'; exit 1"):
+                self.assertEqual(self.answered(text, words), 72, (words, text))
+
+    def test_a_status_of_another_report(self):
+        for status in (0, 1, 3, 4):
+            self.assertEqual(self.answered(f"cat lease.report; exit {status}", LEASE), 72, status)
+
+    def test_more_than_can_be_kept(self):
+        with mock.patch("ask.program.MOST_OUTPUT", 1 << 20):
+            self.assertEqual(self.answered("yes", LEASE), 72)
+
+
+class Faults(unittest.TestCase):
+    """What ask didn't foresee is one line and the status 70."""
+
+    def test_an_error_of_ask(self):
+        for error in (KeyError("x"), ZeroDivisionError("y"), UnicodeDecodeError("utf-8", b"\xff", 0, 1, "z"), AssertionError()):
+            with mock.patch.object(main, "refuse_second_input", side_effect=error):
+                ended, text, said = asked(LEASE, EXAMPLES)
+            self.assertEqual((ended, text, said.count("\n")), (70, "", 1), said)
+            self.assertIn(type(error).__name__, said)
+            self.assertNotIn("Traceback", said)
+
+    def test_too_much(self):
+        for error in (MemoryError(), RecursionError()):
+            with mock.patch.object(main, "refuse_second_input", side_effect=error):
+                ended, text, said = asked([*LEASE, "--json"], EXAMPLES)
+            self.assertEqual((ended, json.loads(text)["status"], said.count("\n")), (70, 70, 1))
+
+    def test_what_is_held_is_not_broken_off(self):
+        steps = []
+        with self.assertRaises(ends.OutOfTime):
+            with ends.uninterrupted():
+                ends.raise_end(ends.OutOfTime())
+                steps.append("done")
+        self.assertEqual(steps, ["done"])
+        with self.assertRaises(ends.OutOfTime):
+            with ends.uninterrupted():
+                ends.raise_end(ends.OutOfTime())
+                raise KeyError
+
+
+if __name__ == "__main__":
+    unittest.main()
