@@ -35,10 +35,16 @@ def source_names():
     return [str(path.relative_to(ROOT)) for folder in folders for path in (ROOT / folder).rglob("*") if path.is_file()]
 
 
+def names_origin():
+    """Whether git and rt say what the program was made of."""
+    return shutil.which("rt") is not None and (ROOT / ".git").exists()
+
+
 def expected():
     """The files that are put, but for the two lists of what was put."""
     names = source_names()
     return sorted([
+        *[f"{ABOUT}/version"] * names_origin(),
         *COMMANDS, *MANUALS, BASH, ZSH, FISH, *[f"{PARTS}/audit/{name}.py" for name in CHECKER],
         *[f"{PARTS}/{name}" for name in names if name.startswith("ask/") and name.endswith(".py")],
         *[f"{ABOUT}/{name}" for name in names if name.startswith("docs/") and name.endswith((".md", ".svg"))],
@@ -123,5 +129,5 @@ class WithRoom(unittest.TestCase):
 
 def needs_commit(case):
     """Skips a case that packs where there is nothing to name."""
-    if not shutil.which("rt") or not (ROOT / ".git").exists():
+    if not names_origin():
         case.skipTest("there is no rt, or no commit, here")
