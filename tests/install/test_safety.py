@@ -355,7 +355,8 @@ exec {shutil.which(name)} "$@"
             self.skipTest("a small device needs root")
         device = self.room / "device"
         device.mkdir()
-        if subprocess.run(["mount", "-t", "tmpfs", "-o", "size=4200k", "tmpfs", device], capture_output=True).returncode != 0:
+        size = sum(path.stat().st_size for path in template().rglob("*") if path.is_file()) * 2 // 3
+        if subprocess.run(["mount", "-t", "tmpfs", "-o", f"size={size}", "tmpfs", device], capture_output=True).returncode != 0:
             self.skipTest("a small device can't be mounted here")
         self.addCleanup(subprocess.run, ["umount", device])
         (device / "bin").mkdir()
@@ -392,7 +393,8 @@ exec {shutil.which(name)} "$@"
         self.assertEqual((done.returncode, done.stderr), (0, ""))
         modes = {oct((self.prefix / name).stat().st_mode & 0o7777) for name in tree(self.prefix) if (self.prefix / name).is_dir()}
         self.assertEqual(modes, {"0o755"})
-        modes = {name: (self.prefix / name).stat().st_mode & 0o7777 for name in [*expected(), LIST, f"{ABOUT}/made"]}
+        names = {*expected(), LIST, f"{ABOUT}/made"} - {f"{ABOUT}/version"}  # there is no rt in this path
+        modes = {name: (self.prefix / name).stat().st_mode & 0o7777 for name in names}
         runs = [*COMMANDS, f"{ABOUT}/examples/many_logs.py"]
         self.assertEqual({name for name, mode in modes.items() if mode == 0o755}, set(runs))
         self.assertEqual({mode for name, mode in modes.items() if name not in runs}, {0o644})
