@@ -111,7 +111,8 @@ def accepted(name, report, folder, patience):
     Path(folder, "r").write_bytes(report)
     audited = taken([name, "audit", "f", "l", "r"], folder, patience)
     if audited.status != 0:
-        sys.exit(f"{folder}: a report isn't accepted")
+        print(f"{folder}: a report isn't accepted", file=sys.stderr)
+        sys.exit(1)
     return audited
 
 
@@ -176,4 +177,7 @@ def main():
 
 
 if __name__ == "__main__":
-    main()
+    sys.path.insert(0, str(Path(__file__).resolve().parents[1] / "tests"))
+    import ends
+
+    ends.run(main)

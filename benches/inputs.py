@@ -13,11 +13,15 @@ join. `derivation` writes a log, a formula and two reports into a folder: in
 `events.report` says of as long a derivation that the log has a row less.
 """
 
+import argparse
 import sys
 from pathlib import Path
 
+sys.dont_write_bytecode = True  # leaves no compiled files beside the sources
+
 # Systems
 
+KINDS = ("possible", "impossible", "crowded", "backward")
 HOSTS = 16  # that take turns
 SKEW = 1_000  # how far a clock may be off
 
@@ -195,16 +199,35 @@ def write_derivation(learns, folder):
     Path(folder, "events.report").write_text(report(EVENTS - 1, lines))
 
 
+def read_arguments():
+    """The words of the command line."""
+    parser = argparse.ArgumentParser(description="write what benches/times.sh has the programs answer")
+    inputs = parser.add_subparsers(dest="what", metavar="system|problem|derivation", required=True)
+    of_system = inputs.add_parser("system")
+    of_system.add_argument("rows", type=int)
+    of_system.add_argument("kind", choices=KINDS)
+    of_problem = inputs.add_parser("problem")
+    of_problem.add_argument("rows", type=int)
+    of_problem.add_argument("count", type=int)
+    of_derivation = inputs.add_parser("derivation")
+    of_derivation.add_argument("learns", type=int)
+    of_derivation.add_argument("folder")
+    return parser.parse_args()
+
+
 def main():
     """Writes what the words say."""
-    what, number, other = sys.argv[1:]
-    if what == "system":
-        sys.stdout.write(system(int(number), other))
-    elif what == "problem":
-        sys.stdout.write(problem(int(number), int(other)))
+    arguments = read_arguments()
+    if arguments.what == "system":
+        sys.stdout.write(system(arguments.rows, arguments.kind))
+    elif arguments.what == "problem":
+        sys.stdout.write(problem(arguments.rows, arguments.count))
     else:
-        write_derivation(int(number), other)
+        write_derivation(arguments.learns, arguments.folder)
 
 
 if __name__ == "__main__":
-    main()
+    sys.path.insert(0, str(Path(__file__).resolve().parents[1] / "tests"))
+    import ends
+
+    ends.run(main)

@@ -23,6 +23,8 @@ import time
 from pathlib import Path
 from typing import NamedTuple
 
+sys.dont_write_bytecode = True  # leaves no compiled files beside the sources
+
 TICK = os.sysconf("SC_CLK_TCK")
 ROOMS = "rattle-logic-built-locked-{}-0"  # where a process writes its modules, below /tmp
 ENDING = ".oantt"
@@ -156,4 +158,7 @@ def main():
 
 
 if __name__ == "__main__":
-    main()
+    sys.path.insert(0, str(Path(__file__).resolve().parents[1] / "tests"))
+    import ends
+
+    ends.run(main)

@@ -6,6 +6,7 @@ has a line `left out: CASE: REASON`, and the last line is `N passed, M failed`. 
 least one was run or left out.
 """
 
+import argparse
 import re
 import subprocess
 import sys
@@ -16,6 +17,7 @@ from typing import NamedTuple
 sys.dont_write_bytecode = True  # leaves no compiled files beside the sources
 
 BESIDE = "--side-by-side"
+WRONG_WORDS = 64
 PART = "--part"  # one of the processes of those: its cases need not be any
 CLOSING = re.compile(r"^(\d+) passed, (\d+) failed$", re.M)
 
@@ -57,6 +59,8 @@ def run_beside(folder, words):
     for file, process in parts:
         said = process.communicate()[0]
         print(f"{file}\n{said}", end="", flush=True)
+        if process.returncode == WRONG_WORDS:
+            sys.exit(WRONG_WORDS)
         closing = CLOSING.findall(said)
         numbers = map(int, closing[-1]) if closing else (0, 1)
         passed, failed = (sum(pair) for pair in zip((passed, failed), numbers))
@@ -64,8 +68,21 @@ def run_beside(folder, words):
     return Counts(passed, failed, left_out)
 
 
-def main(folder, words):
+def read_arguments():
+    """The folder, and the words behind it."""
+    parser = argparse.ArgumentParser(description="run the unittest cases of a folder")
+    parser.add_argument("folder")
+    parser.add_argument("words", nargs=argparse.REMAINDER, help="--side-by-side, and words of unittest discover")
+    arguments = parser.parse_args()
+    if not Path(arguments.folder).is_dir():
+        parser.error(f"{arguments.folder} is no folder")
+    return arguments
+
+
+def main():
     """Runs the cases, prints the closing line, and gives the status."""
+    arguments = read_arguments()
+    folder, words = arguments.folder, arguments.words
     is_beside, is_part = words[:1] == [BESIDE], words[:1] == [PART]
     counts = run_beside(folder, words[1:]) if is_beside else run(folder, words[int(is_part) :])
     failed = counts.failed or int(not is_part and counts == (0, 0, 0))
@@ -74,4 +91,6 @@ def main(folder, words):
 
 
 if __name__ == "__main__":
-    sys.exit(main(sys.argv[1], sys.argv[2:]))
+    import ends
+
+    ends.run(main)

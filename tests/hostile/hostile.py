@@ -229,4 +229,7 @@ def run_scripts(program, kind):
 
 
 if __name__ == "__main__":
-    main()
+    sys.path.insert(0, str(Path(__file__).resolve().parents[1]))
+    import ends
+
+    ends.run(main)

@@ -15,6 +15,10 @@ import os
 import resource
 import sys
 
+sys.dont_write_bytecode = True  # leaves no compiled files beside the sources
+
+WRONG_WORDS = 64
+
 
 def started(run):
     """The number of the process that runs the words of a run."""
@@ -33,6 +37,9 @@ def started(run):
 
 def main():
     """Answers the runs of the standard input, one after another."""
+    if sys.argv[1:]:
+        print("usage: python3 -I -S launcher.py", file=sys.stderr)
+        return WRONG_WORDS
     for line in sys.stdin:
         _, code, used = os.wait4(started(json.loads(line)), 0)
         answer = {
@@ -41,7 +48,11 @@ def main():
             "bytes": 1024 * used.ru_maxrss,
         }
         print(json.dumps(answer), flush=True)
+    return 0
 
 
 if __name__ == "__main__":
-    main()
+    sys.path.insert(0, os.path.dirname(os.path.dirname(os.path.realpath(__file__))))  # pathlib would take memory
+    import ends
+
+    ends.run(main)

@@ -7,6 +7,7 @@ import argparse
 import random
 import sys
 from collections import Counter
+from pathlib import Path
 
 sys.dont_write_bytecode = True  # leaves no compiled files beside the sources
 
@@ -144,4 +145,7 @@ def main():
 
 
 if __name__ == "__main__":
-    main()
+    sys.path.insert(0, str(Path(__file__).resolve().parents[1]))
+    import ends
+
+    ends.run(main)

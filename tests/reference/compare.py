@@ -16,6 +16,7 @@ import re
 import subprocess
 import sys
 import tempfile
+from pathlib import Path
 from typing import NamedTuple
 
 sys.dont_write_bytecode = True  # leaves no compiled files beside the sources
@@ -199,4 +200,7 @@ def main():
 
 
 if __name__ == "__main__":
-    main()
+    sys.path.insert(0, str(Path(__file__).resolve().parents[1]))
+    import ends
+
+    ends.run(main)

@@ -17,6 +17,7 @@ import os
 import random
 import sys
 import tempfile
+from pathlib import Path
 
 sys.dont_write_bytecode = True  # leaves no compiled files beside the sources
 
@@ -206,4 +207,7 @@ def main():
 
 
 if __name__ == "__main__":
-    main()
+    sys.path.insert(0, str(Path(__file__).resolve().parents[1]))
+    import ends
+
+    ends.run(main)

@@ -15,6 +15,7 @@ import os
 import random
 import sys
 from collections import Counter
+from pathlib import Path
 from typing import NamedTuple
 
 sys.dont_write_bytecode = True  # leaves no compiled files beside the sources
@@ -384,4 +385,7 @@ def main():
 
 
 if __name__ == "__main__":
-    main()
+    sys.path.insert(0, str(Path(__file__).resolve().parents[1]))
+    import ends
+
+    ends.run(main)

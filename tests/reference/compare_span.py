@@ -11,10 +11,14 @@ printed with its files, and the end is 1.
 """
 
 import sys
+from pathlib import Path
 
 sys.dont_write_bytecode = True  # leaves no compiled files beside the sources
 
 import compare_best
 
 if __name__ == "__main__":
-    compare_best.main("span")
+    sys.path.insert(0, str(Path(__file__).resolve().parents[1]))
+    import ends
+
+    ends.run(lambda: compare_best.main("span"))

@@ -14,6 +14,7 @@ import random
 import subprocess
 import sys
 from collections import Counter
+from pathlib import Path
 from typing import NamedTuple
 
 sys.dont_write_bytecode = True  # leaves no compiled files beside the sources
@@ -135,4 +136,7 @@ def main():
 
 
 if __name__ == "__main__":
-    sys.exit(main())
+    sys.path.insert(0, str(Path(__file__).resolve().parents[1]))
+    import ends
+
+    ends.run(main)

@@ -10,6 +10,7 @@ its own, ready to copy, and the end is 1.
 import os
 import random
 import sys
+from pathlib import Path
 from typing import NamedTuple
 
 sys.dont_write_bytecode = True  # leaves no compiled files beside the sources
@@ -95,4 +96,7 @@ def main():
 
 
 if __name__ == "__main__":
-    main()
+    sys.path.insert(0, str(Path(__file__).resolve().parents[1]))
+    import ends
+
+    ends.run(main)

@@ -10,7 +10,11 @@ Knuth's MMIX, and gives the upper 31 bits of the new state modulo 5. Row r is of
 local time is 10 r and one draw.
 """
 
+import argparse
 import sys
+from pathlib import Path
+
+sys.dont_write_bytecode = True  # leaves no compiled files beside the sources
 
 MULTIPLIER = 6364136223846793005
 INCREMENT = 1442695040888963407
@@ -51,11 +55,20 @@ def demo_log(seed):
 
 
 def main():
+    """Prints the logs of the seeds, and ends with 1 where a row isn't the one that was worked out by hand."""
+    parser = argparse.ArgumentParser(description="print the logs of seeds of demo")
+    parser.add_argument("seeds", metavar="SEED", type=int, nargs="+")
+    arguments = parser.parse_args()
     # The first state from 0 is the increment, whose upper bits are 167951807.
-    assert demo_log(0).splitlines()[7] == "set,h0,2,p"
-    for seed in map(int, sys.argv[1:]):
+    if demo_log(0).splitlines()[7] != "set,h0,2,p":
+        print("the first row of the seed 0 isn't right", file=sys.stderr)
+        sys.exit(1)
+    for seed in arguments.seeds:
         print(f"@ {seed}\n{demo_log(seed)}", end="")
 
 
 if __name__ == "__main__":
-    main()
+    sys.path.insert(0, str(Path(__file__).resolve().parents[1]))
+    import ends
+
+    ends.run(main)

@@ -19,6 +19,7 @@ import argparse
 import itertools
 import sys
 from enum import Enum
+from pathlib import Path
 from typing import NamedTuple, Union
 
 sys.dont_write_bytecode = True  # leaves no compiled files beside the sources
@@ -721,4 +722,7 @@ def main():
 
 
 if __name__ == "__main__":
-    main()
+    sys.path.insert(0, str(Path(__file__).resolve().parents[1]))
+    import ends
+
+    ends.run(main)

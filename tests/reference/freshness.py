@@ -21,7 +21,9 @@ needless ones too.
 Propagation goes over all clauses again and again, so the module is slow.
 """
 
+import argparse
 import sys
+from pathlib import Path
 from typing import NamedTuple
 
 sys.dont_write_bytecode = True  # leaves no compiled files beside the sources
@@ -134,22 +136,33 @@ def complaint(problem, rules, lines, conflicts):
     return ""
 
 
-def main(words):
+def read_arguments():
+    """The files, the value and the conflicts of the command line."""
+    parser = argparse.ArgumentParser(description="say whether each conflict of a derivation was worth one")
+    for name in ("formula", "log"):
+        parser.add_argument(name)
+    parser.add_argument("value", choices=("true", "false"))
+    parser.add_argument("conflicts", type=int)
+    parser.add_argument("derivation")
+    arguments = parser.parse_args()
+    if arguments.conflicts < 0:
+        parser.error("the conflicts are a number below 0")
+    return arguments
+
+
+def main():
     """Prints what is said of the files that the words name."""
-    if len(words) != 5 or words[2] not in ("true", "false") or not words[3].isdecimal():
-        sys.exit("usage: freshness.py FORMULA LOG VALUE CONFLICTS DERIVATION")
-    formula = formats.read_formula(derivations.read_file(words[0]))
-    log = logs.read_log(derivations.read_file(words[1]))
-    if isinstance(formula, formats.FormulaFault) or isinstance(log, logs.LogFault):
-        sys.exit("the formula or the log has a fault")
-    if formats.unknown_host(formula, log) is not None:
-        sys.exit("a host of the formula isn't in the log")
-    lines = derivations.read_lines(derivations.read_file(words[4]))
+    arguments = read_arguments()
+    formula, log = derivations.read_inputs(arguments.formula, arguments.log)
+    lines = derivations.read_lines(derivations.read_file(arguments.derivation))
     if isinstance(lines, derivations.SyntaxFault):
         sys.exit(f"line {lines.line} isn't in the grammar")
-    problem = derivations.problem_of(log, formula, words[2] == "true")
-    print(complaint(problem, rules_of(problem), lines, int(words[3])) or "spends")
+    problem = derivations.problem_of(log, formula, arguments.value == "true")
+    print(complaint(problem, rules_of(problem), lines, arguments.conflicts) or "spends")
 
 
 if __name__ == "__main__":
-    main(sys.argv[1:])
+    sys.path.insert(0, str(Path(__file__).resolve().parents[1]))
+    import ends
+
+    ends.run(main)

@@ -11,6 +11,7 @@ import io
 import itertools
 import random
 import sys
+from pathlib import Path
 
 sys.dont_write_bytecode = True  # leaves no compiled files beside the sources
 
@@ -33,9 +34,10 @@ from instances import instances
 
 
 def check(right, *what):
-    """Ends with an error that names what isn't right."""
+    """Ends with 1 where something isn't right, and names it."""
     if not right:
-        raise SystemExit(f"not right: {what!r}")
+        print(f"not right: {what!r}", file=sys.stderr)
+        sys.exit(1)
 
 
 def check_fixed_cases():
@@ -574,4 +576,7 @@ def main():
 
 
 if __name__ == "__main__":
-    main()
+    sys.path.insert(0, str(Path(__file__).resolve().parents[1]))
+    import ends
+
+    ends.run(main)

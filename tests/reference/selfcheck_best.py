@@ -8,6 +8,7 @@ import collections
 import random
 import re
 import sys
+from pathlib import Path
 
 sys.dont_write_bytecode = True  # leaves no compiled files beside the sources
 
@@ -153,4 +154,7 @@ def main():
 
 
 if __name__ == "__main__":
-    main()
+    sys.path.insert(0, str(Path(__file__).resolve().parents[1]))
+    import ends
+
+    ends.run(main)
