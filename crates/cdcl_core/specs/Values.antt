@@ -1,25 +1,18 @@
 -- What a search for a value of a formula finds.
-use Rattle.std.specs.Prelude.{◌≡◌, ℕ, ◌+◌, ◌*◌, ◌<◌, ◌≤◌, Bool, List, length, ℤ}
+use Rattle.std.specs.Prelude.{◌≡◌, ℕ, ◌*◌, ◌<◌, ◌≤◌, Bool, List, length, ℤ}
 use Rattle.mt_model.specs.Form.{Form}
 use Rattle.mt_model.specs.Log.{Logged}
 use Rattle.mt_model.specs.Timing.{Admissible}
 use Rattle.mt_model.specs.Truth.{truth}
 use Rattle.skew_bounds.specs.Tight.{IsConsistent}
-use Rattle.formula_arena.specs.Nodes.{nodes_of}
 use Rattle.axiom_rules.specs.declared.rule.Rule.{Rule}
 use Rattle.proof_log.specs.declared.line.Line.{Line}
 use Rattle.proof_log.specs.Derivations.{Refutes}
 use Rattle.proof_log.specs.Freshness.{Spends}
 use Rattle.mtl_encode.specs.Kept.{Kept}
-use Rattle.cdcl_core.specs.declared.value.Nodes.{Nodes}
 use Rattle.cdcl_core.specs.declared.value.Searched.{Searched}
 use Rattle.cdcl_core.specs.declared.value.Searched.TheVariants as searched
 use Rattle.cdcl_core.specs.Founds.{lessons}
-
--- the nodes are those of the formula, and the root is the last
-pub record AreNodesOf (f : Form) (nodes : Nodes) : Type 0 where
-  pub arena : nodes.arena ≡ nodes_of f
-  pub root : nodes.root + 1 ≡ length nodes.arena
 
 -- the log admits the timing, and in it the formula has the value
 pub record GivesValue (log : Logged) (f : Form) (v : Bool) (t : List ℤ) : Type 0 where

@@ -29,4 +29,4 @@ mod walk;
 
 pub use found::Found;
 pub use main_loop::search;
-pub use value::{Nodes, Searched, refuted_by_conflict, search_log, search_value};
+pub use value::{Searched, refuted_by_conflict, search_log, search_value};

@@ -1,28 +1,21 @@
 //! The search for a timing in which a formula has a value.
 
 ghost use Rattle.std.specs.Prelude.{◌≡◌, ℕ, ◌≤◌, Bool, length, IfOk};
-ghost use Rattle.mt_model.specs.Form.{Form, form_of};
+ghost use Rattle.mt_model.specs.Form.{Form};
 ghost use Rattle.skew_bounds.specs.Consistency.{IsConflict};
 ghost use Rattle.skew_bounds.specs.System.{IsSystemOf};
 ghost use Rattle.skew_bounds.specs.Tight.{IsConsistent, IsTight};
 ghost use Rattle.formula_arena.specs.Nodes.{nodes_of};
 ghost use Rattle.mtl_encode.specs.Size.{IsSmall};
-ghost use Rattle.cdcl_core.specs.Values.{AreNodesOf, IsSearched, RefuteEachValue};
+ghost use Rattle.cdcl_core.specs.Values.{IsSearched, RefuteEachValue};
 
 use crate::{Found, search};
-use formula_arena::Arena;
-use mt_model::{Formula, Log, NodeId, Steps, Times, bounds_are_admissible, log_is_valid};
+use mt_model::{Log, Steps, Times, bounds_are_admissible, log_is_valid};
 use mtl_encode::encode_by;
 use proof_log::{Line, Lines};
-use skew_bounds::{BoundSystem, Consistency, Tight, settle_by, system_of, tight_by, times_of};
+use question::{Nodes, Question, Settled};
+use skew_bounds::{BoundSystem, Tight, times_of};
 use std::alloc::{AllocError, Global};
-
-/// The nodes of one formula, of which the root is the last.
-#[derive(Drop)]
-pub struct Nodes {
-    pub arena: Arena,
-    pub root: NodeId,
-}
 
 /// What a search for a value found.
 #[derive(Drop)]
@@ -35,13 +28,10 @@ pub enum Searched {
     Spent(Lines),
 }
 
-/// A timing that a log admits and in which a formula has a value, lines that refute that it has it, or lines that spend
-/// the budget, which is from 1 to 1,000,000. Some timing is admissible, and the log's bounds with their edges and the
-/// least and greatest differences of its events are known. An error is want of memory.
-pub fn search_value(
+// The search of a value for the formula of these nodes.
+fn search_nodes(
     alloc: Global,
     log: &Log,
-    f: &Formula,
     nodes: &Nodes,
     system: BoundSystem,
     tight: &Tight,
@@ -51,17 +41,24 @@ pub fn search_value(
     requires some { 1 ≤ budget }
     requires most { budget ≤ 1000000 }
     requires consistent { IsConsistent log.now }
-    requires nodes { AreNodesOf (form_of f.now) nodes.now }
-    requires small { IsSmall log.now (nodes_of (form_of f.now)) }
+    requires small { IsSmall log.now (nodes_of nodes.now) }
     requires system { IsSystemOf log.now system }
     requires tight { IsTight log.now tight.now }
-    ensures found { IfOk result (IsSearched log.now (form_of f.now) value budget) }
+    ensures found { IfOk result (IsSearched log.now nodes.now value budget) }
 {
     bounds_are_admissible();
     // What a log and a formula are, their parts are known with.
     log_is_valid(log);
-    let _ = f.tree();
-    let problem = encode_by(alloc, log, &nodes.arena, nodes.root, value, system, tight)?;
+    let _ = nodes.formula().tree();
+    let problem = encode_by(
+        alloc,
+        log,
+        nodes.arena(),
+        nodes.root(),
+        value,
+        system,
+        tight,
+    )?;
     match search(alloc, problem, budget)? {
         Found::Model {
             values: _,
@@ -72,29 +69,51 @@ pub fn search_value(
     }
 }
 
-/// The same where nothing is known of the log but that its problem is small enough where it admits a timing: where it
-/// admits none, a line refutes the value.
-pub fn search_log(
+/// A timing that the log admits and in which the formula has a value, lines that refute that it has it, or lines that spend
+/// the budget, which is from 1 to 1,000,000. Some timing is admissible, and the least and greatest differences of the
+/// log's events are known. An error is want of memory.
+pub fn search_value(
     alloc: Global,
-    log: &Log,
-    f: &Formula,
-    nodes: &Nodes,
+    question: Question,
+    tight: &Tight,
     value: bool,
     budget: u32,
 ) -> Result<Searched, AllocError>
     requires some { 1 ≤ budget }
     requires most { budget ≤ 1000000 }
-    requires nodes { AreNodesOf (form_of f.now) nodes.now }
-    requires small { IsSmall log.now (nodes_of (form_of f.now)) }
-    ensures found { IfOk result (IsSearched log.now (form_of f.now) value budget) }
+    requires consistent { IsConsistent question.log }
+    requires small { IsSmall question.log (nodes_of question.form) }
+    requires tight { IsTight question.log tight.now }
+    ensures found { IfOk result (IsSearched question.entry.log question.entry.form value budget) }
 {
-    let system = system_of(alloc, log)?;
-    match settle_by(alloc, log, &system)? {
-        Consistency::Conflict(steps) => refuted(alloc, log, steps),
-        Consistency::Timing(times) => {
-            let tight = tight_by(alloc, log, &system, times.as_slice())?;
-            search_value(alloc, log, f, nodes, system, &tight, value, budget)
-        }
+    let (log, nodes) = (question.log(), question.nodes());
+    search_nodes(
+        alloc,
+        log,
+        nodes,
+        question.into_system(),
+        tight,
+        value,
+        budget,
+    )
+}
+
+/// The same where nothing is known of the log but that its problem is small enough where it admits a timing: where it
+/// admits none, a line refutes the value.
+pub fn search_log(
+    alloc: Global,
+    question: Question,
+    value: bool,
+    budget: u32,
+) -> Result<Searched, AllocError>
+    requires some { 1 ≤ budget }
+    requires most { budget ≤ 1000000 }
+    requires small { IsSmall question.log (nodes_of question.form) }
+    ensures found { IfOk result (IsSearched question.entry.log question.entry.form value budget) }
+{
+    match question.settle(alloc)? {
+        Settled::Conflict(steps) => refuted(alloc, question.log(), steps),
+        Settled::Timing { times: _, tight } => search_value(alloc, question, &tight, value, budget),
     }
 }
 

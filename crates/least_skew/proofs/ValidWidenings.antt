@@ -1,5 +1,5 @@
 -- A log whose skews a file may state stays valid when it is widened.
-use Rattle.std.proofs.Common.{ℕ, ◌≤◌, ℤ, pos, ◌≤ℤ◌, arith}
+use Rattle.std.proofs.Common.{ℕ, ◌≤◌, pos, ◌≤ℤ◌, arith}
 use Rattle.std.proofs.lemmas.Int.{ints}
 use Rattle.mt_model.specs.Log.{IsLog, Logged}
 use Rattle.mt_model.proofs.GreaterSkews.{log-widened}

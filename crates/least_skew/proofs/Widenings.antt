@@ -1,17 +1,19 @@
 -- What a widening changes of a log: how far its rows may be off, and nothing else.
 use Rattle.std.proofs.Common.{◌≡◌, ◌∙◌, sym, ap, refl, subst, arith, ℕ, ◌+◌, ◌<◌, ◌≤◌, ◌-◌, Bool, List, [], ◌∷◌, length, map, reverse, Option, Some, None, get_or, inl, inr, ℤ, pos, ◌+ℤ◌, ◌≤ℤ◌}
-use Rattle.std.specs.Prelude.{find, option_map, option_and_then, slice_get, bytes_eq}
-use Rattle.std.specs.List.{position_or_len}
+use Rattle.std.specs.Prelude.{find, is_none, option_map, option_and_then, slice_get, bytes_eq}
+use Rattle.std.specs.List.{position_from, position_or_len}
 use Rattle.std.specs.Option.{option_map_or}
 use Rattle.std.proofs.lemmas.Bool.{cases_Bool}
 use Rattle.std.proofs.lemmas.Int.{ints}
 use Rattle.std.proofs.lemmas.List.{ext_get_or, get_or-map, get_or-reverse, length-map, length-reverse}
 use Rattle.std.proofs.lemmas.Option.{slice_get-map}
+use Rattle.std.proofs.Math.Path.{fun_ext}
 use Rattle.mt_model.specs.declared.log.Host.{Host}
 use Rattle.mt_model.specs.declared.resync.Resync.{Resync}
 use Rattle.mt_model.specs.declared.limits.TheConstants.{MIN_DELAY}
+use Rattle.mt_model.specs.Form.{Form, Proposition, propositions_of}
 use Rattle.mt_model.specs.Log.{Logged, widened, widened_host, widened_resync}
-use Rattle.mt_model.specs.State.{host_named}
+use Rattle.mt_model.specs.State.{host_named, unknown_host}
 use Rattle.mt_model.specs.Timing.{Admissible, applies_to, gap_of, host_of, least_delay, most_delay, resync_of, skew_of, time_of}
 use Rattle.least_skew.specs.Laws.{SkewsMayGrow}
 
@@ -112,6 +114,9 @@ module _ (log : Logged) (z : ℤ) where
       let place = position-mapped (λ h. bytes_eq h.name name) (λ h. bytes_eq h.name name) (widened_host z) log.hosts (λ h. refl) in
       let count = length-map log.hosts (widened_host z) in
       rw (place, count) refl
+
+  pub hosts-at : (f : Form) → unknown_host (widened z log) f ≡ unknown_host log f
+  hosts-at f = ap (λ (test : Proposition → Bool). position_from test 0 (propositions_of f)) (fun_ext (λ p. ap is_none (named-at p.host)))
 
 module _ (log : Logged) (y z : ℤ) (less : y ≤ℤ z) where
   skews-grow : (e : ℕ) → skew_of (widened y log) e ≤ℤ skew_of (widened z log) e

@@ -7,7 +7,9 @@ use Rattle.formula_arena.specs.Nodes.{nodes_of}
 use Rattle.formula_arena.specs.declared.arena.TheConstants.{MAX_NODES}
 use Rattle.mtl_encode.specs.Size.{IsSize, IsSmall}
 use Rattle.mtl_encode.specs.declared.size.TheConstants.{MAX_SIZE}
-use Rattle.search_ground.specs.Faults.{HasTooManyNodes}
+use Rattle.question.specs.Faults.{HasTooManyNodes}
+use Rattle.question.specs.declared.fault.QuestionFault.{QuestionFault}
+use Rattle.question.specs.declared.fault.QuestionFault.TheVariants as question
 use Rattle.search_ground.specs.declared.fault.GroundFault.{GroundFault}
 use Rattle.search_ground.specs.declared.fault.GroundFault.TheVariants as ground
 use Rattle.least_skew.specs.declared.fault.ToleranceFault.{ToleranceFault}
@@ -33,6 +35,12 @@ IsFault log f max (fault.UnknownHost index) = unknown_host log f ≡ Some index
 IsFault log f max fault.TooManyNodes = HasTooManyNodes log f
 IsFault log f max (fault.TooLarge n) = IsTooLarge log f max n
 IsFault log f max fault.Memory = Unit {0}
+
+-- the fault that a fault of a question is
+abbrev pub IsOfQuestion : QuestionFault → ToleranceFault → Type 0
+IsOfQuestion (question.UnknownHost index) f = f ≡ fault.UnknownHost index
+IsOfQuestion question.TooManyNodes f = f ≡ fault.TooManyNodes
+IsOfQuestion question.Memory f = f ≡ fault.Memory
 
 -- the same fault, as it is called before a search
 abbrev pub IsOfGround : GroundFault → ToleranceFault → Type 0

@@ -1,3 +1,4 @@
+use question::QuestionFault;
 use search_ground::GroundFault;
 use std::alloc::AllocError;
 use thiserror::Error;
@@ -26,6 +27,20 @@ impl From<AllocError> for ToleranceFault {
 
     fn from(_: AllocError) -> Self {
         ToleranceFault::Memory
+    }
+}
+
+impl From<QuestionFault> for ToleranceFault {
+    ghost use Rattle.least_skew.specs.Faults.{IsOfQuestion};
+
+    ghost from_gives = { IsOfQuestion };
+
+    fn from(fault: QuestionFault) -> Self {
+        match fault {
+            QuestionFault::UnknownHost { index } => ToleranceFault::UnknownHost { index },
+            QuestionFault::TooManyNodes => ToleranceFault::TooManyNodes,
+            QuestionFault::Memory => ToleranceFault::Memory,
+        }
     }
 }
 

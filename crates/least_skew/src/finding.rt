@@ -3,11 +3,10 @@
 ghost use Rattle.std.specs.Prelude.{◌≡◌, ◌≤◌, ℕ, None, length, IfErr, IfOk, OnOk};
 ghost use Rattle.mt_model.specs.Form.{form_of};
 ghost use Rattle.mt_model.specs.State.{unknown_host};
-ghost use Rattle.formula_arena.specs.Nodes.{nodes_of as nodes_of_form};
+ghost use Rattle.formula_arena.specs.Nodes.{nodes_of};
 ghost use Rattle.formula_arena.specs.declared.arena.TheConstants.{MAX_NODES};
 ghost use Rattle.skew_bounds.specs.Tight.{IsConsistent};
 ghost use Rattle.mtl_encode.specs.Size.{IsSmall};
-ghost use Rattle.cdcl_core.specs.Values.{AreNodesOf};
 ghost use Rattle.search_ground.specs.Grounds.{IsGround, IsSizeFault};
 ghost use Rattle.least_skew.specs.Faults.{IsAsked, IsFault};
 ghost use Rattle.least_skew.specs.Least.{HasWrittenSkews, LeastRight, wide};
@@ -19,17 +18,16 @@ use crate::laws::{right_tolerances_are_least, skews_may_grow};
 use crate::turn::{Turned, turn};
 use crate::widening::widened;
 use crate::{Tolerance, ToleranceFault};
-use cdcl_core::Nodes;
 use mt_model::{Formula, Log, conflict_excludes_timings, log_is_valid};
 use mtl_encode::sizes_fall;
-use search_ground::{Ground, GroundFault, ground_of, nodes_of};
+use question::{Nodes, Question};
+use search_ground::{Ground, GroundFault, ground_of};
 use std::alloc::{AllocError, Global};
 
 // The least widening, where some timing is admissible with the greatest one.
 fn search_least(
     alloc: Global,
     log: &Log,
-    f: &Formula,
     nodes: &Nodes,
     value: bool,
     max: u64,
@@ -39,14 +37,14 @@ fn search_least(
     requires most { budget ≤ 1000000 }
     requires range { max ≤ MAX_WIDENING }
     requires skews { HasWrittenSkews log.now }
-    requires nodes { AreNodesOf (form_of f.now) nodes.now }
-    requires small { (s : ℕ) → s ≤ max → IsSmall (wide s log.now) (nodes_of_form (form_of f.now)) }
+    requires hosts { unknown_host log.now nodes.now ≡ None }
+    requires small { (s : ℕ) → s ≤ max → IsSmall (wide s log.now) (nodes_of nodes.now) }
     requires consistent { IsConsistent (wide max log.now) }
-    ensures right { IfOk result (LeastRight log.now (form_of f.now) value max budget) }
+    ensures right { IfOk result (LeastRight log.now nodes.now value max budget) }
 {
     let mut bracket = Bracket::up_to(max);
     while bracket.low < bracket.high {
-        match turn(alloc, log, f, nodes, value, max, budget, bracket)? {
+        match turn(alloc, log, nodes, value, max, budget, bracket)? {
             Turned::Narrowed(narrowed) => bracket = narrowed,
             Turned::Spent { s, lines } => return Ok(Tolerance::Unknown { s, lines }),
         }
@@ -55,28 +53,22 @@ fn search_least(
 }
 
 // What is known of a log with the widening s before any search.
-fn ground_with(
-    alloc: Global,
-    log: &Log,
-    f: &Formula,
-    nodes: &Nodes,
-    s: u64,
-) -> Result<Ground, GroundFault>
+fn ground_with(alloc: Global, log: &Log, nodes: &Nodes, s: u64) -> Result<Ground, GroundFault>
     requires range { s ≤ MAX_WIDENING }
     requires skews { HasWrittenSkews log.now }
-    requires nodes { AreNodesOf (form_of f.now) nodes.now }
-    ensures ground { IfOk result (IsGround (wide s log.now) (form_of f.now)) }
-    ensures fault { IfErr result (IsSizeFault (wide s log.now) (form_of f.now)) }
+    requires hosts { unknown_host log.now nodes.now ≡ None }
+    ensures ground { IfOk result (IsGround (wide s log.now) nodes.now) }
+    ensures fault { IfErr result (IsSizeFault (wide s log.now) nodes.now) }
 {
     let wide = widened(alloc, log, s)?;
-    ground_of(alloc, &wide, f, nodes)
+    let question = Question::new(alloc, &wide, nodes)?;
+    ground_of(alloc, &question)
 }
 
-// The least widening, where the formula has these nodes.
+// The least widening, for the formula of these nodes.
 fn least_of_nodes(
     alloc: Global,
     log: &Log,
-    f: &Formula,
     nodes: &Nodes,
     value: bool,
     max: u64,
@@ -86,23 +78,22 @@ fn least_of_nodes(
     requires most { budget ≤ 1000000 }
     requires range { max ≤ MAX_WIDENING }
     requires skews { HasWrittenSkews log.now }
-    requires nodes { AreNodesOf (form_of f.now) nodes.now }
-    requires hosts { unknown_host log.now (form_of f.now) ≡ None }
-    requires few { length (nodes_of_form (form_of f.now)) ≤ MAX_NODES }
-    ensures right { IfOk result (LeastRight log.now (form_of f.now) value max budget) }
-    ensures tells { IfOk result (Tells log.now (form_of f.now) value max budget) }
+    requires hosts { unknown_host log.now nodes.now ≡ None }
+    requires few { length (nodes_of nodes.now) ≤ MAX_NODES }
+    ensures right { IfOk result (LeastRight log.now nodes.now value max budget) }
+    ensures tells { IfOk result (Tells log.now nodes.now value max budget) }
     ensures inconsistent { IfOk result (IsInconsistentExactly log.now max) }
-    ensures asked { OnOk result (IsAsked log.now (form_of f.now) max) }
-    ensures fault { IfErr result (IsFault log.now (form_of f.now) max) }
+    ensures asked { OnOk result (IsAsked log.now nodes.now max) }
+    ensures fault { IfErr result (IsFault log.now nodes.now max) }
 {
     right_tolerances_are_least();
     skews_may_grow();
     sizes_fall();
     conflict_excludes_timings();
     log_is_valid(log);
-    match ground_with(alloc, log, f, nodes, max)? {
+    match ground_with(alloc, log, nodes, max)? {
         Ground::Conflict(steps) => Ok(Tolerance::Inconsistent(steps)),
-        Ground::Consistent(_) => Ok(search_least(alloc, log, f, nodes, value, max, budget)?),
+        Ground::Consistent(_) => Ok(search_least(alloc, log, nodes, value, max, budget)?),
     }
 }
 
@@ -134,6 +125,6 @@ pub fn least(
     ensures asked { OnOk result (IsAsked log.now (form_of f.now) max) }
     ensures fault { IfErr result (IsFault log.now (form_of f.now) max) }
 {
-    let nodes = nodes_of(alloc, log, f)?;
-    least_of_nodes(alloc, log, f, &nodes, value, max, budget)
+    let nodes = Nodes::asked(alloc, log, f)?;
+    least_of_nodes(alloc, log, &nodes, value, max, budget)
 }

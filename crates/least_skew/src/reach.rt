@@ -2,19 +2,17 @@
 //! greater ones.
 
 ghost use Rattle.std.specs.Prelude.{◌≡◌, ◌↔◌, ◌<◌, ◌≤◌, ◌^◌, All, length, IfOk, IsTrue};
-ghost use Rattle.mt_model.specs.Form.{form_of};
 ghost use Rattle.mt_model.specs.Log.{IsWithin};
 ghost use Rattle.mt_model.specs.Timing.{Admissible};
 ghost use Rattle.mt_model.specs.declared.limits.TheConstants.{MAX_TIME};
 ghost use Rattle.proof_log.specs.Derivations.{Refutes};
-ghost use Rattle.cdcl_core.specs.Values.{AreNodesOf};
 ghost use Rattle.least_skew.specs.declared.widening.TheConstants.{MAX_WIDENING};
 ghost use Rattle.least_skew.specs.Least.{HasWrittenSkews, wide};
 
 use crate::widening::widened;
-use cdcl_core::Nodes;
-use mt_model::{Formula, Log, Step, log_is_valid};
+use mt_model::{Log, Step, log_is_valid};
 use proof_log::Line;
+use question::Nodes;
 use search_ground::{refutes, walk_slack};
 use skew_bounds::{bounds, first_broken};
 use std::alloc::{AllocError, Global};
@@ -142,7 +140,6 @@ fn kept_up_to(
 fn refutes_with(
     alloc: Global,
     log: &Log,
-    f: &Formula,
     nodes: &Nodes,
     value: bool,
     s: u64,
@@ -150,19 +147,17 @@ fn refutes_with(
 ) -> Result<bool, AllocError>
     requires range { s ≤ MAX_WIDENING }
     requires skews { HasWrittenSkews log.now }
-    requires nodes { AreNodesOf (form_of f.now) nodes.now }
     requires few { length lines.now < 2 ^ 32 }
-    ensures refutes { IfOk result (λ b. IsTrue b ↔ Refutes (wide s log.now) (form_of f.now) value lines.now) }
+    ensures refutes { IfOk result (λ b. IsTrue b ↔ Refutes (wide s log.now) nodes.now value lines.now) }
 {
     let wide = widened(alloc, log, s)?;
-    refutes(alloc, &wide, f, nodes, value, lines)
+    refutes(alloc, &wide, nodes, value, lines)
 }
 
 /// The greatest widening from s to `high` with which lines refute the value that do with s, so far as their walks tell.
 pub fn refuted_up_to(
     alloc: Global,
     log: &Log,
-    f: &Formula,
     nodes: &Nodes,
     value: bool,
     s: u64,
@@ -172,15 +167,14 @@ pub fn refuted_up_to(
     requires order { s ≤ high }
     requires range { high ≤ MAX_WIDENING }
     requires skews { HasWrittenSkews log.now }
-    requires nodes { AreNodesOf (form_of f.now) nodes.now }
     requires few { length lines.now < 2 ^ 32 }
-    requires refutes { Refutes (wide s log.now) (form_of f.now) value lines.now }
+    requires refutes { Refutes (wide s log.now) nodes.now value lines.now }
     ensures from { IfOk result (λ r. s ≤ r) }
     ensures to { IfOk result (λ r. r ≤ high) }
-    ensures refutes { IfOk result (λ r. Refutes (wide r log.now) (form_of f.now) value lines.now) }
+    ensures refutes { IfOk result (λ r. Refutes (wide r log.now) nodes.now value lines.now) }
 {
     let r = kept_up_to(alloc, log, s, high, lines)?;
-    if refutes_with(alloc, log, f, nodes, value, r, lines)? {
+    if refutes_with(alloc, log, nodes, value, r, lines)? {
         Ok(r)
     } else {
         Ok(s)

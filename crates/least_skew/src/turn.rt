@@ -1,12 +1,13 @@
 //! One search, and what is known after it.
 
-ghost use Rattle.std.specs.Prelude.{◌≤◌, ◌<◌, ◌+◌, ◌-◌, ◌^◌, ℕ, Bool, length, IfOk};
-ghost use Rattle.mt_model.specs.Form.{Form, form_of};
+ghost use Rattle.std.specs.Prelude.{◌≡◌, ◌≤◌, ◌<◌, ◌+◌, ◌-◌, ◌^◌, ℕ, Bool, length, None, IfOk};
+ghost use Rattle.mt_model.specs.Form.{Form};
+ghost use Rattle.mt_model.specs.State.{unknown_host};
 ghost use Rattle.mt_model.specs.Timing.{Admissible};
 ghost use Rattle.formula_arena.specs.Nodes.{nodes_of};
 ghost use Rattle.mtl_encode.specs.Size.{IsSmall};
 ghost use Rattle.proof_log.specs.Derivations.{Refutes};
-ghost use Rattle.cdcl_core.specs.Values.{AreNodesOf, GivesValue, IsSearched, RefutesWithin};
+ghost use Rattle.cdcl_core.specs.Values.{GivesValue, IsSearched, RefutesWithin};
 ghost use Rattle.least_skew.specs.Brackets.{IsBracket};
 ghost use Rattle.least_skew.specs.Least.{HasWrittenSkews, wide};
 ghost use Rattle.least_skew.specs.Turns.{IsTurned};
@@ -15,9 +16,10 @@ ghost use Rattle.least_skew.specs.declared.widening.TheConstants.{MAX_WIDENING};
 use crate::bracket::Bracket;
 use crate::reach::{admitted_from, refuted_up_to};
 use crate::widening::widened;
-use cdcl_core::{Nodes, Searched, search_log};
-use mt_model::{Formula, Log, Times};
+use cdcl_core::{Searched, search_log};
+use mt_model::{Log, Times};
 use proof_log::Lines;
+use question::{Nodes, Question};
 use std::alloc::{AllocError, Global};
 
 /// What a search between the ends of a bracket gives.
@@ -33,7 +35,6 @@ pub enum Turned {
 fn searched_with(
     alloc: Global,
     log: &Log,
-    f: &Formula,
     nodes: &Nodes,
     value: bool,
     budget: u32,
@@ -43,12 +44,13 @@ fn searched_with(
     requires most { budget ≤ 1000000 }
     requires range { s ≤ MAX_WIDENING }
     requires skews { HasWrittenSkews log.now }
-    requires nodes { AreNodesOf (form_of f.now) nodes.now }
-    requires small { IsSmall (wide s log.now) (nodes_of (form_of f.now)) }
-    ensures found { IfOk result (IsSearched (wide s log.now) (form_of f.now) value budget) }
+    requires hosts { unknown_host log.now nodes.now ≡ None }
+    requires small { IsSmall (wide s log.now) (nodes_of nodes.now) }
+    ensures found { IfOk result (IsSearched (wide s log.now) nodes.now value budget) }
 {
     let wide = widened(alloc, log, s)?;
-    search_log(alloc, &wide, f, nodes, value, budget)
+    let question = Question::new(alloc, &wide, nodes)?;
+    search_log(alloc, question, value, budget)
 }
 
 // A bracket narrowed by a timing that is admissible with the widening s.
@@ -74,7 +76,6 @@ fn narrowed_by_timing(
 fn narrowed_by_lines(
     alloc: Global,
     log: &Log,
-    f: &Formula,
     nodes: &Nodes,
     value: bool,
     bracket: Bracket,
@@ -83,15 +84,14 @@ fn narrowed_by_lines(
 ) -> Result<Turned, AllocError>
     requires range { bracket.high ≤ MAX_WIDENING + 1 }
     requires skews { HasWrittenSkews log.now }
-    requires nodes { AreNodesOf (form_of f.now) nodes.now }
     requires from { bracket.low ≤ s }
     requires below { s < bracket.high }
     requires few { length lines < 2 ^ 32 }
-    requires refutes { Refutes (wide s log.now) (form_of f.now) value lines }
-    ensures turned { IfOk result (λ turned. (max budget : ℕ) → IsBracket log.now (form_of f.now) value max budget bracket → RefutesWithin (wide s log.now) (form_of f.now) value budget lines → IsTurned log.now (form_of f.now) value max budget (bracket.high - bracket.low) turned) }
+    requires refutes { Refutes (wide s log.now) nodes.now value lines }
+    ensures turned { IfOk result (λ turned. (max budget : ℕ) → IsBracket log.now nodes.now value max budget bracket → RefutesWithin (wide s log.now) nodes.now value budget lines → IsTurned log.now nodes.now value max budget (bracket.high - bracket.low) turned) }
 {
     let high = bracket.high - 1;
-    let r = refuted_up_to(alloc, log, f, nodes, value, s, high, lines.as_slice())?;
+    let r = refuted_up_to(alloc, log, nodes, value, s, high, lines.as_slice())?;
     Ok(Turned::Narrowed(bracket.above(r, lines)))
 }
 
@@ -99,7 +99,6 @@ fn narrowed_by_lines(
 pub fn turn(
     alloc: Global,
     log: &Log,
-    f: &Formula,
     nodes: &Nodes,
     value: bool,
     max: u64,
@@ -110,17 +109,17 @@ pub fn turn(
     requires most { budget ≤ 1000000 }
     requires range { max ≤ MAX_WIDENING }
     requires skews { HasWrittenSkews log.now }
-    requires nodes { AreNodesOf (form_of f.now) nodes.now }
-    requires small { (s : ℕ) → s ≤ max → IsSmall (wide s log.now) (nodes_of (form_of f.now)) }
-    requires bracket { IsBracket log.now (form_of f.now) value max budget bracket }
+    requires hosts { unknown_host log.now nodes.now ≡ None }
+    requires small { (s : ℕ) → s ≤ max → IsSmall (wide s log.now) (nodes_of nodes.now) }
+    requires bracket { IsBracket log.now nodes.now value max budget bracket }
     requires apart { bracket.low < bracket.high }
-    ensures turned { IfOk result (IsTurned log.now (form_of f.now) value max budget (bracket.high - bracket.low)) }
+    ensures turned { IfOk result (IsTurned log.now nodes.now value max budget (bracket.high - bracket.low)) }
 {
     let s = bracket.next();
-    match searched_with(alloc, log, f, nodes, value, budget, s)? {
+    match searched_with(alloc, log, nodes, value, budget, s)? {
         Searched::Timing(times) => narrowed_by_timing(alloc, log, bracket, s, times),
         Searched::Refuted(lines) => {
-            narrowed_by_lines(alloc, log, f, nodes, value, bracket, s, lines)
+            narrowed_by_lines(alloc, log, nodes, value, bracket, s, lines)
         }
         Searched::Spent(lines) => Ok(Turned::Spent { s, lines }),
     }

@@ -1,4 +1,3 @@
-mod NotMade
 pub mod Conflicts
 pub mod Spending
 pub mod SameStates

@@ -1,21 +1,12 @@
--- Which formulas have too many nodes, and the fault that a fault of an arena is.
-use Rattle.std.specs.Prelude.{◌≡◌, ◌<◌, length, None}
-use Rattle.mt_model.specs.Form.{Form}
-use Rattle.mt_model.specs.Log.{Logged}
-use Rattle.mt_model.specs.State.{unknown_host}
-use Rattle.formula_arena.specs.declared.fault.ArenaFault.{ArenaFault}
-use Rattle.formula_arena.specs.declared.fault.ArenaFault.TheVariants as arena
-use Rattle.formula_arena.specs.Nodes.{nodes_of}
-use Rattle.formula_arena.specs.declared.arena.TheConstants.{MAX_NODES}
+-- The fault that a fault of a question is.
+use Rattle.std.specs.Prelude.{◌≡◌}
+use Rattle.question.specs.declared.fault.QuestionFault.{QuestionFault}
+use Rattle.question.specs.declared.fault.QuestionFault.TheVariants as question
 use Rattle.search_ground.specs.declared.fault.GroundFault.{GroundFault}
 use Rattle.search_ground.specs.declared.fault.GroundFault.TheVariants as fault
 
--- the hosts of the formula are in the log, and it has too many nodes
-pub record HasTooManyNodes (log : Logged) (f : Form) : Type 0 where
-  pub hosts : unknown_host log f ≡ None
-  pub many : MAX_NODES < length (nodes_of f)
-
--- the fault that a fault of an arena is
-abbrev pub IsOfArena : ArenaFault → GroundFault → Type 0
-IsOfArena arena.TooManyNodes f = f ≡ fault.TooManyNodes
-IsOfArena arena.Memory f = f ≡ fault.Memory
+-- the fault that a fault of a question is
+abbrev pub IsOfQuestion : QuestionFault → GroundFault → Type 0
+IsOfQuestion (question.UnknownHost index) f = f ≡ fault.UnknownHost index
+IsOfQuestion question.TooManyNodes f = f ≡ fault.TooManyNodes
+IsOfQuestion question.Memory f = f ≡ fault.Memory

@@ -1,18 +1,16 @@
 -- What is known of a log before any search.
-use Rattle.std.specs.Prelude.{◌≡◌, ℕ, ◌<◌, ◌≤◌, Some}
+use Rattle.std.specs.Prelude.{ℕ, ◌<◌, ◌≤◌}
 use Rattle.mt_model.specs.Form.{Form}
 use Rattle.mt_model.specs.Log.{Logged}
-use Rattle.mt_model.specs.State.{unknown_host}
 use Rattle.skew_bounds.specs.Consistency.{IsConflict}
 use Rattle.skew_bounds.specs.Tight.{IsConsistent, IsTight}
 use Rattle.formula_arena.specs.Nodes.{nodes_of}
 use Rattle.mtl_encode.specs.Size.{IsSize}
 use Rattle.mtl_encode.specs.declared.size.TheConstants.{MAX_SIZE}
-use Rattle.search_ground.specs.Faults.{HasTooManyNodes}
 use Rattle.search_ground.specs.declared.fault.GroundFault.{GroundFault}
 use Rattle.search_ground.specs.declared.fault.GroundFault.TheVariants as fault
-use Rattle.search_ground.specs.declared.nodes.Ground.{Ground}
-use Rattle.search_ground.specs.declared.nodes.Ground.TheVariants as ground
+use Rattle.search_ground.specs.declared.ground.Ground.{Ground}
+use Rattle.search_ground.specs.declared.ground.Ground.TheVariants as ground
 
 -- some timing is admissible, and the size of the problem, which is this one, isn't above the limit
 pub record HasSmallSize (log : Logged) (f : Form) : Type 0 where
@@ -20,13 +18,6 @@ pub record HasSmallSize (log : Logged) (f : Form) : Type 0 where
   pub size : ℕ
   pub is_size : IsSize log (nodes_of f) size
   pub small : size ≤ MAX_SIZE
-
--- the fault of a formula whose nodes aren't made; want of memory says nothing
-abbrev pub IsNodesFault : Logged → Form → GroundFault → Type 0
-IsNodesFault log f (fault.UnknownHost index) = unknown_host log f ≡ Some index
-IsNodesFault log f fault.TooManyNodes = HasTooManyNodes log f
-IsNodesFault log f (fault.TooLarge n) = ⊥
-IsNodesFault log f fault.Memory = Unit {0}
 
 -- the size of the problem, which is this one, is above the limit; want of memory says nothing
 abbrev pub IsSizeFault : Logged → Form → GroundFault → Type 0

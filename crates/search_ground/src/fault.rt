@@ -1,4 +1,4 @@
-use formula_arena::ArenaFault;
+use question::QuestionFault;
 use std::alloc::AllocError;
 use thiserror::Error;
 
@@ -29,15 +29,16 @@ impl From<AllocError> for GroundFault {
     }
 }
 
-impl From<ArenaFault> for GroundFault {
-    ghost use Rattle.search_ground.specs.Faults.{IsOfArena};
+impl From<QuestionFault> for GroundFault {
+    ghost use Rattle.search_ground.specs.Faults.{IsOfQuestion};
 
-    ghost from_gives = { IsOfArena };
+    ghost from_gives = { IsOfQuestion };
 
-    fn from(fault: ArenaFault) -> Self {
+    fn from(fault: QuestionFault) -> Self {
         match fault {
-            ArenaFault::TooManyNodes => GroundFault::TooManyNodes,
-            ArenaFault::Memory => GroundFault::Memory,
+            QuestionFault::UnknownHost { index } => GroundFault::UnknownHost { index },
+            QuestionFault::TooManyNodes => GroundFault::TooManyNodes,
+            QuestionFault::Memory => GroundFault::Memory,
         }
     }
 }

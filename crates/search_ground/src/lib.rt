@@ -1,13 +1,13 @@
-//! What a question stands on and what answers it: the nodes of its formula, whether the log admits a timing, with how
-//! far apart its events are, and whether lines refute a value.
+//! What is known of a question before a search, and what answers it: whether the log admits a timing, with how far apart its
+//! events are, and whether lines refute a value.
 #![tactic(auto)]
 
 mod fault;
-mod nodes;
+mod ground;
 mod refuting;
 mod slack;
 
 pub use fault::GroundFault;
-pub use nodes::{Ground, ground_of, nodes_of};
+pub use ground::{Ground, ground_of};
 pub use refuting::refutes;
 pub use slack::walk_slack;

@@ -1,15 +1,13 @@
 //! Whether lines refute the value of a formula.
 
 ghost use Rattle.std.specs.Prelude.{◌↔◌, ◌<◌, ◌^◌, length, IfOk, IsTrue};
-ghost use Rattle.mt_model.specs.Form.{form_of};
 ghost use Rattle.proof_log.specs.Derivations.{Refutes};
 ghost use Rattle.proof_check.specs.Answering.{OfSought};
-ghost use Rattle.cdcl_core.specs.Values.{AreNodesOf};
 
-use cdcl_core::Nodes;
-use mt_model::{Formula, Log};
+use mt_model::Log;
 use proof_check::{Check, Checker};
 use proof_log::Line;
+use question::Nodes;
 use std::alloc::{AllocError, Global};
 
 // Whether a checker's answer is that lines refute.
@@ -29,15 +27,13 @@ fn check_refutes(checker: &mut Checker, lines: &[Line]) -> Result<bool, AllocErr
 pub fn refutes(
     alloc: Global,
     log: &Log,
-    f: &Formula,
     nodes: &Nodes,
     value: bool,
     lines: &[Line],
 ) -> Result<bool, AllocError>
-    requires nodes { AreNodesOf (form_of f.now) nodes.now }
     requires few { length lines.now < 2 ^ 32 }
-    ensures refutes { IfOk result (λ b. IsTrue b ↔ Refutes log.now (form_of f.now) value lines.now) }
+    ensures refutes { IfOk result (λ b. IsTrue b ↔ Refutes log.now nodes.now value lines.now) }
 {
-    let mut checker = Checker::by(alloc, log, &nodes.arena, nodes.root, value)?;
+    let mut checker = Checker::by(alloc, log, nodes.arena(), nodes.root(), value)?;
     check_refutes(&mut checker, lines)
 }

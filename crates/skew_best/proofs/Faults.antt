@@ -2,7 +2,7 @@
 use Rattle.std.proofs.Common.{refl, ℕ, inl, inr}
 use Rattle.mt_model.specs.Form.{Form}
 use Rattle.mt_model.specs.Log.{Logged}
-use Rattle.search_ground.specs.Faults.{HasTooManyNodes}
+use Rattle.question.specs.Faults.{HasTooManyNodes}
 use Rattle.least_skew.specs.Faults.{IsTooLarge}
 use Rattle.least_skew.specs.Least.{wide}
 use Rattle.verdict_span.specs.Faults.{IsTooLarge as IsSpanTooLarge}

@@ -7,7 +7,8 @@ use Rattle.report_text.specs.declared.report.Report.{Report}
 use Rattle.verdict.specs.declared.answer.Part.{Part}
 use Rattle.verdict.specs.AuditPlace.{AuditPlace, IsAccepted}
 use Rattle.verdict.specs.Claims.{Claims}
-use Rattle.verdict.specs.Faults.{HasTooManyNodes, IsJudged, IsTooLarge}
+use Rattle.question.specs.Faults.{HasTooManyNodes}
+use Rattle.verdict.specs.Faults.{IsJudged, IsTooLarge}
 use Rattle.skew_answers.specs.declared.status.Status.TheVariants as status
 use Rattle.skew_answers.specs.Texts.{line}
 use Rattle.skew_commands.specs.declared.refusal.Refusal.TheVariants as refusal

@@ -6,7 +6,7 @@ pub mod Reporting
 pub mod Searching
 pub mod Audits
 pub mod NotJudged
-pub mod Checking
 mod Roots
 mod OutlineAudits
 mod BoundWalks
+mod Outlining

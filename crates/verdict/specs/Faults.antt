@@ -1,31 +1,22 @@
 -- Which formulas are judged of a log, and the fault of one that isn't.
-use Rattle.std.specs.Prelude.{◌≡◌, ℕ, ◌<◌, ◌≤◌, length, Some, None}
+use Rattle.std.specs.Prelude.{◌≡◌, ℕ, ◌<◌, Some}
 use Rattle.mt_model.specs.Form.{Form}
 use Rattle.mt_model.specs.Log.{Logged}
 use Rattle.mt_model.specs.State.{unknown_host}
-use Rattle.formula_arena.specs.declared.fault.ArenaFault.{ArenaFault}
-use Rattle.formula_arena.specs.declared.fault.ArenaFault.TheVariants as arena
 use Rattle.formula_arena.specs.Nodes.{nodes_of}
-use Rattle.formula_arena.specs.declared.arena.TheConstants.{MAX_NODES}
+use Rattle.question.specs.Asked.{HasFewNodes}
+use Rattle.question.specs.Faults.{HasTooManyNodes}
+use Rattle.question.specs.declared.fault.QuestionFault.{QuestionFault}
+use Rattle.question.specs.declared.fault.QuestionFault.TheVariants as question
 use Rattle.mtl_encode.specs.Size.{IsSize, IsSmall}
 use Rattle.mtl_encode.specs.declared.size.TheConstants.{MAX_SIZE}
 use Rattle.verdict.specs.declared.fault.VerdictFault.{VerdictFault}
 use Rattle.verdict.specs.declared.fault.VerdictFault.TheVariants as fault
 
--- the hosts of the formula are in the log, and it has few enough nodes
-pub record HasFewNodes (log : Logged) (f : Form) : Type 0 where
-  pub hosts : unknown_host log f ≡ None
-  pub few : length (nodes_of f) ≤ MAX_NODES
-
 -- the formula is judged of the log: moreover the size of their problem isn't above the limit
 pub record IsJudged (log : Logged) (f : Form) : Type 0 where
   pub nodes : HasFewNodes log f
   pub small : IsSmall log (nodes_of f)
-
--- the hosts of the formula are in the log, and it has too many nodes
-pub record HasTooManyNodes (log : Logged) (f : Form) : Type 0 where
-  pub hosts : unknown_host log f ≡ None
-  pub many : MAX_NODES < length (nodes_of f)
 
 -- the formula has few enough nodes, and the size of its problem, which is this one, is too large
 pub record IsTooLarge (log : Logged) (f : Form) (n : ℕ) : Type 0 where
@@ -40,7 +31,8 @@ IsFault log f fault.TooManyNodes = HasTooManyNodes log f
 IsFault log f (fault.TooLarge n) = IsTooLarge log f n
 IsFault log f fault.Memory = Unit {0}
 
--- the fault that a fault of an arena is
-abbrev pub IsOfArena : ArenaFault → VerdictFault → Type 0
-IsOfArena arena.TooManyNodes f = f ≡ fault.TooManyNodes
-IsOfArena arena.Memory f = f ≡ fault.Memory
+-- the fault that a fault of a question is
+abbrev pub IsOfQuestion : QuestionFault → VerdictFault → Type 0
+IsOfQuestion (question.UnknownHost index) f = f ≡ fault.UnknownHost index
+IsOfQuestion question.TooManyNodes f = f ≡ fault.TooManyNodes
+IsOfQuestion question.Memory f = f ≡ fault.Memory

@@ -1,4 +1,4 @@
-use formula_arena::ArenaFault;
+use question::QuestionFault;
 use std::alloc::AllocError;
 use thiserror::Error;
 
@@ -29,15 +29,16 @@ impl From<AllocError> for VerdictFault {
     }
 }
 
-impl From<ArenaFault> for VerdictFault {
-    ghost use Rattle.verdict.specs.Faults.{IsOfArena};
+impl From<QuestionFault> for VerdictFault {
+    ghost use Rattle.verdict.specs.Faults.{IsOfQuestion};
 
-    ghost from_gives = { IsOfArena };
+    ghost from_gives = { IsOfQuestion };
 
-    fn from(fault: ArenaFault) -> Self {
+    fn from(fault: QuestionFault) -> Self {
         match fault {
-            ArenaFault::TooManyNodes => VerdictFault::TooManyNodes,
-            ArenaFault::Memory => VerdictFault::Memory,
+            QuestionFault::UnknownHost { index } => VerdictFault::UnknownHost { index },
+            QuestionFault::TooManyNodes => VerdictFault::TooManyNodes,
+            QuestionFault::Memory => VerdictFault::Memory,
         }
     }
 }

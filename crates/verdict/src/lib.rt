@@ -7,7 +7,7 @@ mod auditing;
 mod bounds;
 mod deciding;
 mod fault;
-mod given;
+mod judging;
 mod laws;
 mod outlined;
 

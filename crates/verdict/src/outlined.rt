@@ -1,51 +1,77 @@
 //! The audit of reports by their outlines: of a derivation one line at a time is read.
 
-ghost use Rattle.std.specs.Prelude.{◌≡◌, ◌↔◌, ◌<◌, ◌^◌, ℕ, Bool, List, length, IfErr, IfOk, OnOk};
+ghost use Rattle.std.specs.Prelude.{◌≡◌, ◌↔◌, ◌<◌, ◌^◌, ℕ, Bool, List, length, IfErr, IfOk, IsTrue, OnOk, None};
 ghost use Rattle.mt_model.specs.Form.{Form, form_of};
 ghost use Rattle.mt_model.specs.Log.{Logged};
+ghost use Rattle.mt_model.specs.State.{unknown_host};
+ghost use Rattle.mt_model.specs.Timing.{Admissible};
+ghost use Rattle.skew_bounds.specs.System.{IsSystemOf};
 ghost use Rattle.proof_log.specs.Freshness.{learn_lines};
 ghost use Rattle.proof_log.specs.LinesOf.{IsTextOf};
 ghost use Rattle.proof_log.specs.declared.line.Line.{Line};
 ghost use Rattle.proof_check.specs.Answering.{IsAnswer};
 ghost use Rattle.report_text.specs.Outlines.{IsOutlineIn, IsOutlineOf, IsSectionOutline};
 ghost use Rattle.report_text.specs.ReportText.{events_of as events_of_report};
-ghost use Rattle.report_text.specs.Spelled.{IsSpelled, IsSpelledSection};
+ghost use Rattle.report_text.specs.Spelled.{IsSpelled, IsSpelledSection, IsSpelledWitness};
 ghost use Rattle.report_text.specs.declared.report.Report.{Report};
 ghost use Rattle.report_text.specs.declared.report.Section.{Section};
 ghost use Rattle.verdict.specs.AuditPlace.{AuditPlace, IsAccepted, IsAudit, IsJudgedAt};
 ghost use Rattle.verdict.specs.Claims.{Claims};
-ghost use Rattle.verdict.specs.Faults.{HasFewNodes, IsFault, IsJudged};
-ghost use Rattle.verdict.specs.Given.{IsGiven};
-ghost use Rattle.verdict.specs.Right.{IsRight};
+ghost use Rattle.verdict.specs.Faults.{IsFault, IsJudged};
+ghost use Rattle.verdict.specs.Right.{IsRight, IsWitness};
 ghost use Rattle.report_text.specs.declared.report.Section.TheVariants as section;
 ghost use Rattle.report_text.specs.declared.report.Report.TheVariants as report;
 
-use crate::auditing::is_witness;
 use crate::bounds::audit_of_bounds;
-use crate::given::{Given, given_of};
+use crate::judging::{settled_if_small, truth_in};
 use crate::laws::{accepted_reports_are_true, audits_are_exact, right_reports_are_accepted};
 use crate::{Audit, Part, VerdictFault};
 use mt_model::{Formula, Log, log_is_valid};
 use proof_check::{Check, Checker, TextCheck};
+use question::{Nodes, Question};
 use report_text::{Kind, Outline, SectionOutline, times_of};
-use skew_bounds::EdgeTable;
+use skew_bounds::{BoundSystem, EdgeTable, first_broken};
 use std::alloc::{AllocError, Global};
+
+// Whether a log admits times, of which there is one for each row.
+fn admits(log: &Log, system: &BoundSystem, times: &[i128]) -> bool
+    requires system { IsSystemOf log.now system.now }
+    requires spelled { IsSpelledWitness (length log.now.rows) times.now }
+    ensures { IsTrue result ↔ Admissible log.now times.now }
+{
+    first_broken(log, system.bounds.as_slice(), times).is_none()
+}
+
+// Whether the log admits times and the formula has the value in them.
+fn is_witness(
+    alloc: Global,
+    question: &Question,
+    value: bool,
+    times: &[i128],
+) -> Result<bool, AllocError>
+    requires spelled { IsSpelledWitness (length question.now.log.rows) times.now }
+    ensures witness { IfOk result (λ b. IsTrue b ↔ IsWitness question.now.log question.now.form value times.now) }
+{
+    if admits(question.log(), question.system(), times) {
+        Ok(truth_in(alloc, question, times)? == value)
+    } else {
+        Ok(false)
+    }
+}
 
 // What the lines of a text are.
 fn checked_text(
     alloc: Global,
-    log: &Log,
-    f: &Formula,
-    given: &Given,
+    question: &Question,
     value: bool,
     text: &[u8],
 ) -> Result<TextCheck, AllocError>
-    requires given { IsGiven log.now (form_of f.now) given.now }
     requires few { length text.now < 2 ^ 31 }
-    ensures answer { IfOk result (λ t. (lines : List Line) → IsTextOf text.now lines → IsAnswer log.now (form_of f.now) value lines t.check) }
+    ensures answer { IfOk result (λ t. (lines : List Line) → IsTextOf text.now lines → IsAnswer question.now.log question.now.form value lines t.check) }
     ensures learn { IfOk result (λ t. (lines : List Line) → IsTextOf text.now lines → t.check ≡ Check.Derives → t.learn_lines ≡ learn_lines lines) }
 {
-    let mut judge = Checker::by(alloc, log, &given.nodes.arena, given.nodes.root, value)?;
+    let nodes = question.nodes();
+    let mut judge = Checker::by(alloc, question.log(), nodes.arena(), nodes.root(), value)?;
     judge.check_text(text)
 }
 
@@ -74,31 +100,27 @@ fn unknown_line(budget: u32, found: TextCheck) -> Option<u32>
 // The line at which a section fails, and None where it shows what it says.
 fn failing_line(
     alloc: Global,
-    log: &Log,
-    f: &Formula,
-    given: &Given,
+    question: &Question,
     budget: u32,
     value: bool,
     outline: SectionOutline,
 ) -> Result<Option<u32>, AllocError>
-    requires few { HasFewNodes log.now (form_of f.now) }
-    requires given { IsGiven log.now (form_of f.now) given.now }
     requires short { length outline.text.now < 2 ^ 31 }
-    requires some { (s : Section) × IsSectionOutline outline s × IsSpelledSection (length log.now.rows) s }
-    ensures { IfOk result (λ line. (s : Section) → IsSectionOutline outline.entry s → IsSpelledSection (length log.now.rows) s → IsJudgedAt log.now (form_of f.now) budget value s line) }
+    requires some { (s : Section) × IsSectionOutline outline s × IsSpelledSection (length question.now.log.rows) s }
+    ensures { IfOk result (λ line. (s : Section) → IsSectionOutline outline.entry s → IsSpelledSection (length question.now.log.rows) s → IsJudgedAt question.now.log question.now.form budget value s line) }
 {
     match outline.kind {
         Kind::Witness => {
-            let times = times_of(alloc, log.rows().len() as u32, outline.text)?;
-            let shows = is_witness(alloc, log, f, given, value, times.as_slice())?;
+            let times = times_of(alloc, question.log().rows().len() as u32, outline.text)?;
+            let shows = is_witness(alloc, question, value, times.as_slice())?;
             Ok(if shows { None } else { Some(0) })
         }
         Kind::Refuted(_) => {
-            let found = checked_text(alloc, log, f, given, value, outline.text)?;
+            let found = checked_text(alloc, question, value, outline.text)?;
             Ok(refuted_line(found.check))
         }
         Kind::Unknown(_) => {
-            let found = checked_text(alloc, log, f, given, value, outline.text)?;
+            let found = checked_text(alloc, question, value, outline.text)?;
             Ok(unknown_line(budget, found))
         }
     }
@@ -107,26 +129,22 @@ fn failing_line(
 // What an audit says of verdicts on as many events as the log has rows.
 fn audit_of_sections(
     alloc: Global,
-    log: &Log,
-    f: &Formula,
-    given: &Given,
+    question: &Question,
     budget: u32,
     on_true: SectionOutline,
     on_false: SectionOutline,
 ) -> Result<Audit, AllocError>
-    requires few { HasFewNodes log.now (form_of f.now) }
-    requires given { IsGiven log.now (form_of f.now) given.now }
     requires true_short { length on_true.text.now < 2 ^ 31 }
     requires false_short { length on_false.text.now < 2 ^ 31 }
-    requires true_some { (s : Section) × IsSectionOutline on_true s × IsSpelledSection (length log.now.rows) s }
-    requires false_some { (s : Section) × IsSectionOutline on_false s × IsSpelledSection (length log.now.rows) s }
-    ensures { IfOk result (λ a. (events : ℕ) (s t : Section) → events ≡ length log.now.rows → IsSectionOutline on_true.entry s → IsSectionOutline on_false.entry t → IsSpelledSection (length log.now.rows) s → IsSpelledSection (length log.now.rows) t → IsAudit log.now (form_of f.now) budget (report.Verdicts events s t) a) }
+    requires true_some { (s : Section) × IsSectionOutline on_true s × IsSpelledSection (length question.now.log.rows) s }
+    requires false_some { (s : Section) × IsSectionOutline on_false s × IsSpelledSection (length question.now.log.rows) s }
+    ensures { IfOk result (λ a. (events : ℕ) (s t : Section) → events ≡ length question.now.log.rows → IsSectionOutline on_true.entry s → IsSectionOutline on_false.entry t → IsSpelledSection (length question.now.log.rows) s → IsSpelledSection (length question.now.log.rows) t → IsAudit question.now.log question.now.form budget (report.Verdicts events s t) a) }
 {
-    if let Some(line) = failing_line(alloc, log, f, given, budget, true, on_true)? {
+    if let Some(line) = failing_line(alloc, question, budget, true, on_true)? {
         let part = Part::OnTrue;
         return Ok(Audit::Refused { part, line });
     }
-    if let Some(line) = failing_line(alloc, log, f, given, budget, false, on_false)? {
+    if let Some(line) = failing_line(alloc, question, budget, false, on_false)? {
         let part = Part::OnFalse;
         return Ok(Audit::Refused { part, line });
     }
@@ -145,17 +163,14 @@ fn events_of(outline: Outline) -> u32
 // What an audit says of a report on a formula with few enough nodes.
 fn audit_by(
     alloc: Global,
-    log: &Log,
-    f: &Formula,
-    given: &Given,
+    question: &Question,
     budget: u32,
     outline: Outline,
 ) -> Result<Audit, AllocError>
-    requires few { HasFewNodes log.now (form_of f.now) }
-    requires given { IsGiven log.now (form_of f.now) given.now }
     requires whole { (bytes : List ℕ) × (length bytes < 2 ^ 31) × IsOutlineIn bytes outline }
-    ensures { IfOk result (λ a. (r : Report) → IsOutlineOf outline.entry r → IsSpelled r → IsAudit log.now (form_of f.now) budget r a) }
+    ensures { IfOk result (λ a. (r : Report) → IsOutlineOf outline.entry r → IsSpelled r → IsAudit question.now.log question.now.form budget r a) }
 {
+    let log = question.log();
     if events_of(outline) as usize != log.rows().len() {
         let part = Part::Events;
         return Ok(Audit::Refused { part, line: 0 });
@@ -169,25 +184,28 @@ fn audit_by(
             on_true,
             on_false,
             ..
-        } => audit_of_sections(alloc, log, f, given, budget, on_true, on_false),
+        } => audit_of_sections(alloc, question, budget, on_true, on_false),
     }
 }
 
-// The same by what is given, which is let go.
-fn audit_of(
+// What an audit says of a report on the formula of these nodes, whose hosts are in the log. The differences of the log's
+// rows, which tell the size, are let go before.
+fn audit_on(
     alloc: Global,
     log: &Log,
-    f: &Formula,
-    given: Given,
+    nodes: &Nodes,
     budget: u32,
     outline: Outline,
-) -> Result<Audit, AllocError>
-    requires few { HasFewNodes log.now (form_of f.now) }
-    requires given { IsGiven log.now (form_of f.now) given }
+) -> Result<Audit, VerdictFault>
+    requires hosts { unknown_host log.now nodes.now ≡ None }
     requires whole { (bytes : List ℕ) × (length bytes < 2 ^ 31) × IsOutlineIn bytes outline }
-    ensures { IfOk result (λ a. (r : Report) → IsOutlineOf outline.entry r → IsSpelled r → IsAudit log.now (form_of f.now) budget r a) }
+    ensures audit { IfOk result (λ a. (r : Report) → IsOutlineOf outline.entry r → IsSpelled r → IsAudit log.now nodes.now budget r a) }
+    ensures judged { OnOk result (IsJudged log.now nodes.now) }
+    ensures fault { IfErr result (IsFault log.now nodes.now) }
 {
-    audit_by(alloc, log, f, &given, budget, outline)
+    let question = Question::new(alloc, log, nodes)?;
+    settled_if_small(alloc, &question)?;
+    Ok(audit_by(alloc, &question, budget, outline)?)
 }
 
 /// What `audit` says of the report of an outline. Beside the outline's text memory is taken for the differences of the
@@ -211,6 +229,6 @@ pub fn audit_outline(
     audits_are_exact();
     right_reports_are_accepted();
     log_is_valid(log);
-    let given = given_of(alloc, log, f)?;
-    Ok(audit_of(alloc, log, f, given, budget, outline)?)
+    let nodes = Nodes::asked(alloc, log, f)?;
+    audit_on(alloc, log, &nodes, budget, outline)
 }

@@ -1,5 +1,5 @@
 -- What an extra bound changes of a log: which timings it admits, and nothing else.
-use Rattle.std.proofs.Common.{◌≡◌, refl, subst, ap, arith, ℕ, zero, suc, ◌≤◌, Bool, List, [], ◌∷◌, ◌++◌, length, slice_get, Some, inl, inr, ℤ, ◌-ℤ◌, ◌≤ℤ◌, neg_ℤ}
+use Rattle.std.proofs.Common.{◌≡◌, refl, subst, ap, arith, ℕ, zero, suc, Bool, List, [], ◌∷◌, ◌++◌, length, slice_get, Some, inl, inr, ℤ, ◌-ℤ◌, ◌≤ℤ◌, neg_ℤ}
 use Rattle.std.proofs.lemmas.Int.{ints}
 use Rattle.std.proofs.lemmas.List.Elements.{All-append, All-cons, All-nil}
 use Rattle.std.proofs.Math.ListN.{length-append}

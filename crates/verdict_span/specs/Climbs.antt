@@ -1,5 +1,5 @@
 -- Up to where the greatest distance with the value may lie.
-use Rattle.std.specs.Prelude.{◌≡◌, ℕ, ◌+◌, ◌<◌, Bool, ℤ, pos, ◌+ℤ◌, ◌≤ℤ◌}
+use Rattle.std.specs.Prelude.{◌≡◌, ℕ, ◌+◌, ◌<◌, Bool, pos, ◌+ℤ◌, ◌≤ℤ◌}
 use Rattle.mt_model.specs.declared.limits.TheConstants.{MAX_TIME}
 use Rattle.mt_model.specs.Form.{Form}
 use Rattle.mt_model.specs.Log.{IsWithin, Logged}

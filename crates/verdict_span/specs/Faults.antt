@@ -7,7 +7,9 @@ use Rattle.formula_arena.specs.Nodes.{nodes_of}
 use Rattle.formula_arena.specs.declared.arena.TheConstants.{MAX_NODES}
 use Rattle.mtl_encode.specs.Size.{IsSize, IsSmall}
 use Rattle.mtl_encode.specs.declared.size.TheConstants.{MAX_SIZE}
-use Rattle.search_ground.specs.Faults.{HasTooManyNodes}
+use Rattle.question.specs.declared.fault.QuestionFault.{QuestionFault}
+use Rattle.question.specs.declared.fault.QuestionFault.TheVariants as question
+use Rattle.question.specs.Faults.{HasTooManyNodes}
 use Rattle.search_ground.specs.declared.fault.GroundFault.{GroundFault}
 use Rattle.search_ground.specs.declared.fault.GroundFault.TheVariants as ground
 use Rattle.verdict_span.specs.declared.fault.SpanFault.{SpanFault}
@@ -33,7 +35,13 @@ IsFault log f fault.TooManyNodes = HasTooManyNodes log f
 IsFault log f (fault.TooLarge n) = IsTooLarge log f n
 IsFault log f fault.Memory = Unit {0}
 
--- the same fault, as it is called before a search
+-- the same fault, as it is called where nothing is asked
+abbrev pub IsOfQuestion : QuestionFault → SpanFault → Type 0
+IsOfQuestion (question.UnknownHost index) f = f ≡ fault.UnknownHost index
+IsOfQuestion question.TooManyNodes f = f ≡ fault.TooManyNodes
+IsOfQuestion question.Memory f = f ≡ fault.Memory
+
+-- and as it is called before a search
 abbrev pub IsOfGround : GroundFault → SpanFault → Type 0
 IsOfGround (ground.UnknownHost index) f = f ≡ fault.UnknownHost index
 IsOfGround ground.TooManyNodes f = f ≡ fault.TooManyNodes

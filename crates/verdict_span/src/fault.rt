@@ -1,3 +1,4 @@
+use question::QuestionFault;
 use search_ground::GroundFault;
 use std::alloc::AllocError;
 use thiserror::Error;
@@ -26,6 +27,20 @@ impl From<AllocError> for SpanFault {
 
     fn from(_: AllocError) -> Self {
         SpanFault::Memory
+    }
+}
+
+impl From<QuestionFault> for SpanFault {
+    ghost use Rattle.verdict_span.specs.Faults.{IsOfQuestion};
+
+    ghost from_gives = { IsOfQuestion };
+
+    fn from(fault: QuestionFault) -> Self {
+        match fault {
+            QuestionFault::UnknownHost { index } => SpanFault::UnknownHost { index },
+            QuestionFault::TooManyNodes => SpanFault::TooManyNodes,
+            QuestionFault::Memory => SpanFault::Memory,
+        }
     }
 }
 

@@ -6,11 +6,10 @@ ghost use Rattle.mt_model.specs.Log.{IsWithin};
 ghost use Rattle.mt_model.specs.State.{unknown_host};
 ghost use Rattle.mt_model.specs.Timing.{Admissible};
 ghost use Rattle.mt_model.specs.declared.limits.TheConstants.{MAX_EXTRAS, MAX_TIME};
-ghost use Rattle.formula_arena.specs.Nodes.{nodes_of as nodes_of_form};
-ghost use Rattle.formula_arena.specs.declared.arena.TheConstants.{MAX_NODES};
-ghost use Rattle.skew_bounds.specs.Tight.{IsConsistent, IsGreatestDifference};
+ghost use Rattle.formula_arena.specs.Nodes.{nodes_of};
+ghost use Rattle.skew_bounds.specs.Tight.{IsConsistent, IsGreatestDifference, IsTight};
 ghost use Rattle.mtl_encode.specs.Size.{IsSmall};
-ghost use Rattle.cdcl_core.specs.Values.{AreNodesOf, GivesValue, RefuteEachValue};
+ghost use Rattle.cdcl_core.specs.Values.{GivesValue, RefuteEachValue};
 ghost use Rattle.verdict_span.specs.Climbs.{IsClimb};
 ghost use Rattle.verdict_span.specs.Faults.{IsAsked, IsFault};
 ghost use Rattle.verdict_span.specs.Spaced.{CanBeSpaced, spaced as spaced_log};
@@ -22,12 +21,13 @@ use crate::laws::right_spans_are_greatest;
 use crate::spacing::{distance, spaced};
 use crate::turn::{Turned, turn};
 use crate::{SpanFault, Widest};
-use cdcl_core::{Nodes, Searched, refuted_by_conflict, search_log};
+use cdcl_core::{Searched, refuted_by_conflict, search_value};
 use mt_model::{EventId, Formula, Log, Times, conflict_excludes_timings, log_is_valid};
 use mtl_encode::sizes_fall;
 use proof_log::Lines;
-use search_ground::{Ground, ground_of, nodes_of};
-use skew_bounds::{Consistency, settle};
+use question::{Nodes, Question, question_is_asked};
+use search_ground::{Ground, ground_of};
+use skew_bounds::{Consistency, Tight, settle};
 use std::alloc::{AllocError, Global};
 
 // The line that refutes each value where `to` comes later after e than it can, which is at most `top` after it.
@@ -82,7 +82,6 @@ fn climb_from(
 fn climb_on(
     alloc: Global,
     log: &Log,
-    f: &Formula,
     nodes: &Nodes,
     value: bool,
     e: EventId,
@@ -93,14 +92,14 @@ fn climb_on(
     requires some { 1 ≤ budget }
     requires most { budget ≤ 1000000 }
     requires pair { CanBeSpaced log.now e to }
-    requires nodes { AreNodesOf (form_of f.now) nodes.now }
-    requires small { (c : ℤ) → IsSmall (spaced_log e to c log.now) (nodes_of_form (form_of f.now)) }
-    requires climb { IsClimb log.now (form_of f.now) value e to budget climb }
-    ensures right { IfOk result (WidestRight log.now (form_of f.now) value e to budget) }
+    requires hosts { unknown_host log.now nodes.now ≡ None }
+    requires small { (c : ℤ) → IsSmall (spaced_log e to c log.now) (nodes_of nodes.now) }
+    requires climb { IsClimb log.now nodes.now value e to budget climb }
+    ensures right { IfOk result (WidestRight log.now nodes.now value e to budget) }
 {
     let mut climb = climb;
     while 0 < climb.room {
-        match turn(alloc, log, f, nodes, value, e, to, budget, climb)? {
+        match turn(alloc, log, nodes, value, e, to, budget, climb)? {
             Turned::Narrowed(narrowed) => climb = narrowed,
             Turned::Spent { c, lines } => {
                 return Ok(Widest::Unknown {
@@ -116,9 +115,8 @@ fn climb_on(
 // The greatest distance, where some timing is admissible and `to` comes at most `top` after e.
 fn search_widest(
     alloc: Global,
-    log: &Log,
-    f: &Formula,
-    nodes: &Nodes,
+    question: Question,
+    tight: &Tight,
     value: bool,
     e: EventId,
     to: EventId,
@@ -127,31 +125,31 @@ fn search_widest(
 ) -> Result<Widest, AllocError>
     requires some { 1 ≤ budget }
     requires most { budget ≤ 1000000 }
-    requires pair { CanBeSpaced log.now e to }
-    requires nodes { AreNodesOf (form_of f.now) nodes.now }
-    requires consistent { IsConsistent log.now }
-    requires small { IsSmall log.now (nodes_of_form (form_of f.now)) }
-    requires spaced_small { (c : ℤ) → IsSmall (spaced_log e to c log.now) (nodes_of_form (form_of f.now)) }
+    requires pair { CanBeSpaced question.log e to }
+    requires consistent { IsConsistent question.log }
+    requires small { IsSmall question.log (nodes_of question.form) }
+    requires spaced_small { (c : ℤ) → IsSmall (spaced_log e to c question.log) (nodes_of question.form) }
+    requires tight { IsTight question.log tight.now }
     requires near { IsWithin (MAX_TIME +ℤ MAX_TIME) top }
-    requires top { IsGreatestDifference log.now e to top }
-    ensures right { IfOk result (WidestRight log.now (form_of f.now) value e to budget) }
+    requires top { IsGreatestDifference question.log e to top }
+    ensures right { IfOk result (WidestRight question.entry.log question.entry.form value e to budget) }
 {
-    match search_log(alloc, log, f, nodes, value, budget)? {
+    question_is_asked(&question);
+    let (log, nodes) = (question.log(), question.nodes());
+    match search_value(alloc, question, tight, value, budget)? {
         Searched::Timing(times) => {
             let climb = climb_from(alloc, log, e, to, top, times)?;
-            climb_on(alloc, log, f, nodes, value, e, to, budget, climb)
+            climb_on(alloc, log, nodes, value, e, to, budget, climb)
         }
         Searched::Refuted(lines) => Ok(Widest::Never { lines }),
         Searched::Spent(lines) => Ok(Widest::Unknown { least: None, lines }),
     }
 }
 
-// The greatest distance, where these are the nodes of the formula.
-fn widest_of_nodes(
+// The greatest distance for a question.
+fn widest_of_question(
     alloc: Global,
-    log: &Log,
-    f: &Formula,
-    nodes: &Nodes,
+    question: Question,
     value: bool,
     e: EventId,
     to: EventId,
@@ -159,21 +157,19 @@ fn widest_of_nodes(
 ) -> Result<Widest, SpanFault>
     requires some { 1 ≤ budget }
     requires most { budget ≤ 1000000 }
-    requires pair { CanBeSpaced log.now e to }
-    requires nodes { AreNodesOf (form_of f.now) nodes.now }
-    requires hosts { unknown_host log.now (form_of f.now) ≡ None }
-    requires few { length (nodes_of_form (form_of f.now)) ≤ MAX_NODES }
-    ensures right { IfOk result (WidestRight log.now (form_of f.now) value e to budget) }
-    ensures asked { OnOk result (IsAsked log.now (form_of f.now)) }
-    ensures fault { IfErr result (IsFault log.now (form_of f.now)) }
+    requires pair { CanBeSpaced question.log e to }
+    ensures right { IfOk result (WidestRight question.entry.log question.entry.form value e to budget) }
+    ensures asked { OnOk result (IsAsked question.entry.log question.entry.form) }
+    ensures fault { IfErr result (IsFault question.entry.log question.entry.form) }
 {
     sizes_fall();
     conflict_excludes_timings();
-    match ground_of(alloc, log, f, nodes)? {
+    question_is_asked(&question);
+    match ground_of(alloc, &question)? {
         Ground::Conflict(steps) => Ok(Widest::Inconsistent(steps)),
         Ground::Consistent(tight) => {
             let top = tight.greatest(e, to);
-            Ok(search_widest(alloc, log, f, nodes, value, e, to, budget, top)?)
+            Ok(search_widest(alloc, question, &tight, value, e, to, budget, top)?)
         }
     }
 }
@@ -210,6 +206,7 @@ pub fn widest(
 {
     right_spans_are_greatest();
     log_is_valid(log);
-    let nodes = nodes_of(alloc, log, f)?;
-    widest_of_nodes(alloc, log, f, &nodes, value, e, to, budget)
+    let nodes = Nodes::asked(alloc, log, f)?;
+    let question = Question::new(alloc, log, &nodes)?;
+    widest_of_question(alloc, question, value, e, to, budget)
 }

@@ -1,17 +1,15 @@
 //! How far below a search its lines refute too: those that refute a distance may refute smaller ones.
 
 ghost use Rattle.std.specs.Prelude.{◌↔◌, ◌<◌, ◌≤◌, ◌^◌, length, pos, ◌-ℤ◌, IfOk, IsTrue};
-ghost use Rattle.mt_model.specs.Form.{form_of};
 ghost use Rattle.mt_model.specs.Log.{IsWithin};
 ghost use Rattle.mt_model.specs.declared.limits.TheConstants.{MAX_EXTRA};
 ghost use Rattle.proof_log.specs.Derivations.{Refutes};
-ghost use Rattle.cdcl_core.specs.Values.{AreNodesOf};
 ghost use Rattle.verdict_span.specs.Spaced.{CanBeSpaced, spaced as spaced_log};
 
 use crate::spacing::spaced;
-use cdcl_core::Nodes;
-use mt_model::{EventId, Formula, Log, Step};
+use mt_model::{EventId, Log, Step};
 use proof_log::Line;
+use question::Nodes;
 use search_ground::{refutes, walk_slack};
 use std::alloc::{AllocError, Global};
 
@@ -81,7 +79,6 @@ fn room_at(
 fn refutes_at(
     alloc: Global,
     log: &Log,
-    f: &Formula,
     nodes: &Nodes,
     value: bool,
     e: EventId,
@@ -91,12 +88,11 @@ fn refutes_at(
 ) -> Result<bool, AllocError>
     requires pair { CanBeSpaced log.now e to }
     requires range { IsWithin MAX_EXTRA c }
-    requires nodes { AreNodesOf (form_of f.now) nodes.now }
     requires few { length lines.now < 2 ^ 32 }
-    ensures refutes { IfOk result (λ b. IsTrue b ↔ Refutes (spaced_log e to c log.now) (form_of f.now) value lines.now) }
+    ensures refutes { IfOk result (λ b. IsTrue b ↔ Refutes (spaced_log e to c log.now) nodes.now value lines.now) }
 {
     let near = spaced(alloc, log, e, to, c)?;
-    refutes(alloc, &near, f, nodes, value, lines)
+    refutes(alloc, &near, nodes, value, lines)
 }
 
 /// By how much smaller the distance c can be, up to this much, with lines that refute the value where `to` comes at least c
@@ -104,7 +100,6 @@ fn refutes_at(
 pub fn refuted_below(
     alloc: Global,
     log: &Log,
-    f: &Formula,
     nodes: &Nodes,
     value: bool,
     e: EventId,
@@ -116,16 +111,15 @@ pub fn refuted_below(
     requires pair { CanBeSpaced log.now e to }
     requires high { IsWithin MAX_EXTRA c }
     requires low { IsWithin MAX_EXTRA (c -ℤ pos most) }
-    requires nodes { AreNodesOf (form_of f.now) nodes.now }
     requires few { length lines.now < 2 ^ 32 }
-    requires refutes { Refutes (spaced_log e to c log.now) (form_of f.now) value lines.now }
+    requires refutes { Refutes (spaced_log e to c log.now) nodes.now value lines.now }
     ensures within { IfOk result (λ r. r ≤ most) }
-    ensures refutes { IfOk result (λ r. Refutes (spaced_log e to (c -ℤ pos r) log.now) (form_of f.now) value lines.now) }
+    ensures refutes { IfOk result (λ r. Refutes (spaced_log e to (c -ℤ pos r) log.now) nodes.now value lines.now) }
 {
     let r = room_at(alloc, log, e, to, c, most, lines)?;
     if r == 0 {
         return Ok(0);
     }
-    let holds = refutes_at(alloc, log, f, nodes, value, e, to, c - r as i128, lines)?;
+    let holds = refutes_at(alloc, log, nodes, value, e, to, c - r as i128, lines)?;
     if holds { Ok(r) } else { Ok(0) }
 }

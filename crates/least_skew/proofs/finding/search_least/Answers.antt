@@ -1,8 +1,7 @@
-use Rattle.mt_model.specs.Form.{form_of}
 use Rattle.least_skew.proofs.finding.search_least.Goals as goal
 
 pub loop-bracket-init : goal.loop-bracket-init
-loop-bracket-init c = c.up_to-bracket.ensures.bracket c.args.log.now (form_of c.args.f.now) c.args.value c.args.budget
+loop-bracket-init c = c.up_to-bracket.ensures.bracket c.args.log.now c.args.nodes.now c.args.value c.args.budget
 
 pub returns : goal.returns
-returns c = record { right = c.answer.ensures.right c.args.log.now (form_of c.args.f.now) c.args.value c.args.max c.args.budget c.loop-bracket.invariant c.requires.consistent }
+returns c = record { right = c.answer.ensures.right c.args.log.now c.args.nodes.now c.args.value c.args.max c.args.budget c.loop-bracket.invariant c.requires.consistent }

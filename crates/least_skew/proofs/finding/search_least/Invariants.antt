@@ -1,10 +1,9 @@
 use Rattle.std.proofs.Common.{◌-◌}
-use Rattle.mt_model.specs.Form.{form_of}
 use Rattle.least_skew.specs.Brackets.{IsBracket}
 use Rattle.least_skew.proofs.finding.search_least.Given as goal
 
 abbrev pub invariant-loop-bracket : goal.invariant-loop-bracket
-invariant-loop-bracket l = IsBracket l.log (form_of l.f) l.value l.max l.budget l.bracket
+invariant-loop-bracket l = IsBracket l.log l.nodes l.value l.max l.budget l.bracket
 
 abbrev pub decreases-loop-bracket : goal.decreases-loop-bracket
 decreases-loop-bracket l = l.bracket.high - l.bracket.low

@@ -1,11 +1,10 @@
 use Rattle.std.proofs.Common.{arith}
-use Rattle.mt_model.specs.Form.{form_of}
 use Rattle.least_skew.proofs.Narrowing.{narrowed-above}
 use Rattle.least_skew.proofs.turn.narrowed_by_lines.Goals as goal
 
 pub returns : goal.returns
 returns c =
-    let f = form_of c.args.f.now in
+    let f = c.args.nodes.now in
     let refutes = rw c.as_slice.ensures.items at c.in_ok-r.ensures.refutes in
     let from = c.in_ok-r.ensures.from in
     let to = c.in_ok-r.ensures.to in

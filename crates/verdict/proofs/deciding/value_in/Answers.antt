@@ -3,8 +3,6 @@ use Rattle.verdict.proofs.deciding.value_in.Goals as goal
 
 pub truth_in-requires : goal.truth_in-requires
 truth_in-requires c = record {
-  few = c.requires.judged.nodes;
-  nodes = c.requires.nodes;
   count = c.requires.admissible.count;
-  range = times-near c.args.log.now c.log_is_valid.ensures.valid c.args.times.now c.requires.admissible;
+  range = times-near c.args.question.now.log (rw c.log.ensures.log at c.log_is_valid.ensures.valid) c.args.times.now c.requires.admissible;
 }

@@ -1,9 +1,8 @@
-use Rattle.mt_model.specs.Form.{form_of}
 use Rattle.verdict_span.specs.Climbs.{IsClimb}
 use Rattle.verdict_span.proofs.finding.climb_on.Given as goal
 
 abbrev pub invariant-loop-climb : goal.invariant-loop-climb
-invariant-loop-climb l = IsClimb l.log (form_of l.f) l.value l.e l.to l.budget l.climb
+invariant-loop-climb l = IsClimb l.log l.nodes l.value l.e l.to l.budget l.climb
 
 abbrev pub decreases-loop-climb : goal.decreases-loop-climb
 decreases-loop-climb l = l.climb.room

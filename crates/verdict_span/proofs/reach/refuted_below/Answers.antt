@@ -1,6 +1,5 @@
 use Rattle.std.proofs.Common.{arith}
 use Rattle.std.proofs.lemmas.Int.{ints}
-use Rattle.mt_model.specs.Form.{form_of}
 use Rattle.verdict_span.proofs.Climbing.{refutes-at, refutes-here}
 use Rattle.verdict_span.proofs.reach.refuted_below.Goals as goal
 
@@ -13,10 +12,10 @@ returns-then-holds-clause-refutes c =
     let most = c.requires.low.high in
     let low = c.requires.high.low in
     let high = c.requires.high.high in
-    refutes-at c.args.log.now (form_of c.args.f.now) c.args.value c.args.e c.args.to _ _ c.args.lines.now (omega (arith, ints, within, least, most, low, high)) refutes
+    refutes-at c.args.log.now c.args.nodes.now c.args.value c.args.e c.args.to _ _ c.args.lines.now (omega (arith, ints, within, least, most, low, high)) refutes
 
 pub returns-else-holds : goal.returns-else-holds
 returns-else-holds c = record {
   within = omega arith;
-  refutes = refutes-here c.args.log.now (form_of c.args.f.now) c.args.value c.args.e c.args.to c.args.c c.args.lines.now c.requires.refutes;
+  refutes = refutes-here c.args.log.now c.args.nodes.now c.args.value c.args.e c.args.to c.args.c c.args.lines.now c.requires.refutes;
 }

@@ -1,6 +1,5 @@
 use Rattle.std.proofs.Common.{arith}
 use Rattle.std.proofs.lemmas.Int.{ints}
-use Rattle.mt_model.specs.Form.{form_of}
 use Rattle.verdict_span.proofs.Climbing.{gives-without, reached, refuted-at, refutes-at}
 use Rattle.verdict_span.proofs.Extras.{far, unspaced}
 use Rattle.verdict_span.proofs.turn.turn.Goals as goal
@@ -27,16 +26,16 @@ pub narrowed_by_timing-narrowed-requires-clause-to : goal.narrowed_by_timing-nar
 narrowed_by_timing-narrowed-requires-clause-to c =
     let climb = c.requires.climb in
     let found = rw c.in-Timing.is at c.in_ok-times.ensures.found in
-    let gives = gives-without c.args.log.now (form_of c.args.f.now) c.args.value c.args.e c.args.to _ c.in-Timing.times found in
-    reached c.args.log.now (form_of c.args.f.now) c.args.value c.args.e c.args.to c.refuted_is_no_value.ensures c.args.climb.distance c.args.climb.room c.args.budget c.args.climb.beyond
+    let gives = gives-without c.args.log.now c.args.nodes.now c.args.value c.args.e c.args.to _ c.in-Timing.times found in
+    reached c.args.log.now c.args.nodes.now c.args.value c.args.e c.args.to c.refuted_is_no_value.ensures c.args.climb.distance c.args.climb.room c.args.budget c.args.climb.beyond
     c.log_is_valid.ensures.valid c.requires.pair climb.near climb.top climb.refuted c.in-Timing.times gives
 
 pub returns-in-Timing : goal.returns-in-Timing
 returns-in-Timing c =
     let found = rw c.in-Timing.is at c.in_ok-times.ensures.found in
-    let gives = gives-without c.args.log.now (form_of c.args.f.now) c.args.value c.args.e c.args.to _ c.in-Timing.times found in
+    let gives = gives-without c.args.log.now c.args.nodes.now c.args.value c.args.e c.args.to _ c.in-Timing.times found in
     record {
-      turned = (c.narrowed_by_timing-narrowed.ensures.climb (form_of c.args.f.now) c.args.value c.args.budget c.requires.climb gives, c.narrowed_by_timing-narrowed.ensures.room);
+      turned = (c.narrowed_by_timing-narrowed.ensures.climb c.args.nodes.now c.args.value c.args.budget c.requires.climb gives, c.narrowed_by_timing-narrowed.ensures.room);
     }
 
 pub narrowed_by_lines-requires-clause-few : goal.narrowed_by_lines-requires-clause-few
@@ -53,7 +52,7 @@ narrowed_by_lines-requires-clause-refutes c =
     let most = c.next-above.ensures.to in
     let low = c.requires.climb.near.low in
     let top = c.requires.climb.top in
-    refutes-at c.args.log.now (form_of c.args.f.now) c.args.value c.args.e c.args.to _ _ c.in-Refuted.lines (omega (arith, ints, some, most, low, top)) found.refutes
+    refutes-at c.args.log.now c.args.nodes.now c.args.value c.args.e c.args.to _ _ c.in-Refuted.lines (omega (arith, ints, some, most, low, top)) found.refutes
 
 pub returns-in_ok-narrowed-in-Refuted : goal.returns-in_ok-narrowed-in-Refuted
 returns-in_ok-narrowed-in-Refuted c =
@@ -66,7 +65,7 @@ returns-in_ok-narrowed-in-Refuted c =
     record {
       turned = (
         narrowed.climb c.args.budget c.requires.climb
-            (refuted-at c.args.log.now (form_of c.args.f.now) c.args.value c.args.e c.args.to _ _ c.args.budget c.in-Refuted.lines (omega (arith, ints, some, most, low, top)) found),
+            (refuted-at c.args.log.now c.args.nodes.now c.args.value c.args.e c.args.to _ _ c.args.budget c.in-Refuted.lines (omega (arith, ints, some, most, low, top)) found),
         narrowed.room,
       );
     }

@@ -1,0 +1,42 @@
+//! Why nothing is asked.
+
+use formula_arena::ArenaFault;
+use std::alloc::AllocError;
+use thiserror::Error;
+
+/// Why a formula isn't asked of a log.
+#[derive(Clone, Copy, Debug, Error)]
+pub enum QuestionFault {
+    /// The number, from 0 and from left to right, of the first proposition whose host isn't in the log.
+    #[error("the host of proposition {index} isn't in the log")]
+    UnknownHost { index: u32 },
+    /// The formula has more than 512 nodes.
+    #[error("more than 512 nodes")]
+    TooManyNodes,
+    #[error("out of memory")]
+    Memory,
+}
+
+impl From<AllocError> for QuestionFault {
+    ghost use Rattle.std.specs.Prelude.{◌≡◌};
+    ghost use Rattle.question.specs.declared.fault.QuestionFault.TheVariants.{Memory};
+
+    ghost from_gives = { λ _ f. f ≡ Memory };
+
+    fn from(_: AllocError) -> Self {
+        QuestionFault::Memory
+    }
+}
+
+impl From<ArenaFault> for QuestionFault {
+    ghost use Rattle.question.specs.Faults.{IsOfArena};
+
+    ghost from_gives = { IsOfArena };
+
+    fn from(fault: ArenaFault) -> Self {
+        match fault {
+            ArenaFault::TooManyNodes => QuestionFault::TooManyNodes,
+            ArenaFault::Memory => QuestionFault::Memory,
+        }
+    }
+}
