@@ -6,13 +6,10 @@ import re
 import shutil
 import signal
 import subprocess
-import tempfile
 import time
 import unittest
-from pathlib import Path
 
-ROOT = Path(__file__).resolve().parents[2]
-PATIENCE = 30
+from room import PATIENCE, ROOT, WithRoom
 
 # Proves the crates of the folder that it is run in: a line each, with other lines before. It has KEEPS where the kit keeps
 # proofs, FAILS where a crate isn't proved, and WAITS where it goes on until it is ended. As rt it takes no names of crates
@@ -43,15 +40,9 @@ chmod +x crates/skewcheck/out/skewcheck
 """
 
 
-class WithRepository(unittest.TestCase):
+class WithRepository(WithRoom):
     def setUp(self):
-        room = tempfile.TemporaryDirectory()
-        self.addCleanup(room.cleanup)
-        self.room = Path(room.name)
-        self.top = self.room / "top"
-        self.tmp = self.room / "tmp"
-        for folder in (self.top, self.tmp, self.room / "bin"):
-            folder.mkdir()
+        super().setUp()
         shutil.copy(ROOT / "skewcheck", self.top)
         (self.top / "HANDLES").write_text("Handles allowed: none.\n")
         (self.top / "crates.txt").write_text("# lower ones first\nlow:\nhigh: low\nskewcheck: high csv\nbeside: low\n")
@@ -60,8 +51,6 @@ class WithRepository(unittest.TestCase):
             (self.top / "crates" / name / "src" / "lib.rt").write_text("")
         (self.room / "bin" / "rt").write_text(RT)
         (self.room / "bin" / "rt").chmod(0o755)
-        path = f"{self.room}/bin:{os.environ['PATH']}"
-        self.environment = {**os.environ, "PATH": path, "TMPDIR": str(self.tmp), "CALLS": str(self.room / "calls")}
 
     def asked(self, *words, **environment):
         """How a run of ./skewcheck ended."""

@@ -3,24 +3,17 @@
 import os
 import shutil
 import subprocess
-import tempfile
 import unittest
-from pathlib import Path
 
-ROOT = Path(__file__).resolve().parents[2]
-PATIENCE = 30
+from room import PATIENCE, ROOT, WithRoom
+
 CHECKS = ("names", "examples", "reference", "ask", "many_logs", "install", "scripts")
 
 
-class WithRepository(unittest.TestCase):
+class WithRepository(WithRoom):
     def setUp(self):
-        room = tempfile.TemporaryDirectory()
-        self.addCleanup(room.cleanup)
-        self.room = Path(room.name)
-        self.top = self.room / "top"
-        self.tmp = self.room / "tmp"
-        for folder in (self.top / "crates" / "skewcheck" / "out", self.tmp, self.room / "bin"):
-            folder.mkdir(parents=True)
+        super().setUp()
+        (self.top / "crates" / "skewcheck" / "out").mkdir(parents=True)
         shutil.copy(ROOT / "test", self.top)
         self.write(self.top / "crates" / "skewcheck" / "out" / "skewcheck", "")
         for name in CHECKS:
@@ -28,8 +21,7 @@ class WithRepository(unittest.TestCase):
             self.check(name, "echo 2 passed, 0 failed")
         self.command("rt", 'echo "rt $*" >>"$CALLS"; echo 41 passed, 0 failed')
         self.command("apt-get", 'echo "apt-get $*" >>"$CALLS"')
-        path = f"{self.room}/bin:{os.environ['PATH']}"
-        self.environment = {**os.environ, "PATH": path, "TMPDIR": str(self.tmp), "CALLS": str(self.room / "calls"), "CI": ""}
+        self.environment["CI"] = ""
         self.environment.pop("SKEWCHECK", None)
 
     def write(self, path, script):
