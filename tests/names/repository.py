@@ -51,6 +51,8 @@ def take_code(names: Names, crate: str, text: str) -> None:
         take_functions(names, crate, text[start:end], owner)
     for kind, name in re.findall(r"\b(struct|enum|trait|type|mod|const|static|macro_rules!)\s+(\w+)", text):
         names.give(crate, name)
+    for name in re.findall(r"\bpub use [\w:]+ as (\w+);", text):
+        names.give(crate, name)
     for kind, name, start, end in shapes_of(text):
         part = r"^\s*(\w+)\s*(?:[({,=]|$)" if kind == "enum" else r"^\s*(?:pub(?:\(\w+\))? )?(?:ghost )?(\w+):"
         for member in re.findall(part, text[start + 1 : end - 1], re.M):

@@ -22,8 +22,8 @@ WITH_OPERANDS = [
     *(f"tests/reference/{name}" for name in ("demo_log.py", "derivations.py", "freshness.py", *COMPARISONS)),
 ]
 WITHOUT = [
-    "benches/check.py", "benches/proofs.py", "tests/ask/agreement.py", "tests/clauses/print", "tests/hostile/launcher.py",
-    "tests/wrong/run",
+    "benches/check.py", "benches/proofs.py", "tests/ask/agreement.py", "tests/ask/windows_agreement.py",
+    "tests/clauses/figures", "tests/clauses/print", "tests/clauses/unreached", "tests/hostile/launcher.py", "tests/wrong/run",
     *(f"tests/reference/{name}" for name in ("check_freshness.py", "long")),
     *(f"tests/reference/selfcheck{name}.py" for name in ("", "_best", "_reports")),
 ]

@@ -670,7 +670,7 @@ pub rules-hold : CoresAreCores → NodesAreSubtrees → TruthOfCore → BeforeIs
 rules-hold cores nodes core before = record {
   lasting =
       λ log t f v rule c valid ok lasts is. rule-right log t (nodes_of f) (length (nodes_of f) - 1) v ok.count cores.equality
-      (nodes.children_first f) valid ok before rule c (λ one. absurd (lasts one)) is;
+      (nodes.children_first f) valid ok before rule c (λ one. absurd (lasts (rw one refl))) is;
   sought_value = λ log t f v rule c valid ok gives is. rule-right log t (nodes_of f) (length (nodes_of f) - 1) v ok.count cores.equality (nodes.children_first f) valid ok before rule c
       (λ one. ap (λ tree. truth log t 0 tree) (nodes.root f).1 ∙ core.at_position log t 0 f ∙ gives) is;
 }

@@ -1,5 +1,5 @@
 -- Laws about the rules.
-use Rattle.std.specs.Prelude.{◌≡◌, ◌≢◌, ◌+◌, ◌<◌, ◌≤◌, All, AllPairs, Bool, true, List, length, drop, ℤ, Ok}
+use Rattle.std.specs.Prelude.{◌≡◌, ◌≢◌, ◌+◌, ◌<◌, ◌≤◌, All, AllPairs, Bool, true, List, length, drop, ℤ, Ok, Some}
 use Rattle.mt_model.specs.Form.{Form}
 use Rattle.mt_model.specs.Log.{Logged, IsLog}
 use Rattle.mt_model.specs.Timing.{Admissible}
@@ -10,15 +10,16 @@ use Rattle.axiom_rules.specs.declared.literal.Atom.TheVariants.{Order, Node, Fir
 use Rattle.axiom_rules.specs.declared.literal.Literal.{Literal}
 use Rattle.axiom_rules.specs.declared.rule.Rule.{Rule}
 use Rattle.axiom_rules.specs.declared.rule.TheConstants.{MAX_RULE}
-use Rattle.axiom_rules.specs.Clauses.{argument_count, clause_of}
+use Rattle.axiom_rules.specs.declared.rule.Subject.TheVariants.{Value}
+use Rattle.axiom_rules.specs.Clauses.{argument_count, clause_of, subject_of}
 use Rattle.axiom_rules.specs.Sought.{sought_of}
 use Rattle.axiom_rules.specs.Holds.{clause_holds}
 use Rattle.axiom_rules.specs.Sought.{Sought}
 
--- the clause of a rule holds in every timing that the log admits, that of rule 24 in each that gives the value sought
+-- the clause of a rule holds in every timing that the log admits, that of a rule about the value sought in each that gives it
 pub record RulesHold : Type 0 where
   pub lasting : (log : Logged) (t : List ℤ) (f : Form) (v : Bool) (rule : Rule) (c : List Literal) → IsLog log → Admissible log t
-      → rule.number ≢ 24 → clause_of (sought_of log f v) rule ≡ Ok c → clause_holds log t (nodes_of f) c ≡ true
+      → subject_of rule.number ≢ Some Value → clause_of (sought_of log f v) rule ≡ Ok c → clause_holds log t (nodes_of f) c ≡ true
   pub sought_value : (log : Logged) (t : List ℤ) (f : Form) (v : Bool) (rule : Rule) (c : List Literal) → IsLog log → Admissible log t → truth log t 0 f ≡ v
       → clause_of (sought_of log f v) rule ≡ Ok c → clause_holds log t (nodes_of f) c ≡ true
 

@@ -113,8 +113,8 @@ impl AtomIndex {
         Ok(())
     }
 
-    /// Takes in all atoms of the list that aren't in it.
-    pub fn take_in(&mut self, atoms: &[Atom]) -> Result<(), AllocError>
+    /// Extends the index to all atoms of the list.
+    pub fn extend_to(&mut self, atoms: &[Atom]) -> Result<(), AllocError>
         requires index { IsIndex atoms.now self.old }
         requires few { length atoms.now < 2 ^ 32 }
         ensures index { IsIndex atoms.now self.new }

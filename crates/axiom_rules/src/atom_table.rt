@@ -1,3 +1,5 @@
+//! The atoms that have variables.
+
 ghost use Rattle.std.specs.Prelude.{◌≡◌, ◌≢◌, ◌<◌, ◌-◌, ◌^◌, [], length, All, AllPairs, IfOk, OnOk, OnErr};
 ghost use Rattle.axiom_rules.specs.AtomIndex.{AreTaken};
 ghost use Rattle.axiom_rules.specs.Atoms.{AreOnce, IsVar, with_atom};
@@ -49,7 +51,7 @@ impl AtomTable {
         ensures err { OnErr result (self.new ≡ self.old) }
         ensures once { AreOnce self.new }
     {
-        self.index.take_in(&self.atoms)?;
+        self.index.extend_to(&self.atoms)?;
         let place = match self.index.find(&self.atoms, atom) {
             Some(place) => place,
             None => {

@@ -1,3 +1,5 @@
+//! Why an instance of a rule has no clause.
+
 use std::alloc::AllocError;
 use thiserror::Error;
 

@@ -1,3 +1,5 @@
+//! What holds of all clauses of rules.
+
 ghost use Rattle.axiom_rules.specs.Laws.{ClausesHaveAtomsOnce, RulesAreWithinTable, RulesHold};
 
 use formula_arena::{cores_are_cores, nodes_are_subtrees, truth_of_core};

@@ -7,6 +7,7 @@ mod clause;
 mod fault;
 mod laws;
 mod literal;
+mod needless;
 mod part;
 mod proposition;
 mod reach;
@@ -18,6 +19,10 @@ pub use atom_table::AtomTable;
 pub use fault::RuleFault;
 pub use laws::{clauses_have_atoms_once, rules_are_within_table, rules_hold};
 pub use literal::{Atom, Literal, order_literal};
+pub use needless::{Needless, OfReach};
 pub use reach::Reach;
-pub use rule::{Argument, MAX_RULE, Rule, RuleList, argument_count, arguments_of};
+pub use rule::{
+    Argument, MAX_RULE, Rule, RuleList, SOME_IS_FIRST, Subject, argument_count, arguments_of,
+    needless_of, subject_of,
+};
 pub use rules::Rules;

@@ -1,3 +1,5 @@
+//! Statements about a timing, and their negations.
+
 ghost use Rattle.std.specs.Prelude.{◌≡◌, ◌≢◌};
 ghost use Rattle.mt_model.specs.Log.{IsWithin};
 ghost use Rattle.axiom_rules.specs.Literals.{negated as negated_literal, one_instant as atom_of_one_instant, order_literal as literal_of_order};

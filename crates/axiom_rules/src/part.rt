@@ -1,3 +1,5 @@
+//! What rules write: literals, and constants that are known from a rule's arguments.
+
 ghost use Rattle.std.specs.Prelude.{◌≡◌, ◌^◌, pos, ◌-ℤ◌, neg_ℤ};
 ghost use Rattle.mt_model.specs.Log.{IsWithin};
 ghost use Rattle.axiom_rules.specs.Parts.{after as after_part, not_after as not_after_part, not_order as not_order_part, not_same as not_same_part, order as order_part, same as same_part};
@@ -87,7 +89,7 @@ pub fn same(e: u32, x: u32) -> Part
     }
 }
 
-/// They aren't.
+/// Events e and x aren't at one instant.
 pub fn not_same(e: u32, x: u32) -> Part
     ensures { result ≡ not_same_part e x }
 {

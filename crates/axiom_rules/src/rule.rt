@@ -1,6 +1,12 @@
-ghost use Rattle.std.specs.Prelude.{◌≡◌, ◌≤◌, count_by, option_map};
-ghost use Rattle.axiom_rules.specs.Clauses.{argument_count as argument_count_of, is_used as is_used_argument, row_of};
+//! The rules by their numbers, and instances of them.
 
+ghost use Rattle.std.specs.Prelude.{◌≡◌, ◌≤◌, count_by, option_map};
+ghost use Rattle.axiom_rules.specs.Clauses.{argument_count as argument_count_of, arguments_in, is_used as is_used_argument, needless_of as needless_of_rule, row_of, subject_of as subject_of_rule};
+
+use crate::needless::Needless::{self, Never, NeverFirst, NeverLater, Reaches};
+use crate::needless::OfReach::{
+    AlwaysFrom, AlwaysUpTo, Dead, DeadOrFree, Free, FreeOrNotBefore, NotPast, NotWithin,
+};
 use mt_list::ListOf;
 
 /// An instance of a rule: the rule's number and its arguments in order. Those that aren't used are 0.
@@ -13,6 +19,25 @@ pub struct Rule {
 /// Rules in order.
 pub type RuleList = ListOf<Rule>;
 
+/// What a rule is about.
+#[derive(Clone, Copy, PartialEq, Eq)]
+pub enum Subject {
+    /// A proposition, with its changes and its pulses.
+    Proposition,
+    /// `true`.
+    Constant,
+    Negation,
+    Conjunction,
+    /// Which events are first ones.
+    First,
+    /// An until or a since.
+    Reach,
+    /// The value that is sought of the root.
+    Value,
+    /// Whether two events, one of which is a pulse, are at one instant.
+    Instant,
+}
+
 /// What an argument of a rule is.
 #[derive(Clone, Copy, PartialEq, Eq)]
 pub enum Argument {
@@ -23,106 +48,153 @@ pub enum Argument {
     Unused,
 }
 
-const NOTHING: [Argument; 4] = [
-    Argument::Unused,
-    Argument::Unused,
-    Argument::Unused,
-    Argument::Unused,
-];
+// What the four arguments of a rule are.
+#[derive(Clone, Copy)]
+struct Arguments(Argument, Argument, Argument, Argument);
 
-const EVENT: [Argument; 4] = [
+impl Arguments {
+    // They in order.
+    fn listed(self) -> [Argument; 4]
+        ensures { result ≡ arguments_in self }
+    {
+        let Arguments(first, second, third, fourth) = self;
+        [first, second, third, fourth]
+    }
+}
+
+const NOTHING: Arguments = Arguments(
+    Argument::Unused,
+    Argument::Unused,
+    Argument::Unused,
+    Argument::Unused,
+);
+
+const EVENT: Arguments = Arguments(
     Argument::AnEvent,
     Argument::Unused,
     Argument::Unused,
     Argument::Unused,
-];
+);
 
-const EVENTS: [Argument; 4] = [
+const EVENTS: Arguments = Arguments(
     Argument::AnEvent,
     Argument::AnEvent,
     Argument::Unused,
     Argument::Unused,
-];
+);
 
-const NODE_EVENT: [Argument; 4] = [
+const NODE_EVENT: Arguments = Arguments(
     Argument::ANode,
     Argument::AnEvent,
     Argument::Unused,
     Argument::Unused,
-];
+);
 
-const NODE_EVENT_CHANGE: [Argument; 4] = [
+const NODE_EVENT_CHANGE: Arguments = Arguments(
     Argument::ANode,
     Argument::AnEvent,
     Argument::AChange,
     Argument::Unused,
-];
+);
 
-const NODE_EVENT_PULSE: [Argument; 4] = [
+const NODE_EVENT_PULSE: Arguments = Arguments(
     Argument::ANode,
     Argument::AnEvent,
     Argument::APulse,
     Argument::Unused,
-];
+);
 
-const NODE_EVENTS: [Argument; 4] = [
+const NODE_EVENTS: Arguments = Arguments(
     Argument::ANode,
     Argument::AnEvent,
     Argument::AnEvent,
     Argument::Unused,
-];
+);
 
-const NODE_THREE_EVENTS: [Argument; 4] = [
+const NODE_THREE_EVENTS: Arguments = Arguments(
     Argument::ANode,
     Argument::AnEvent,
     Argument::AnEvent,
     Argument::AnEvent,
-];
+);
 
 /// The greatest number that a rule has.
 pub const MAX_RULE: u8 = 28;
 
-// What the arguments of rule 1 are, of rule 2 and so on.
-const ARGUMENTS: [[Argument; 4]; MAX_RULE as usize] = [
-    NODE_EVENT,
-    NODE_EVENT_CHANGE,
-    NODE_EVENT,
-    NODE_EVENT,
-    NODE_EVENT,
-    NODE_EVENT,
-    NODE_EVENT,
-    NODE_EVENT,
-    EVENTS,
-    EVENT,
-    NOTHING,
-    NODE_EVENTS,
-    NODE_EVENTS,
-    NODE_EVENTS,
-    NODE_EVENTS,
-    NODE_EVENTS,
-    NODE_EVENT,
-    NODE_EVENTS,
-    NODE_THREE_EVENTS,
-    NODE_EVENTS,
-    NODE_THREE_EVENTS,
-    NODE_EVENTS,
-    NODE_EVENTS,
-    EVENT,
-    EVENTS,
-    EVENTS,
-    NODE_EVENT_PULSE,
-    NODE_EVENTS,
+/// The number of the rule that some event is a first one.
+pub const SOME_IS_FIRST: u8 = 11;
+
+// A row of the table of rules: what a rule is about, what its arguments are, and which of its instances are needless.
+#[derive(Clone, Copy)]
+struct Columns(Subject, Arguments, Needless);
+
+// The row of rule 1, of rule 2 and so on.
+static TABLE: [Columns; MAX_RULE as usize] = [
+    Columns(Subject::Proposition, NODE_EVENT, Never),
+    Columns(Subject::Proposition, NODE_EVENT_CHANGE, Never),
+    Columns(Subject::Constant, NODE_EVENT, Never),
+    Columns(Subject::Negation, NODE_EVENT, Never),
+    Columns(Subject::Negation, NODE_EVENT, Never),
+    Columns(Subject::Conjunction, NODE_EVENT, Never),
+    Columns(Subject::Conjunction, NODE_EVENT, Never),
+    Columns(Subject::Conjunction, NODE_EVENT, Never),
+    Columns(Subject::First, EVENTS, NeverLater),
+    Columns(Subject::First, EVENT, NeverFirst),
+    Columns(Subject::First, NOTHING, Never),
+    Columns(Subject::Reach, NODE_EVENTS, Reaches(AlwaysFrom)),
+    Columns(Subject::Reach, NODE_EVENTS, Reaches(AlwaysUpTo)),
+    Columns(Subject::Reach, NODE_EVENTS, Reaches(Dead)),
+    Columns(Subject::Reach, NODE_EVENTS, Reaches(DeadOrFree)),
+    Columns(Subject::Reach, NODE_EVENTS, Reaches(DeadOrFree)),
+    Columns(Subject::Reach, NODE_EVENT, Never),
+    Columns(Subject::Reach, NODE_EVENTS, Reaches(Dead)),
+    Columns(Subject::Reach, NODE_THREE_EVENTS, Reaches(NotWithin)),
+    Columns(Subject::Reach, NODE_EVENTS, Reaches(DeadOrFree)),
+    Columns(Subject::Reach, NODE_THREE_EVENTS, Reaches(NotPast)),
+    Columns(Subject::Reach, NODE_EVENTS, Reaches(FreeOrNotBefore)),
+    Columns(Subject::Reach, NODE_EVENTS, Reaches(Free)),
+    Columns(Subject::Value, EVENT, NeverFirst),
+    Columns(Subject::Instant, EVENTS, Never),
+    Columns(Subject::Instant, EVENTS, Never),
+    Columns(Subject::Proposition, NODE_EVENT_PULSE, Never),
+    Columns(Subject::Reach, NODE_EVENTS, Reaches(Dead)),
 ];
+
+// The row of a rule's number, where there is one.
+fn columns_of(number: u8) -> Option<Columns>
+    ensures subject { option_map (λ columns. columns.0) result ≡ subject_of_rule number }
+    ensures arguments { option_map (λ columns. arguments_in columns.1) result ≡ option_map (λ row. row.arguments) (row_of number) }
+    ensures needless { option_map (λ columns. columns.2) result ≡ needless_of_rule number }
+{
+    if number == 0 {
+        None
+    } else {
+        TABLE.get(number as usize - 1).copied()
+    }
+}
+
+/// What the rule of a number is about, where there is one.
+pub fn subject_of(number: u8) -> Option<Subject>
+    ensures subject { result ≡ subject_of_rule number }
+{
+    let Columns(subject, ..) = columns_of(number)?;
+    Some(subject)
+}
 
 /// What the arguments of the rule of a number are, where there is one.
 pub fn arguments_of(number: u8) -> Option<[Argument; 4]>
     ensures { result ≡ option_map (λ row. row.arguments) (row_of number) }
 {
-    if number == 0 {
-        None
-    } else {
-        ARGUMENTS.get(number as usize - 1).copied()
-    }
+    let Columns(_, arguments, _) = columns_of(number)?;
+    Some(arguments.listed())
+}
+
+/// Which instances of the rule of a number are needless, where there is one.
+pub fn needless_of(number: u8) -> Option<Needless>
+    ensures test { result ≡ needless_of_rule number }
+{
+    let Columns(.., needless) = columns_of(number)?;
+    Some(needless)
 }
 
 // Whether an argument is used.

@@ -1,3 +1,5 @@
+//! The clause that each rule has for a log, the nodes of a formula and the value sought.
+
 ghost use Rattle.std.specs.Prelude.{◌≡◌, ◌<◌, ◌+◌, ◌++◌, ◌⊎◌, if◌then◌else◌, true, [], length, Some, None, AllPairs, IfOk, IfErr, OnOk, OnErr, Ok, Err, is_some, option_copied};
 ghost use Rattle.std.specs.List.{list_all};
 ghost use Rattle.std.specs.Option.{option_map_or};
@@ -232,7 +234,7 @@ impl Rules {
     }
 
     // A proposition that is true has been changed, or is pulsed.
-    fn rule_1(&self, k: u32, e: u32, out: &mut Clause) -> Result<(), RuleFault>
+    fn truth_has_cause(&self, k: u32, e: u32, out: &mut Clause) -> Result<(), RuleFault>
         ensures { Gives (written.rule_1 self.now k e) result out.new.items }
     {
         let rows = self.proposition(k)?;
@@ -242,7 +244,7 @@ impl Rules {
     }
 
     // From a change on up to the next one, a proposition is what the change makes it; where that clears it, it may be pulsed.
-    fn rule_2(&self, k: u32, e: u32, place: u32, out: &mut Clause) -> Result<(), RuleFault>
+    fn change_lasts(&self, k: u32, e: u32, place: u32, out: &mut Clause) -> Result<(), RuleFault>
         ensures { Gives (written.rule_2 self.now k e place) result out.new.items }
     {
         let rows = self.proposition(k)?;
@@ -262,7 +264,7 @@ impl Rules {
     }
 
     // `true` is true.
-    fn rule_3(&self, k: u32, e: u32, out: &mut Clause) -> Result<(), RuleFault>
+    fn constant_is_true(&self, k: u32, e: u32, out: &mut Clause) -> Result<(), RuleFault>
         ensures { Gives (written.rule_3 self.now k e) result out.new.items }
     {
         if self.is_constant(k) {
@@ -273,7 +275,7 @@ impl Rules {
     }
 
     // A negation and its operand aren't both true.
-    fn rule_4(&self, k: u32, e: u32, out: &mut Clause) -> Result<(), RuleFault>
+    fn negation_excludes(&self, k: u32, e: u32, out: &mut Clause) -> Result<(), RuleFault>
         ensures { Gives (written.rule_4 self.now k e) result out.new.items }
     {
         let a = self.operand(k)?;
@@ -283,8 +285,8 @@ impl Rules {
         )
     }
 
-    // One of them is.
-    fn rule_5(&self, k: u32, e: u32, out: &mut Clause) -> Result<(), RuleFault>
+    // A negation is true, or its operand is.
+    fn negation_covers(&self, k: u32, e: u32, out: &mut Clause) -> Result<(), RuleFault>
         ensures { Gives (written.rule_5 self.now k e) result out.new.items }
     {
         let a = self.operand(k)?;
@@ -292,7 +294,7 @@ impl Rules {
     }
 
     // Where a conjunction is true, its left side is.
-    fn rule_6(&self, k: u32, e: u32, out: &mut Clause) -> Result<(), RuleFault>
+    fn conjunction_has_left(&self, k: u32, e: u32, out: &mut Clause) -> Result<(), RuleFault>
         ensures { Gives (written.rule_6 self.now k e) result out.new.items }
     {
         let (a, _) = self.sides(k)?;
@@ -302,8 +304,8 @@ impl Rules {
         )
     }
 
-    // So is its right side.
-    fn rule_7(&self, k: u32, e: u32, out: &mut Clause) -> Result<(), RuleFault>
+    // Where a conjunction is true, its right side is.
+    fn conjunction_has_right(&self, k: u32, e: u32, out: &mut Clause) -> Result<(), RuleFault>
         ensures { Gives (written.rule_7 self.now k e) result out.new.items }
     {
         let (_, b) = self.sides(k)?;
@@ -313,8 +315,8 @@ impl Rules {
         )
     }
 
-    // Where both are, it is.
-    fn rule_8(&self, k: u32, e: u32, out: &mut Clause) -> Result<(), RuleFault>
+    // Where both sides of a conjunction are true, it is.
+    fn conjunction_covers(&self, k: u32, e: u32, out: &mut Clause) -> Result<(), RuleFault>
         ensures { Gives (written.rule_8 self.now k e) result out.new.items }
     {
         let (a, b) = self.sides(k)?;
@@ -329,14 +331,14 @@ impl Rules {
     }
 
     // A first event isn't after any.
-    fn rule_9(&self, e: u32, x: u32, out: &mut Clause) -> Result<(), RuleFault>
+    fn first_is_not_after(&self, e: u32, x: u32, out: &mut Clause) -> Result<(), RuleFault>
         ensures { Gives (written.rule_9 self.now e x) result out.new.items }
     {
         write(out, &[is_not(Atom::First { e }), not_after(e, x)])
     }
 
     // An event that is after none is a first one.
-    fn rule_10(&self, e: u32, out: &mut Clause) -> Result<(), RuleFault>
+    fn earliest_is_first(&self, e: u32, out: &mut Clause) -> Result<(), RuleFault>
         ensures { Gives (written.rule_10 self.now e) result out.new.items }
     {
         write_each(
@@ -348,22 +350,22 @@ impl Rules {
     }
 
     // Some event is a first one.
-    fn rule_11(&self, out: &mut Clause) -> Result<(), RuleFault>
+    fn some_is_first(&self, out: &mut Clause) -> Result<(), RuleFault>
         ensures { Gives (written.rule_11 self.now) result out.new.items }
     {
         write_each(out, &[], self.events(), Each::First)
     }
 
     // A witness is at least the lower bound away.
-    fn rule_12(&self, k: u32, i: u32, j: u32, out: &mut Clause) -> Result<(), RuleFault>
+    fn witness_is_from(&self, k: u32, i: u32, j: u32, out: &mut Clause) -> Result<(), RuleFault>
         ensures { Gives (written.rule_12 self.now k i j) result out.new.items }
     {
         let u = self.reach(k)?;
         write(out, &[is_not(Atom::Wit { k, i, j }), u.is_from(i, j)])
     }
 
-    // It is at most the upper bound away, where there is one.
-    fn rule_13(&self, k: u32, i: u32, j: u32, out: &mut Clause) -> Result<(), RuleFault>
+    // A witness is at most the upper bound away, where there is one.
+    fn witness_is_up_to(&self, k: u32, i: u32, j: u32, out: &mut Clause) -> Result<(), RuleFault>
         ensures { Gives (written.rule_13 self.now k i j) result out.new.items }
     {
         let u = self.reach(k)?;
@@ -374,8 +376,8 @@ impl Rules {
         )
     }
 
-    // The right side holds there.
-    fn rule_14(&self, k: u32, i: u32, j: u32, out: &mut Clause) -> Result<(), RuleFault>
+    // At a witness the right side holds.
+    fn witness_has_right(&self, k: u32, i: u32, j: u32, out: &mut Clause) -> Result<(), RuleFault>
         ensures { Gives (written.rule_14 self.now k i j) result out.new.items }
     {
         let u = self.reach(k)?;
@@ -388,8 +390,8 @@ impl Rules {
         )
     }
 
-    // The left side holds up to there.
-    fn rule_15(&self, k: u32, i: u32, j: u32, out: &mut Clause) -> Result<(), RuleFault>
+    // Up to a witness the left side holds.
+    fn witness_has_span(&self, k: u32, i: u32, j: u32, out: &mut Clause) -> Result<(), RuleFault>
         ensures { Gives (written.rule_15 self.now k i j) result out.new.items }
     {
         self.reach(k)?;
@@ -399,8 +401,8 @@ impl Rules {
         )
     }
 
-    // What is all of this is a witness.
-    fn rule_16(&self, k: u32, i: u32, j: u32, out: &mut Clause) -> Result<(), RuleFault>
+    // What is in the interval, has the right side and is at the end of a span is a witness.
+    fn witness_covers(&self, k: u32, i: u32, j: u32, out: &mut Clause) -> Result<(), RuleFault>
         ensures { Gives (written.rule_16 self.now k i j) result out.new.items }
     {
         let u = self.reach(k)?;
@@ -416,8 +418,8 @@ impl Rules {
         )
     }
 
-    // Where the node is true, some event is a witness.
-    fn rule_17(&self, k: u32, i: u32, out: &mut Clause) -> Result<(), RuleFault>
+    // Where an until or a since is true, some event is a witness.
+    fn truth_has_witness(&self, k: u32, i: u32, out: &mut Clause) -> Result<(), RuleFault>
         ensures { Gives (written.rule_17 self.now k i) result out.new.items }
     {
         self.reach(k)?;
@@ -425,8 +427,8 @@ impl Rules {
         write_each(out, &[is_not(Atom::Node { k, e: i })], self.events(), each)
     }
 
-    // Where some event is a witness, the node is true.
-    fn rule_18(&self, k: u32, i: u32, j: u32, out: &mut Clause) -> Result<(), RuleFault>
+    // Where some event is a witness, an until or a since is true.
+    fn witness_gives_truth(&self, k: u32, i: u32, j: u32, out: &mut Clause) -> Result<(), RuleFault>
         ensures { Gives (written.rule_18 self.now k i j) result out.new.items }
     {
         self.reach(k)?;
@@ -437,7 +439,14 @@ impl Rules {
     }
 
     // Over a span the left side holds.
-    fn rule_19(&self, k: u32, i: u32, j: u32, m: u32, out: &mut Clause) -> Result<(), RuleFault>
+    fn span_has_left(
+        &self,
+        k: u32,
+        i: u32,
+        j: u32,
+        m: u32,
+        out: &mut Clause,
+    ) -> Result<(), RuleFault>
         ensures { Gives (written.rule_19 self.now k i j m) result out.new.items }
     {
         let u = self.reach(k)?;
@@ -453,7 +462,7 @@ impl Rules {
     }
 
     // Where there is no span there is a gap.
-    fn rule_20(&self, k: u32, i: u32, j: u32, out: &mut Clause) -> Result<(), RuleFault>
+    fn span_or_gap(&self, k: u32, i: u32, j: u32, out: &mut Clause) -> Result<(), RuleFault>
         ensures { Gives (written.rule_20 self.now k i j) result out.new.items }
     {
         self.reach(k)?;
@@ -462,7 +471,14 @@ impl Rules {
     }
 
     // Up to a gap there is a span.
-    fn rule_21(&self, k: u32, i: u32, j: u32, m: u32, out: &mut Clause) -> Result<(), RuleFault>
+    fn span_up_to_gap(
+        &self,
+        k: u32,
+        i: u32,
+        j: u32,
+        m: u32,
+        out: &mut Clause,
+    ) -> Result<(), RuleFault>
         ensures { Gives (written.rule_21 self.now k i j m) result out.new.items }
     {
         let u = self.reach(k)?;
@@ -476,8 +492,8 @@ impl Rules {
         )
     }
 
-    // A gap is from here on.
-    fn rule_22(&self, k: u32, i: u32, m: u32, out: &mut Clause) -> Result<(), RuleFault>
+    // A gap isn't before the event from which it is looked for.
+    fn gap_is_ahead(&self, k: u32, i: u32, m: u32, out: &mut Clause) -> Result<(), RuleFault>
         ensures { Gives (written.rule_22 self.now k i m) result out.new.items }
     {
         let u = self.reach(k)?;
@@ -485,7 +501,7 @@ impl Rules {
     }
 
     // At a gap the left side fails.
-    fn rule_23(&self, k: u32, i: u32, m: u32, out: &mut Clause) -> Result<(), RuleFault>
+    fn gap_lacks_left(&self, k: u32, i: u32, m: u32, out: &mut Clause) -> Result<(), RuleFault>
         ensures { Gives (written.rule_23 self.now k i m) result out.new.items }
     {
         let u = self.reach(k)?;
@@ -499,7 +515,7 @@ impl Rules {
     }
 
     // At a first event the root has the value sought.
-    fn rule_24(&self, e: u32, out: &mut Clause) -> Result<(), RuleFault>
+    fn first_has_value(&self, e: u32, out: &mut Clause) -> Result<(), RuleFault>
         ensures { Gives (written.rule_24 self.now e) result out.new.items }
     {
         let literal = Literal {
@@ -513,7 +529,7 @@ impl Rules {
     }
 
     // Of two events at one instant neither is after the other, where one of them is a pulse.
-    fn rule_25(&self, e: u32, x: u32, out: &mut Clause) -> Result<(), RuleFault>
+    fn instant_is_not_after(&self, e: u32, x: u32, out: &mut Clause) -> Result<(), RuleFault>
         ensures { Gives (written.rule_25 self.now e x) result out.new.items }
     {
         if self.is_pulse(e) || self.is_pulse(x) {
@@ -523,8 +539,8 @@ impl Rules {
         }
     }
 
-    // Where neither is after the other, they are at one instant.
-    fn rule_26(&self, e: u32, x: u32, out: &mut Clause) -> Result<(), RuleFault>
+    // Two events of which neither is after the other are at one instant, where one of them is a pulse.
+    fn instant_covers(&self, e: u32, x: u32, out: &mut Clause) -> Result<(), RuleFault>
         ensures { Gives (written.rule_26 self.now e x) result out.new.items }
     {
         if e >= x {
@@ -537,7 +553,13 @@ impl Rules {
     }
 
     // At the instant of a pulse its proposition is true.
-    fn rule_27(&self, k: u32, e: u32, place: u32, out: &mut Clause) -> Result<(), RuleFault>
+    fn pulse_gives_truth(
+        &self,
+        k: u32,
+        e: u32,
+        place: u32,
+        out: &mut Clause,
+    ) -> Result<(), RuleFault>
         ensures { Gives (written.rule_27 self.now k e place) result out.new.items }
     {
         let rows = self.proposition(k)?;
@@ -550,7 +572,7 @@ impl Rules {
     }
 
     // What is near and has the right side is a witness where the left side is `true`.
-    fn rule_28(&self, k: u32, i: u32, j: u32, out: &mut Clause) -> Result<(), RuleFault>
+    fn free_witness_covers(&self, k: u32, i: u32, j: u32, out: &mut Clause) -> Result<(), RuleFault>
         ensures { Gives (written.rule_28 self.now k i j) result out.new.items }
     {
         let u = self.reach(k)?;
@@ -581,7 +603,7 @@ impl Rules {
         }
     }
 
-    // Whether each argument does.
+    // Whether each argument names something that is there, or isn't used and 0.
     fn are_there(&self, arguments: &[Argument], args: &[u32]) -> bool
         requires { length arguments.now ≡ length args.now }
         ensures { result ≡ are_there_in self.now arguments.now args.now }
@@ -613,34 +635,34 @@ impl Rules {
     {
         let [k, i, j, m] = rule.args;
         match rule.number {
-            1 => self.rule_1(k, i, out),
-            2 => self.rule_2(k, i, j, out),
-            3 => self.rule_3(k, i, out),
-            4 => self.rule_4(k, i, out),
-            5 => self.rule_5(k, i, out),
-            6 => self.rule_6(k, i, out),
-            7 => self.rule_7(k, i, out),
-            8 => self.rule_8(k, i, out),
-            9 => self.rule_9(k, i, out),
-            10 => self.rule_10(k, out),
-            11 => self.rule_11(out),
-            12 => self.rule_12(k, i, j, out),
-            13 => self.rule_13(k, i, j, out),
-            14 => self.rule_14(k, i, j, out),
-            15 => self.rule_15(k, i, j, out),
-            16 => self.rule_16(k, i, j, out),
-            17 => self.rule_17(k, i, out),
-            18 => self.rule_18(k, i, j, out),
-            19 => self.rule_19(k, i, j, m, out),
-            20 => self.rule_20(k, i, j, out),
-            21 => self.rule_21(k, i, j, m, out),
-            22 => self.rule_22(k, i, j, out),
-            23 => self.rule_23(k, i, j, out),
-            24 => self.rule_24(k, out),
-            25 => self.rule_25(k, i, out),
-            26 => self.rule_26(k, i, out),
-            27 => self.rule_27(k, i, j, out),
-            28 => self.rule_28(k, i, j, out),
+            1 => self.truth_has_cause(k, i, out),
+            2 => self.change_lasts(k, i, j, out),
+            3 => self.constant_is_true(k, i, out),
+            4 => self.negation_excludes(k, i, out),
+            5 => self.negation_covers(k, i, out),
+            6 => self.conjunction_has_left(k, i, out),
+            7 => self.conjunction_has_right(k, i, out),
+            8 => self.conjunction_covers(k, i, out),
+            9 => self.first_is_not_after(k, i, out),
+            10 => self.earliest_is_first(k, out),
+            11 => self.some_is_first(out),
+            12 => self.witness_is_from(k, i, j, out),
+            13 => self.witness_is_up_to(k, i, j, out),
+            14 => self.witness_has_right(k, i, j, out),
+            15 => self.witness_has_span(k, i, j, out),
+            16 => self.witness_covers(k, i, j, out),
+            17 => self.truth_has_witness(k, i, out),
+            18 => self.witness_gives_truth(k, i, j, out),
+            19 => self.span_has_left(k, i, j, m, out),
+            20 => self.span_or_gap(k, i, j, out),
+            21 => self.span_up_to_gap(k, i, j, m, out),
+            22 => self.gap_is_ahead(k, i, j, out),
+            23 => self.gap_lacks_left(k, i, j, out),
+            24 => self.first_has_value(k, out),
+            25 => self.instant_is_not_after(k, i, out),
+            26 => self.instant_covers(k, i, out),
+            27 => self.pulse_gives_truth(k, i, j, out),
+            28 => self.free_witness_covers(k, i, j, out),
             _ => Err(RuleFault::NoRule),
         }
     }

@@ -17,7 +17,8 @@ use Rattle.proof_log.specs.FreshLaws.{IsRefutedByRules}
 use Rattle.proof_log.specs.Freshness.{clauses_of}
 use Rattle.mtl_encode.specs.Kept.{Kept}
 use Rattle.mtl_encode.specs.Listing.{IsKept, ListsRules}
-use Rattle.mtl_encode.specs.Needless.{AreExtremes, Extremes, is_needless}
+use Rattle.question.specs.Extremes.{AreExtremes, Extremes}
+use Rattle.mtl_encode.specs.Needless.{is_needless}
 use Rattle.cdcl_core.proofs.Spending.{clauses_within}
 
 any_within : {X : Type 0} (P : X → Type 0) (xs ys : List X) → All (Contains ys) xs → Any P xs → Any P ys

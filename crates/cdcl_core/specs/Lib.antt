@@ -1,3 +1,4 @@
+pub mod Budgets
 pub mod Orders
 pub mod Walking
 pub mod Assignments

@@ -13,8 +13,6 @@ use Rattle.cdcl_core.specs.declared.descent.Descent.{Descent}
 use Rattle.cdcl_core.specs.declared.descent.Descent.TheVariants as descent
 use Rattle.cdcl_core.specs.declared.found.Found.{Found}
 use Rattle.cdcl_core.specs.declared.state.SearchState.{SearchState}
-use Rattle.cdcl_core.specs.declared.turn.Turn.{Turn}
-use Rattle.cdcl_core.specs.declared.turn.Turn.TheVariants as turn
 use Rattle.cdcl_core.specs.Assignments.{IsSatisfying}
 use Rattle.cdcl_core.specs.Founds.{IfSpent, IsFound, lessons}
 use Rattle.cdcl_core.specs.Searching.{IsMidway, IsSearch, IsStopped}
@@ -44,12 +42,6 @@ pub record IsFalseIn (s : SearchState) (c : ℕ) : Type 0 where
 abbrev pub HasDescended : Problem → SearchState → ℕ → Descent → Type 0
 HasDescended p s n (descent.Met values) = IsSearch p s n × IsSatisfying p.atoms s.derived.db s.graph.numbers values
 HasDescended p s n (descent.Stopped x) = IsStopped p s n x
-
--- some values satisfy the problem and all that was derived, or a clause is false at level 0, or a clause was learnt
-abbrev pub HasTurned : Problem → SearchState → ℕ → Turn → Type 0
-HasTurned p s n (turn.Met values) = IsSearch p s n × IsSatisfying p.atoms s.derived.db s.graph.numbers values
-HasTurned p s n (turn.Refuted c) = IsMidway p s n c × (s.trail.levels ≡ [])
-HasTurned p s n turn.Learnt = IsSearch p s (n + 1)
 
 -- the lines refute what the problem fits, with so many lessons
 pub record AreRefuting (p : Problem) (conflicts : ℕ) (lines : List Line) : Type 0 where

@@ -46,7 +46,7 @@ impl SearchState {
         match conflict {
             Conflict::False(clause) => Ok(clause),
             Conflict::Refused(_) => {
-                self.linked.take_in(&self.trail, &self.theory.links)?;
+                self.linked.extend_to(&self.trail, &self.theory.links)?;
                 add_cycle(
                     alloc,
                     &self.trail,

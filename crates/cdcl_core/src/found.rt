@@ -1,3 +1,5 @@
+//! What a search finds.
+
 use mt_model::{Bits, Times};
 use proof_log::Lines;
 

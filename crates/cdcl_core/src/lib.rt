@@ -3,6 +3,7 @@
 #![tactic(auto)]
 
 mod assignment;
+mod budget;
 mod cites;
 mod conflict;
 mod decision;
@@ -23,10 +24,10 @@ mod sight;
 mod start;
 mod state;
 mod strategy;
-mod turn;
 mod value;
 mod walk;
 
+pub use budget::Budget;
 pub use found::Found;
 pub use main_loop::search;
 pub use value::{Searched, refuted_by_conflict, search_log, search_value};

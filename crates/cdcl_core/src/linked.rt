@@ -30,8 +30,8 @@ impl LinkedLits {
         }
     }
 
-    /// Takes in the other literals of the trail.
-    pub fn take_in(&mut self, trail: &Trail, links: &Links) -> Result<(), AllocError>
+    /// Extends the list to all literals of the trail.
+    pub fn extend_to(&mut self, trail: &Trail, links: &Links) -> Result<(), AllocError>
         requires vars { length links.now ≡ trail.now.vars }
         requires within { self.old.seen ≤ length trail.now.entries }
         requires linked { self.old.lits.items ≡ linked links.now (literals (take self.old.seen trail.now.entries)) }

@@ -13,8 +13,8 @@ ghost use Rattle.cdcl_core.specs.Turns.{IsAnswer};
 
 use crate::Found;
 use crate::assignment::potentials_of;
+use crate::descent::Descent;
 use crate::state::SearchState;
-use crate::turn::Turn;
 use difference_graph::graphs_are_solved;
 use mtl_encode::Problem;
 use std::alloc::{AllocError, Global};
@@ -47,17 +47,20 @@ impl SearchState {
         ensures answer { IfOk result (λ found. (problem : Problem) → IsSearch problem self.old 0 → IsAnswer problem budget found) }
     {
         'conflicts: for _conflict in 0..budget {
-            match self.take_turn(alloc)? {
-                Turn::Met(values) => {
+            match self.descend(alloc)? {
+                Descent::Met(values) => {
                     graphs_are_solved(&self.graph);
                     let potentials = potentials_of(alloc, &self.graph, self.theory.nodes)?;
                     return Ok(Found::Model { values, potentials });
                 }
-                Turn::Refuted(clause) => {
-                    let lines = self.refuted(alloc, clause)?;
-                    return Ok(Found::Refuted(lines));
+                Descent::Stopped(conflict) => {
+                    let clause = self.conflict_clause(alloc, conflict)?;
+                    if self.trail.level() == 0 {
+                        let lines = self.refuted(alloc, clause)?;
+                        return Ok(Found::Refuted(lines));
+                    }
+                    self.learn_clause(alloc, clause)?;
                 }
-                Turn::Learnt => {}
             }
         }
         Ok(Found::Spent(self.derived.take_lines(alloc)))

@@ -1,11 +1,11 @@
-//! The literals of a trail that have to be borne out.
+//! The literals of a trail that have to be justified.
 
 use crate::heads::Heads;
 use crate::sight::Sight;
 use std::alloc::{AllocError, Global};
 
 /// The places on a trail of the literals that are no orders, but for those that follow from a clause of the problem
-/// whose head they are: that clause bears them out. The search goes round these.
+/// whose head they are: that clause justifies them. The search goes round these.
 #[derive(Drop)]
 pub struct Needs {
     places: Vec<u32>,
@@ -47,8 +47,8 @@ impl Needs {
         }
     }
 
-    /// Takes in the literals that came to the trail.
-    pub fn take_in(&mut self, sight: Sight<'_>, heads: &Heads) -> Result<(), AllocError> {
+    /// Extends the list to the literals that came to the trail.
+    pub fn extend_to(&mut self, sight: Sight<'_>, heads: &Heads) -> Result<(), AllocError> {
         for place in self.seen..sight.trail.len() {
             if is_needed(sight, heads, place) {
                 self.places.push(place)?;
@@ -73,7 +73,7 @@ impl Needs {
     }
 }
 
-// Whether a literal has to be borne out.
+// Whether a literal has to be justified.
 fn is_needed(sight: Sight<'_>, heads: &Heads, place: u32) -> bool {
     let Some(lit) = sight.assigned(place) else {
         return false;

@@ -121,7 +121,7 @@ impl Ratings {
         let (start, end) = heads.range(Lit::new(var, false));
         for place in start..end {
             if let Some(clause) = heads.at(place)
-                && !self.is_borne(sight, clause, values, var)
+                && !self.is_justified(sight, clause, values, var)
             {
                 return false;
             }
@@ -130,7 +130,13 @@ impl Ratings {
     }
 
     // Whether a literal of another variable than this is true in a clause by these values.
-    fn is_borne(&mut self, sight: Sight<'_>, clause: ClauseRef, values: &[bool], but: Var) -> bool {
+    fn is_justified(
+        &mut self,
+        sight: Sight<'_>,
+        clause: ClauseRef,
+        values: &[bool],
+        but: Var,
+    ) -> bool {
         let lits = sight.lits(clause);
         if let Some(lit) = lits.get(self.support(clause))
             && lit.var() != but

@@ -10,7 +10,7 @@ use crate::ratings::Ratings;
 use crate::restarts::Restarts;
 use crate::scores::Scores;
 use crate::sight::Sight;
-use axiom_rules::{Atom, AtomTable, Rule};
+use axiom_rules::{Atom, AtomTable, Rule, SOME_IS_FIRST};
 use clause_db::{ClauseRef, Db, Lit, Var};
 use mtl_encode::Problem;
 use std::alloc::{AllocError, Global};
@@ -28,9 +28,6 @@ pub struct Strategy {
     // Whether each variable is assigned in the order of their numbers, up to the next conflict.
     fills: bool,
 }
-
-// The number of the rule that some event is first.
-const SOME_IS_FIRST: u8 = 11;
 
 // The clause that some event is first.
 fn root_of(rules: &[Rule]) -> Option<ClauseRef> {
@@ -115,7 +112,7 @@ impl Strategy {
 
     /// A literal of a clause that has to hold and that the present timing doesn't meet, and None where all are met.
     pub fn decision(&mut self, sight: Sight<'_>) -> Result<Option<Lit>, AllocError> {
-        self.needs.take_in(sight, &self.heads)?;
+        self.needs.extend_to(sight, &self.heads)?;
         match self.open_clause(sight)? {
             None => Ok(None),
             Some(clause) => Ok(self.choose(sight, clause)),
@@ -135,7 +132,7 @@ impl Strategy {
             open = self.unmet(sight)?;
         }
         if open.is_none() {
-            open = self.unborne(sight)?;
+            open = self.unjustified(sight)?;
         }
         Ok(open)
     }
@@ -200,9 +197,9 @@ impl Strategy {
     }
 
     // A clause without a true literal whose head is the negation of a needed literal that is rated false.
-    fn unborne(&mut self, sight: Sight<'_>) -> Result<Option<ClauseRef>, AllocError> {
+    fn unjustified(&mut self, sight: Sight<'_>) -> Result<Option<ClauseRef>, AllocError> {
         for index in 0..self.needs.len() {
-            if let Some(clause) = self.unborne_at(sight, index)? {
+            if let Some(clause) = self.unjustified_at(sight, index)? {
                 return Ok(Some(clause));
             }
         }
@@ -210,7 +207,7 @@ impl Strategy {
     }
 
     // The same of the needed literal at a place of the list.
-    fn unborne_at(
+    fn unjustified_at(
         &mut self,
         sight: Sight<'_>,
         index: usize,

@@ -1,20 +1,19 @@
 //! The search for a timing in which a formula has a value.
 
-ghost use Rattle.std.specs.Prelude.{◌≡◌, ℕ, ◌≤◌, Bool, length, IfOk};
+ghost use Rattle.std.specs.Prelude.{◌≡◌, Bool, length, IfOk};
 ghost use Rattle.mt_model.specs.Form.{Form};
 ghost use Rattle.skew_bounds.specs.Consistency.{IsConflict};
-ghost use Rattle.skew_bounds.specs.System.{IsSystemOf};
-ghost use Rattle.skew_bounds.specs.Tight.{IsConsistent, IsTight};
+ghost use Rattle.skew_bounds.specs.Tight.{IsTight};
 ghost use Rattle.formula_arena.specs.Nodes.{nodes_of};
-ghost use Rattle.mtl_encode.specs.Size.{IsSmall};
+ghost use Rattle.question.specs.Size.{IsSmall};
 ghost use Rattle.cdcl_core.specs.Values.{IsSearched, RefuteEachValue};
 
-use crate::{Found, search};
+use crate::{Budget, Found, search};
 use mt_model::{Log, Steps, Times, bounds_are_admissible, log_is_valid};
 use mtl_encode::encode_by;
 use proof_log::{Line, Lines};
-use question::{Nodes, Question, Settled};
-use skew_bounds::{BoundSystem, Tight, times_of};
+use question::{Question, Settled};
+use skew_bounds::{Tight, times_of};
 use std::alloc::{AllocError, Global};
 
 /// What a search for a value found.
@@ -28,38 +27,26 @@ pub enum Searched {
     Spent(Lines),
 }
 
-// The search of a value for the formula of these nodes.
-fn search_nodes(
+/// A timing that the log admits and in which the formula has a value, lines that refute that it has it, or lines that spend
+/// the budget. Some timing is admissible, and the least and greatest differences of the log's events are known. An error is
+/// want of memory.
+pub fn search_value(
     alloc: Global,
-    log: &Log,
-    nodes: &Nodes,
-    system: BoundSystem,
+    question: Question,
     tight: &Tight,
     value: bool,
-    budget: u32,
+    budget: Budget,
 ) -> Result<Searched, AllocError>
-    requires some { 1 ≤ budget }
-    requires most { budget ≤ 1000000 }
-    requires consistent { IsConsistent log.now }
-    requires small { IsSmall log.now (nodes_of nodes.now) }
-    requires system { IsSystemOf log.now system }
-    requires tight { IsTight log.now tight.now }
-    ensures found { IfOk result (IsSearched log.now nodes.now value budget) }
+    requires small { IsSmall question.log (nodes_of question.form) }
+    requires tight { IsTight question.log tight.now }
+    ensures found { IfOk result (IsSearched question.entry.log question.entry.form value budget) }
 {
     bounds_are_admissible();
     // What a log and a formula are, their parts are known with.
-    log_is_valid(log);
-    let _ = nodes.formula().tree();
-    let problem = encode_by(
-        alloc,
-        log,
-        nodes.arena(),
-        nodes.root(),
-        value,
-        system,
-        tight,
-    )?;
-    match search(alloc, problem, budget)? {
+    log_is_valid(question.log());
+    let _ = question.formula().tree();
+    let problem = encode_by(alloc, question, value, tight)?;
+    match search(alloc, problem, budget.get())? {
         Found::Model {
             values: _,
             potentials,
@@ -69,59 +56,30 @@ fn search_nodes(
     }
 }
 
-/// A timing that the log admits and in which the formula has a value, lines that refute that it has it, or lines that spend
-/// the budget, which is from 1 to 1,000,000. Some timing is admissible, and the least and greatest differences of the
-/// log's events are known. An error is want of memory.
-pub fn search_value(
-    alloc: Global,
-    question: Question,
-    tight: &Tight,
-    value: bool,
-    budget: u32,
-) -> Result<Searched, AllocError>
-    requires some { 1 ≤ budget }
-    requires most { budget ≤ 1000000 }
-    requires consistent { IsConsistent question.log }
-    requires small { IsSmall question.log (nodes_of question.form) }
-    requires tight { IsTight question.log tight.now }
-    ensures found { IfOk result (IsSearched question.entry.log question.entry.form value budget) }
-{
-    let (log, nodes) = (question.log(), question.nodes());
-    search_nodes(
-        alloc,
-        log,
-        nodes,
-        question.into_system(),
-        tight,
-        value,
-        budget,
-    )
-}
-
 /// The same where nothing is known of the log but that its problem is small enough where it admits a timing: where it
 /// admits none, a line refutes the value.
 pub fn search_log(
     alloc: Global,
     question: Question,
     value: bool,
-    budget: u32,
+    budget: Budget,
 ) -> Result<Searched, AllocError>
-    requires some { 1 ≤ budget }
-    requires most { budget ≤ 1000000 }
     requires small { IsSmall question.log (nodes_of question.form) }
     ensures found { IfOk result (IsSearched question.entry.log question.entry.form value budget) }
 {
     match question.settle(alloc)? {
-        Settled::Conflict(steps) => refuted(alloc, question.log(), steps),
+        Settled::Conflict(steps) => refuted(alloc, question.log(), steps, budget),
         Settled::Timing { times: _, tight } => search_value(alloc, question, &tight, value, budget),
     }
 }
 
 // A search for any value of any formula, where bounds of a log are in conflict.
-fn refuted(alloc: Global, log: &Log, steps: Steps) -> Result<Searched, AllocError>
+fn refuted(alloc: Global, log: &Log, steps: Steps, budget: Budget) -> Result<Searched, AllocError>
     requires conflict { IsConflict log.now steps }
-    ensures found { IfOk result (λ searched. (f : Form) (v : Bool) (budget : ℕ) → 1 ≤ budget → IsSearched log.now f v budget searched) }
+    ensures found { IfOk result (λ searched. (f : Form) (v : Bool) → IsSearched log.now f v budget searched) }
 {
+    // How small a budget is, its number is known with.
+    let _ = budget.get();
     let lines = refuted_by_conflict(alloc, log, steps)?;
     Ok(Searched::Refuted(lines))
 }

@@ -1,3 +1,5 @@
+//! Clauses in the order in which they were added, all their literals in one list.
+
 ghost use Rattle.std.specs.Prelude.{◌≡◌, ◌+◌, ◌-◌, ◌^◌, ◌<◌, ◌≤◌, [], ◌∷◌, ◌++◌, length, map, slice_index, None, IfSome, IfOk, OnOk, OnErr};
 ghost use Rattle.clause_db.specs.Literals.{HasVarsOnce};
 ghost use Rattle.clause_db.specs.Clauses.{clause_at};

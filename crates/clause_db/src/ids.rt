@@ -1,3 +1,5 @@
+//! Variables and clauses by their numbers.
+
 ghost use Rattle.std.specs.Prelude.{◌≡◌};
 
 use std::marker::Model;

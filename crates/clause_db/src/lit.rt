@@ -1,3 +1,5 @@
+//! Literals: variables with a sense.
+
 ghost use Rattle.std.specs.Prelude.{◌≡◌};
 ghost use Rattle.clause_db.specs.Literals.{negation};
 

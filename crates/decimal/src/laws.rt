@@ -1,3 +1,5 @@
+//! What holds of the bytes of numbers: they are what is printed of these.
+
 ghost use Rattle.decimal.specs.Laws.{NumbersAreDecimal, SignedNumbersAreDecimal};
 
 /// Bytes write a number below a limit exactly where they are what is printed of it.

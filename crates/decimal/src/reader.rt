@@ -1,3 +1,5 @@
+//! Numbers from bytes, with a sign or without one.
+
 ghost use Rattle.std.specs.Prelude.{◌≡◌, ◌^◌, ◌<◌, length, true, IfSome, pos, ◌≤ℤ◌, ◌+ℤ◌};
 ghost use Rattle.std.specs.Option.{SomeIff};
 ghost use Rattle.std.specs.Char.{is_ascii_digit};

@@ -1,3 +1,5 @@
+//! What holds of the log of each seed.
+
 ghost use Rattle.demo_log.specs.DemoLog.{SeedsAreConsistent, SeedsHaveLogs};
 
 /// Each seed has a valid log.

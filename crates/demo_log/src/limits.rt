@@ -1,3 +1,5 @@
+//! The limit of seeds.
+
 ghost use Rattle.std.specs.Prelude.{◌≡◌};
 
 /// The greatest seed.

@@ -18,7 +18,7 @@ use Rattle.neg_cycle.proofs.LabelLemmas.{all_met}
 use Rattle.difference_graph.specs.declared.waiting.Missed.{Missed}
 use Rattle.difference_graph.specs.Incoming.{IsLastMark}
 use Rattle.difference_graph.specs.Repairs.{slack}
-use Rattle.difference_graph.specs.Queues.{entry_of, IsTakenUp, IsWaiting, WaitsOnce, IsQueue, IsRest, IsNext, IsAdded}
+use Rattle.difference_graph.specs.Queues.{entry_of, IsEnqueued, IsWaiting, WaitsOnce, IsQueue, IsRest, IsNext, IsAdded}
 
 -- no place waits twice among these
 module _ where
@@ -148,14 +148,14 @@ module _ (edges : List Edge) (numbers : List ℤ) where
         ];
       }
 
-      pub queue_step : (after : List Missed) → IsTakenUp edges numbers end (mark - 1) ws after → IsQueue edges numbers node next after
-      queue_step after taken = elim taken [
+      pub queue_step : (after : List Missed) → IsEnqueued edges numbers end (mark - 1) ws after → IsQueue edges numbers node next after
+      queue_step after enqueued = elim enqueued [
         | inl met ↦ rw met.1 (queue_met met.0)
         | inr missed ↦ queue_missed after missed.2
       ]
 
-    pub added_step : (before after : List Missed) → All (IsAdded edges node end before) ws → IsTakenUp edges numbers end (mark - 1) ws after → All (IsAdded edges node end before) after
-    added_step before after added taken = elim taken [
+    pub added_step : (before after : List Missed) → All (IsAdded edges node end before) ws → IsEnqueued edges numbers end (mark - 1) ws after → All (IsAdded edges node end before) after
+    added_step before after added enqueued = elim enqueued [
       | inl met ↦ rw met.1 added
       | inr missed ↦ All-permutation (IsAdded edges node end before) (entry_of edges numbers (mark - 1) ∷ ws) after missed.2
           (All-cons (IsAdded edges node end before) (entry_of edges numbers (mark - 1)) ws (inl (to, missed.1)) added)
@@ -233,10 +233,10 @@ module _ (before ws rest : List Missed) (w : Missed) (fewer : All (Contains befo
   pub held_first : Any (λ x. x.place ≡ w.place) before
   held_first = let (k, within, is) = both 0 w (omega arith) in (k, w, within, is, refl)
 
--- nothing waits but an edge that was taken up, which is the only one that can be missed
+-- nothing waits but an edge that was enqueued, which is the only one that can be missed
 module _ (edges : List Edge) (numbers : List ℤ) (end place : ℕ) (within : place < length edges) (only : (q : ℕ) → q < length edges → slack numbers (edge_at edges q) <ℤ pos 0 → q ≡ place) where
-  pub queue_start : (ws : List Missed) → IsTakenUp edges numbers end place [] ws → IsQueue edges numbers 0 0 ws
-  queue_start ws taken = elim taken [
+  pub queue_start : (ws : List Missed) → IsEnqueued edges numbers end place [] ws → IsQueue edges numbers 0 0 ws
+  queue_start ws enqueued = elim enqueued [
     | inl met ↦ rw met.1 (record {
       each = All-nil (IsWaiting edges numbers);
       once = once_nil;

@@ -13,7 +13,7 @@ use Rattle.neg_cycle.specs.Systems.{IsSystem, IsNegativeCycle, edge_at, number_o
 use Rattle.difference_graph.specs.Gaps.{IsNumber, IsNearNumber}
 use Rattle.difference_graph.specs.declared.waiting.Missed.{Missed}
 use Rattle.difference_graph.specs.Repairs.{slack, IsTightest, Begins, LeadsOn, IsTree, IsTrace, IsRepair, MeetsOthers}
-use Rattle.difference_graph.specs.Queues.{entry_of, IsClosing, IsTakenUp, IsWaiting, IsQueue, IsRest, IsNext, IsAdded}
+use Rattle.difference_graph.specs.Queues.{entry_of, IsClosing, IsEnqueued, IsWaiting, IsQueue, IsRest, IsNext, IsAdded}
 use Rattle.difference_graph.specs.Work.{HasWorkRoom, KeepsRoom, MeetsFirst, IsAsked, AreFormer, DiffersAt}
 use Rattle.difference_graph.specs.declared.work.Work.{Work}
 use Rattle.difference_graph.proofs.TreeLemmas.{begins_last, begins_still, any_last}
@@ -28,17 +28,17 @@ others_of_first edges place numbers last first q below other = elim (cases_eq q 
 ]
 
 -- the last edge waits alone, if it is missed
-module _ (edges : List Edge) (place : ℕ) (numbers : List ℤ) (last : place + 1 ≡ length edges) (first : MeetsFirst edges place numbers) (none ws : List Missed) (is_none : none ≡ []) (taken : IsTakenUp edges numbers (edge_at edges place).to place none ws) where
+module _ (edges : List Edge) (place : ℕ) (numbers : List ℤ) (last : place + 1 ≡ length edges) (first : MeetsFirst edges place numbers) (none ws : List Missed) (is_none : none ≡ []) (enqueued : IsEnqueued edges numbers (edge_at edges place).to place none ws) where
   pub queue_first : IsQueue edges numbers 0 0 ws
   queue_first = queue_start edges numbers (edge_at edges place).to place (omega (arith, last)) (λ q below missed. elim (cases_eq q place) [
     | inl e ↦ e
     | inr other ↦
         let met = first q (omega (arith, below, other, last)) in
         absurd (omega (arith, ints, missed, met))
-  ]) ws (subst (λ (l : List Missed). IsTakenUp edges numbers (edge_at edges place).to place l ws) is_none taken)
+  ]) ws (subst (λ (l : List Missed). IsEnqueued edges numbers (edge_at edges place).to place l ws) is_none enqueued)
 
   pub asked_first : All (IsAsked edges (edge_at edges place).to []) ws
-  asked_first = elim taken [
+  asked_first = elim enqueued [
     | inl met ↦ rw (met.1, is_none) (All-nil (IsAsked edges (edge_at edges place).to []))
     | inr missed ↦ All-permutation (IsAsked edges (edge_at edges place).to []) (entry_of edges numbers place ∷ none) ws missed.2
         (rw is_none (All-cons (IsAsked edges (edge_at edges place).to []) (entry_of edges numbers place) []
@@ -257,13 +257,13 @@ module _ (edges : List Edge) (end : ℕ) (old : List ℤ) (system : IsSystem (le
 -- nothing is lowered, and the last edge may wait
 pub state_first : (edges : List Edge) (place end : ℕ) (numbers : List ℤ) (places : List ℕ) (former : List ℤ) (none ws : List Missed)
     → end ≡ (edge_at edges place).to → IsSystem (length numbers) edges → All IsNearNumber numbers → place + 1 ≡ length edges
-    → MeetsFirst edges place numbers → places ≡ [] → former ≡ [] → none ≡ [] → IsTakenUp edges numbers end place none ws
+    → MeetsFirst edges place numbers → places ≡ [] → former ≡ [] → none ≡ [] → IsEnqueued edges numbers end place none ws
     → IsState edges end numbers numbers places former ws
-state_first edges place end numbers places former none ws is_end system near last first no_places no_former no_waiting taken = record {
+state_first edges place end numbers places former none ws is_end system near last first no_places no_former no_waiting enqueued = record {
   repair = rw no_places (repair_start edges end numbers system near);
   noted = rw (no_places, no_former) (record { count = refl; is = λ j within. absurd (omega (arith, within)) });
-  queue = queue_first edges place numbers last first none ws no_waiting (subst (λ (v : ℕ). IsTakenUp edges numbers v place none ws) is_end taken);
-  asked = rw (no_places, is_end) (asked_first edges place numbers last first none ws no_waiting (subst (λ (v : ℕ). IsTakenUp edges numbers v place none ws) is_end taken));
+  queue = queue_first edges place numbers last first none ws no_waiting (subst (λ (v : ℕ). IsEnqueued edges numbers v place none ws) is_end enqueued);
+  asked = rw (no_places, is_end) (asked_first edges place numbers last first none ws no_waiting (subst (λ (v : ℕ). IsEnqueued edges numbers v place none ws) is_end enqueued));
 }
 
 -- an edge that begins at the end is missed

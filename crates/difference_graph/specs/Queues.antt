@@ -20,8 +20,8 @@ pub record IsClosing (edges : List Edge) (numbers : List ℤ) (end place : ℕ) 
   pub begins : (edge_at edges place).from ≡ end
 
 -- the edge at the place waits now too, if the numbers miss it; it does not begin at the end then
-abbrev pub IsTakenUp : List Edge → List ℤ → ℕ → ℕ → List Missed → List Missed → Type 0
-IsTakenUp edges numbers end place old new =
+abbrev pub IsEnqueued : List Edge → List ℤ → ℕ → ℕ → List Missed → List Missed → Type 0
+IsEnqueued edges numbers end place old new =
     ((pos 0 ≤ℤ slack numbers (edge_at edges place)) × (new ≡ old)) ⊎ ((slack numbers (edge_at edges place) <ℤ pos 0) × ((edge_at edges place).from ≢ end) × IsPermutation (entry_of edges numbers place ∷ old) new)
 
 -- the one that is missed by less first, and of two that are missed by as much the one that stands first

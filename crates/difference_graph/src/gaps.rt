@@ -4,7 +4,7 @@ ghost use Rattle.std.specs.Prelude.{◌≡◌, ◌↔◌, ◌^◌, ◌<◌, ◌�
 ghost use Rattle.neg_cycle.specs.declared.system.TheConstants.{MAX_NODES, MAX_BOUND};
 ghost use Rattle.difference_graph.specs.Gaps.{IsNumber, IsNearNumber, IsNarrow, HasSameDifferences, IsLifted, KeepsMet, IsFound, IsRaisedBelow};
 
-use crate::numbers::difference;
+use crate::subtraction::difference;
 use neg_cycle::{MAX_BOUND, MAX_NODES};
 
 // How far below 0 a number may be where an edge is to be met.

@@ -8,7 +8,7 @@ ghost use Rattle.difference_graph.specs.Graphs.{HasSameLimits, HasSolution, IsSo
 
 use crate::Push;
 use crate::gaps::bring_near;
-use crate::held::{Held, hold, no_edges, take_back, take_back_to};
+use crate::held::{Held, hold, no_edges, release_last, release_to};
 use crate::met::is_met;
 use crate::repair::repair;
 use crate::work::{Work, no_work};
@@ -90,7 +90,7 @@ impl Graph {
         match repair(&self.held, place, &mut self.current, &mut self.work) {
             Push::Kept => Push::Kept,
             Push::Cycle => {
-                take_back(&mut self.held);
+                release_last(&mut self.held);
                 Push::Cycle
             }
         }
@@ -126,7 +126,7 @@ impl Graph {
         ensures edges { self.new.edges ≡ take mark self.old.edges }
         ensures numbers { self.new.numbers ≡ self.old.numbers }
     {
-        take_back_to(&mut self.held, mark as usize);
+        release_to(&mut self.held, mark as usize);
     }
 
     /// Whether the nodes' numbers meet an edge, held or not.

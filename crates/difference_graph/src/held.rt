@@ -57,8 +57,8 @@ pub fn hold(held: &mut Held, edge: Edge)
     push_within(&mut held.edges, edge);
 }
 
-// Takes back the last edge.
-pub fn take_back(held: &mut Held)
+// Releases the last edge.
+pub fn release_last(held: &mut Held)
     requires some { 0 < length held.old.edges.items }
     requires incoming { AreIncoming held.old.edges.items held.old.last.items held.old.before.items }
     ensures edges { held.new.edges.items ≡ take (length held.old.edges.items - 1) held.old.edges.items }
@@ -74,8 +74,8 @@ pub fn take_back(held: &mut Held)
     held.edges.truncate(place);
 }
 
-// Takes back the last edges, so that as many are left as at the mark.
-pub fn take_back_to(held: &mut Held, mark: usize)
+// Releases the last edges, so that as many are left as at the mark.
+pub fn release_to(held: &mut Held, mark: usize)
     requires mark { mark ≤ length held.old.edges.items }
     requires incoming { AreIncoming held.old.edges.items held.old.last.items held.old.before.items }
     ensures edges { held.new.edges.items ≡ take mark held.old.edges.items }
@@ -85,6 +85,6 @@ pub fn take_back_to(held: &mut Held, mark: usize)
     ensures before_room { vec_capacity held.old.before ≤ vec_capacity held.new.before }
 {
     while held.edges.len() > mark {
-        take_back(held);
+        release_last(held);
     }
 }

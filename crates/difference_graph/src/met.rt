@@ -5,7 +5,7 @@ ghost use Rattle.neg_cycle.specs.Systems.{IsEdge, Meets};
 ghost use Rattle.difference_graph.specs.Gaps.{IsNumber};
 ghost use Rattle.difference_graph.specs.Repairs.{slack};
 
-use crate::numbers::difference;
+use crate::subtraction::difference;
 use neg_cycle::Edge;
 
 // Whether the numbers meet an edge.

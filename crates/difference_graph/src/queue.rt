@@ -5,7 +5,7 @@ ghost use Rattle.std.specs.BinaryHeap.{heap_items, heap_capacity};
 ghost use Rattle.neg_cycle.specs.Systems.{IsEdge, Meets};
 ghost use Rattle.difference_graph.specs.Gaps.{IsNumber};
 ghost use Rattle.difference_graph.specs.Incoming.{AreIncoming};
-ghost use Rattle.difference_graph.specs.Queues.{IsClosing, IsTakenUp, IsQueue, IsRest, IsNext, IsAdded, IsOrdered};
+ghost use Rattle.difference_graph.specs.Queues.{IsClosing, IsEnqueued, IsQueue, IsRest, IsNext, IsAdded, IsOrdered};
 
 use crate::held::Held;
 use crate::met::{is_met, slack_of};
@@ -15,7 +15,7 @@ use std::collections::BinaryHeap;
 
 // Puts the edge at a place among those that wait, if the numbers miss it. Gives the place in place of
 // that, if the edge begins at the end.
-pub fn take_up(
+pub fn enqueue_missed(
     edges: &[Edge],
     place: u32,
     end: u32,
@@ -29,7 +29,7 @@ pub fn take_up(
     requires room { length (heap_items waiting.old) < heap_capacity waiting.old }
     ensures order { IsOrdered (heap_items waiting.new) }
     ensures closing { IfSome result (IsClosing edges.now numbers.now end) }
-    ensures taken { IfNone result (IsTakenUp edges.now numbers.now end place (heap_items waiting.old) (heap_items waiting.new)) }
+    ensures enqueued { IfNone result (IsEnqueued edges.now numbers.now end place (heap_items waiting.old) (heap_items waiting.new)) }
     ensures room { heap_capacity waiting.old ≤ heap_capacity waiting.new }
 {
     let edge = edges[place as usize];
@@ -46,7 +46,7 @@ pub fn take_up(
 
 // Puts the edges that end at a node among those that wait, where the numbers miss them. Gives the
 // place of one that begins at the end, if the numbers miss such an edge.
-pub fn take_up_all(
+pub fn enqueue_incoming(
     held: &Held,
     node: u32,
     end: u32,
@@ -69,7 +69,7 @@ pub fn take_up_all(
     let mut mark = held.last[node as usize];
     while mark > 0 {
         let place = mark - 1;
-        if let Some(closing) = take_up(&held.edges, place, end, numbers, waiting) {
+        if let Some(closing) = enqueue_missed(&held.edges, place, end, numbers, waiting) {
             return Some(closing);
         }
         mark = held.before[place as usize];

@@ -10,7 +10,7 @@ ghost use Rattle.difference_graph.specs.Work.{HasWorkRoom, KeepsRoom, MeetsFirst
 
 use crate::Push;
 use crate::held::Held;
-use crate::queue::{next_missed, take_up, take_up_all};
+use crate::queue::{enqueue_incoming, enqueue_missed, next_missed};
 use crate::trace::trace;
 use crate::work::Work;
 use mt_list::push_within;
@@ -39,7 +39,7 @@ pub fn repair(held: &Held, place: u32, numbers: &mut [i128], work: &mut Work) ->
     work.order.clear();
     work.former.clear();
     let end = held.edges[place as usize].to;
-    if let Some(closing) = take_up(&held.edges, place, end, numbers, &mut work.waiting) {
+    if let Some(closing) = enqueue_missed(&held.edges, place, end, numbers, &mut work.waiting) {
         trace(&held.edges, &work.order, closing, &mut work.walk);
         return Push::Cycle;
     }
@@ -52,7 +52,7 @@ pub fn repair(held: &Held, place: u32, numbers: &mut [i128], work: &mut Work) ->
             &mut work.former,
         );
         let node = held.edges[next as usize].from;
-        if let Some(closing) = take_up_all(held, node, end, numbers, &mut work.waiting) {
+        if let Some(closing) = enqueue_incoming(held, node, end, numbers, &mut work.waiting) {
             trace(&held.edges, &work.order, closing, &mut work.walk);
             put_back(&held.edges, &work.order, &work.former, numbers);
             return Push::Cycle;

@@ -1,3 +1,5 @@
+//! Formulas put into the list of their nodes, and nodes and propositions looked up there.
+
 ghost use Rattle.std.specs.Prelude.{◌≡◌, ◌<◌, ◌≤◌, ◌+◌, [], ◌∷◌, ◌++◌, drop, length, slice_get, Contains, false, IfOk, OnOk, OnErr, IfSome, IfNone, IsOk, Some, Err};
 ghost use Rattle.mt_model.specs.Form.{Prop, form_of};
 ghost use Rattle.formula_arena.specs.Cores.{core_of};

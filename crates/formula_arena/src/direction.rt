@@ -1,3 +1,5 @@
+//! The two directions in which temporal operators look.
+
 /// Where an operator looks from an event.
 #[derive(Clone, Copy, PartialEq, Eq)]
 pub enum Direction {

@@ -1,3 +1,5 @@
+//! Why a formula has no node.
+
 use std::alloc::AllocError;
 use thiserror::Error;
 

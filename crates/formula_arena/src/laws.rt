@@ -1,3 +1,5 @@
+//! What holds of the core of a formula and of its nodes.
+
 ghost use Rattle.std.specs.Prelude.{◌≡◌};
 ghost use Rattle.formula_arena.specs.Laws.{CoresAreCores, NodesAreSubtrees, TruthOfCore};
 

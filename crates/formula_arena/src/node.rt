@@ -1,3 +1,5 @@
+//! The nodes of formulas' cores, and the propositions that they name.
+
 ghost use Rattle.std.specs.Prelude.{◌≡◌};
 ghost use Rattle.formula_arena.specs.Operators.{node_over};
 

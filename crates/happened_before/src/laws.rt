@@ -1,3 +1,5 @@
+//! What holds of vector clocks.
+
 ghost use Rattle.happened_before.specs.Laws.{ClocksTellOrder};
 
 use mt_model::previous_row_is_last;

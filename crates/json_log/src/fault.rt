@@ -1,3 +1,5 @@
+//! Why a JSON file is no log.
+
 use log_read::LogFault;
 use std::alloc::AllocError;
 use thiserror::Error;

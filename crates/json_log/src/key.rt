@@ -1,3 +1,5 @@
+//! The keys of the objects of a log in JSON.
+
 ghost use Rattle.std.specs.Prelude.{◌≡◌};
 ghost use Rattle.json_log.specs.Keys.{word_of};
 

@@ -1,3 +1,5 @@
+//! The log that the bytes of a JSON file are.
+
 ghost use Rattle.std.specs.Prelude.{◌≡◌, ◌⊎◌, ◌^◌, ◌<◌, length, MatchResult, Ok, Err, IfOk, IsErrOf};
 ghost use Rattle.mt_model.specs.Log.{IsPlain};
 ghost use Rattle.json_log.specs.JsonLogOf.{json_log_of, json_records};

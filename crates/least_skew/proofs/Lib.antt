@@ -2,7 +2,6 @@ pub mod Widenings
 pub mod ValidWidenings
 pub mod Sames
 pub mod Telling
-pub mod NotAsked
 pub mod Ends
 pub mod Narrowing
 pub mod Answering

@@ -1,15 +1,17 @@
 -- What a search with one widening says of another.
-use Rattle.std.proofs.Common.{◌∙◌, refl, arith, ℕ, ◌≤◌, Bool, List, ℤ}
+use Rattle.std.proofs.Common.{◌∙◌, refl, ℕ, ◌≤◌, Bool, List, ℤ}
 use Rattle.formula_arena.specs.Nodes.{nodes_of}
 use Rattle.mt_model.specs.Form.{Form}
 use Rattle.mt_model.specs.Log.{Logged}
 use Rattle.mt_model.specs.Timing.{Admissible}
-use Rattle.mtl_encode.specs.Size.{IsSmall}
-use Rattle.mtl_encode.specs.SizesFall.{SizesFall}
+use Rattle.skew_bounds.specs.Differences.{Differences}
+use Rattle.skew_bounds.specs.Tight.{IsTight}
+use Rattle.question.specs.Size.{IsSmall}
+use Rattle.question.specs.SizesFall.{SizesFall}
 use Rattle.proof_log.specs.declared.line.Line.{Line}
 use Rattle.proof_log.specs.Derivations.{Refutes}
 use Rattle.cdcl_core.specs.Values.{GivesValue, RefutesWithin}
-use Rattle.search_ground.specs.Grounds.{HasSmallSize}
+use Rattle.best_answer.proofs.SmallSizes.{small-within}
 use Rattle.least_skew.specs.Laws.{SkewsMayGrow}
 use Rattle.least_skew.specs.Least.{wide}
 use Rattle.least_skew.proofs.Sames.{truth-stays}
@@ -24,8 +26,7 @@ module _ (log : Logged) (f : Form) (v : Bool) (s r : ℕ) where
   narrowed-above budget lines found refutes = record { refutes = refutes; few_lessons = found.few_lessons; few = found.few }
 
 -- where the problem is small enough with the greatest widening, it is with each smaller one
-pub small-below : SizesFall → SkewsMayGrow → (log : Logged) (f : Form) (max : ℕ) → HasSmallSize (wide max log) f → (s : ℕ) → s ≤ max → IsSmall (wide s log) (nodes_of f)
-small-below fall grow log f max small s within n is =
-    let le = fall (wide s log) (wide max log) (nodes_of f) n small.size (record { rows = refl; admits = λ t ok. grow.further log s max t within ok }) is small.is_size in
-    let most = small.small in
-    omega (arith, le, most)
+pub small-below : SizesFall → SkewsMayGrow → (log : Logged) (f : Form) (max : ℕ) (times : List ℤ) (d : Differences) → Admissible (wide max log) times → IsTight (wide max log) d
+    → IsSmall (wide max log) (nodes_of f) → (s : ℕ) → s ≤ max → IsSmall (wide s log) (nodes_of f)
+small-below fall grow log f max times d admissible tight small s within =
+    small-within fall (wide s log) (wide max log) f times d admissible tight small (record { rows = refl; admits = λ t ok. grow.further log s max t within ok })

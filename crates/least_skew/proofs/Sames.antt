@@ -6,7 +6,7 @@ use Rattle.mt_model.specs.Log.{Logged, widened}
 use Rattle.mt_model.specs.Positions.{positions_of}
 use Rattle.mt_model.specs.State.{state, state_named}
 use Rattle.mt_model.specs.Truth.{positions_in, truth}
-use Rattle.search_ground.proofs.SameStates.{truths}
+use Rattle.best_answer.proofs.SameStates.{truths}
 use Rattle.least_skew.specs.Laws.{ValuesMayGrow}
 use Rattle.least_skew.specs.Least.{wide}
 use Rattle.least_skew.proofs.Widenings.{named-at, skews-may-grow}

@@ -8,7 +8,7 @@ use Rattle.skew_bounds.specs.Tight.{IsConsistent, IsInconsistent}
 use Rattle.proof_log.specs.declared.line.Line.{Line}
 use Rattle.proof_log.specs.FreshLaws.{RefutedByRulesIsNotSpent, SpentIsBounded}
 use Rattle.proof_check.specs.Laws.{RefutedIsNoValue}
-use Rattle.search_ground.proofs.Spending.{could-be-spent}
+use Rattle.best_answer.proofs.Spending.{could-be-spent}
 use Rattle.least_skew.specs.declared.tolerance.Tolerance.{Tolerance}
 use Rattle.least_skew.specs.declared.tolerance.Tolerance.TheVariants as tolerance
 use Rattle.least_skew.specs.declared.widening.TheConstants.{MAX_WIDENING}

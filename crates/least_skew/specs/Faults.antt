@@ -1,50 +1,21 @@
 -- For which formulas and logs a widening is looked for, and the fault of the others.
-use Rattle.std.specs.Prelude.{◌≡◌, ℕ, ◌<◌, ◌≤◌, length, Some, None, pos}
+use Rattle.std.specs.Prelude.{◌≡◌, ℕ, ◌≤◌, length, None}
 use Rattle.mt_model.specs.Form.{Form}
-use Rattle.mt_model.specs.Log.{Logged, widened}
+use Rattle.mt_model.specs.Log.{Logged}
 use Rattle.mt_model.specs.State.{unknown_host}
 use Rattle.formula_arena.specs.Nodes.{nodes_of}
 use Rattle.formula_arena.specs.declared.arena.TheConstants.{MAX_NODES}
-use Rattle.mtl_encode.specs.Size.{IsSize, IsSmall}
-use Rattle.mtl_encode.specs.declared.size.TheConstants.{MAX_SIZE}
-use Rattle.question.specs.Faults.{HasTooManyNodes}
+use Rattle.question.specs.Faults as asked
+use Rattle.question.specs.Size.{IsSmall}
 use Rattle.question.specs.declared.fault.QuestionFault.{QuestionFault}
-use Rattle.question.specs.declared.fault.QuestionFault.TheVariants as question
-use Rattle.search_ground.specs.declared.fault.GroundFault.{GroundFault}
-use Rattle.search_ground.specs.declared.fault.GroundFault.TheVariants as ground
-use Rattle.least_skew.specs.declared.fault.ToleranceFault.{ToleranceFault}
-use Rattle.least_skew.specs.declared.fault.ToleranceFault.TheVariants as fault
+use Rattle.least_skew.specs.Least.{wide}
 
 -- the hosts of the formula are in the log, it has few enough nodes, and with the greatest widening their problem is small enough
 pub record IsAsked (log : Logged) (f : Form) (max : ℕ) : Type 0 where
   pub hosts : unknown_host log f ≡ None
   pub few : length (nodes_of f) ≤ MAX_NODES
-  pub small : IsSmall (widened (pos max) log) (nodes_of f)
+  pub small : IsSmall (wide max log) (nodes_of f)
 
--- the hosts of the formula are in the log, it has few enough nodes, and with the greatest widening the size of their problem,
--- which is this one, is too large
-pub record IsTooLarge (log : Logged) (f : Form) (max n : ℕ) : Type 0 where
-  pub hosts : unknown_host log f ≡ None
-  pub few : length (nodes_of f) ≤ MAX_NODES
-  pub size : IsSize (widened (pos max) log) (nodes_of f) n
-  pub large : MAX_SIZE < n
-
--- why no widening is looked for; want of memory says nothing
-abbrev pub IsFault : Logged → Form → ℕ → ToleranceFault → Type 0
-IsFault log f max (fault.UnknownHost index) = unknown_host log f ≡ Some index
-IsFault log f max fault.TooManyNodes = HasTooManyNodes log f
-IsFault log f max (fault.TooLarge n) = IsTooLarge log f max n
-IsFault log f max fault.Memory = Unit {0}
-
--- the fault that a fault of a question is
-abbrev pub IsOfQuestion : QuestionFault → ToleranceFault → Type 0
-IsOfQuestion (question.UnknownHost index) f = f ≡ fault.UnknownHost index
-IsOfQuestion question.TooManyNodes f = f ≡ fault.TooManyNodes
-IsOfQuestion question.Memory f = f ≡ fault.Memory
-
--- the same fault, as it is called before a search
-abbrev pub IsOfGround : GroundFault → ToleranceFault → Type 0
-IsOfGround (ground.UnknownHost index) f = f ≡ fault.UnknownHost index
-IsOfGround ground.TooManyNodes f = f ≡ fault.TooManyNodes
-IsOfGround (ground.TooLarge n) f = f ≡ fault.TooLarge n
-IsOfGround ground.Memory f = f ≡ fault.Memory
+-- why no widening is looked for: the fault is that of the formula and the log with the greatest widening
+abbrev pub IsFault : Logged → Form → ℕ → QuestionFault → Type 0
+IsFault log f max fault = asked.IsFault (wide max log) f fault

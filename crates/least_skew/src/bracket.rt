@@ -1,12 +1,11 @@
 //! Between which widenings the least one with a value lies.
 
-ghost use Rattle.std.specs.Prelude.{◌≡◌, ◌+◌, ◌<◌, ◌≤◌, ◌^◌, Bool, ℕ};
-ghost use Rattle.mt_model.specs.Form.{Form};
-ghost use Rattle.mt_model.specs.Log.{Logged};
+ghost use Rattle.std.specs.Prelude.{◌≡◌, ◌+◌, ◌<◌, ◌≤◌, ◌^◌, ℕ};
 ghost use Rattle.skew_bounds.specs.Tight.{IsConsistent};
-ghost use Rattle.cdcl_core.specs.Values.{GivesValue, RefutesWithin};
-ghost use Rattle.least_skew.specs.Brackets.{IsBracket};
-ghost use Rattle.least_skew.specs.Least.{LeastRight, wide};
+ghost use Rattle.best_answer.specs.declared.aim.Aim.{Aim};
+ghost use Rattle.best_answer.specs.Aims.{Gives, RefuteWithin};
+ghost use Rattle.least_skew.specs.Brackets.{IsBracket, IsRight};
+ghost use Rattle.least_skew.specs.Least.{wide};
 
 use crate::Tolerance;
 use mt_model::Times;
@@ -34,7 +33,7 @@ impl Bracket {
     /// Before any search, where this is the greatest widening.
     pub fn up_to(max: u64) -> Bracket
         requires { max < 2 ^ 63 }
-        ensures bracket { (log : Logged) (f : Form) (v : Bool) (budget : ℕ) → IsBracket log f v max budget result }
+        ensures bracket { (a : Aim) → IsBracket a max result }
     {
         Bracket {
             low: 0,
@@ -66,7 +65,7 @@ impl Bracket {
         requires { s < self.high }
         ensures low { result.low ≡ s + 1 }
         ensures high { result.high ≡ self.high }
-        ensures bracket { (log : Logged) (f : Form) (v : Bool) (max budget : ℕ) → IsBracket log f v max budget self → RefutesWithin (wide s log) f v budget lines → IsBracket log f v max budget result }
+        ensures bracket { (a : Aim) (max : ℕ) → IsBracket a max self → RefuteWithin a (wide s a.log.now) lines → IsBracket a max result }
     {
         let Bracket {
             low: _,
@@ -90,7 +89,7 @@ impl Bracket {
         requires high { s < self.high }
         ensures low { result.low ≡ self.low }
         ensures high { result.high ≡ s }
-        ensures bracket { (log : Logged) (f : Form) (v : Bool) (max budget : ℕ) → IsBracket log f v max budget self → GivesValue (wide s log) f v times → IsBracket log f v max budget result }
+        ensures bracket { (a : Aim) (max : ℕ) → IsBracket a max self → Gives a (wide s a.log.now) times → IsBracket a max result }
     {
         let Bracket {
             low,
@@ -111,8 +110,8 @@ impl Bracket {
     /// The answer, once the ends meet.
     pub fn answer(self) -> Tolerance
         requires met { self.low ≡ self.high }
-        requires bracket { (log : Logged) × (f : Form) × (v : Bool) × (max : ℕ) × (budget : ℕ) × IsBracket log f v max budget self }
-        ensures right { (log : Logged) (f : Form) (v : Bool) (max budget : ℕ) → IsBracket log f v max budget self → IsConsistent (wide max log) → LeastRight log f v max budget result }
+        requires bracket { (a : Aim) × (max : ℕ) × IsBracket a max self }
+        ensures right { (a : Aim) (max : ℕ) → IsBracket a max self → IsConsistent (wide max a.log.now) → IsRight a max result }
     {
         let Bracket {
             low: _,

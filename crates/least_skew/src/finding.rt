@@ -1,13 +1,12 @@
 //! The least widening.
 
-ghost use Rattle.std.specs.Prelude.{◌≡◌, ◌≤◌, ℕ, None, length, IfErr, IfOk, OnOk};
+ghost use Rattle.std.specs.Prelude.{◌≡◌, ◌≤◌, IfErr, IfOk, None, OnOk};
 ghost use Rattle.mt_model.specs.Form.{form_of};
 ghost use Rattle.mt_model.specs.State.{unknown_host};
-ghost use Rattle.formula_arena.specs.Nodes.{nodes_of};
-ghost use Rattle.formula_arena.specs.declared.arena.TheConstants.{MAX_NODES};
 ghost use Rattle.skew_bounds.specs.Tight.{IsConsistent};
-ghost use Rattle.mtl_encode.specs.Size.{IsSmall};
-ghost use Rattle.search_ground.specs.Grounds.{IsGround, IsSizeFault};
+ghost use Rattle.question.specs.Faults.{IsFault as IsQuestionFault, IsJudged};
+ghost use Rattle.question.specs.Settled.{IsSettled};
+ghost use Rattle.least_skew.specs.Brackets.{AreSmall, IsRight};
 ghost use Rattle.least_skew.specs.Faults.{IsAsked, IsFault};
 ghost use Rattle.least_skew.specs.Least.{HasWrittenSkews, LeastRight, wide};
 ghost use Rattle.least_skew.specs.Told.{IsInconsistentExactly, Tells};
@@ -16,35 +15,24 @@ ghost use Rattle.least_skew.specs.declared.widening.TheConstants.{MAX_WIDENING};
 use crate::bracket::Bracket;
 use crate::laws::{right_tolerances_are_least, skews_may_grow};
 use crate::turn::{Turned, turn};
-use crate::widening::widened;
+use crate::widening::{WideLog, widened};
 use crate::{Tolerance, ToleranceFault};
-use mt_model::{Formula, Log, conflict_excludes_timings, log_is_valid};
-use mtl_encode::sizes_fall;
-use question::{Nodes, Question};
-use search_ground::{Ground, GroundFault, ground_of};
+use best_answer::Aim;
+use mt_model::{Formula, Log, log_is_valid};
+use question::{Nodes, Question, QuestionFault, Settled, sizes_fall};
 use std::alloc::{AllocError, Global};
 
 // The least widening, where some timing is admissible with the greatest one.
-fn search_least(
-    alloc: Global,
-    log: &Log,
-    nodes: &Nodes,
-    value: bool,
-    max: u64,
-    budget: u32,
-) -> Result<Tolerance, AllocError>
-    requires some { 1 ≤ budget }
-    requires most { budget ≤ 1000000 }
+fn search_least(alloc: Global, aim: &Aim, max: u64) -> Result<Tolerance, AllocError>
     requires range { max ≤ MAX_WIDENING }
-    requires skews { HasWrittenSkews log.now }
-    requires hosts { unknown_host log.now nodes.now ≡ None }
-    requires small { (s : ℕ) → s ≤ max → IsSmall (wide s log.now) (nodes_of nodes.now) }
-    requires consistent { IsConsistent (wide max log.now) }
-    ensures right { IfOk result (LeastRight log.now nodes.now value max budget) }
+    requires skews { HasWrittenSkews aim.now.log.now }
+    requires small { AreSmall aim.now max }
+    requires consistent { IsConsistent (wide max aim.now.log.now) }
+    ensures right { IfOk result (IsRight aim.now max) }
 {
     let mut bracket = Bracket::up_to(max);
     while bracket.low < bracket.high {
-        match turn(alloc, log, nodes, value, max, budget, bracket)? {
+        match turn(alloc, aim, max, bracket)? {
             Turned::Narrowed(narrowed) => bracket = narrowed,
             Turned::Spent { s, lines } => return Ok(Tolerance::Unknown { s, lines }),
         }
@@ -52,48 +40,30 @@ fn search_least(
     Ok(bracket.answer())
 }
 
-// What is known of a log with the widening s before any search.
-fn ground_with(alloc: Global, log: &Log, nodes: &Nodes, s: u64) -> Result<Ground, GroundFault>
-    requires range { s ≤ MAX_WIDENING }
-    requires skews { HasWrittenSkews log.now }
-    requires hosts { unknown_host log.now nodes.now ≡ None }
-    ensures ground { IfOk result (IsGround (wide s log.now) nodes.now) }
-    ensures fault { IfErr result (IsSizeFault (wide s log.now) nodes.now) }
+// What is known of the log with the greatest widening before any search.
+fn ready_with(alloc: Global, aim: &Aim, widest: &Log) -> Result<Settled, QuestionFault>
+    requires hosts { unknown_host widest.now aim.now.nodes.now ≡ None }
+    ensures settled { IfOk result (IsSettled widest.now) }
+    ensures judged { OnOk result (IsJudged widest.now aim.now.nodes.now) }
+    ensures fault { IfErr result (IsQuestionFault widest.now aim.now.nodes.now) }
 {
-    let wide = widened(alloc, log, s)?;
-    let question = Question::new(alloc, &wide, nodes)?;
-    ground_of(alloc, &question)
+    Question::new(alloc, widest, aim.nodes)?.ready(alloc)
 }
 
-// The least widening, for the formula of these nodes.
-fn least_of_nodes(
-    alloc: Global,
-    log: &Log,
-    nodes: &Nodes,
-    value: bool,
-    max: u64,
-    budget: u32,
-) -> Result<Tolerance, ToleranceFault>
-    requires some { 1 ≤ budget }
-    requires most { budget ≤ 1000000 }
-    requires range { max ≤ MAX_WIDENING }
-    requires skews { HasWrittenSkews log.now }
-    requires hosts { unknown_host log.now nodes.now ≡ None }
-    requires few { length (nodes_of nodes.now) ≤ MAX_NODES }
-    ensures right { IfOk result (LeastRight log.now nodes.now value max budget) }
-    ensures tells { IfOk result (Tells log.now nodes.now value max budget) }
-    ensures inconsistent { IfOk result (IsInconsistentExactly log.now max) }
-    ensures asked { OnOk result (IsAsked log.now nodes.now max) }
-    ensures fault { IfErr result (IsFault log.now nodes.now max) }
+// The least widening, for what is sought.
+fn least_of(alloc: Global, aim: &Aim, widest: &WideLog) -> Result<Tolerance, QuestionFault>
+    requires wide { widest.now.log ≡ wide widest.now.s aim.now.log.now }
+    requires range { widest.now.s ≤ MAX_WIDENING }
+    requires skews { HasWrittenSkews aim.now.log.now }
+    ensures right { IfOk result (IsRight aim.now widest.now.s) }
+    ensures asked { OnOk result (IsAsked aim.now.log.now aim.now.nodes.now widest.now.s) }
+    ensures fault { IfErr result (IsFault aim.now.log.now aim.now.nodes.now widest.now.s) }
 {
-    right_tolerances_are_least();
     skews_may_grow();
     sizes_fall();
-    conflict_excludes_timings();
-    log_is_valid(log);
-    match ground_with(alloc, log, nodes, max)? {
-        Ground::Conflict(steps) => Ok(Tolerance::Inconsistent(steps)),
-        Ground::Consistent(_) => Ok(search_least(alloc, log, nodes, value, max, budget)?),
+    match ready_with(alloc, aim, &widest.log)? {
+        Settled::Conflict(steps) => Ok(Tolerance::Inconsistent(steps)),
+        Settled::Timing { .. } => Ok(search_least(alloc, aim, widest.s)?),
     }
 }
 
@@ -125,6 +95,15 @@ pub fn least(
     ensures asked { OnOk result (IsAsked log.now (form_of f.now) max) }
     ensures fault { IfErr result (IsFault log.now (form_of f.now) max) }
 {
-    let nodes = Nodes::asked(alloc, log, f)?;
-    least_of_nodes(alloc, log, &nodes, value, max, budget)
+    right_tolerances_are_least();
+    log_is_valid(log);
+    let widest = widened(alloc, log, max)?;
+    let nodes = Nodes::asked(alloc, &widest.log, f)?;
+    let aim = Aim {
+        log,
+        nodes: &nodes,
+        value,
+        budget,
+    };
+    least_of(alloc, &aim, &widest)
 }

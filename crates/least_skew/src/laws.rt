@@ -1,3 +1,5 @@
+//! What grows with the skews, and what a right answer says.
+
 ghost use Rattle.std.specs.Prelude.{◌≡◌};
 ghost use Rattle.least_skew.specs.Laws.{RightTolerancesAreLeast, SkewsMayGrow, ValuesMayGrow};
 

@@ -3,7 +3,6 @@
 #![tactic(auto)]
 
 mod bracket;
-mod fault;
 mod finding;
 mod laws;
 mod reach;
@@ -11,8 +10,8 @@ mod tolerance;
 mod turn;
 mod widening;
 
-pub use fault::ToleranceFault;
 pub use finding::least;
 pub use laws::{limit_is_a_number, right_tolerances_are_least, skews_may_grow, values_may_grow};
+pub use question::QuestionFault as ToleranceFault;
 pub use tolerance::Tolerance;
 pub use widening::MAX_WIDENING;

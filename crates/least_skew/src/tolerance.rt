@@ -1,3 +1,5 @@
+//! By how much all skews have to grow for a formula to have a value.
+
 use mt_model::{Steps, Times};
 use proof_log::Lines;
 

@@ -1,4 +1,4 @@
-//! A log with all its skews widened.
+//! Logs with all their skews widened.
 
 ghost use Rattle.std.specs.Prelude.{◌≡◌, ◌≤◌, IfOk};
 ghost use Rattle.least_skew.specs.Least.{HasWrittenSkews, wide};
@@ -10,11 +10,20 @@ use std::alloc::{AllocError, Global};
 /// The greatest widening, in the log's unit of time.
 pub const MAX_WIDENING: u64 = 1_000_000_000_000_000_000;
 
+/// A log with all its skews widened by s.
+#[derive(Drop)]
+pub struct WideLog {
+    pub s: u64,
+    pub log: Log,
+}
+
 /// The log with s added to each skew, in memory of its own.
-pub fn widened(alloc: Global, log: &Log, s: u64) -> Result<Log, AllocError>
+pub fn widened(alloc: Global, log: &Log, s: u64) -> Result<WideLog, AllocError>
     requires range { s ≤ MAX_WIDENING }
     requires skews { HasWrittenSkews log.now }
-    ensures wide { IfOk result (λ l. l ≡ wide s log.now) }
+    ensures by { IfOk result (λ there. there.s ≡ s) }
+    ensures wide { IfOk result (λ there. there.log ≡ wide s log.now) }
 {
-    Ok(log.copy(alloc)?.widened(s as i128))
+    let log = log.copy(alloc)?.widened(s as i128);
+    Ok(WideLog { s, log })
 }

@@ -1,3 +1,5 @@
+//! What the fields of one record declare or give: a host, a row, a resync or a latency, or its fault.
+
 ghost use Rattle.std.specs.Prelude.{◌≡◌, ◌≤◌, length};
 ghost use Rattle.mt_model.specs.Name.{is_reserved};
 ghost use Rattle.log_read.specs.LogOf.{host_fault, event_fault, is_declared, is_delayed, is_sent, latency_fault, resync_fault, sends_again};

@@ -1,3 +1,5 @@
+//! What can be wrong with a log file, by number and record.
+
 ghost use Rattle.std.specs.Prelude.{◌≡◌};
 ghost use Rattle.log_read.specs.Faults.{number_of, record_of};
 

@@ -1,3 +1,5 @@
+//! The fields of records, as bytes.
+
 ghost use Rattle.std.specs.Prelude.{◌≡◌, [], ◌∷◌, ◌++◌, IfOk, OnOk, OnErr};
 
 use mt_list::ListOf;

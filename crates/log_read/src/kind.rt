@@ -1,3 +1,5 @@
+//! The kinds of records, and the words that name them.
+
 ghost use Rattle.std.specs.Prelude.{◌≡◌};
 ghost use Rattle.log_read.specs.Records.{kind_of, act_of};
 

@@ -1,3 +1,5 @@
+//! What holds of the log that a file's bytes are.
+
 ghost use Rattle.log_read.specs.ValidLogs.{LogsArePlain, LogsAreValid, NoFileLacksMemory};
 
 /// The log that a file's bytes are is valid.

@@ -1,3 +1,5 @@
+//! The log that records, or the bytes of a file, are.
+
 ghost use Rattle.std.specs.Prelude.{◌≡◌, ◌^◌, ◌<◌, ◌≤◌, [], length, Some, IfOk, position};
 ghost use Rattle.log_read.specs.LogOf.{first_fault, is_unmatched, log_of, log_of_records, log_under_header};
 ghost use Rattle.log_read.specs.Reading.{Answers, Enters};

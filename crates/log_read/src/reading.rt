@@ -1,3 +1,5 @@
+//! A log that is read record by record.
+
 ghost use Rattle.std.specs.Prelude.{◌≡◌, [], ◌++◌, ◌≤◌, length, None, Some, option_to_list, All, IfSome};
 ghost use Rattle.mt_model.specs.Log.{IsSent, received_by};
 ghost use Rattle.log_read.specs.LogOf.{fault_of, host_fault, event_fault, latency_fault, resync_fault};

@@ -1,3 +1,5 @@
+//! The records of a file's text, taken apart by `csv`.
+
 ghost use Rattle.std.specs.Prelude.{◌≡◌, ◌<◌, ◌∷◌, ◌++◌, [], length, Some, Ok, IfErr, IfOk, OnOk, true};
 ghost use Rattle.csv.specs.Reading.{AreRecords, default_config, error_kind, records, stops_reader, strip_bom};
 ghost use Rattle.csv.specs.Records.{Row, field_at, fields_of};

@@ -1,3 +1,5 @@
+//! The two versions of log files, and the headers that tell them.
+
 ghost use Rattle.std.specs.Prelude.{◌≡◌};
 ghost use Rattle.log_read.specs.LogOf.{is_header, known_in, version_of as version_told};
 

@@ -1,3 +1,5 @@
+//! The text of a log.
+
 ghost use Rattle.std.specs.Prelude.{◌≡◌, [], ◌∷◌, ◌++◌, ◌<◌, length, map, filter, All, IfOk, OnOk, Ok};
 ghost use Rattle.std.specs.List.{flat_map, list_any};
 ghost use Rattle.mt_model.specs.Log.{IsPlain, log_with};

@@ -6,9 +6,10 @@ use crate::case::LogicCase;
 use crate::writing::{push_atom, push_items, push_sign};
 use axiom_rules::{AtomTable, Rule};
 use clause_db::{ClauseRef, Db, Lit, Var};
-use mtl_encode::{MAX_SIZE, Problem, encode_by, size_of, sizes_are_unique};
+use mtl_encode::{Problem, encode};
 use neg_cycle::Edge;
-use skew_bounds::{Consistency, Tight, TightFault, settle, system_of, tight};
+use question::{MAX_SIZE, size_of, sizes_are_unique};
+use skew_bounds::{Consistency, Tight, TightFault, settle, tight};
 use std::alloc::Global;
 use table_case::{Parsed, push_line, push_marked, push_shown};
 
@@ -58,10 +59,7 @@ fn encoded_by(alloc: Global, parsed: &Parsed, value: bool, tight: &Tight) -> Opt
     sizes_are_unique();
     let Parsed { log, arena, root } = parsed;
     if size_of(log, arena, Some(tight)) <= MAX_SIZE {
-        let Ok(system) = system_of(alloc, log) else {
-            return None;
-        };
-        encode_by(alloc, log, arena, *root, value, system, tight).ok()
+        encode(alloc, log, arena, *root, value).ok()
     } else {
         None
     }

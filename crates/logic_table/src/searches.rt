@@ -25,8 +25,8 @@ fn outcome_of_log(alloc: Global, log: &Log, f: &Formula, asked: Asked) -> Option
 {
     match settle(alloc, log) {
         Ok(Consistency::Conflict(_)) => Some(Outcome::Inconsistent),
-        Ok(Consistency::Timing(times)) => {
-            let found = searched(alloc, log, f, times.as_slice(), asked)?;
+        Ok(Consistency::Timing(_)) => {
+            let found = searched(alloc, log, f, asked)?;
             judged(alloc, log, f, asked, &found)
         }
         Err(_) => None,

@@ -1,3 +1,5 @@
+//! The bounds that a log sets to the true times of its rows.
+
 use crate::EventId;
 use mt_list::ListOf;
 

@@ -1,3 +1,5 @@
+//! Valid formulas: which trees are formulas, and which of their hosts a log lacks.
+
 ghost use Rattle.std.specs.Prelude.{◌≡◌, ◌↔◌, ◌≤◌, ◌<◌, ◌+◌, ◌^◌, ◌&&◌, not, true, length, IsTrue, IsSome, IfSome, IfOk, IfErr, OnOk, Some, None};
 ghost use Rattle.std.specs.List.{list_all};
 ghost use Rattle.mt_model.specs.Form.{Form, IsFormula, form_of, height_of, intervals_of, is_interval, is_named, propositions_of};

@@ -1,3 +1,5 @@
+//! Hosts, events, propositions and nodes by their numbers.
+
 ghost use Rattle.std.specs.Prelude.{◌≡◌};
 
 use std::marker::Model;

@@ -1,3 +1,5 @@
+//! What holds of logs, their timings and the truth of formulas.
+
 ghost use Rattle.mt_model.specs.Before.{BeforeIsNotLater, CyclesExcludeTimings};
 ghost use Rattle.mt_model.specs.Bounds.{BoundsAreAdmissible, UnbrokenIsAdmissible};
 ghost use Rattle.mt_model.specs.Laws.{ConflictExcludesTimings, PreviousRowIsLast};

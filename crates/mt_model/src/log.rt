@@ -1,3 +1,5 @@
+//! Logs: hosts, rows, resyncs and extra bounds that fit together, and how a log is copied, bounded further or widened.
+
 ghost use Rattle.std.specs.Prelude.{◌≡◌, ◌↔◌, IsTrue, IsSome, IfSome, IfOk, IfErr, option_copied, Some, All, pos, ◌+ℤ◌, ◌≤ℤ◌};
 ghost use Rattle.mt_model.specs.Log.{Logged, IsLog, log_with, plain_log, IsPlain, name_in, sent_by, received_by, with_extra, widened};
 ghost use Rattle.mt_model.specs.State.{host_named};

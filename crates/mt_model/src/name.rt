@@ -1,3 +1,5 @@
+//! Names of hosts, propositions and messages.
+
 ghost use Rattle.std.specs.Prelude.{◌≡◌, true, IfOk, IfSome, is_some};
 ghost use Rattle.std.specs.List.{list_all};
 ghost use Rattle.mt_model.specs.Name.{is_name, is_letter, is_name_byte, is_reserved};

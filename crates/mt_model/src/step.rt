@@ -1,3 +1,5 @@
+//! The steps of walks: each says how long after one moment another comes at most.
+
 use mt_list::ListOf;
 use std::fmt;
 

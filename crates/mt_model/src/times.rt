@@ -1,3 +1,5 @@
+//! Lists of true times, of truth values and of events.
+
 use crate::EventId;
 use mt_list::ListOf;
 

@@ -1,3 +1,5 @@
+//! Formulas of metric temporal logic (Koymans 1990) as trees.
+
 ghost use Rattle.std.specs.Prelude.{◌<◌};
 
 use crate::Name;

@@ -1,6 +1,6 @@
 -- Rule 2 has a clause for the changes of its node alone, and rule 27 for its pulses.
 use Rattle.std.proofs.Common.{◌≡◌, refl, ℕ, ◌+◌, ◌<◌, ◌≤◌, Bool, true, false, ◌&&◌, if◌then◌else◌, List, [], ◌∷◌, length, Option, Some, None, Ok, Err, arith}
-use Rattle.std.specs.Prelude.{Result, is_ok, not, option_and_then, slice_get, slice_index}
+use Rattle.std.specs.Prelude.{Result, is_ok, not, option_and_then, option_map, slice_get, slice_index, slice_index_or}
 use Rattle.std.specs.List.{flat_map, range_with_len}
 use Rattle.std.specs.Option.{option_map_or}
 use Rattle.std.proofs.lemmas.Option.{slice_get_within}
@@ -10,15 +10,17 @@ use Rattle.axiom_rules.specs.declared.fault.RuleFault.TheVariants.{Range}
 use Rattle.axiom_rules.specs.declared.literal.Literal.{Literal}
 use Rattle.axiom_rules.specs.declared.part.Part.{Part}
 use Rattle.axiom_rules.specs.declared.proposition.PropositionRows.{PropositionRows}
+use Rattle.axiom_rules.specs.declared.rule.Argument.{Argument}
 use Rattle.axiom_rules.specs.declared.rule.Argument.TheVariants.{ANode, AnEvent, AChange, APulse, Unused}
 use Rattle.axiom_rules.specs.declared.rule.Rule.{Rule}
 use Rattle.axiom_rules.specs.declared.shape.Shape.{Shape}
 use Rattle.axiom_rules.specs.declared.shape.Shape.TheVariants as shape
-use Rattle.axiom_rules.specs.Clauses.{are_there, clause_of}
+use Rattle.axiom_rules.specs.Clauses.{Row, are_there, clause_of, row_of}
 use Rattle.axiom_rules.specs.NodeShapes.{changes_in, proposition_in, pulses_in, shape_at, shape_of}
 use Rattle.axiom_rules.specs.Parts.{Written, clause_of_written}
 use Rattle.axiom_rules.specs.Rules.{of_kind, rule_2, rule_27}
 use Rattle.axiom_rules.specs.Sought.{Sought}
+use Rattle.axiom_rules.proofs.RowCases.{row-case}
 use Rattle.mtl_encode.proofs.ChangeCounts.{tree-few}
 use Rattle.mtl_encode.proofs.RangeLemmas.{flat-first, flat-nothing}
 use Rattle.mtl_encode.specs.Growth.{pulse_count}
@@ -84,6 +86,28 @@ module _ (s : Sought) (k e p d : ℕ) where
       let (rows, are, low) = place-there (proposition_in (shape_at s k)) (λ rows. rows.pulses) _ p parts is in
       let few : length rows.pulses ≤ p = rw (pulses-told (shape_at s k) rows are) at past in
       absurd (omega (arith, low, few)))
+
+-- the rule on changes is the one with a change for its third argument, and that on pulses the one with a pulse
+change-row : (number : ℕ) (row : Row) → row_of number ≡ Some row → slice_index_or row.arguments 2 ANode ≡ AChange → number ≡ 2
+change-row = row-case (λ n row. slice_index_or row.arguments 2 ANode ≡ AChange → n ≡ 2) ((λ h. absurd (cc)), ((λ h. refl), ((λ h. absurd (cc)), ((λ h. absurd (cc)), ((λ h. absurd (cc)), ((λ h. absurd (cc)), ((λ h. absurd (cc)), ((λ h. absurd (cc)), ((λ h. absurd (cc)), ((λ h. absurd (cc)), ((λ h. absurd (cc)), ((λ h. absurd (cc)), ((λ h. absurd (cc)), ((λ h. absurd (cc)), ((λ h. absurd (cc)), ((λ h. absurd (cc)), ((λ h. absurd (cc)), ((λ h. absurd (cc)), ((λ h. absurd (cc)), ((λ h. absurd (cc)), ((λ h. absurd (cc)), ((λ h. absurd (cc)), ((λ h. absurd (cc)), ((λ h. absurd (cc)), ((λ h. absurd (cc)), ((λ h. absurd (cc)), ((λ h. absurd (cc)), ((λ h. absurd (cc)), tt))))))))))))))))))))))))))))
+
+pulse-row : (number : ℕ) (row : Row) → row_of number ≡ Some row → slice_index_or row.arguments 2 ANode ≡ APulse → number ≡ 27
+pulse-row = row-case (λ n row. slice_index_or row.arguments 2 ANode ≡ APulse → n ≡ 27) ((λ h. absurd (cc)), ((λ h. absurd (cc)), ((λ h. absurd (cc)), ((λ h. absurd (cc)), ((λ h. absurd (cc)), ((λ h. absurd (cc)), ((λ h. absurd (cc)), ((λ h. absurd (cc)), ((λ h. absurd (cc)), ((λ h. absurd (cc)), ((λ h. absurd (cc)), ((λ h. absurd (cc)), ((λ h. absurd (cc)), ((λ h. absurd (cc)), ((λ h. absurd (cc)), ((λ h. absurd (cc)), ((λ h. absurd (cc)), ((λ h. absurd (cc)), ((λ h. absurd (cc)), ((λ h. absurd (cc)), ((λ h. absurd (cc)), ((λ h. absurd (cc)), ((λ h. absurd (cc)), ((λ h. absurd (cc)), ((λ h. absurd (cc)), ((λ h. absurd (cc)), ((λ h. refl), ((λ h. absurd (cc)), tt))))))))))))))))))))))))))))
+
+module _ (number : ℕ) (arguments : List Argument) (are : Some arguments ≡ option_map (λ row. row.arguments) (row_of number)) where
+  pub third-change : slice_index_or arguments 2 ANode ≡ AChange → number ≡ 2
+  third-change third = go (row_of number) refl are
+    where
+      go : (o : Option Row) → row_of number ≡ o → Some arguments ≡ option_map (λ row. row.arguments) o → number ≡ 2
+      go None at is = absurd (cc)
+      go (Some row) at is = let same : arguments ≡ row.arguments = cc in change-row number row at (rw same at third)
+
+  pub third-pulse : slice_index_or arguments 2 ANode ≡ APulse → number ≡ 27
+  third-pulse third = go (row_of number) refl are
+    where
+      go : (o : Option Row) → row_of number ≡ o → Some arguments ≡ option_map (λ row. row.arguments) o → number ≡ 27
+      go None at is = absurd (cc)
+      go (Some row) at is = let same : arguments ≡ row.arguments = cc in pulse-row number row at (rw same at third)
 
 module _ (s : Sought) (out : Rule → Bool) where
   -- a rule that has no clause isn't kept

@@ -1,7 +1,8 @@
 -- Clauses that grow by that of one more rule.
-use Rattle.std.proofs.Common.{◌≡◌, ◌∙◌, sym, ap, refl, ℕ, ◌+◌, ◌<◌, ◌≤◌, Bool, true, false, if◌then◌else◌, List, [], ◌∷◌, ◌++◌, length, take, Some, Ok, inl, inr, arith}
+use Rattle.std.proofs.Common.{◌≡◌, ◌∙◌, sym, ap, refl, ℕ, ◌+◌, ◌<◌, ◌≤◌, List, [], ◌∷◌, ◌++◌, length, take, Option, Some, None, Ok, inl, inr, arith}
 use Rattle.std.specs.Prelude.{All, Any, slice_get, slice_index_or}
 use Rattle.std.specs.List.{flat_map, range_with_len}
+use Rattle.std.specs.Option.{option_map_or}
 use Rattle.std.proofs.lemmas.List.{append-nil, append_assoc, get_or_append_left, length-append}
 use Rattle.std.proofs.lemmas.List.Elements.{All-weaker}
 use Rattle.std.proofs.lemmas.List.Sums.{sum_by-append, sum_by-cons, sum_by_push}
@@ -13,8 +14,7 @@ use Rattle.clause_db.specs.declared.lit.Lit.{Lit}
 use Rattle.clause_db.specs.Clauses.{clause_at}
 use Rattle.axiom_rules.specs.declared.literal.Literal.{Literal}
 use Rattle.axiom_rules.specs.declared.rule.Rule.{Rule}
-use Rattle.axiom_rules.specs.ClauseLengths.{is_of_each_event}
-use Rattle.axiom_rules.specs.Clauses.{arg, clause_of}
+use Rattle.axiom_rules.specs.Clauses.{EachEvent, EachPulse, Five, Two, Width, arg, clause_of, width_of}
 use Rattle.axiom_rules.specs.Sought.{Sought}
 use Rattle.axiom_rules.proofs.ShapeLemmas.{slice-end}
 use Rattle.mtl_encode.proofs.AtomGrowth.{Keeps, all-atoms, keeps-atoms, longer-atoms, read-kept}
@@ -22,7 +22,7 @@ use Rattle.mtl_encode.proofs.ListedNumbers.{flat-more, part-taken}
 use Rattle.mtl_encode.proofs.RangeLemmas.{part-low, place-of}
 use Rattle.mtl_encode.proofs.RuleLengths.{few-in}
 use Rattle.mtl_encode.specs.declared.clauses.Clauses.{Clauses}
-use Rattle.mtl_encode.specs.Growth.{AreClauses, Gains, HasRoom, is_of_each_pulse, is_of_two, most_in, most_literals_of, pulse_count, with_atoms}
+use Rattle.mtl_encode.specs.Growth.{AreClauses, Gains, HasRoom, most_in, most_literals_of, most_of, with_atoms}
 use Rattle.mtl_encode.specs.Problems.{IsClauseOf, ReadsAs, StandsIn}
 
 module _ (s : Sought) where
@@ -36,11 +36,12 @@ module _ (s : Sought) where
   unfolding most_literals_of
   literals-one old rule = sum_by_push (most_in s) old rule
 
-  some : (pulses two each : Bool) (n : ℕ) → 1 ≤ (let most : ℕ = (if pulses then n + 5 else if two then 2 else if each then length s.log.rows + 5 else 5) in most)
-  some true two each n = omega arith
-  some false true each n = omega arith
-  some false false true n = omega arith
-  some false false false n = omega arith
+  some : (o : Option Width) (k : ℕ) → 1 ≤ option_map_or (most_of s k) o 5
+  some None k = omega arith
+  some (Some Two) k = omega arith
+  some (Some Five) k = omega arith
+  some (Some EachPulse) k = omega arith
+  some (Some EachEvent) k = omega arith
 
   -- there are no more rules than literals
   pub few-rules : (rules : List Rule) → length rules ≤ most_literals_of s rules
@@ -49,7 +50,7 @@ module _ (s : Sought) where
   few-rules (rule ∷ rules) =
       let ih = few-rules rules in
       let sum = sum_by-cons (most_in s) rule rules in
-      let more : 1 ≤ most_in s rule = some (is_of_each_pulse rule.number) (is_of_two rule.number) (is_of_each_event rule.number) (pulse_count s (arg rule.args 0)) in
+      let more : 1 ≤ most_in s rule = some (width_of rule.number) (arg rule.args 0) in
       omega (arith, ih, sum, more)
 
 -- an atom that stands in the clause of a rule stands in that of one of more rules

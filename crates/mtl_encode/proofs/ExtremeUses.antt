@@ -15,7 +15,9 @@ use Rattle.formula_arena.specs.declared.direction.Direction.TheVariants.{Ahead, 
 use Rattle.axiom_rules.specs.declared.reach.Reach.{Reach}
 use Rattle.axiom_rules.proofs.BoolLemmas.{apart}
 use Rattle.axiom_rules.proofs.MeaningLemmas.{distance, from, near-parts, up_to}
-use Rattle.mtl_encode.specs.Needless.{AreExtremes, Extremes, farthest, is_always_before, is_always_from, is_always_up_to, is_dead, is_never_before, is_never_from, is_never_up_to, may_be_from, nearest}
+use Rattle.question.proofs.Distances.{high-all, le-more}
+use Rattle.question.specs.Extremes.{AreExtremes, Extremes, farthest, nearest}
+use Rattle.mtl_encode.specs.Needless.{is_always_before, is_always_from, is_always_up_to, is_dead, is_never_before, is_never_from, is_never_up_to, may_be_from}
 
 -- no two events of a timing are further apart than the greatest difference, or nearer than the least
 pub record BoundsTimes (x : Extremes) (t : List ℤ) (rows : ℕ) : Type 0 where
@@ -24,12 +26,6 @@ pub record BoundsTimes (x : Extremes) (t : List ℤ) (rows : ℕ) : Type 0 where
 
 pub bounds-times : (log : Logged) (x : Extremes) (t : List ℤ) → AreExtremes log x → Admissible log t → BoundsTimes x t (length log.rows)
 bounds-times log x t are ok = record { greatest = λ e f a b. (are.greatest e f a b).bound t ok; least = λ e f a b. (are.least e f a b).bound t ok }
-
-pub le-more : (a b c : ℤ) → int_le a b ≡ true → b ≤ℤ c → int_le a c ≡ true
-le-more a b c h less = grind (arith, ints)
-
-le-less : (a b c : ℤ) → a ≤ℤ b → int_le b c ≡ true → int_le a c ≡ true
-le-less a b c less h = grind (arith, ints)
 
 above-not : (a b c : ℤ) → int_lt b a ≡ true → c ≤ℤ b → int_le a c ≡ false
 above-not a b c h less = grind (arith, ints)
@@ -45,10 +41,6 @@ is-after a b g h less = grind (arith, ints)
 
 pub is-not-after : (a b g : ℤ) → int_le (pos 0) g ≡ true → g ≤ℤ (b -ℤ a) → int_le a b ≡ true
 is-not-after a b g h less = grind (arith, ints)
-
-pub high-all : (high : Option ℕ) (far d : ℤ) → d ≤ℤ far → option_map_or (λ b. int_le far (pos b)) high true ≡ true → option_map_or (λ b. int_le d (pos b)) high true ≡ true
-high-all None far d less h = refl
-high-all (Some b) far d less h = le-less d far (pos b) less h
 
 high-none : (high : Option ℕ) (near d : ℤ) → near ≤ℤ d → option_map_or (λ b. int_lt (pos b) near) high false ≡ true → option_map_or (λ b. int_le d (pos b)) high true ≡ false
 high-none None near d less h = absurd (cc)

@@ -15,17 +15,18 @@ use Rattle.axiom_rules.specs.NodeShapes.{changes_in, pulses_in}
 use Rattle.axiom_rules.specs.Sought.{Sought}
 use Rattle.mtl_encode.proofs.ChangeCounts.{changes_of_tree, pulses-few, pulses_of_tree, rows-few, rows_of_tree, sum-both, tree-few}
 use Rattle.mtl_encode.proofs.ChangeRules.{change_count, first-thirds, no-change, no-pulse}
-use Rattle.mtl_encode.proofs.Cubes.{product-few}
+use Rattle.mtl_encode.proofs.Products.{product-few}
 use Rattle.mtl_encode.proofs.LiteralCounts.{none-within, one-within, three-within}
 use Rattle.mtl_encode.proofs.NodeLemmas.{shape-is}
 use Rattle.mtl_encode.proofs.RangeLemmas.{flat-places, flat-within}
 use Rattle.mtl_encode.proofs.ReachCounts.{one-event, spans, two-events}
 use Rattle.mtl_encode.proofs.SpanRules.{gap-needless, past-needless, three-nothing, within-needless}
-use Rattle.mtl_encode.specs.declared.size.TheConstants.{MAX_SIZE}
+use Rattle.question.specs.declared.size.TheConstants.{MAX_SIZE}
 use Rattle.mtl_encode.specs.Growth.{HasRoom, most_in, most_literals_of, pulse_count}
 use Rattle.mtl_encode.specs.Instances.{instances, is_of_reach, of_number, rule_at, with_none, with_one, with_three, with_two}
-use Rattle.mtl_encode.specs.Needless.{Extremes, is_needless, needs_no_span}
-use Rattle.mtl_encode.specs.Size.{size_by, tree_size}
+use Rattle.question.specs.Extremes.{Extremes}
+use Rattle.mtl_encode.specs.Needless.{is_needless, needs_no_span}
+use Rattle.question.specs.Size.{size_by, tree_size}
 
 module _ (x : Extremes) (s : Sought) (same : (f g : Form) → (same_form f g ≡ true) ↔ (f ≡ g)) (arena : IsArena s.trees)
     (some_rows : 1 ≤ length s.log.rows) (few_rows : length s.log.rows ≤ MAX_ROWS) (small : size_by x (length s.log.rows) s.trees ≤ MAX_SIZE) where

@@ -1,12 +1,8 @@
 pub mod RangeLemmas
 pub mod AtomGrowth
-pub mod Cubes
+pub mod Products
 pub mod ListedNumbers
-pub mod SizeLemmas
-pub mod SizeBounds
-pub mod SizesUnique
 pub mod RuleLengths
-pub mod SizesFall
 pub mod ClauseGrowth
 pub mod ChangeCounts
 pub mod LiteralCounts
@@ -31,7 +27,6 @@ pub mod NodeLemmas
 mod NodesExact
 mod RulesExact
 mod ExactCases
-mod TightExtremes
 mod EncodeLemmas
 pub mod VariableLemmas
 mod OrderLemmas

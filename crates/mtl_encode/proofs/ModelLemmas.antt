@@ -35,7 +35,8 @@ use Rattle.mtl_encode.proofs.RangeLemmas.{among-at}
 use Rattle.mtl_encode.specs.declared.problem.Problem.{Problem}
 use Rattle.mtl_encode.specs.Exact.{AgreesWith, RulesAreExact, SatisfiesKept, clause_is_true, literal_is_true}
 use Rattle.mtl_encode.specs.Listing.{ListsRules}
-use Rattle.mtl_encode.specs.Needless.{AreExtremes, Extremes, is_needless}
+use Rattle.question.specs.Extremes.{AreExtremes, Extremes}
+use Rattle.mtl_encode.specs.Needless.{is_needless}
 use Rattle.mtl_encode.specs.Models.{IsModel, value_at}
 use Rattle.mtl_encode.specs.Problems.{Fits, ReadsAs, read_literal}
 

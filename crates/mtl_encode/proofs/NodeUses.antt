@@ -24,7 +24,8 @@ use Rattle.axiom_rules.proofs.BoolLemmas.{apart}
 use Rattle.axiom_rules.proofs.ChangeLemmas.{first_passes, is_by, last_of}
 use Rattle.axiom_rules.proofs.PartLemmas.{part_holds}
 use Rattle.mtl_encode.specs.Exact.{SatisfiesKept}
-use Rattle.mtl_encode.specs.Needless.{Extremes, is_needless, is_never_first}
+use Rattle.question.specs.Extremes.{Extremes}
+use Rattle.mtl_encode.specs.Needless.{is_needless, is_never_first}
 use Rattle.mtl_encode.proofs.ClauseUses.{first_of, is_both, is_negation, is_sense, last_of_1, last_of_2, rest_of}
 use Rattle.mtl_encode.proofs.ExtremeUses.{BoundsTimes, is-after, is-not-after}
 use Rattle.mtl_encode.proofs.PartUses.{WrittenIsTrue}

@@ -27,7 +27,8 @@ use Rattle.axiom_rules.proofs.ChangeLemmas.{is_by, last_of}
 use Rattle.axiom_rules.proofs.MeaningLemmas.{at_row, near-ahead, row_at}
 use Rattle.axiom_rules.proofs.PulseLemmas.{IsPulse, pulses-are}
 use Rattle.mtl_encode.specs.Exact.{SatisfiesKept}
-use Rattle.mtl_encode.specs.Needless.{Extremes, is_dead, is_needless}
+use Rattle.question.specs.Extremes.{Extremes}
+use Rattle.mtl_encode.specs.Needless.{is_dead, is_needless}
 use Rattle.mtl_encode.proofs.ExtremeUses.{BoundsTimes}
 use Rattle.mtl_encode.proofs.NodeLemmas.{IsThere, child-there, shape-is}
 use Rattle.mtl_encode.proofs.NodeUses.{conjunction-exact, constant-exact, negation-exact, proposition-exact}

@@ -1,8 +1,8 @@
 -- The rules on pairs of events of which one is a pulse have no clause for others.
-use Rattle.std.proofs.Common.{◌≡◌, ◌∙◌, sym, ap, refl, ℕ, zero, suc, ◌+◌, ◌==◌, ◌≤◌, Bool, true, false, not, ◌&&◌, if◌then◌else◌, List, [], ◌∷◌, length, map, take, Option, Some, None, Err, inl, inr, arith, option_map}
+use Rattle.std.proofs.Common.{◌≡◌, ◌∙◌, sym, ap, refl, ℕ, zero, suc, ◌+◌, ◌≤◌, Bool, true, false, not, ◌&&◌, if◌then◌else◌, List, [], ◌∷◌, length, map, take, Option, Some, None, Err, arith, option_map}
 use Rattle.std.specs.Prelude.{Result, is_ok, nat_lt, slice_index}
 use Rattle.std.specs.List.{flat_map, range_with_len}
-use Rattle.std.proofs.lemmas.Bool.{and_parts, eqb-true, or_cases}
+use Rattle.std.proofs.lemmas.Bool.{and_parts}
 use Rattle.axiom_rules.specs.declared.fault.RuleFault.{RuleFault}
 use Rattle.axiom_rules.specs.declared.fault.RuleFault.TheVariants.{Range}
 use Rattle.axiom_rules.specs.declared.literal.Literal.{Literal}
@@ -12,7 +12,7 @@ use Rattle.axiom_rules.specs.Clauses.{Row, are_there, clause_of, row_of}
 use Rattle.axiom_rules.specs.Parts.{clause_of_written}
 use Rattle.axiom_rules.specs.Rules.{is_pulse_row, rule_25, rule_26}
 use Rattle.axiom_rules.specs.Sought.{Sought}
-use Rattle.axiom_rules.proofs.RowCases.{shape-case}
+use Rattle.axiom_rules.proofs.RowCases.{row-case, shape-case}
 use Rattle.mtl_encode.proofs.ChangeRules.{clauseless}
 use Rattle.mtl_encode.proofs.ListedNumbers.{flat-filtered}
 use Rattle.mtl_encode.proofs.RangeLemmas.{flat-nothing}
@@ -42,11 +42,15 @@ module _ (s : Sought) where
         go true false is = rw is refl
         go false less is = refl
 
+    unpaired-row : (number : ℕ) (row : Row) → row_of number ≡ Some row → is_of_pulses number ≡ true → is_ok (clause_of s (rule_at number a b c d)) ≡ false
+    unpaired-row = row-case (λ n row. is_of_pulses n ≡ true → is_ok (clause_of s (rule_at n a b c d)) ≡ false) ((λ h. absurd (cc)), ((λ h. absurd (cc)), ((λ h. absurd (cc)), ((λ h. absurd (cc)), ((λ h. absurd (cc)), ((λ h. absurd (cc)), ((λ h. absurd (cc)), ((λ h. absurd (cc)), ((λ h. absurd (cc)), ((λ h. absurd (cc)), ((λ h. absurd (cc)), ((λ h. absurd (cc)), ((λ h. absurd (cc)), ((λ h. absurd (cc)), ((λ h. absurd (cc)), ((λ h. absurd (cc)), ((λ h. absurd (cc)), ((λ h. absurd (cc)), ((λ h. absurd (cc)), ((λ h. absurd (cc)), ((λ h. absurd (cc)), ((λ h. absurd (cc)), ((λ h. absurd (cc)), ((λ h. absurd (cc)), ((λ h. unpaired-25), ((λ h. unpaired-26), ((λ h. absurd (cc)), ((λ h. absurd (cc)), tt))))))))))))))))))))))))))))
+
     unpaired : (number : ℕ) → is_of_pulses number ≡ true → is_ok (clause_of s (rule_at number a b c d)) ≡ false
-    unpaired number of = elim (or_cases (number == 25) (number == 26) of) [
-      | inl is ↦ rw (eqb-true number 25 is) unpaired-25
-      | inr is ↦ rw (eqb-true number 26 is) unpaired-26
-    ]
+    unpaired number of = go (row_of number) refl
+      where
+        go : (o : Option Row) → row_of number ≡ o → is_ok (clause_of s (rule_at number a b c d)) ≡ false
+        go None at = rw at refl
+        go (Some row) at = unpaired-row number row at of
 
   -- the second arguments are below the number of events, of pairs all of them
   pub first-few : 1 ≤ length s.log.rows → (number : ℕ) (counts : List ℕ) → AreCounts s number counts → slice_index counts 1 ≤ length s.log.rows
@@ -61,17 +65,15 @@ module _ (s : Sought) where
       go None at is = absurd (cc)
       go (Some row) at is = let same : counts ≡ map (count_of s) row.arguments = cc in rw same (few number row at)
 
-  of-25 : (counts : List ℕ) → AreCounts s 25 counts → slice_index counts 1 ≡ length s.log.rows
-  of-25 counts are = let same : counts ≡ map (count_of s) (AnEvent ∷ AnEvent ∷ Unused ∷ Unused ∷ []) = cc in rw same refl
-
-  of-26 : (counts : List ℕ) → AreCounts s 26 counts → slice_index counts 1 ≡ length s.log.rows
-  of-26 counts are = let same : counts ≡ map (count_of s) (AnEvent ∷ AnEvent ∷ Unused ∷ Unused ∷ []) = cc in rw same refl
+  pair-rows : (number : ℕ) (row : Row) → row_of number ≡ Some row → is_of_pulses number ≡ true → slice_index (map (count_of s) row.arguments) 1 ≡ length s.log.rows
+  pair-rows = row-case (λ n row. is_of_pulses n ≡ true → slice_index (map (count_of s) row.arguments) 1 ≡ length s.log.rows) ((λ h. absurd (cc)), ((λ h. absurd (cc)), ((λ h. absurd (cc)), ((λ h. absurd (cc)), ((λ h. absurd (cc)), ((λ h. absurd (cc)), ((λ h. absurd (cc)), ((λ h. absurd (cc)), ((λ h. absurd (cc)), ((λ h. absurd (cc)), ((λ h. absurd (cc)), ((λ h. absurd (cc)), ((λ h. absurd (cc)), ((λ h. absurd (cc)), ((λ h. absurd (cc)), ((λ h. absurd (cc)), ((λ h. absurd (cc)), ((λ h. absurd (cc)), ((λ h. absurd (cc)), ((λ h. absurd (cc)), ((λ h. absurd (cc)), ((λ h. absurd (cc)), ((λ h. absurd (cc)), ((λ h. absurd (cc)), ((λ h. refl), ((λ h. refl), ((λ h. absurd (cc)), ((λ h. absurd (cc)), tt))))))))))))))))))))))))))))
 
   pair-counts : (number : ℕ) (counts : List ℕ) → is_of_pulses number ≡ true → AreCounts s number counts → slice_index counts 1 ≡ length s.log.rows
-  pair-counts number counts of are = elim (or_cases (number == 25) (number == 26) of) [
-    | inl is ↦ of-25 counts (rw (eqb-true number 25 is) at are)
-    | inr is ↦ of-26 counts (rw (eqb-true number 26 is) at are)
-  ]
+  pair-counts number counts of are = go (row_of number) refl are
+    where
+      go : (o : Option Row) → row_of number ≡ o → Some counts ≡ option_map (λ row. map (count_of s) row.arguments) o → slice_index counts 1 ≡ length s.log.rows
+      go None at is = absurd (cc)
+      go (Some row) at is = let same : counts ≡ map (count_of s) row.arguments = cc in rw same (pair-rows number row at of)
 
   -- with an event that is no pulse, the pulses are enough
   pulses-enough : (out : Rule → Bool) (number : ℕ) (counts : List ℕ) (a : ℕ) → is_of_pulses number ≡ true → slice_index counts 1 ≡ length s.log.rows → is_pulse_row s.log a ≡ false

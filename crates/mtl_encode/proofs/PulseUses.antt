@@ -20,7 +20,8 @@ use Rattle.axiom_rules.specs.Rules as rule
 use Rattle.axiom_rules.specs.Sought.{Sought}
 use Rattle.axiom_rules.proofs.PartLemmas.{equal_turned, part_holds}
 use Rattle.mtl_encode.specs.Exact.{SatisfiesKept}
-use Rattle.mtl_encode.specs.Needless.{Extremes, is_needless}
+use Rattle.question.specs.Extremes.{Extremes}
+use Rattle.mtl_encode.specs.Needless.{is_needless}
 use Rattle.mtl_encode.proofs.ClauseUses.{first_of, last_of_2}
 use Rattle.mtl_encode.proofs.PartUses.{WrittenIsTrue}
 use Rattle.mtl_encode.proofs.RuleUses.{after-true, not_after-true, of_events-true}

@@ -16,15 +16,16 @@ use Rattle.axiom_rules.specs.declared.reach.Reach.{Reach}
 use Rattle.axiom_rules.specs.declared.rule.Rule.{Rule}
 use Rattle.axiom_rules.specs.NodeShapes.{is_constant, number_of, reach_in, shape_at, shape_of}
 use Rattle.axiom_rules.specs.Sought.{Sought}
-use Rattle.mtl_encode.proofs.Cubes.{square}
+use Rattle.question.proofs.Cubes.{square}
 use Rattle.mtl_encode.proofs.LiteralCounts.{one-within}
 use Rattle.mtl_encode.proofs.NodeLemmas.{child-there, shape-is}
 use Rattle.mtl_encode.proofs.RangeLemmas.{flat-by, flat-nothing}
 use Rattle.mtl_encode.proofs.ReachRules.{no-reach, one-nothing}
 use Rattle.mtl_encode.specs.Growth.{most_in}
 use Rattle.mtl_encode.specs.Instances.{is_of_reach, rule_at, with_one, with_three, with_two}
-use Rattle.mtl_encode.specs.Needless.{Extremes, farthest, has_constant, is_dead, is_live, is_needless, nearest, needs_no_span}
-use Rattle.mtl_encode.specs.Size.{is_reach, is_true, live_pairs, tree_size}
+use Rattle.question.specs.Extremes.{Extremes, farthest, is_live, nearest}
+use Rattle.mtl_encode.specs.Needless.{has_constant, is_dead, is_needless, needs_no_span}
+use Rattle.question.specs.Size.{is_reach, is_true, live_pairs, tree_size}
 
 -- a pair that isn't live is dead
 low-fails : (a b : ℤ) → int_le a b ≡ false → int_lt b a ≡ true

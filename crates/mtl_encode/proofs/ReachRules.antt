@@ -14,7 +14,7 @@ use Rattle.axiom_rules.specs.Sought.{Sought}
 use Rattle.axiom_rules.proofs.RowCases.{row-case}
 use Rattle.mtl_encode.proofs.RangeLemmas.{flat-nothing}
 use Rattle.mtl_encode.specs.Instances.{is_of_reach, kept, rule_at, with_one, with_three, with_two}
-use Rattle.mtl_encode.specs.Size.{is_reach}
+use Rattle.question.specs.Size.{is_reach}
 
 module _ (s : Sought) (out : Rule → Bool) (k : ℕ) (none : reach_in (shape_at s k) ≡ None) where
   -- the row writes nothing of the node

@@ -23,7 +23,8 @@ use Rattle.axiom_rules.proofs.BoolLemmas.{apart}
 use Rattle.axiom_rules.proofs.MeaningLemmas.{at_row, from, near-parts, row_at, up_to}
 use Rattle.axiom_rules.proofs.PartLemmas.{part_holds}
 use Rattle.mtl_encode.specs.Exact.{SatisfiesKept}
-use Rattle.mtl_encode.specs.Needless.{Extremes, has_constant, is_always_before, is_always_from, is_always_up_to, is_dead, is_needless, is_never_before, is_never_from, is_never_up_to, may_be_from}
+use Rattle.question.specs.Extremes.{Extremes}
+use Rattle.mtl_encode.specs.Needless.{has_constant, is_always_before, is_always_from, is_always_up_to, is_dead, is_needless, is_never_before, is_never_from, is_never_up_to, may_be_from}
 use Rattle.mtl_encode.proofs.ClauseUses.{first_of, first_of_5, last_of_2, last_of_3, last_of_4, rest_of}
 use Rattle.mtl_encode.proofs.PartUses.{WrittenIsTrue}
 use Rattle.mtl_encode.proofs.ExtremeUses.{BoundsTimes, always-before-says, always-from-says, always-up_to-says, beyond-not-always, near-alive, never-before-says, never-from-says, never-may-not, never-not-always, never-up_to-says}

@@ -1,20 +1,21 @@
--- The rules 19 to 21 are left out where no span is needed.
+-- What is left out where no span is needed, and where the left side is `true`.
 use Rattle.std.proofs.Common.{◌≡◌, refl, ℕ, Bool, true, false, ◌||◌, if◌then◌else◌, List, [], ◌∷◌, Option, Some, None}
 use Rattle.std.specs.Prelude.{is_ok, not, ◌&&◌, slice_index}
 use Rattle.std.specs.Option.{option_map_or}
 use Rattle.std.proofs.lemmas.Bool.{and_parts}
 use Rattle.axiom_rules.specs.declared.reach.Reach.{Reach}
 use Rattle.axiom_rules.specs.declared.rule.Rule.{Rule}
-use Rattle.axiom_rules.specs.Clauses.{clause_of}
+use Rattle.axiom_rules.specs.Clauses.{clause_of, needless_of}
 use Rattle.axiom_rules.specs.NodeShapes.{reach_in, shape_at}
 use Rattle.axiom_rules.specs.Sought.{Sought}
 use Rattle.mtl_encode.proofs.RangeLemmas.{flat-nothing}
-use Rattle.mtl_encode.specs.declared.needless.Needless.{Needless}
-use Rattle.mtl_encode.specs.declared.needless.Needless.TheVariants.{Reaches}
-use Rattle.mtl_encode.specs.declared.needless.OfReach.{OfReach}
-use Rattle.mtl_encode.specs.declared.needless.OfReach.TheVariants.{DeadOrFree, NotWithin, NotPast, FreeOrNotBefore, Free}
+use Rattle.axiom_rules.specs.declared.needless.Needless.{Needless}
+use Rattle.axiom_rules.specs.declared.needless.Needless.TheVariants.{Reaches}
+use Rattle.axiom_rules.specs.declared.needless.OfReach.{OfReach}
+use Rattle.axiom_rules.specs.declared.needless.OfReach.TheVariants.{DeadOrFree, NotWithin, NotPast, FreeOrNotBefore, Free}
 use Rattle.mtl_encode.specs.Instances.{kept, rule_at, with_one, with_three, with_two}
-use Rattle.mtl_encode.specs.Needless.{Extremes, has_constant, is_always_before, is_dead, is_free, is_needless, is_needless_throughout, is_never_before, is_of_free, leaves_out, leaves_out_free, leaves_out_reach, needs_no_span, test_of}
+use Rattle.question.specs.Extremes.{Extremes}
+use Rattle.mtl_encode.specs.Needless.{has_constant, is_always_before, is_dead, is_free, is_needless, is_needless_throughout, is_never_before, is_of_free, is_of_span, leaves_out, leaves_out_free, leaves_out_reach, needs_no_span}
 
 -- one of the first two makes the others needless
 or-two : (a b c d : Bool) → a || b ≡ true → a || b || c || d ≡ true
@@ -47,6 +48,19 @@ module _ (x : Extremes) (s : Sought) (k i j : ℕ) (free : needs_no_span x s k i
           → option_map_or (λ u. is_dead x u i j || has_constant x s u || is_always_before x u m j) o false ≡ true
       go None is = absurd (cc)
       go (Some u) is = or-two-of-three (is_dead x u i j) (has_constant x s u) (is_always_before x u m j) is
+
+  over-span : (test : Needless) (m : ℕ) → is_of_span test ≡ true → leaves_out x s test (k ∷ i ∷ j ∷ m ∷ []) ≡ true
+  over-span (Reaches NotWithin) m of = within-needless m
+  over-span (Reaches NotPast) m of = past-needless m
+  over-span _ m of = absurd (cc)
+
+  -- rules about the events of a span
+  pub spanless : (number m : ℕ) → option_map_or is_of_span (needless_of number) false ≡ true → is_needless x s (rule_at number k i j m) ≡ true
+  spanless number m of = go (needless_of number) of
+    where
+      go : (o : Option Needless) → option_map_or is_of_span o false ≡ true → option_map_or (λ test. leaves_out x s test (k ∷ i ∷ j ∷ m ∷ [])) o false ≡ true
+      go None of = absurd (cc)
+      go (Some test) of = over-span test m of
 
 -- rules that are all left out
 module _ (s : Sought) (out : Rule → Bool) where
@@ -99,7 +113,7 @@ module _ (x : Extremes) (s : Sought) where
   of-reach _ k i j m of free = absurd (cc)
 
   pub throughout : (number k i j m : ℕ) → is_needless_throughout s number k ≡ true → is_needless x s (rule_at number k i j m) ≡ true
-  throughout number k i j m is = go (test_of number) (and_parts _ _ is).0
+  throughout number k i j m is = go (needless_of number) (and_parts _ _ is).0
     where
       go : (o : Option Needless) → option_map_or leaves_out_free o false ≡ true → option_map_or (λ test. leaves_out x s test (k ∷ i ∷ j ∷ m ∷ [])) o false ≡ true
       go None of = absurd (cc)

@@ -13,7 +13,8 @@ use Rattle.axiom_rules.specs.declared.rule.Rule.{Rule}
 use Rattle.axiom_rules.specs.Clauses.{clause_of}
 use Rattle.axiom_rules.specs.Holds.{means}
 use Rattle.axiom_rules.specs.Sought.{Sought, sought_of}
-use Rattle.mtl_encode.specs.Needless.{AreExtremes, Extremes, is_needless}
+use Rattle.question.specs.Extremes.{AreExtremes, Extremes}
+use Rattle.mtl_encode.specs.Needless.{is_needless}
 
 -- a literal is true where the truth value of its atom is the literal's sense
 abbrev pub literal_is_true : (Atom → Bool) → Literal → Bool

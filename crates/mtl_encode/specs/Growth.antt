@@ -1,13 +1,12 @@
 -- Clauses that grow by those of further rules.
-use Rattle.std.specs.Prelude.{◌≡◌, ℕ, ◌+◌, ◌^◌, ◌==◌, ◌≤◌, Bool, ◌||◌, if◌then◌else◌, List, [], ◌∷◌, ◌++◌, length, sum_by, All, Any, Some, slice_get}
+use Rattle.std.specs.Prelude.{◌≡◌, ℕ, ◌+◌, ◌^◌, ◌≤◌, List, [], ◌∷◌, ◌++◌, length, sum_by, All, Any, Some, slice_get}
 use Rattle.std.specs.Option.{option_map_or}
 use Rattle.clause_db.specs.Clauses.{clause_at}
 use Rattle.axiom_rules.specs.declared.literal.Atom.{Atom}
 use Rattle.axiom_rules.specs.declared.literal.Literal.{Literal}
 use Rattle.axiom_rules.specs.declared.rule.Rule.{Rule}
 use Rattle.axiom_rules.specs.Atoms.{with_atom}
-use Rattle.axiom_rules.specs.ClauseLengths.{most_literals}
-use Rattle.axiom_rules.specs.Clauses.{arg}
+use Rattle.axiom_rules.specs.Clauses.{EachEvent, EachPulse, Five, Two, Width, arg, width_of}
 use Rattle.axiom_rules.specs.NodeShapes.{pulses_in, shape_at}
 use Rattle.axiom_rules.specs.Sought.{Sought}
 use Rattle.mtl_encode.specs.declared.clauses.Clauses.{Clauses}
@@ -22,16 +21,16 @@ with_atoms atoms (l ∷ ls) = with_atoms (with_atom atoms l.atom) ls
 abbrev pub pulse_count : Sought → ℕ → ℕ
 pulse_count s k = option_map_or (λ pulses. length pulses) (pulses_in (shape_at s k)) 0
 
--- whether the clauses of the rules of a number have a literal for each pulse of their node, and whether they have two literals
-abbrev pub is_of_each_pulse : ℕ → Bool
-is_of_each_pulse number = number == 1 || number == 2
-
-abbrev pub is_of_two : ℕ → Bool
-is_of_two number = number == 12 || number == 13 || number == 14 || number == 15 || number == 18 || number == 22 || number == 23
+-- a clause of this width has no more literals, where its node is this one
+abbrev pub most_of : Sought → ℕ → Width → ℕ
+most_of s k Two = 2
+most_of s k Five = 5
+most_of s k EachPulse = pulse_count s k + 5
+most_of s k EachEvent = length s.log.rows + 5
 
 -- the clause of a rule has no more literals
 abbrev pub most_in : Sought → Rule → ℕ
-most_in s rule = if is_of_each_pulse rule.number then pulse_count s (arg rule.args 0) + 5 else if is_of_two rule.number then 2 else most_literals s rule.number
+most_in s rule = option_map_or (most_of s (arg rule.args 0)) (width_of rule.number) 5
 
 -- no more literals than this are in the clauses of these rules together
 unfoldable pub most_literals_of : Sought → List Rule → ℕ

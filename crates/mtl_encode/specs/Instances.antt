@@ -1,16 +1,19 @@
 -- The rules that are kept, in the order of their numbers and their arguments.
-use Rattle.std.specs.Prelude.{ℕ, ◌+◌, ◌==◌, nat_lt, Bool, not, ◌&&◌, ◌||◌, if◌then◌else◌, List, [], ◌∷◌, filter, length, map, is_ok, slice_index}
+use Rattle.std.specs.Prelude.{ℕ, ◌+◌, Bool, true, false, not, ◌&&◌, if◌then◌else◌, List, [], ◌∷◌, filter, length, map, is_ok, slice_index}
 use Rattle.std.specs.List.{flat_map, range_with_len}
 use Rattle.std.specs.Option.{option_map_or}
 use Rattle.skew_bounds.specs.Differences.{Differences}
 use Rattle.axiom_rules.specs.declared.rule.Argument.{Argument}
 use Rattle.axiom_rules.specs.declared.rule.Argument.TheVariants.{ANode, AnEvent, AChange, APulse, Unused}
 use Rattle.axiom_rules.specs.declared.rule.Rule.{Rule}
+use Rattle.axiom_rules.specs.declared.rule.Subject.{Subject}
+use Rattle.axiom_rules.specs.declared.rule.Subject.TheVariants as about
 use Rattle.axiom_rules.specs.declared.rule.TheConstants.{MAX_RULE}
-use Rattle.axiom_rules.specs.Clauses.{clause_of, row_of}
+use Rattle.axiom_rules.specs.Clauses.{clause_of, row_of, subject_of}
 use Rattle.axiom_rules.specs.Rules.{is_pulse_row}
 use Rattle.axiom_rules.specs.Sought.{Sought}
-use Rattle.mtl_encode.specs.Needless.{extremes_of, is_needless}
+use Rattle.question.specs.Extremes.{extremes_of}
+use Rattle.mtl_encode.specs.Needless.{is_needless}
 
 -- the rule of a number with four arguments
 abbrev pub rule_at : ℕ → ℕ → ℕ → ℕ → ℕ → Rule
@@ -24,13 +27,21 @@ kept s out rule = if is_ok (clause_of s rule) && not (out rule) then rule ∷ []
 abbrev pub out_by : Differences → Sought → Rule → Bool
 out_by d s = is_needless (extremes_of d) s
 
--- whether rules of a number are about until and since nodes alone
-abbrev pub is_of_reach : ℕ → Bool
-is_of_reach number = (nat_lt 11 number && nat_lt number 24) || number == 28
+-- whether a rule is about an until or a since
+abbrev pub is_reach : Subject → Bool
+is_reach about.Reach = true
+is_reach _ = false
 
--- whether rules of a number are about pairs of events of which one is a pulse
+abbrev pub is_of_reach : ℕ → Bool
+is_of_reach number = option_map_or is_reach (subject_of number) false
+
+-- whether a rule is about pairs of events of which one is a pulse
+abbrev pub is_instant : Subject → Bool
+is_instant about.Instant = true
+is_instant _ = false
+
 abbrev pub is_of_pulses : ℕ → Bool
-is_of_pulses number = number == 25 || number == 26
+is_of_pulses number = option_map_or is_instant (subject_of number) false
 
 -- the pulse rows of the log, of whatever proposition
 abbrev pub pulse_rows : Sought → List ℕ

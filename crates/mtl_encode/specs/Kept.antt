@@ -6,7 +6,8 @@ use Rattle.skew_bounds.specs.Tight.{IsConsistent, IsInconsistent}
 use Rattle.axiom_rules.specs.declared.rule.Rule.{Rule}
 use Rattle.axiom_rules.specs.Sought.{sought_of}
 use Rattle.mtl_encode.specs.Listing.{ListsRules}
-use Rattle.mtl_encode.specs.Needless.{AreExtremes, Extremes, is_needless}
+use Rattle.question.specs.Extremes.{AreExtremes, Extremes}
+use Rattle.mtl_encode.specs.Needless.{is_needless}
 
 -- some timing is admissible, and each rule that has a clause and isn't needless by the least and the greatest differences of the log's events
 pub record AreNeeded (log : Logged) (f : Form) (v : Bool) (rules : List Rule) : Type 0 where

@@ -1,6 +1,3 @@
-pub mod Size
-pub mod SizeLaws
-pub mod SizesFall
 pub mod Needless
 pub mod Listing
 pub mod Kept

@@ -1,99 +1,49 @@
 -- Which instances of rules are needless: those that the least and the greatest differences of events' times make true, or of no use.
-use Rattle.std.specs.Prelude.{◌≡◌, ◌⊎◌, ℕ, zero, suc, ◌<◌, ◌≤◌, Bool, true, false, ◌&&◌, ◌||◌, if◌then◌else◌, nat_lt, List, [], ◌∷◌, length, Option, None, slice_get, ℤ, pos, int_le, int_lt}
+use Rattle.std.specs.Prelude.{◌≡◌, ℕ, Bool, true, false, ◌&&◌, ◌||◌, List, length, pos, int_le, int_lt}
 use Rattle.std.specs.List.{list_any, range_with_len}
 use Rattle.std.specs.Option.{option_map_or}
-use Rattle.mt_model.specs.declared.tree.Interval.{Interval}
-use Rattle.mt_model.specs.Log.{Logged}
-use Rattle.skew_bounds.specs.Differences.{Differences}
-use Rattle.skew_bounds.specs.Tight.{IsGreatestDifference, IsLeastDifference, events_of, greatest_of, least_of}
-use Rattle.formula_arena.specs.declared.direction.Direction.{Direction}
-use Rattle.formula_arena.specs.declared.direction.Direction.TheVariants.{Ahead, Behind}
+use Rattle.question.specs.Extremes.{Extremes, farthest, nearest}
+use Rattle.axiom_rules.specs.declared.needless.Needless.{Needless}
+use Rattle.axiom_rules.specs.declared.needless.Needless.TheVariants.{Never, NeverLater, NeverFirst, Reaches}
+use Rattle.axiom_rules.specs.declared.needless.OfReach.{OfReach}
+use Rattle.axiom_rules.specs.declared.needless.OfReach.TheVariants.{AlwaysFrom, AlwaysUpTo, Dead, DeadOrFree, NotWithin, NotPast, FreeOrNotBefore, Free}
 use Rattle.axiom_rules.specs.declared.reach.Reach.{Reach}
 use Rattle.axiom_rules.specs.declared.rule.Rule.{Rule}
-use Rattle.axiom_rules.specs.Clauses.{arg}
+use Rattle.axiom_rules.specs.Clauses.{arg, needless_of}
 use Rattle.axiom_rules.specs.NodeShapes.{is_constant, reach_in, shape_at}
 use Rattle.axiom_rules.specs.Sought.{Sought}
-use Rattle.mtl_encode.specs.declared.needless.Needless.{Needless}
-use Rattle.mtl_encode.specs.declared.needless.Needless.TheVariants.{Never, NeverLater, NeverFirst, Reaches}
-use Rattle.mtl_encode.specs.declared.needless.OfReach.{OfReach}
-use Rattle.mtl_encode.specs.declared.needless.OfReach.TheVariants.{AlwaysFrom, AlwaysUpTo, Dead, DeadOrFree, NotWithin, NotPast, FreeOrNotBefore, Free}
-
--- how much later than event e event f is at most, and at least
-pub record Extremes : Type 0 where
-  pub greatest : ℕ → ℕ → ℤ
-  pub least : ℕ → ℕ → ℤ
-
--- over all timings that the log admits, and 0 where there is no such event
-pub record AreExtremes (log : Logged) (x : Extremes) : Type 0 where
-  pub greatest : (e f : ℕ) → e < length log.rows → f < length log.rows → IsGreatestDifference log e f (x.greatest e f)
-  pub least : (e f : ℕ) → e < length log.rows → f < length log.rows → IsLeastDifference log e f (x.least e f)
-  pub greatest_beyond : (e f : ℕ) → (length log.rows ≤ e) ⊎ (length log.rows ≤ f) → x.greatest e f ≡ pos 0
-  pub least_beyond : (e f : ℕ) → (length log.rows ≤ e) ⊎ (length log.rows ≤ f) → x.least e f ≡ pos 0
-
--- those that a table of differences tells
-abbrev pub extremes_of : Differences → Extremes
-extremes_of d = record {
-  greatest = λ e f. if nat_lt e (events_of d) && nat_lt f (events_of d) then greatest_of d e f else pos 0;
-  least = λ e f. if nat_lt e (events_of d) && nat_lt f (events_of d) then least_of d e f else pos 0;
-}
-
--- which test leaves out instances of rule 1, of rule 2 and so on
-abbrev pub tests : List Needless
-tests =
-    Never ∷ Never ∷ Never ∷ Never ∷ Never ∷ Never ∷ Never ∷ Never
-    ∷ NeverLater ∷ NeverFirst ∷ Never
-    ∷ Reaches AlwaysFrom ∷ Reaches AlwaysUpTo ∷ Reaches Dead ∷ Reaches DeadOrFree ∷ Reaches DeadOrFree ∷ Never ∷ Reaches Dead
-    ∷ Reaches NotWithin ∷ Reaches DeadOrFree ∷ Reaches NotPast ∷ Reaches FreeOrNotBefore ∷ Reaches Free
-    ∷ NeverFirst ∷ Never ∷ Never ∷ Never ∷ Reaches Dead ∷ []
-
-abbrev pub test_of : ℕ → Option Needless
-test_of zero = None
-test_of (suc n) = slice_get tests n
 
 module _ (x : Extremes) where
-  -- how far event j is from event i at most, as a node looks, and at least
-  abbrev pub farthest : Direction → ℕ → ℕ → ℤ
-  farthest Ahead i j = x.greatest i j
-  farthest Behind i j = x.greatest j i
-
-  abbrev pub nearest : Direction → ℕ → ℕ → ℤ
-  nearest Ahead i j = x.least i j
-  nearest Behind i j = x.least j i
-
   -- an event is never first where another one is always earlier
   abbrev pub is_never_first : ℕ → ℕ → Bool
   is_never_first rows e = list_any (λ f. int_lt (x.greatest e f) (pos 0)) (range_with_len 0 rows)
 
   -- event j is always in the interval's reach from below, it may be, and the same from above
   abbrev pub is_always_from : Reach → ℕ → ℕ → Bool
-  is_always_from u i j = int_le (pos u.interval.low) (nearest u.direction i j)
+  is_always_from u i j = int_le (pos u.interval.low) (nearest x u.direction i j)
 
   abbrev pub is_never_from : Reach → ℕ → ℕ → Bool
-  is_never_from u i j = int_lt (farthest u.direction i j) (pos u.interval.low)
+  is_never_from u i j = int_lt (farthest x u.direction i j) (pos u.interval.low)
 
   abbrev pub may_be_from : Reach → ℕ → ℕ → Bool
-  may_be_from u i j = int_le (pos u.interval.low) (farthest u.direction i j)
+  may_be_from u i j = int_le (pos u.interval.low) (farthest x u.direction i j)
 
   abbrev pub is_always_up_to : Reach → ℕ → ℕ → Bool
-  is_always_up_to u i j = option_map_or (λ b. int_le (farthest u.direction i j) (pos b)) u.interval.high true
+  is_always_up_to u i j = option_map_or (λ b. int_le (farthest x u.direction i j) (pos b)) u.interval.high true
 
   abbrev pub is_never_up_to : Reach → ℕ → ℕ → Bool
-  is_never_up_to u i j = option_map_or (λ b. int_lt (pos b) (nearest u.direction i j)) u.interval.high false
+  is_never_up_to u i j = option_map_or (λ b. int_lt (pos b) (nearest x u.direction i j)) u.interval.high false
 
   -- a pair of events is dead for an until or a since where its distance is never in the interval
   abbrev pub is_dead : Reach → ℕ → ℕ → Bool
   is_dead u i j = is_never_from u i j || is_never_up_to u i j
 
-  -- and live where it may be: some number of the interval lies from the least to the greatest distance
-  abbrev pub is_live : Direction → Interval → ℕ → ℕ → Bool
-  is_live direction I i j = int_le (pos I.low) (farthest direction i j) && option_map_or (λ b. int_le (nearest direction i j) (pos b)) I.high true
-
   -- event m is always before event i as the node looks, and never before it
   abbrev pub is_always_before : Reach → ℕ → ℕ → Bool
-  is_always_before u m i = int_lt (farthest u.direction i m) (pos 0)
+  is_always_before u m i = int_lt (farthest x u.direction i m) (pos 0)
 
   abbrev pub is_never_before : Reach → ℕ → ℕ → Bool
-  is_never_before u m i = int_le (pos 0) (nearest u.direction i m)
+  is_never_before u m i = int_le (pos 0) (nearest x u.direction i m)
 
   module _ (s : Sought) where
     -- the left side is `true`
@@ -120,7 +70,7 @@ module _ (x : Extremes) where
 
     -- the instance of a rule is left out
     abbrev pub is_needless : Rule → Bool
-    is_needless rule = option_map_or (λ test. leaves_out test rule.args) (test_of rule.number) false
+    is_needless rule = option_map_or (λ test. leaves_out test rule.args) (needless_of rule.number) false
 
     -- no span of an until or a since is needed from one event to another
     abbrev pub needs_no_span : ℕ → ℕ → ℕ → Bool
@@ -140,10 +90,16 @@ abbrev pub leaves_out_free : Needless → Bool
 leaves_out_free (Reaches test) = is_of_free test
 leaves_out_free _ = false
 
+-- a test leaves out each instance on a third event where no span is needed
+abbrev pub is_of_span : Needless → Bool
+is_of_span (Reaches NotWithin) = true
+is_of_span (Reaches NotPast) = true
+is_of_span _ = false
+
 -- a node is an until or a since whose left side is `true`
 abbrev pub is_free : Sought → ℕ → Bool
 is_free s k = option_map_or (λ u. is_constant (shape_at s u.left)) (reach_in (shape_at s k)) false
 
 -- each instance of a rule for a node is left out, since the left side is `true`
 abbrev pub is_needless_throughout : Sought → ℕ → ℕ → Bool
-is_needless_throughout s number k = option_map_or leaves_out_free (test_of number) false && is_free s k
+is_needless_throughout s number k = option_map_or leaves_out_free (needless_of number) false && is_free s k

@@ -1,6 +1,6 @@
+//! That the rules are exact.
+
 ghost use Rattle.mtl_encode.specs.Exact.{MeaningsSatisfyRules, RulesAreExact};
-ghost use Rattle.mtl_encode.specs.SizeLaws.{SizesAreUnique, SmallCubesAreSmall};
-ghost use Rattle.mtl_encode.specs.SizesFall.{SizesFall};
 
 use axiom_rules::rules_hold;
 use formula_arena::{cores_are_cores, nodes_are_subtrees, truth_of_core};
@@ -24,19 +24,3 @@ pub fn meanings_satisfy_rules()
 {
     rules_hold();
 }
-
-/// A log and the nodes of a formula have one size.
-pub fn sizes_are_unique()
-    ensures unique { SizesAreUnique }
-{}
-
-/// Where the number of until and since nodes times the cube of the number of rows is at most 262,144, the size isn't above
-/// the limit.
-pub fn small_cubes_are_small()
-    ensures small { SmallCubesAreSmall }
-{}
-
-/// The size of the problem of a log isn't above that of one that has as many rows and admits each timing that it admits.
-pub fn sizes_fall()
-    ensures fall { SizesFall }
-{}

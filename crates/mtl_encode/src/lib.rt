@@ -9,13 +9,10 @@ mod listing;
 mod needless;
 mod problem;
 mod pulses;
-mod size;
 mod variables;
 mod workspace;
 
 pub use encoding::{encode, encode_by};
-pub use laws::{
-    meanings_satisfy_rules, rules_are_exact, sizes_are_unique, sizes_fall, small_cubes_are_small,
-};
+pub use laws::{meanings_satisfy_rules, rules_are_exact};
 pub use problem::Problem;
-pub use size::{MAX_SIZE, size_of};
+pub use question::{MAX_SIZE, size_of};

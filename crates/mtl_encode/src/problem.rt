@@ -1,3 +1,5 @@
+//! A problem: clauses over atoms, and difference constraints.
+
 use axiom_rules::{AtomTable, RuleList};
 use clause_db::Db;
 use mt_model::BoundList;

@@ -5,10 +5,10 @@ ghost use Rattle.std.specs.Prelude.{◌≡◌, ◌&&◌, length, not, Bool, IfOk
 ghost use Rattle.std.specs.List.{flat_map, range_with_len};
 ghost use Rattle.axiom_rules.specs.Rules.{is_pulse_row};
 ghost use Rattle.axiom_rules.specs.declared.rule.Rule.{Rule};
-ghost use Rattle.mtl_encode.specs.Instances.{is_of_pulses, pulse_rows as pulse_rows_of, with_one, with_two};
+ghost use Rattle.mtl_encode.specs.Instances.{is_of_pulses as is_number_of_pulses, pulse_rows as pulse_rows_of, with_one, with_two};
 ghost use Rattle.mtl_encode.specs.Seconds.{AreCounts, AreEvents};
 
-use axiom_rules::Rules;
+use axiom_rules::{Rules, Subject, subject_of};
 use mt_model::log_is_valid;
 use std::alloc::{AllocError, Global};
 
@@ -43,11 +43,18 @@ fn pulse_rows(alloc: Global, rules: &Rules) -> Result<Vec<u32>, AllocError>
     Ok(pulses)
 }
 
-// Whether rules of the number are about pairs of events of which one is a pulse, and this event is none.
-fn wants_pulse(rules: &Rules, number: u8, e: u32) -> bool
-    ensures { result ≡ (is_of_pulses number && not (is_pulse_row rules.now.log e)) }
+// Whether rules of the number are about pairs of events of which one is a pulse.
+fn is_of_pulses(number: u8) -> bool
+    ensures { result ≡ is_number_of_pulses number }
 {
-    (number == 25 || number == 26) && !rules.is_pulse(e)
+    matches!(subject_of(number), Some(Subject::Instant))
+}
+
+// Whether they are, and this event is none.
+fn wants_pulse(rules: &Rules, number: u8, e: u32) -> bool
+    ensures { result ≡ (is_number_of_pulses number && not (is_pulse_row rules.now.log e)) }
+{
+    is_of_pulses(number) && !rules.is_pulse(e)
 }
 
 impl Events {

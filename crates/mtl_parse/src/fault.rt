@@ -1,3 +1,5 @@
+//! What can be wrong with a formula's text, by number and byte.
+
 ghost use Rattle.std.specs.Prelude.{◌≡◌};
 ghost use Rattle.mtl_parse.specs.Faults.{byte_of, number_of};
 

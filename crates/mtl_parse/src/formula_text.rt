@@ -1,3 +1,5 @@
+//! The formula that a text is.
+
 ghost use Rattle.std.specs.Prelude.{◌≡◌, ◌<◌, ◌^◌, length, map, true, IfErr, IfOk, Ok, Err};
 ghost use Rattle.std.specs.List.{list_all};
 ghost use Rattle.mt_model.specs.Form.{form_of};

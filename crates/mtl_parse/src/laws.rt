@@ -1,3 +1,5 @@
+//! What holds of the readings of texts: each text has one, and it follows from its blanks and tokens.
+
 ghost use Rattle.mtl_parse.specs.Laws.{HostsStandBeforeDots, NoTextLacksMemory, TextsAreUnambiguous, TextsHaveReadings, TokensAreUnambiguous};
 ghost use Rattle.mtl_parse.specs.TokenTexts.{OtherTextsHaveFaults, TextsAreBlanksAndTokens};
 

@@ -1,3 +1,5 @@
+//! The formulas that operators make of formulas, up to the greatest height.
+
 ghost use Rattle.std.specs.Prelude.{◌≡◌, ◌<◌, ◌≤◌, ◌+◌, ◌↔◌, max, IfOk, IfSome, IsSome};
 ghost use Rattle.mt_model.specs.Form.{And, Implies, Not, Or, form_of, height_of};
 ghost use Rattle.mtl_parse.specs.Grammar.{infix_form, prefix_form};

@@ -1,3 +1,5 @@
+//! Formulas from tokens, one token after another; what is pending waits on a stack.
+
 ghost use Rattle.std.specs.Prelude.{◌≡◌, ◌∷◌, IfOk, IfErr, Ok, Err, Some, None, option_map, true};
 ghost use Rattle.mtl_parse.specs.Tokens.{Word};
 ghost use Rattle.mtl_parse.specs.Machine.{LeftOfAnd, LeftOfImplies, LeftOfOr, Wanted, after_word, begin, capped, closed, complete, finish, finished, high_bound, is_sound, left_of, letter_after, read_one, refusal_behind, step_bracket, step_comma, step_dot, step_high, step_host, step_letter, step_low, step_read, step_wanted};

@@ -1,3 +1,5 @@
+//! What waits for an operand, and how tightly it binds.
+
 ghost use Rattle.std.specs.Prelude.{◌≡◌, ◌<◌, IfOk};
 ghost use Rattle.std.specs.List.{list_any};
 ghost use Rattle.mtl_parse.specs.Machine.{applied, capped, complete, is_opened, letter_strength, strength, timed, top_binds};

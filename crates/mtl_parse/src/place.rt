@@ -1,3 +1,5 @@
+//! Where the host of a proposition stands in a formula's text.
+
 ghost use Rattle.std.specs.Prelude.{◌≡◌, ◌↔◌, ◌<◌, ◌^◌, length, Ok, IsSome};
 ghost use Rattle.mt_model.specs.Form.{Form, propositions_of};
 ghost use Rattle.mtl_parse.specs.FormulaOf.{FormulaOf};

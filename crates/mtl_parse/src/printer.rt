@@ -1,3 +1,5 @@
+//! The one text of a formula.
+
 ghost use Rattle.std.specs.Prelude.{◌≡◌, [], ◌∷◌, ◌++◌, codes, IfOk, OnOk, Ok};
 ghost use Rattle.std.specs.Fmt.{decimal};
 ghost use Rattle.mt_model.specs.Form.{form_of};

@@ -1,3 +1,5 @@
+//! The tokens of formulas' texts, and what stands at the first of some bytes.
+
 ghost use Rattle.std.specs.Prelude.{◌≡◌, ◌<◌, ◌^◌, length, take_while, true};
 ghost use Rattle.std.specs.Option.{SomeIff};
 ghost use Rattle.std.specs.List.{list_all, prefix_len};

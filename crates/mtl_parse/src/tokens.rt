@@ -1,3 +1,5 @@
+//! The tokens of a whole text, and the first of its intervals that is empty.
+
 ghost use Rattle.std.specs.Prelude.{◌≡◌, ◌<◌, ◌^◌, length, map, IfErr, IfOk, Ok, Err};
 ghost use Rattle.mtl_parse.specs.Tokens.{tokens_of};
 ghost use Rattle.mtl_parse.specs.FormulaOf.{begins_below, begins_with_empty_interval, first_empty_interval, has_bound_below, has_bounds_exchanged, tokens_in};

@@ -1,3 +1,5 @@
+//! Tests on real files and streams, and on inputs and outputs that fail.
+
 use crate::fakes::{Call, Counted, LettersIn};
 use mt_port::{Failed, FileShelf, ReadFault, Sink, StdSink, read_all, write_all};
 use std::fs;

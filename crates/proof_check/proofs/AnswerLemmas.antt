@@ -25,7 +25,7 @@ line_there lines i line low at =
     let e : i + 1 ≡ suc i = omega arith in
     subst (λ k. line_at lines k ≡ Some line) (sym e) (slice_get_read lines (length lines) i line refl low at)
 
-no_line : (lines : List Line) (n : ℕ) → length lines < n → line_at lines n ≡ None
+pub no_line : (lines : List Line) (n : ℕ) → length lines < n → line_at lines n ≡ None
 no_line lines zero past = refl
 no_line lines (suc n) past = slice_get_past lines n (omega (arith, past))
 

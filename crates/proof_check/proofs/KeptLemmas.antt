@@ -44,7 +44,7 @@ last_clause (c ∷ cs) = let e : suc (length cs) - 1 ≡ length cs = omega arith
 pub empty_where_found : (kept : List (List Literal)) (found : Option (List Literal)) → found ≡ slice_get kept (length kept - 1) → (found ≡ Some []) ↔ IsEmptyAt (lines_with kept) (length kept)
 empty_where_found kept found is = (λ empty. last_clause kept ∙ sym is ∙ empty, λ empty. is ∙ sym (last_clause kept) ∙ empty)
 
-slice_get_taken : {X : Type 0} (xs : List X) (n k : ℕ) → k < n → slice_get (take n xs) k ≡ slice_get xs k
+pub slice_get_taken : {X : Type 0} (xs : List X) (n k : ℕ) → k < n → slice_get (take n xs) k ≡ slice_get xs k
 slice_get_taken xs zero k below = absurd (omega (arith, below))
 slice_get_taken [] (suc n) k below = refl
 slice_get_taken (x ∷ xs) (suc n) zero below = refl
@@ -90,10 +90,10 @@ module _ (lines : List Line) (n : ℕ) (kept : List (List Literal)) (low : n ≤
     shown_back (line.Cycle steps) shown = shown
     shown_back (line.Learn lits hints) shown = record { in_range = shown.in_range; clauses = shown.clauses; cited = cited_same hints ∙ shown.cited; refuted = shown.refuted }
 
-    right_to : (l : Line) → IsRight s (lines_with kept) (n + 1) l → IsRight s lines (n + 1) l
+    pub right_to : (l : Line) → IsRight s (lines_with kept) (n + 1) l → IsRight s lines (n + 1) l
     right_to l is = record { spelled = is.spelled; shown = shown_to l is.shown }
 
-    right_back : (l : Line) → IsRight s lines (n + 1) l → IsRight s (lines_with kept) (n + 1) l
+    pub right_back : (l : Line) → IsRight s lines (n + 1) l → IsRight s (lines_with kept) (n + 1) l
     right_back l is = record { spelled = is.spelled; shown = shown_back l is.shown }
 
     next : length kept + 1 ≡ n + 1

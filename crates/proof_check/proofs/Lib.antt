@@ -13,6 +13,7 @@ pub mod AnswerLemmas
 mod WordLemmas
 mod HintWords
 mod TextLemmas
+mod FrontLemmas
 mod WalksHold
 mod LinesHold
 mod WalkLemmas

@@ -1,8 +1,6 @@
 -- Lines that are judged as they are read from their text.
-use Rattle.std.proofs.Common.{◌≡◌, ◌∙◌, sym, ap, refl, subst, cond, ℕ, ◌+◌, ◌<◌, ◌≤◌, List, [], ◌∷◌, ◌++◌, length, length-append, length-drop, get_or, take, drop, append-nil, Bool, Ok, Err, arith}
-use Rattle.std.specs.Prelude.{IfOk, Result}
+use Rattle.std.proofs.Common.{◌≡◌, ◌∙◌, sym, ap, refl, subst, cond, ℕ, ◌+◌, ◌<◌, ◌≤◌, List, [], ◌∷◌, ◌++◌, length, length-append, length-drop, get_or, take, drop, arith}
 use Rattle.std.proofs.lemmas.List.{drop_more, take_all, take_more}
-use Rattle.std.proofs.lemmas.List.Elements.{All-cons, All-nil}
 use Rattle.std.proofs.lemmas.List.Sums.{sum_by-append}
 use Rattle.axiom_rules.specs.declared.literal.Literal.{Literal}
 use Rattle.axiom_rules.specs.Sought.{Sought}
@@ -68,24 +66,6 @@ pub rest_shorter : (text : List ℕ) (lines : List Line) (ws : LineWords) (rest 
 rest_shorter text lines ws rest is head =
     let whole : text ≡ line_text head.line ++ lines_text head.others = is.text ∙ ap lines_text head.split in
     omega (arith, ap length whole, length-append (line_text head.line) (lines_text head.others), ap length head.text.text, line_some head.line)
-
--- a line alone is the one of which these are the words
-pub words_alone : (l : Line) (ws : LineWords) (rest : List ℕ) → IsHeadWords (l ∷ []) ws rest → AreWordsOf ws l
-words_alone l ws rest head = let same : head.line ≡ l = sym (parts_same l head.line [] head.others head.split).0 in subst (AreWordsOf ws) same head.words
-
-pub text_alone : (l : Line) (text : List ℕ) → IsSpelled l → text ≡ line_text l → IsTextOf text (l ∷ [])
-text_alone l text spelled is = record { spelled = All-cons IsSpelled l [] spelled (All-nil IsSpelled); text = is ∙ sym (append-nil (line_text l)) }
-
--- what is known of each line with these words is known of the line whose text they are from
-pub by_words : {E : Type 0} (P : Bool → Line → Type 0) (text : List ℕ) (ws : LineWords) (rest : List ℕ)
-    → ((lines : List Line) → IsTextOf text lines → IsHeadWords lines ws rest) → (l : Line) → IsSpelled l → text ≡ line_text l
-    → (r : Result Bool E) → IfOk r (λ b. (k : Line) → IsSpelled k → AreWordsOf ws k → P b k) → IfOk r (λ b. P b l)
-by_words P text ws rest head l spelled is (Ok b) each = each l spelled (words_alone l ws rest (head (l ∷ []) (text_alone l text spelled is)))
-by_words P text ws rest head l spelled is (Err e) each = tt
-
--- and some words are there
-pub none_alone : (l : Line) (text : List ℕ) → IsSpelled l → text ≡ line_text l → ((lines : List Line) → IsTextOf text lines → lines ≡ []) → ⊥
-none_alone l text spelled is none = let both = none (l ∷ []) (text_alone l text spelled is) in omega (arith, ap length both)
 
 module _ (s : Sought) (text : List ℕ) (kept : List (List Literal)) (rest : List ℕ) (count : ℕ) (before : AreTaken s text kept rest count) (ws : LineWords) (after : List ℕ)
     (head : (lines : List Line) → IsTextOf rest lines → IsHeadWords lines ws after) where

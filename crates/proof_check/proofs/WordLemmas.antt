@@ -10,7 +10,7 @@ use Rattle.axiom_rules.specs.declared.literal.Literal.{Literal}
 use Rattle.proof_log.specs.Derivations.{negated_step}
 use Rattle.proof_log.specs.LinesText.{Word, literal_words, step_words}
 use Rattle.proof_log.specs.Spelled.{IsSpelledCycle, IsSpelledLiteral, IsSpelledStep}
-use Rattle.proof_check.specs.declared.course.CycleWalk.{CycleWalk}
+use Rattle.proof_check.specs.declared.cycle_walk.CycleWalk.{CycleWalk}
 use Rattle.proof_check.specs.Judging.{AreSpelledLiterals}
 use Rattle.proof_check.specs.Keeping.{Kept, with_pending}
 use Rattle.proof_check.specs.Walking.{HasCome, HasRoom}

@@ -1,11 +1,12 @@
 -- What is answered for lines.
-use Rattle.std.specs.Prelude.{◌≡◌, ◌↔◌, ◌≤◌, ℕ, Bool, List, map, take}
+use Rattle.std.specs.Prelude.{◌≡◌, ◌↔◌, ◌+◌, ◌≤◌, ℕ, Bool, List, length, map, take, All, Some}
 use Rattle.mt_model.specs.Form.{Form}
 use Rattle.mt_model.specs.Log.{Logged}
 use Rattle.axiom_rules.specs.declared.literal.Literal.{Literal}
 use Rattle.axiom_rules.specs.Sought.{Sought, sought_of}
 use Rattle.proof_log.specs.declared.line.Line.{Line}
-use Rattle.proof_log.specs.Derivations.{Derives, FirstWrong, IsGood, Refutes, clause_of_line}
+use Rattle.proof_log.specs.Derivations.{Derives, FirstWrong, IsGood, Refutes, clause_of_line, line_at}
+use Rattle.proof_log.specs.Spelled.{IsSpelled}
 use Rattle.proof_check.specs.declared.check.Check.{Check}
 use Rattle.proof_check.specs.declared.check.Check.TheVariants as check
 
@@ -27,3 +28,15 @@ AreGood log f v lines n = (m : ℕ) → 1 ≤ m → m ≤ n → IsGood log f v l
 pub record AreJudged (s : Sought) (lines : List Line) (n : ℕ) (kept : List (List Literal)) : Type 0 where
   pub good : OfSought s (λ log f v. AreGood log f v lines n)
   pub same : kept ≡ map clause_of_line (take n lines)
+
+-- the first n lines have a spelling, and the next one, where there is one, has none
+pub record IsSpelledFront (lines : List Line) (n : ℕ) : Type 0 where
+  pub within : n ≤ length lines
+  pub spelled : All IsSpelled (take n lines)
+  pub next : (line : Line) → line_at lines (n + 1) ≡ Some line → IsSpelled line → ⊥
+
+-- what lines are of which the first n are this, and the next one has no spelling
+abbrev pub with_unspelled : ℕ → Check → Check
+with_unspelled n check.Refutes = check.Wrong (n + 1)
+with_unspelled n check.Derives = check.Wrong (n + 1)
+with_unspelled n (check.Wrong k) = check.Wrong k

@@ -6,7 +6,7 @@ use Rattle.axiom_rules.specs.Literals.{negated}
 use Rattle.axiom_rules.specs.Sought.{Sought}
 use Rattle.proof_log.specs.declared.line.Hint.{Hint}
 use Rattle.proof_log.specs.declared.line.Line.{Line}
-use Rattle.proof_log.specs.Derivations.{HasClauses, IsEmptyAt, IsShown, clause_of_hint}
+use Rattle.proof_log.specs.Derivations.{HasClauses, IsEmptyAt, IsLearnt, IsShown, clause_of_hint}
 use Rattle.proof_log.specs.Spelled.{IsNumber, IsSpelled, IsSpelledLiteral}
 use Rattle.proof_check.specs.declared.refutation.Taken.{Taken}
 use Rattle.proof_check.specs.declared.refutation.Taken.TheVariants as taken
@@ -38,3 +38,11 @@ pub record IsNext (s : Sought) (kept : List (List Literal)) (line : Line) : Type
 pub record AreSpelledLiterals (lits : List Literal) : Type 0 where
   pub count : IsNumber (length lits)
   pub each : All IsSpelledLiteral lits
+
+-- the hints of the line after lines with these clauses refute what is assumed
+abbrev pub NextRefutes : Sought → List (List Literal) → List Literal → List Hint → Type 0
+NextRefutes s kept assumed hints = AreRefuting s (lines_with kept) (length kept + 1) assumed hints
+
+-- these literals and hints show what the line after lines with these clauses has to
+abbrev pub IsNextLearnt : Sought → List (List Literal) → List Literal → List Hint → Type 0
+IsNextLearnt s kept lits hints = IsLearnt s (lines_with kept) (length kept + 1) lits hints

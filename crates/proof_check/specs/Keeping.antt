@@ -1,9 +1,11 @@
 -- Which clauses of lines are kept while later lines are judged.
-use Rattle.std.specs.Prelude.{ℕ, List, [], ◌++◌, drop, map}
+use Rattle.std.specs.Prelude.{◌≡◌, ℕ, List, [], ◌∷◌, ◌++◌, drop, map}
 use Rattle.hint_refutation.specs.Pieces.{last_end, pieces_from}
 use Rattle.axiom_rules.specs.declared.literal.Literal.{Literal}
 use Rattle.proof_log.specs.declared.line.Line.{Line}
 use Rattle.proof_log.specs.declared.line.Line.TheVariants as line
+use Rattle.proof_log.specs.LinesText.{Word}
+use Rattle.proof_log.specs.Reading.{words_after}
 
 -- a line with this clause
 abbrev pub line_with : List Literal → Line
@@ -29,3 +31,11 @@ closed_only clauses = record { closed = clauses; pending = [] }
 -- with these literals pending too
 abbrev pub with_pending : Kept → List Literal → Kept
 with_pending kept lits = record { closed = kept.closed; pending = kept.pending ++ lits }
+
+-- these clauses, then one more, and none pending
+abbrev pub with_closed : List (List Literal) → List Literal → Kept
+with_closed clauses clause = closed_only (clauses ++ clause ∷ [])
+
+-- the literals are pending too, and the rest are the words after them
+abbrev pub ArePending : Kept → List Literal → Kept → List Word → List ℕ → Type 0
+ArePending old lits new after rest = (words_after rest ≡ after) × (new ≡ with_pending old lits)

@@ -6,3 +6,5 @@ pub mod Keeping
 pub mod Places
 pub mod Judging
 pub mod Answering
+pub mod WordsOf
+pub mod Taking

@@ -1,13 +1,13 @@
 -- A walk as far as it has come.
-use Rattle.std.specs.Prelude.{◌≡◌, ◌≢◌, ◌-◌, ◌*◌, ◌^◌, ◌≤◌, ℕ, List, [], length, map, take, Option, Some, slice_get, ℤ, pos, ◌+ℤ◌, ◌≤ℤ◌, ◌<ℤ◌}
+use Rattle.std.specs.Prelude.{◌≡◌, ◌≢◌, ◌+◌, ◌-◌, ◌*◌, ◌^◌, ◌≤◌, ℕ, List, [], ◌∷◌, ◌++◌, length, map, take, Option, Some, slice_get, ℤ, pos, ◌+ℤ◌, ◌≤ℤ◌, ◌<ℤ◌}
 use Rattle.std.specs.Prelude.{option_and_then, IfSome}
 use Rattle.mt_model.specs.declared.step.Step.{Step}
 use Rattle.mt_model.specs.Log.{Logged}
 use Rattle.mt_model.specs.Walks.{Edge, IsClosedWalk, LeadsTo, sum_of_bounds}
 use Rattle.proof_check.specs.declared.walk.Walk.{Walk}
-use Rattle.proof_check.specs.declared.course.Course.{Course}
-use Rattle.proof_check.specs.declared.course.Course.TheVariants as course
-use Rattle.proof_check.specs.declared.course.CycleWalk.{CycleWalk}
+use Rattle.proof_check.specs.declared.cycle_walk.Course.{Course}
+use Rattle.proof_check.specs.declared.cycle_walk.Course.TheVariants as course
+use Rattle.proof_check.specs.declared.cycle_walk.CycleWalk.{CycleWalk}
 use Rattle.proof_check.specs.Cycles.{FollowOneAnother, bound_edge_of}
 
 -- from -n to n
@@ -92,3 +92,16 @@ IsRoomy n (course.Stopped place) = Unit {0}
 -- the sum of a walk's bounds is near
 abbrev pub HasRoom : CycleWalk → Type 0
 HasRoom walk = IsRoomy walk.count walk.course
+
+-- P holds of steps and of these with one more that has this edge, whichever edges steps have
+abbrev pub OfStep : Option Edge → ((Step → Option Edge) → List Step → List Step → Type 0) → Type 0
+OfStep edge P = (edges : Step → Option Edge) (steps : List Step) (step : Step) → edge ≡ edges step → P edges steps (steps ++ step ∷ [])
+
+-- the same where the one more has this number
+abbrev pub OfNumberedStep : ℕ → Option Edge → ((Step → Option Edge) → List Step → List Step → Type 0) → Type 0
+OfNumberedStep number edge P =
+    (edges : Step → Option Edge) (steps : List Step) (step : Step) → edge ≡ edges step → length steps + 1 ≡ number → P edges steps (steps ++ step ∷ [])
+
+-- where the walk is that of the steps, and these with one more begin where it does, they lead so far
+abbrev pub LeadsOn : Walk → Course → (Step → Option Edge) → List Step → List Step → Type 0
+LeadsOn walk course edges steps more = Covers edges steps walk → BeginsAt edges more walk.start → LeadsUpTo edges more course

@@ -1,3 +1,5 @@
+//! What is answered for lines.
+
 /// What lines of a derivation are.
 #[derive(Clone, Copy, PartialEq, Eq)]
 pub enum Check {

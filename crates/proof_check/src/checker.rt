@@ -1,5 +1,7 @@
-ghost use Rattle.std.specs.Prelude.{◌≡◌, ◌↔◌, ◌+◌, ◌<◌, ◌≤◌, ◌^◌, ℕ, List, length, IfOk, OnOk, None, Err};
-ghost use Rattle.mt_model.specs.Form.{Form, form_of};
+//! The checker of derivations, for one log, one formula and one value.
+
+ghost use Rattle.std.specs.Prelude.{◌≡◌, ◌↔◌, ◌<◌, ◌≤◌, ◌^◌, ℕ, List, length, IfOk, OnOk, None, Err};
+ghost use Rattle.mt_model.specs.Form.{form_of};
 ghost use Rattle.mt_model.specs.Log.{IsLog};
 ghost use Rattle.mt_model.specs.State.{unknown_host};
 ghost use Rattle.mt_model.specs.Truth.{IsValue};
@@ -17,8 +19,9 @@ use crate::laws::refuted_is_no_value;
 use crate::taking::{check_lines, check_lines_of};
 use axiom_rules::Rules;
 use formula_arena::{Arena, ArenaFault};
-use mt_model::{Formula, Log, NodeId, log_is_valid};
+use mt_model::{Formula, Log, log_is_valid};
 use proof_log::Line;
+use question::Nodes;
 use smallvec::SmallVec;
 use std::alloc::{AllocError, Global};
 use std::marker::Model;
@@ -70,17 +73,11 @@ impl Checker {
         })
     }
 
-    /// The same where the nodes of the formula are known already, the root being the last. An error is want of memory.
-    pub fn by(
-        alloc: Global,
-        log: &Log,
-        arena: &Arena,
-        root: NodeId,
-        value: bool,
-    ) -> Result<Checker, AllocError>
-        ensures sought { IfOk result (λ c. (f : Form) → arena.now ≡ nodes_of f → root + 1 ≡ length arena.now → c ≡ sought_of log.now f value) }
+    /// The same where the nodes of the formula are known already. An error is want of memory.
+    pub fn by(alloc: Global, log: &Log, nodes: &Nodes, value: bool) -> Result<Checker, AllocError>
+        ensures sought { IfOk result (λ c. c ≡ sought_of log.now nodes.now value) }
     {
-        let rules = Rules::new(alloc, log, arena, root, value)?;
+        let rules = Rules::new(alloc, log, nodes.arena(), nodes.root(), value)?;
         Ok(Checker {
             alloc,
             rules,
@@ -91,7 +88,8 @@ impl Checker {
     /// What lines are for the log, the formula and the value. Fewer than 2^32 lines are asked for, and each call judges its
     /// lines alone. A formula has no value that lines refute.
     ///
-    /// The time is that of the clauses which the lines have and cite. An error is want of memory.
+    /// The time is that of the clauses which the lines have and cite. An error is want of memory. It is `check_text` of the
+    /// lines' text: one of 2^31 bytes or more is told as want of memory.
     pub fn check(&mut self, lines: &[Line]) -> Result<Check, AllocError>
         requires few { length lines.now < 2 ^ 32 }
         ensures refutes { IfOk result (λ c. OfSought self.old (λ log f v. (c ≡ Check.Refutes) ↔ Refutes log f v lines.now)) }

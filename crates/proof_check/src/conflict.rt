@@ -1,22 +1,20 @@
 //! Whether the next line is right by its words, where it is a Cycle line.
 
 ghost use Rattle.std.specs.Prelude.{◌≡◌, ◌↔◌, ◌+◌, ◌<◌, ◌≤◌, ◌^◌, ◌∷◌, [], ◌++◌, List, length, IfOk, IsTrue, MatchOption, OnOk};
-ghost use Rattle.std.specs.Fmt.{decimal};
-ghost use Rattle.std.specs.List.{filter_map, flat_map};
+ghost use Rattle.std.specs.List.{filter_map};
 ghost use Rattle.mt_model.specs.declared.step.Step.{Step};
-ghost use Rattle.mt_model.specs.Walks.{Conflict, edge_of};
+ghost use Rattle.mt_model.specs.Walks.{Conflict};
 ghost use Rattle.axiom_rules.specs.declared.literal.Literal.{Literal};
-ghost use Rattle.axiom_rules.specs.Parts.{each_once};
 ghost use Rattle.skew_bounds.specs.RowEdges.{IsEdgeTableOf};
-ghost use Rattle.proof_log.specs.Derivations.{negated_step as negated_step_of};
-ghost use Rattle.proof_log.specs.LinesText.{step_words};
-ghost use Rattle.proof_log.specs.Reading.{words_after};
-ghost use Rattle.proof_log.specs.Spelled.{IsSpelledCycle, IsSpelledStep};
-ghost use Rattle.proof_check.specs.Keeping.{closed_only, with_pending};
-ghost use Rattle.proof_check.specs.Walking.{HasCome};
+ghost use Rattle.proof_log.specs.declared.line.Line.TheVariants.{Cycle};
+ghost use Rattle.proof_log.specs.Derivations.{clause_of_line, negated_step as negated_step_of};
+ghost use Rattle.proof_log.specs.Spelled.{IsSpelledStep};
+ghost use Rattle.proof_check.specs.Keeping.{closed_only, with_closed, with_pending};
+ghost use Rattle.proof_check.specs.Taking.{TakesSteps};
+ghost use Rattle.proof_check.specs.WordsOf.{OfCycle, OfSteps};
 
 use crate::clauses::negated_step;
-use crate::course::CycleWalk;
+use crate::cycle_walk::CycleWalk;
 use crate::kept::Clauses;
 use crate::walk::step_edge;
 use axiom_rules::Rules;
@@ -46,7 +44,7 @@ fn walked(
     words: &[u8],
 ) -> Result<Option<CycleWalk>, AllocError>
     requires table { IsEdgeTableOf rules.now.log table.now }
-    ensures walked { IfOk result (λ found. (steps : List Step) → IsSpelledCycle steps → length steps ≡ count → words_after words.now ≡ flat_map step_words steps → MatchOption found ⊥ (λ walk. HasCome (edge_of rules.now.log) steps walk × (kept.new ≡ with_pending kept.old (filter_map negated_step_of steps)))) }
+    ensures walked { IfOk result (λ found. OfSteps count words.now (λ steps. MatchOption found ⊥ (TakesSteps rules.now.log kept.old steps kept.new))) }
     ensures closed { IfOk result (λ _. kept.new.closed ≡ kept.old.closed) }
     ensures few { IfOk result (λ _. length kept.new.pending < length kept.old.pending + 2 ^ 32) }
 {
@@ -73,9 +71,9 @@ pub fn takes_cycle(
 ) -> Result<bool, AllocError>
     requires table { IsEdgeTableOf rules.now.log table.now }
     requires open { kept.old.pending ≡ [] }
-    ensures conflict { IfOk result (λ b. (steps : List Step) → IsSpelledCycle steps → words_after words.now ≡ decimal (length steps) ∷ flat_map step_words steps → IsTrue b ↔ Conflict rules.now.log steps) }
+    ensures conflict { IfOk result (λ b. OfCycle words.now (λ steps. IsTrue b ↔ Conflict rules.now.log steps)) }
     ensures grown { IfOk result (λ b. IsTrue b → (clause : List Literal) × (kept.new ≡ closed_only (kept.old.closed ++ clause ∷ []))) }
-    ensures kept { IfOk result (λ b. (steps : List Step) → IsSpelledCycle steps → words_after words.now ≡ decimal (length steps) ∷ flat_map step_words steps → IsTrue b → kept.new ≡ closed_only (kept.old.closed ++ each_once (filter_map negated_step_of steps) ∷ [])) }
+    ensures kept { IfOk result (λ b. OfCycle words.now (λ steps. IsTrue b → kept.new ≡ with_closed kept.old.closed (clause_of_line (Cycle steps)))) }
 {
     let (count, steps) = read_count(words);
     let Some(walk) = walked(rules, table, kept, count, steps)? else {

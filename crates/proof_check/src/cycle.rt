@@ -5,7 +5,7 @@ ghost use Rattle.mt_model.specs.Timing.{Admissible};
 ghost use Rattle.skew_bounds.specs.RowEdges.{IsEdgeTableOf};
 ghost use Rattle.proof_check.specs.Cycles.{IsCycle, IsPlace};
 
-use crate::course::CycleWalk;
+use crate::cycle_walk::CycleWalk;
 use crate::walk::bound_edge;
 use mt_model::{Log, Step};
 use skew_bounds::EdgeTable;

@@ -1,18 +1,13 @@
 //! Whether the next line is right by its words, given the clauses of the lines before it.
 
 ghost use Rattle.std.specs.Prelude.{◌≡◌, ◌↔◌, ◌+◌, ◌<◌, ◌^◌, ◌∷◌, [], ◌++◌, if◌then◌else◌, List, length, IfOk, IsTrue, MatchOption, None, Some};
-ghost use Rattle.std.specs.List.{flat_map};
-ghost use Rattle.std.specs.Fmt.{decimal};
 ghost use Rattle.std.specs.Result.{result_ok};
 ghost use Rattle.axiom_rules.specs.declared.literal.Literal.{Literal};
 ghost use Rattle.axiom_rules.specs.Clauses.{clause_of as clause_of_rule};
 ghost use Rattle.proof_log.specs.declared.line.Hint.{Hint};
-ghost use Rattle.proof_log.specs.Derivations.{IsLearnt};
-ghost use Rattle.proof_log.specs.LinesText.{Word, hint_words, literal_words};
-ghost use Rattle.proof_log.specs.Reading.{words_after};
-ghost use Rattle.proof_log.specs.Spelled.{AreSpelledHints, IsSpelledLearn};
-ghost use Rattle.proof_check.specs.Judging.{AreRefuting, AreSpelledLiterals, IsHintTaken};
-ghost use Rattle.proof_check.specs.Keeping.{closed_only, lines_with, with_pending};
+ghost use Rattle.proof_check.specs.Judging.{IsHintTaken, IsNextLearnt, NextRefutes};
+ghost use Rattle.proof_check.specs.Keeping.{ArePending, closed_only, lines_with, with_closed};
+ghost use Rattle.proof_check.specs.WordsOf.{OfCountedHints, OfHints, OfLearn, OfLiterals};
 
 use crate::clauses::cited_clause;
 use crate::kept::Clauses;
@@ -72,7 +67,7 @@ fn are_refuting(
     clause: &mut Clause,
     assumed: &mut Assumed,
 ) -> Result<bool, AllocError>
-    ensures { IfOk result (λ b. (hints : List Hint) → AreSpelledHints hints → length hints ≡ count → words_after words.now ≡ flat_map hint_words hints → IsTrue b ↔ AreRefuting rules.now (lines_with kept.now.closed) (length kept.now.closed + 1) assumed.old hints) }
+    ensures { IfOk result (λ b. OfHints count words.now (λ hints. IsTrue b ↔ NextRefutes rules.now kept.now.closed assumed.old hints)) }
 {
     refuters_give::<Literal>();
     assumed_is_set::<Literal>();
@@ -100,7 +95,7 @@ fn is_learnt(
     clause: &mut Clause,
 ) -> Result<bool, AllocError>
     requires few { length kept.now.pending < 2 ^ 32 }
-    ensures { IfOk result (λ b. (hints : List Hint) → AreSpelledHints hints → words_after words.now ≡ decimal (length hints) ∷ flat_map hint_words hints → IsTrue b ↔ IsLearnt rules.now (lines_with kept.now.closed) (length kept.now.closed + 1) kept.now.pending hints) }
+    ensures { IfOk result (λ b. OfCountedHints words.now (λ hints. IsTrue b ↔ IsNextLearnt rules.now kept.now.closed kept.now.pending hints)) }
 {
     refuters_give::<Literal>();
     assumed_is_set::<Literal>();
@@ -116,7 +111,7 @@ fn is_learnt(
 
 // Adds the literals, the words of which follow their number, to the pending clause. The words after them.
 fn push_literals<'a>(kept: &mut Clauses, words: &'a [u8]) -> Result<Option<&'a [u8]>, AllocError>
-    ensures literals { IfOk result (λ found. (lits : List Literal) (after : List Word) → AreSpelledLiterals lits → words_after words.now ≡ decimal (length lits) ∷ (flat_map literal_words lits ++ after) → MatchOption found ⊥ (λ rest. (words_after rest.now ≡ after) × (kept.new ≡ with_pending kept.old lits))) }
+    ensures literals { IfOk result (λ o. OfLiterals words.now (λ lits after. MatchOption o ⊥ (λ r. ArePending kept.old lits kept.new after r.now))) }
     ensures closed { IfOk result (λ _. kept.new.closed ≡ kept.old.closed) }
     ensures few { IfOk result (λ _. length kept.new.pending < length kept.old.pending + 2 ^ 32) }
 {
@@ -141,9 +136,9 @@ pub fn takes_learn(
     words: &[u8],
 ) -> Result<bool, AllocError>
     requires open { kept.old.pending ≡ [] }
-    ensures learnt { IfOk result (λ b. (lits : List Literal) (hints : List Hint) → IsSpelledLearn lits hints → words_after words.now ≡ decimal (length lits) ∷ (flat_map literal_words lits ++ decimal (length hints) ∷ flat_map hint_words hints) → IsTrue b ↔ IsLearnt rules.now (lines_with kept.old.closed) (length kept.old.closed + 1) lits hints) }
+    ensures learnt { IfOk result (λ b. OfLearn words.now (λ lits hints. IsTrue b ↔ IsNextLearnt rules.now kept.old.closed lits hints)) }
     ensures grown { IfOk result (λ b. IsTrue b → (clause : List Literal) × (kept.new ≡ closed_only (kept.old.closed ++ clause ∷ []))) }
-    ensures kept { IfOk result (λ b. (lits : List Literal) (hints : List Hint) → IsSpelledLearn lits hints → words_after words.now ≡ decimal (length lits) ∷ (flat_map literal_words lits ++ decimal (length hints) ∷ flat_map hint_words hints) → IsTrue b → kept.new ≡ closed_only (kept.old.closed ++ lits ∷ [])) }
+    ensures kept { IfOk result (λ b. OfLearn words.now (λ lits hints. IsTrue b → kept.new ≡ with_closed kept.old.closed lits)) }
 {
     let Some(hints) = push_literals(kept, words)? else {
         return Ok(false);

@@ -1,3 +1,5 @@
+//! The clauses of lines that are kept while later lines are judged.
+
 ghost use Rattle.std.specs.Prelude.{◌≡◌, ◌-◌, ◌<◌, ◌≤◌, ◌^◌, [], ◌∷◌, ◌++◌, length, option_copied, slice_get, slice_index, slice_index_or, OnOk};
 ghost use Rattle.axiom_rules.specs.Parts.{each_once};
 ghost use Rattle.proof_check.specs.Keeping.{closed_only};

@@ -1,3 +1,5 @@
+//! What right lines hold, and what lines that refute exclude.
+
 ghost use Rattle.proof_check.specs.Laws.{RefutedIsNoValue, RightLinesHold};
 
 use axiom_rules::rules_hold;

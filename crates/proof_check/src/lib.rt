@@ -6,8 +6,8 @@ mod check;
 mod checker;
 mod clauses;
 mod conflict;
-mod course;
 mod cycle;
+mod cycle_walk;
 mod given;
 mod judge;
 mod kept;
@@ -20,6 +20,6 @@ mod walk;
 
 pub use check::{Check, TextCheck};
 pub use checker::Checker;
-pub use course::CycleWalk;
 pub use cycle::{check_cycle, check_cycle_by};
+pub use cycle_walk::CycleWalk;
 pub use laws::{refuted_is_no_value, right_lines_hold};

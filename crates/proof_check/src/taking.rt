@@ -7,11 +7,10 @@ ghost use Rattle.proof_log.specs.declared.line.Line.{Line};
 ghost use Rattle.proof_log.specs.Derivations.{IsEmptyAt, clause_of_line};
 ghost use Rattle.proof_log.specs.Freshness.{learn_lines};
 ghost use Rattle.proof_log.specs.LinesOf.{IsTextOf};
-ghost use Rattle.proof_log.specs.Parts.{AreWordsOf, IsHeadWords};
-ghost use Rattle.proof_log.specs.Spelled.{IsSpelled};
-ghost use Rattle.proof_check.specs.Answering.{IsAnswer, OfSought};
+ghost use Rattle.proof_log.specs.Parts.{AreWordsOf, IsHeadWords, OfLine};
+ghost use Rattle.proof_check.specs.Answering.{IsAnswer, IsSpelledFront, OfSought, with_unspelled as with_unspelled_of};
 ghost use Rattle.proof_check.specs.Judging.{IsNext};
-ghost use Rattle.proof_check.specs.Keeping.{closed_only, lines_with};
+ghost use Rattle.proof_check.specs.Keeping.{closed_only, lines_with, with_closed};
 
 use crate::check::{Check, TextCheck};
 use crate::clauses::ends_empty;
@@ -19,9 +18,12 @@ use crate::conflict::takes_cycle;
 use crate::judge::{Clause, takes_learn};
 use crate::kept::Clauses;
 use axiom_rules::Rules;
-use proof_log::{Line, LineWords, has_spelling, next_words, push_line};
+use proof_log::{Line, LineWords, has_spelling, next_words, print_lines};
 use skew_bounds::EdgeTable;
 use std::alloc::{AllocError, Global};
+
+/// The least length of a text that isn't read.
+const TOO_LONG: usize = 1 << 31;
 
 // Whether a line of these words is good as the one after those whose clauses are closed. If so, its clause is closed too.
 fn takes(
@@ -34,9 +36,9 @@ fn takes(
 ) -> Result<bool, AllocError>
     requires table { IsEdgeTableOf rules.now.log table.now }
     requires open { kept.old.pending ≡ [] }
-    ensures good { IfOk result (λ b. (line : Line) → IsSpelled line → AreWordsOf words.entry line → IsTrue b ↔ IsNext rules.now kept.old.closed line) }
+    ensures good { IfOk result (λ b. OfLine words.entry (λ line. IsTrue b ↔ IsNext rules.now kept.old.closed line)) }
     ensures grown { IfOk result (λ b. IsTrue b → (clause : List Literal) × (kept.new ≡ closed_only (kept.old.closed ++ clause ∷ []))) }
-    ensures kept { IfOk result (λ b. (line : Line) → IsSpelled line → AreWordsOf words.entry line → IsTrue b → kept.new ≡ closed_only (kept.old.closed ++ clause_of_line line ∷ [])) }
+    ensures kept { IfOk result (λ b. OfLine words.entry (λ line. IsTrue b → kept.new ≡ with_closed kept.old.closed (clause_of_line line))) }
 {
     if ends_empty(kept) {
         return Ok(false);
@@ -44,30 +46,6 @@ fn takes(
     match words {
         LineWords::Cycle(words) => takes_cycle(alloc, rules, table, kept, words),
         LineWords::Learn(words) => takes_learn(alloc, rules, kept, clause, words),
-    }
-}
-
-// The same of a line, whose text is written over an earlier one's.
-fn takes_line(
-    alloc: Global,
-    rules: &Rules,
-    table: &EdgeTable,
-    kept: &mut Clauses,
-    clause: &mut Clause,
-    text: &mut Vec<u8>,
-    line: &Line,
-) -> Result<bool, AllocError>
-    requires table { IsEdgeTableOf rules.now.log table.now }
-    requires open { kept.old.pending ≡ [] }
-    requires spelled { IsSpelled line.now }
-    ensures good { IfOk result (λ b. IsTrue b ↔ IsNext rules.now kept.old.closed line.now) }
-    ensures grown { IfOk result (λ b. IsTrue b → kept.new ≡ closed_only (kept.old.closed ++ clause_of_line line.now ∷ [])) }
-{
-    text.clear();
-    push_line(alloc, text, line)?;
-    match next_words(text.as_slice()) {
-        Some((words, _)) => takes(alloc, rules, table, kept, clause, words),
-        None => Ok(false),
     }
 }
 
@@ -81,31 +59,6 @@ fn check_of(kept: &Clauses) -> Check
     } else {
         Check::Derives
     }
-}
-
-/// What lines are. Each is judged by its text, as the lines of a text are.
-pub fn check_lines(
-    alloc: Global,
-    rules: &Rules,
-    clause: &mut Clause,
-    lines: &[Line],
-) -> Result<Check, AllocError>
-    requires { length lines.now < 2 ^ 32 }
-    ensures { IfOk result (λ c. OfSought rules.now (λ log f v. IsAnswer log f v lines.now c)) }
-{
-    let table = EdgeTable::of(alloc, rules.log())?;
-    let mut kept = Clauses::new(alloc);
-    let mut text = Vec::new(alloc);
-    for (i, line) in lines.iter().enumerate() {
-        let number = i as u32 + 1;
-        if !has_spelling(alloc, line)? {
-            return Ok(Check::Wrong(number));
-        }
-        if !takes_line(alloc, rules, &table, &mut kept, clause, &mut text, line)? {
-            return Ok(Check::Wrong(number));
-        }
-    }
-    Ok(check_of(&kept))
 }
 
 // The words of the first of the lines whose text this is, and the text of the others, which is shorter.
@@ -157,4 +110,51 @@ pub fn check_lines_of(
     }
     let check = check_of(&kept);
     Ok(TextCheck { check, learn_lines })
+}
+
+// How many lines come before the first that has no spelling.
+fn count_spelled(alloc: Global, lines: &[Line]) -> Result<usize, AllocError>
+    ensures { IfOk result (IsSpelledFront lines.now) }
+{
+    for (i, line) in lines.iter().enumerate() {
+        if !has_spelling(alloc, line)? {
+            return Ok(i);
+        }
+    }
+    Ok(lines.len())
+}
+
+// What lines are of which so many are this, where the next one has no spelling.
+fn with_unspelled(spelled: usize, front: Check) -> Check
+    requires { spelled + 1 < 2 ^ 32 }
+    ensures { result ≡ with_unspelled_of spelled front }
+{
+    match front {
+        Check::Wrong(number) => Check::Wrong(number),
+        Check::Derives | Check::Refutes => Check::Wrong(spelled as u32 + 1),
+    }
+}
+
+/// What lines are, by the text of those before the first that has no spelling: this one isn't right. A text of 2^31 bytes
+/// or more is told as want of memory.
+pub fn check_lines(
+    alloc: Global,
+    rules: &Rules,
+    clause: &mut Clause,
+    lines: &[Line],
+) -> Result<Check, AllocError>
+    requires { length lines.now < 2 ^ 32 }
+    ensures { IfOk result (λ c. OfSought rules.now (λ log f v. IsAnswer log f v lines.now c)) }
+{
+    let spelled = count_spelled(alloc, lines)?;
+    let text = print_lines(alloc, &lines[..spelled])?;
+    if text.len() >= TOO_LONG {
+        return Err(AllocError);
+    }
+    let front = check_lines_of(alloc, rules, clause, text.as_slice())?.check;
+    if spelled == lines.len() {
+        Ok(front)
+    } else {
+        Ok(with_unspelled(spelled, front))
+    }
 }

@@ -5,6 +5,7 @@ pub mod Derivations
 pub mod Freshness
 pub mod FreshLaws
 pub mod Reading
+pub mod Fronts
 pub mod Parts
 pub mod Laws
 pub mod Marks

@@ -34,3 +34,7 @@ pub record IsHeadWords (lines : List Line) (ws : LineWords) (rest : List ℕ) : 
   pub spelled : IsSpelled line
   pub words : AreWordsOf ws line
   pub bytes : bytes_of ws ≡ spaced (words_after (bytes_of ws))
+
+-- P holds of each line that has these words
+abbrev pub OfLine : LineWords → (Line → Type 0) → Type 0
+OfLine ws P = (line : Line) → IsSpelled line → AreWordsOf ws line → P line

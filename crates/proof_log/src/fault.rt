@@ -1,3 +1,5 @@
+//! What is wrong with the text of a derivation.
+
 use std::alloc::AllocError;
 use thiserror::Error;
 

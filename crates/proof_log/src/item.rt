@@ -1,9 +1,10 @@
 //! What stands at the front of the words of a line.
 
-ghost use Rattle.std.specs.Prelude.{◌≡◌, ◌≢◌, ◌<◌, Some, None, MatchOption, IfSome};
+ghost use Rattle.std.specs.Prelude.{◌≢◌, ◌<◌, Some, None, MatchOption, IfSome};
 ghost use Rattle.mt_model.specs.declared.limits.TheConstants.{MAX_ORDER};
 ghost use Rattle.mt_model.specs.Log.{IsWithin};
-ghost use Rattle.proof_log.specs.Reading.{argument_in, arguments_in, atom_in, bound_in, byte_in, constraint_in, hint_in, literal_in, literal_of, made, number_in, rising_in, rule_in, signed_in, step_in, step_of, three_in, two_in, words_after};
+ghost use Rattle.proof_log.specs.Fronts.{Finds, FindsNone, order_literal_in, order_step_in};
+ghost use Rattle.proof_log.specs.Reading.{argument_in, arguments_in, atom_in, bound_in, byte_in, constraint_in, hint_in, literal_in, number_in, rising_in, rule_in, signed_in, step_in, three_in, two_in};
 
 use crate::line::Hint;
 use crate::word::next_word;
@@ -21,7 +22,7 @@ pub struct Constraint {
 
 /// A number below 2^32.
 pub fn next_number(words: &[u8]) -> Option<(u32, &[u8])>
-    ensures { MatchOption result (number_in (words_after words.now) ≡ None) (λ r. number_in (words_after words.now) ≡ Some (r.0, words_after r.1.now)) }
+    ensures { MatchOption result (FindsNone number_in words.now) (λ r. Finds number_in words.now r.0 r.1.now) }
 {
     let (word, rest) = next_word(words)?;
     let value = number(word, 1 << 32)?;
@@ -29,7 +30,7 @@ pub fn next_number(words: &[u8]) -> Option<(u32, &[u8])>
 }
 
 fn next_byte(words: &[u8]) -> Option<(u8, &[u8])>
-    ensures { MatchOption result (byte_in (words_after words.now) ≡ None) (λ r. byte_in (words_after words.now) ≡ Some (r.0, words_after r.1.now)) }
+    ensures { MatchOption result (FindsNone byte_in words.now) (λ r. Finds byte_in words.now r.0 r.1.now) }
 {
     let (word, rest) = next_word(words)?;
     let value = number(word, 1 << 8)?;
@@ -37,7 +38,7 @@ fn next_byte(words: &[u8]) -> Option<(u8, &[u8])>
 }
 
 fn next_bound(words: &[u8]) -> Option<(i128, &[u8])>
-    ensures value { MatchOption result (bound_in (words_after words.now) ≡ None) (λ r. bound_in (words_after words.now) ≡ Some (r.0, words_after r.1.now)) }
+    ensures value { MatchOption result (FindsNone bound_in words.now) (λ r. Finds bound_in words.now r.0 r.1.now) }
     ensures range { IfSome result (λ r. IsWithin MAX_ORDER r.0) }
 {
     let (word, rest) = next_word(words)?;
@@ -46,7 +47,7 @@ fn next_bound(words: &[u8]) -> Option<(i128, &[u8])>
 }
 
 fn next_two(words: &[u8]) -> Option<((u32, u32), &[u8])>
-    ensures { MatchOption result (two_in (words_after words.now) ≡ None) (λ r. two_in (words_after words.now) ≡ Some ((r.0.0, r.0.1), words_after r.1.now)) }
+    ensures { MatchOption result (FindsNone two_in words.now) (λ r. Finds two_in words.now (r.0.0, r.0.1) r.1.now) }
 {
     let (a, rest) = next_number(words)?;
     let (b, rest) = next_number(rest)?;
@@ -55,14 +56,14 @@ fn next_two(words: &[u8]) -> Option<((u32, u32), &[u8])>
 
 // Two numbers, the smaller first.
 fn next_rising(words: &[u8]) -> Option<((u32, u32), &[u8])>
-    ensures { MatchOption result (rising_in (words_after words.now) ≡ None) (λ r. rising_in (words_after words.now) ≡ Some ((r.0.0, r.0.1), words_after r.1.now)) }
+    ensures { MatchOption result (FindsNone rising_in words.now) (λ r. Finds rising_in words.now (r.0.0, r.0.1) r.1.now) }
 {
     let ((a, b), rest) = next_two(words)?;
     if a < b { Some(((a, b), rest)) } else { None }
 }
 
 fn next_three(words: &[u8]) -> Option<((u32, u32, u32), &[u8])>
-    ensures { MatchOption result (three_in (words_after words.now) ≡ None) (λ r. three_in (words_after words.now) ≡ Some ((r.0.0, r.0.1, r.0.2), words_after r.1.now)) }
+    ensures { MatchOption result (FindsNone three_in words.now) (λ r. Finds three_in words.now (r.0.0, r.0.1, r.0.2) r.1.now) }
 {
     let ((a, b), rest) = next_two(words)?;
     let (c, rest) = next_number(rest)?;
@@ -71,7 +72,7 @@ fn next_three(words: &[u8]) -> Option<((u32, u32, u32), &[u8])>
 
 // Two different events and a bound.
 fn next_constraint(words: &[u8]) -> Option<(Constraint, &[u8])>
-    ensures value { MatchOption result (constraint_in (words_after words.now) ≡ None) (λ r. constraint_in (words_after words.now) ≡ Some (r.0, words_after r.1.now)) }
+    ensures value { MatchOption result (FindsNone constraint_in words.now) (λ r. Finds constraint_in words.now r.0 r.1.now) }
     ensures apart { IfSome result (λ r. r.0.e ≢ r.0.f) }
     ensures range { IfSome result (λ r. IsWithin MAX_ORDER r.0.c) }
 {
@@ -84,7 +85,7 @@ fn next_constraint(words: &[u8]) -> Option<(Constraint, &[u8])>
 }
 
 fn next_order_step(words: &[u8]) -> Option<(Step, &[u8])>
-    ensures { MatchOption result (made step_of (constraint_in (words_after words.now)) ≡ None) (λ r. made step_of (constraint_in (words_after words.now)) ≡ Some (r.0, words_after r.1.now)) }
+    ensures { MatchOption result (FindsNone order_step_in words.now) (λ r. Finds order_step_in words.now r.0 r.1.now) }
 {
     let (Constraint { e, f, c }, rest) = next_constraint(words)?;
     Some((Step::Order { e, f, c }, rest))
@@ -92,7 +93,7 @@ fn next_order_step(words: &[u8]) -> Option<(Step, &[u8])>
 
 /// A step.
 pub fn next_step(words: &[u8]) -> Option<(Step, &[u8])>
-    ensures { MatchOption result (step_in (words_after words.now) ≡ None) (λ r. step_in (words_after words.now) ≡ Some (r.0, words_after r.1.now)) }
+    ensures { MatchOption result (FindsNone step_in words.now) (λ r. Finds step_in words.now r.0 r.1.now) }
 {
     let (word, rest) = next_word(words)?;
     if word == b"low".as_slice() {
@@ -122,7 +123,7 @@ pub fn next_step(words: &[u8]) -> Option<(Step, &[u8])>
 
 // The atom of a name.
 fn next_atom<'a>(name: &[u8], words: &'a [u8]) -> Option<(Atom, &'a [u8])>
-    ensures { MatchOption result (atom_in name.now (words_after words.now) ≡ None) (λ r. atom_in name.now (words_after words.now) ≡ Some (r.0, words_after r.1.now)) }
+    ensures { MatchOption result (FindsNone (atom_in name.now) words.now) (λ r. Finds (atom_in name.now) words.now r.0 r.1.now) }
 {
     if name == b"node".as_slice() {
         let ((k, e), rest) = next_two(words)?;
@@ -148,7 +149,7 @@ fn next_atom<'a>(name: &[u8], words: &'a [u8]) -> Option<(Atom, &'a [u8])>
 }
 
 fn next_order_literal(words: &[u8]) -> Option<(Literal, &[u8])>
-    ensures { MatchOption result (made literal_of (constraint_in (words_after words.now)) ≡ None) (λ r. made literal_of (constraint_in (words_after words.now)) ≡ Some (r.0, words_after r.1.now)) }
+    ensures { MatchOption result (FindsNone order_literal_in words.now) (λ r. Finds order_literal_in words.now r.0 r.1.now) }
 {
     let (Constraint { e, f, c }, rest) = next_constraint(words)?;
     Some((order_literal(e, f, c), rest))
@@ -156,7 +157,7 @@ fn next_order_literal(words: &[u8]) -> Option<(Literal, &[u8])>
 
 // The literal of a word that begins with a sign.
 fn next_signed<'a>(word: &[u8], words: &'a [u8]) -> Option<(Literal, &'a [u8])>
-    ensures { MatchOption result (signed_in word.now (words_after words.now) ≡ None) (λ r. signed_in word.now (words_after words.now) ≡ Some (r.0, words_after r.1.now)) }
+    ensures { MatchOption result (FindsNone (signed_in word.now) words.now) (λ r. Finds (signed_in word.now) words.now r.0 r.1.now) }
 {
     match word {
         [b'+', name @ ..] => {
@@ -175,7 +176,7 @@ fn next_signed<'a>(word: &[u8], words: &'a [u8]) -> Option<(Literal, &'a [u8])>
 
 /// A literal.
 pub fn next_literal(words: &[u8]) -> Option<(Literal, &[u8])>
-    ensures { MatchOption result (literal_in (words_after words.now) ≡ None) (λ r. literal_in (words_after words.now) ≡ Some (r.0, words_after r.1.now)) }
+    ensures { MatchOption result (FindsNone literal_in words.now) (λ r. Finds literal_in words.now r.0 r.1.now) }
 {
     let (word, rest) = next_word(words)?;
     if word == b"order".as_slice() {
@@ -187,7 +188,7 @@ pub fn next_literal(words: &[u8]) -> Option<(Literal, &[u8])>
 
 // An argument, 0 and no word where it isn't used.
 fn next_argument(used: bool, words: &[u8]) -> Option<(u32, &[u8])>
-    ensures { MatchOption result (argument_in used (words_after words.now) ≡ None) (λ r. argument_in used (words_after words.now) ≡ Some (r.0, words_after r.1.now)) }
+    ensures { MatchOption result (FindsNone (argument_in used) words.now) (λ r. Finds (argument_in used) words.now r.0 r.1.now) }
 {
     if used {
         next_number(words)
@@ -197,7 +198,7 @@ fn next_argument(used: bool, words: &[u8]) -> Option<(u32, &[u8])>
 }
 
 fn next_arguments(count: usize, words: &[u8]) -> Option<([u32; 4], &[u8])>
-    ensures { MatchOption result (arguments_in count (words_after words.now) ≡ None) (λ r. arguments_in count (words_after words.now) ≡ Some (r.0, words_after r.1.now)) }
+    ensures { MatchOption result (FindsNone (arguments_in count) words.now) (λ r. Finds (arguments_in count) words.now r.0 r.1.now) }
 {
     let (a, rest) = next_argument(count > 0, words)?;
     let (b, rest) = next_argument(count > 1, rest)?;
@@ -207,7 +208,7 @@ fn next_arguments(count: usize, words: &[u8]) -> Option<([u32; 4], &[u8])>
 }
 
 fn next_rule(words: &[u8]) -> Option<(Rule, &[u8])>
-    ensures { MatchOption result (rule_in (words_after words.now) ≡ None) (λ r. rule_in (words_after words.now) ≡ Some (r.0, words_after r.1.now)) }
+    ensures { MatchOption result (FindsNone rule_in words.now) (λ r. Finds rule_in words.now r.0 r.1.now) }
 {
     let (number, rest) = next_byte(words)?;
     let (args, rest) = next_arguments(argument_count(number), rest)?;
@@ -216,7 +217,7 @@ fn next_rule(words: &[u8]) -> Option<(Rule, &[u8])>
 
 /// A hint.
 pub fn next_hint(words: &[u8]) -> Option<(Hint, &[u8])>
-    ensures { MatchOption result (hint_in (words_after words.now) ≡ None) (λ r. hint_in (words_after words.now) ≡ Some (r.0, words_after r.1.now)) }
+    ensures { MatchOption result (FindsNone hint_in words.now) (λ r. Finds hint_in words.now r.0 r.1.now) }
 {
     let (word, rest) = next_word(words)?;
     if word == b"line".as_slice() {

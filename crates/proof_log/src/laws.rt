@@ -1,3 +1,5 @@
+//! What holds of derivations and their texts, and of fresh lines.
+
 ghost use Rattle.proof_log.specs.FreshLaws.{FreshLinesDiffer, RefutedByRulesIsNotSpent, SpentIsBounded};
 ghost use Rattle.proof_log.specs.Laws.{BytesAreUnambiguous, StepsReadAlike, TextsReadBack, TextsTellApart};
 

@@ -1,3 +1,5 @@
+//! The lines of derivations.
+
 use axiom_rules::{Literal, Rule};
 use mt_list::ListOf;
 use mt_model::Steps;

@@ -1,16 +1,16 @@
 //! Lines that are passed over: of their items the atoms of literals alone are held.
 
-ghost use Rattle.std.specs.Prelude.{◌≡◌, ◌↔◌, [], List, map, IfOk, IsTrue, MatchOption, None, Some};
+ghost use Rattle.std.specs.Prelude.{◌≡◌, ◌↔◌, [], List, IfOk, IsTrue, MatchOption, None, Some};
 ghost use Rattle.std.specs.List.{slice_split};
 ghost use Rattle.memchr.specs.Find.{is_byte};
 ghost use Rattle.mt_model.specs.declared.step.Step.{Step};
-ghost use Rattle.axiom_rules.specs.declared.literal.Literal.{Literal};
 ghost use Rattle.proof_log.specs.declared.line.Hint.{Hint};
 ghost use Rattle.proof_log.specs.declared.line.Line.{Line};
 ghost use Rattle.proof_log.specs.declared.line.Line.TheVariants.{Cycle};
+ghost use Rattle.proof_log.specs.Fronts.{Finds, FindsAtoms, FindsNone, hints_in, literals_in, steps_in};
 ghost use Rattle.proof_log.specs.LinesOf.{BeginsWithLine, GivesLine, IsFrontLine};
 ghost use Rattle.proof_log.specs.LinesText.{space};
-ghost use Rattle.proof_log.specs.Reading.{counted_in, hint_in, learn_in, line_in, literal_in, made, step_in, whole, words_after};
+ghost use Rattle.proof_log.specs.Reading.{counted_in, learn_in, line_in, made, step_in, whole, words_after};
 
 use crate::atoms::are_apart;
 use crate::item::{next_hint, next_literal, next_number, next_step};
@@ -21,7 +21,7 @@ use std::alloc::{AllocError, Global};
 
 // What follows a number and so many steps.
 fn pass_steps(words: &[u8]) -> Option<&[u8]>
-    ensures { MatchOption result (counted_in step_in (words_after words.now) ≡ None) (λ rest. (steps : List Step) × (counted_in step_in (words_after words.now) ≡ Some (steps, words_after rest.now))) }
+    ensures { MatchOption result (FindsNone steps_in words.now) (λ rest. (steps : List Step) × Finds steps_in words.now steps rest.now) }
 {
     let Some((count, first)) = next_number(words) else {
         return None;
@@ -38,28 +38,9 @@ fn pass_steps(words: &[u8]) -> Option<&[u8]>
     Some(rest)
 }
 
-/// What follows a number and so many literals.
-pub fn pass_literals(words: &[u8]) -> Option<&[u8]>
-    ensures { MatchOption result (counted_in literal_in (words_after words.now) ≡ None) (λ rest. (lits : List Literal) × (counted_in literal_in (words_after words.now) ≡ Some (lits, words_after rest.now))) }
-{
-    let Some((count, first)) = next_number(words) else {
-        return None;
-    };
-    let mut rest = first;
-    let mut passed = 0;
-    while passed < count {
-        let Some((_, after)) = next_literal(rest) else {
-            return None;
-        };
-        passed += 1;
-        rest = after;
-    }
-    Some(rest)
-}
-
 // What follows a number and so many hints.
 fn pass_hints(words: &[u8]) -> Option<&[u8]>
-    ensures { MatchOption result (counted_in hint_in (words_after words.now) ≡ None) (λ rest. (hints : List Hint) × (counted_in hint_in (words_after words.now) ≡ Some (hints, words_after rest.now))) }
+    ensures { MatchOption result (FindsNone hints_in words.now) (λ rest. (hints : List Hint) × Finds hints_in words.now hints rest.now) }
 {
     let Some((count, first)) = next_number(words) else {
         return None;
@@ -79,7 +60,7 @@ fn pass_hints(words: &[u8]) -> Option<&[u8]>
 // Keeps the atoms of a number of literals. The answer is what follows these, where the words begin so.
 fn pass_atoms<'a>(atoms: &mut Vec<Atom>, words: &'a [u8]) -> Result<Option<&'a [u8]>, AllocError>
     requires { atoms.old.items ≡ [] }
-    ensures { IfOk result (λ o. MatchOption o (counted_in literal_in (words_after words.now) ≡ None) (λ rest. (lits : List Literal) × (counted_in literal_in (words_after words.now) ≡ Some (lits, words_after rest.now)) × (atoms.new.items ≡ map (λ (l : Literal). l.atom) lits))) }
+    ensures { IfOk result (λ o. MatchOption o (FindsNone literals_in words.now) (λ rest. FindsAtoms words.now atoms.new.items rest.now)) }
 {
     let Some((count, first)) = next_number(words) else {
         return Ok(None);

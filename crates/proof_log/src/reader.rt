@@ -3,9 +3,10 @@
 ghost use Rattle.std.specs.Prelude.{◌≡◌, ◌↔◌, ◌<◌, ◌^◌, [], length, None, Some, IfOk, IsTrue, MatchOption};
 ghost use Rattle.std.specs.List.{slice_split};
 ghost use Rattle.memchr.specs.Find.{is_byte};
+ghost use Rattle.proof_log.specs.Fronts.{Finds, FindsNone, hints_in, literals_in, steps_in};
 ghost use Rattle.proof_log.specs.LinesOf.{Answers, HasAtomsOnce, IsLine};
 ghost use Rattle.proof_log.specs.LinesText.{space};
-ghost use Rattle.proof_log.specs.Reading.{counted_in, hint_in, learn_in, line_in, literal_in, made, step_in, whole, words_after};
+ghost use Rattle.proof_log.specs.Reading.{counted_in, learn_in, line_in, made, step_in, whole, words_after};
 
 use crate::atoms::has_atoms_once;
 use crate::fault::LineFault;
@@ -19,7 +20,7 @@ use std::alloc::{AllocError, Global};
 // Reads a number and so many steps. The answer is what follows them, where the words begin so.
 fn read_steps<'a>(steps: &mut Steps, words: &'a [u8]) -> Result<Option<&'a [u8]>, AllocError>
     requires { steps.old ≡ [] }
-    ensures { IfOk result (λ o. MatchOption o (counted_in step_in (words_after words.now) ≡ None) (λ rest. counted_in step_in (words_after words.now) ≡ Some (steps.new, words_after rest.now))) }
+    ensures { IfOk result (λ o. MatchOption o (FindsNone steps_in words.now) (λ rest. Finds steps_in words.now steps.new rest.now)) }
 {
     let Some((count, first)) = next_number(words) else {
         return Ok(None);
@@ -38,7 +39,7 @@ fn read_steps<'a>(steps: &mut Steps, words: &'a [u8]) -> Result<Option<&'a [u8]>
 // Reads a number and so many literals.
 fn read_literals<'a>(lits: &mut Lits, words: &'a [u8]) -> Result<Option<&'a [u8]>, AllocError>
     requires { lits.old ≡ [] }
-    ensures { IfOk result (λ o. MatchOption o (counted_in literal_in (words_after words.now) ≡ None) (λ rest. counted_in literal_in (words_after words.now) ≡ Some (lits.new, words_after rest.now))) }
+    ensures { IfOk result (λ o. MatchOption o (FindsNone literals_in words.now) (λ rest. Finds literals_in words.now lits.new rest.now)) }
 {
     let Some((count, first)) = next_number(words) else {
         return Ok(None);
@@ -57,7 +58,7 @@ fn read_literals<'a>(lits: &mut Lits, words: &'a [u8]) -> Result<Option<&'a [u8]
 /// Reads a number and so many hints.
 pub fn read_hints<'a>(hints: &mut Hints, words: &'a [u8]) -> Result<Option<&'a [u8]>, AllocError>
     requires { hints.old ≡ [] }
-    ensures { IfOk result (λ o. MatchOption o (counted_in hint_in (words_after words.now) ≡ None) (λ rest. counted_in hint_in (words_after words.now) ≡ Some (hints.new, words_after rest.now))) }
+    ensures { IfOk result (λ o. MatchOption o (FindsNone hints_in words.now) (λ rest. Finds hints_in words.now hints.new rest.now)) }
 {
     let Some((count, first)) = next_number(words) else {
         return Ok(None);

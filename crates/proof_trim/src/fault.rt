@@ -1,3 +1,5 @@
+//! Why lines can't be trimmed.
+
 use std::alloc::AllocError;
 use thiserror::Error;
 

@@ -1,3 +1,5 @@
+//! What trimming keeps.
+
 ghost use Rattle.proof_trim.specs.Laws.{RefutingCanBeTrimmed, TrimsKeepRefuting};
 
 /// Lines that refute a value can be trimmed, and the lines that are left refute it too.

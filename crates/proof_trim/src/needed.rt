@@ -1,3 +1,5 @@
+//! Which lines the last one needs.
+
 ghost use Rattle.std.specs.Prelude.{◌≡◌, ◌⊎◌, ◌+◌, ◌≤◌, ◌<◌, ℕ, All, Contains, IfOk, length, true};
 ghost use Rattle.proof_log.specs.declared.line.Hint.TheVariants as hint;
 ghost use Rattle.proof_trim.specs.Needed.{LineNames, LooksBack, NamesEarlier, NoneForward};

@@ -1,3 +1,5 @@
+//! Derivations without needless lines, by their text.
+
 ghost use Rattle.std.specs.Prelude.{◌≡◌, ◌↔◌, ◌<◌, ◌≤◌, ◌^◌, ℕ, [], List, All, Err, IfOk, IsTrue, OnOk, length};
 ghost use Rattle.proof_log.specs.declared.line.Line.{Line};
 ghost use Rattle.proof_log.specs.LinesOf.{IsTextOf};

@@ -1,3 +1,5 @@
+//! Derivations without needless lines, as lists of lines.
+
 ghost use Rattle.std.specs.Prelude.{◌≡◌, ◌↔◌, ◌-◌, ◌<◌, ◌≤◌, ◌^◌, ℕ, [], All, Err, IfOk, length};
 ghost use Rattle.proof_log.specs.Spelled.{IsSpelled};
 ghost use Rattle.proof_trim.specs.Needed.{IsFirstForward};

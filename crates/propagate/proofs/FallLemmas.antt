@@ -65,16 +65,16 @@ last_beside t s clause f o best before trail next (inr (made, guarded)) has was 
 -- the watched literals of a clause, of which f is one, with the best one in its place
 pub last_moved : (t s : Assigned) (db : List (List Lit)) (n c : ℕ) (f o best : Lit) → IsTrail t → IsTrail s → IsNextFalse t f → IsAssignedIfUnit t s o best → AreWatchedOf s.watching c f o → n ≤ c
     → IsLastToFall s.entries (length s.levels) (clause_at db c) best o → Contains (clause_at db c) best → AreLastToFallFrom n s db
-    → AreLastToFall s.entries (length s.levels) (clause_at db c) (record { first = best; second = o })
+    → AreLastToFall s.entries (length s.levels) (clause_at db c) (record { first = o; second = best })
 last_moved t s db n c f o best before trail next assigned (p, is, both) from last has was =
     let old = was c p from is in
     let that : IsLastToFall s.entries (length s.levels) (clause_at db c) o f = elim both [
       | inl at ↦ let r = old.second in rw (at.0, at.1) at r
       | inr at ↦ let r = old.first in rw (at.0, at.1) at r
     ] in
-    record { first = last; second = last_beside t s (clause_at db c) f o best before trail next assigned has that }
+    record { first = last_beside t s (clause_at db c) f o best before trail next assigned has that; second = last }
 
--- where all is taken, no literal of a clause became false at a higher level than one that is watched
+-- where all is propagated, no literal of a clause became false at a higher level than one that is watched
 module _ (t : Assigned) (clause : List Lit) (trail : IsTrail t) where
   highest : (l other : Lit) → IsGuarded t.entries (length t.entries) l other → IsLastToFall t.entries (length t.levels) clause l other → IsHighest t.entries clause l
   highest l other guarded last m at = elim (cases_lt m (length t.levels)) [
@@ -92,5 +92,5 @@ module _ (t : Assigned) (clause : List Lit) (trail : IsTrail t) where
   pub both_highest : (p : Watch) → AreGuarded t.entries (length t.entries) p → AreLastToFall t.entries (length t.levels) clause p → AreHighest t.entries (length t.levels) clause p
   both_highest p guards last = record { first = highest p.first p.second guards.first last.first; second = highest p.second p.first guards.second last.second; last = last }
 
-pub all_highest : (t : Assigned) (db : List (List Lit)) (n : ℕ) → IsTrail t → AreWatched t db → t.taken ≡ length t.entries → AreLastToFallFrom n t db → AreHighestFrom n t db
-all_highest t db n trail watched taken last c p from is = both_highest t (clause_at db c) trail p (rw taken at (watched.rule c p is)) (last c p from is)
+pub all_highest : (t : Assigned) (db : List (List Lit)) (n : ℕ) → IsTrail t → AreWatched t db → t.propagated ≡ length t.entries → AreLastToFallFrom n t db → AreHighestFrom n t db
+all_highest t db n trail watched propagated last c p from is = both_highest t (clause_at db c) trail p (rw propagated at (watched.rule c p is)) (last c p from is)

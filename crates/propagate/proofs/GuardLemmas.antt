@@ -31,30 +31,30 @@ pub guard_true : (t : Assigned) (n : ℕ) (l o : Lit) → IsTrail t → n ≤ le
 guard_true t n l o trail le held = guard_open t.entries n l o le (not_both t l trail held)
 
 module _ (t : Assigned) (f : Lit) (trail : IsTrail t) (next : IsNextFalse t f) where
-  -- the next literal to take says nothing of the other ones
-  pub guard_next : (l o : Lit) → l ≢ f → IsGuarded t.entries t.taken l o → IsGuarded t.entries (t.taken + 1) l o
-  guard_next l o other was k less is = elim (cases_lt k t.taken) [
+  -- the next literal to propagate says nothing of the other ones
+  pub guard_next : (l o : Lit) → l ≢ f → IsGuarded t.entries t.propagated l o → IsGuarded t.entries (t.propagated + 1) l o
+  guard_next l o other was k less is = elim (cases_lt k t.propagated) [
     | inl before ↦ was k before is
     | inr le ↦
-        let here : k ≡ t.taken = omega (arith, less, le) in
+        let here : k ≡ t.propagated = omega (arith, less, le) in
         absurd (other (negations_same l f (sym is ∙ ap (λ j. (entry_at t.entries j).lit) here ∙ next.is)))
   ]
 
-  pub guard_here : (o : Lit) → IsTrueUpTo t.entries (entry_at t.entries t.taken).level o → IsGuarded t.entries (t.taken + 1) f o
+  pub guard_here : (o : Lit) → IsTrueUpTo t.entries (entry_at t.entries t.propagated).level o → IsGuarded t.entries (t.propagated + 1) f o
   guard_here o since k less is =
       let more = next.more in
-      let same = same_literal t k t.taken (negation f) trail (omega (arith, less, more)) more is next.is in
+      let same = same_literal t k t.propagated (negation f) trail (omega (arith, less, more)) more is next.is in
       rw same since
 
   pub next_false : Contains (literals t.entries) (negation f)
-  next_false = literal_held t.entries t.taken (negation f) next.more next.is
+  next_false = literal_held t.entries t.propagated (negation f) next.more next.is
 
   -- where a literal is guarded by f, which is false, it isn't false itself
-  pub guard_beside : (l o : Lit) → l ≢ f → IsGuarded t.entries t.taken l f → IsGuarded t.entries (t.taken + 1) l o
-  guard_beside l o other was k less is = elim (cases_lt k t.taken) [
+  pub guard_beside : (l o : Lit) → l ≢ f → IsGuarded t.entries t.propagated l f → IsGuarded t.entries (t.propagated + 1) l o
+  guard_beside l o other was k less is = elim (cases_lt k t.propagated) [
     | inl before ↦ absurd (not_both t f trail (up_to_held t.entries _ f (was k before is)) next_false)
     | inr le ↦
-        let here : k ≡ t.taken = omega (arith, less, le) in
+        let here : k ≡ t.propagated = omega (arith, less, le) in
         absurd (other (negations_same l f (sym is ∙ ap (λ j. (entry_at t.entries j).lit) here ∙ next.is)))
   ]
 
@@ -171,7 +171,7 @@ module _ (t : Assigned) (db : List (List Lit)) (c : ℕ) (f o : Lit) (trail : Is
       let two = watched.two c both.0 both.1 in
       elim both.2 [ inl at ↦ two.differ (at.0 ∙ sym same ∙ sym at.1) | inr at ↦ two.differ (at.1 ∙ same ∙ sym at.0) ]
 
-  pub rule_of_other : IsGuarded t.entries t.taken o f
+  pub rule_of_other : IsGuarded t.entries t.propagated o f
   rule_of_other =
       let rule = watched.rule c both.0 both.1 in
       elim both.2 [
@@ -180,12 +180,12 @@ module _ (t : Assigned) (db : List (List Lit)) (c : ℕ) (f o : Lit) (trail : Is
       ]
 
   -- it stays there where the other one is true since a level not above
-  pub guards_stay : IsTrueUpTo t.entries (entry_at t.entries t.taken).level o → (p : Watch) → watch_at t.watching c ≡ Some p → AreGuarded t.entries (t.taken + 1) p
+  pub guards_stay : IsTrueUpTo t.entries (entry_at t.entries t.propagated).level o → (p : Watch) → watch_at t.watching c ≡ Some p → AreGuarded t.entries (t.propagated + 1) p
   guards_stay since p is =
       let more = next.more in
       let same : both.0 ≡ p = same_Some _ _ (sym both.1 ∙ is) in
-      let here : IsGuarded t.entries (t.taken + 1) f o = guard_here t f trail next o since in
-      let there : IsGuarded t.entries (t.taken + 1) o f = guard_true t (t.taken + 1) o f trail (omega (arith, more)) (up_to_held t.entries _ o since) in
+      let here : IsGuarded t.entries (t.propagated + 1) f o = guard_here t f trail next o since in
+      let there : IsGuarded t.entries (t.propagated + 1) o f = guard_true t (t.propagated + 1) o f trail (omega (arith, more)) (up_to_held t.entries _ o since) in
       rw (← same) (elim both.2 [
         | inl at ↦ record { first = rw (at.0, at.1) here; second = rw (at.0, at.1) there }
         | inr at ↦ record { first = rw (at.0, at.1) there; second = rw (at.0, at.1) here }

@@ -14,6 +14,7 @@ use Rattle.hint_refutation.specs.Hints.{LeavesOnly}
 use Rattle.clause_db.specs.Literals.{negation}
 use Rattle.clause_db.specs.Clauses.{clause_at}
 use Rattle.propagate.specs.declared.entry.Entry.{Entry}
+use Rattle.propagate.specs.declared.linked_clauses.LinkedClauses.{LinkedClauses}
 use Rattle.propagate.specs.declared.watch.Watch.{Watch}
 use Rattle.propagate.specs.Links.{edge_in, edge_of, edges_at}
 use Rattle.propagate.specs.Trails.{Assigned, no_entry, entry_at, literals, IsUnassigned, IsTrail, followed, rewatched}
@@ -28,7 +29,7 @@ use Rattle.propagate.specs.declared.propagation.Reached.TheVariants as reached
 use Rattle.propagate.specs.declared.stop.Stop.{Stop}
 use Rattle.propagate.specs.declared.stop.Stop.TheVariants as stop
 use Rattle.propagate.proofs.TrailLemmas.{cases_push, new_entry, trail_followed}
-use Rattle.propagate.proofs.WatchedLemmas.{watched_push, watched_taken}
+use Rattle.propagate.proofs.WatchedLemmas.{watched_push, watched_propagated}
 use Rattle.propagate.proofs.FallLemmas.{last_longer}
 use Rattle.propagate.proofs.ClosedLemmas.{closed_grown}
 use Rattle.propagate.proofs.StepLemmas.{linked_same, reasons_followed, step_followed, lacks_followed}
@@ -155,8 +156,8 @@ module _ (t : Assigned) (links : List (Option (Edge × Edge))) (g : Constraints)
     room_followed : h.edges ≡ g.edges ++ option_to_list (edge_of links u) → HasRoomFor (followed t u c) links h
     room_followed kept = room_more (edge_of links u) refl kept
 
-pub progress_none : (t : Assigned) (db : List (List Lit)) (links : List (Option (Edge × Edge))) (g : Constraints) → IsAtWork db links t g → IsProgress db links t g t g
-progress_none t db links g work = record {
+pub progress_none : (t : Assigned) (clauses : LinkedClauses) (g : Constraints) → IsAtWork clauses t g → IsProgress clauses (t, g) (t, g)
+progress_none t clauses g work = record {
   work = work;
   grown = grown_none t;
   known = omega arith;
@@ -165,8 +166,8 @@ progress_none t db links g work = record {
   in_step = λ base step. step;
 }
 
-module _ (db : List (List Lit)) (links : List (Option (Edge × Edge))) (a b c : Assigned) (g h i : Constraints) (first : IsProgress db links a g b h) where
-  pub progress_more : IsProgress db links b h c i → IsProgress db links a g c i
+module _ (clauses : LinkedClauses) (a b c : Assigned) (g h i : Constraints) (first : IsProgress clauses (a, g) (b, h)) where
+  pub progress_more : IsProgress clauses (b, h) (c, i) → IsProgress clauses (a, g) (c, i)
   progress_more second = record {
     work = second.work;
     grown = grown_more a b c first.grown second.grown;
@@ -176,7 +177,7 @@ module _ (db : List (List Lit)) (links : List (Option (Edge × Edge))) (a b c : 
     in_step = λ base step. second.in_step base (first.in_step base step);
   }
 
-  stopped_more : (u : Lit) → IsStopped db links b h u c i → IsStopped db links a g u c i
+  stopped_more : (u : Lit) → IsStopped clauses (b, h) u (c, i) → IsStopped clauses (a, g) u (c, i)
   stopped_more u second = record {
     reasons = second.reasons;
     watched = second.watched;
@@ -188,59 +189,59 @@ module _ (db : List (List Lit)) (links : List (Option (Edge × Edge))) (a b c : 
   }
 
   -- where propagation came to, from further back
-  pub stop_more : (s : Stop) → HasStopped db links b h s c i → HasStopped db links a g s c i
+  pub stop_more : (s : Stop) → HasStopped clauses (b, h) s (c, i) → HasStopped clauses (a, g) s (c, i)
   stop_more (stop.Clause k) second = (progress_more second.0, second.1)
   stop_more (stop.Theory u) second = stopped_more u second
   stop_more stop.Memory second = progress_more second
 
-  pub reached_more : {T : Type 0} (r : Result T Stop) → IsReached db links b h r c i → IsReached db links a g r c i
+  pub reached_more : {T : Type 0} (r : Result T Stop) → IsReached clauses (b, h) r (c, i) → IsReached clauses (a, g) r (c, i)
   reached_more (Ok x) second = progress_more second
   reached_more (Err s) second = stop_more s second
 
 -- a literal of a clause whose others are false, and that is assigned now
-module _ (t : Assigned) (db : List (List Lit)) (links : List (Option (Edge × Edge))) (g h : Constraints) (u : Lit) (c : ℕ) (held : c < length db) (leaves : LeavesOnly negation (literals t.entries) (clause_at db c) u)
-    (free : IsUnassigned t.entries u.var) (work : IsAtWork db links t g) (limits : HasSameLimits g h) where
-  why : IsReason db (literals t.entries) u c
+module _ (t : Assigned) (clauses : LinkedClauses) (g h : Constraints) (u : Lit) (c : ℕ) (held : c < length clauses.db.now) (leaves : LeavesOnly negation (literals t.entries) (clause_at clauses.db.now c) u)
+    (free : IsUnassigned t.entries u.var) (work : IsAtWork clauses t g) (limits : HasSameLimits g h) where
+  why : IsReason clauses.db.now (literals t.entries) u c
   why = record { held = held; leaves = leaves }
 
   below : u.var < t.vars
-  below = All-contains (λ (l : Lit). l.var < t.vars) (clause_at db c) u (work.reasons.variables c [] held) leaves.has
+  below = All-contains (λ (l : Lit). l.var < t.vars) (clause_at clauses.db.now c) u (work.reasons.variables c [] held) leaves.has
 
-  pub progress_followed : h.edges ≡ g.edges ++ option_to_list (edge_of links u) → IsProgress db links t g (followed t u c) h
+  pub progress_followed : h.edges ≡ g.edges ++ option_to_list (edge_of clauses.links.now u) → IsProgress clauses (t, g) (followed t u c, h)
   progress_followed kept = record {
     work = record {
       trail = trail_followed t u c work.trail below free;
-      reasons = reasons_followed t db u c work.reasons why;
-      watched = watched_push t db (record { lit = u; level = length t.levels; reason = Some c }) t.levels work.trail work.watched;
-      closed = closed_grown t (followed t u c) db (grown_followed t u c) work.closed;
-      linked = linked_same t (followed t u c) links g h refl limits work.linked;
-      room = room_followed t links g work.room u below free c h limits kept;
+      reasons = reasons_followed t clauses.db.now u c work.reasons why;
+      watched = watched_push t clauses.db.now (record { lit = u; level = length t.levels; reason = Some c }) t.levels work.trail work.watched;
+      closed = closed_grown t (followed t u c) clauses.db.now (grown_followed t u c) work.closed;
+      linked = linked_same t (followed t u c) clauses.links.now g h refl limits work.linked;
+      room = room_followed t clauses.links.now g work.room u below free c h limits kept;
     };
     grown = grown_followed t u c;
     known = omega arith;
-    last = λ n was d p from is. both_last_grown t (followed t u c) (grown_followed t u c) (clause_at db d) p (was d p from is);
-    extended = extended_by g h (option_to_list (edge_of links u)) limits kept;
-    in_step = λ base step. step_followed t db links base g h work.trail limits step u c why kept;
+    last = λ n was d p from is. both_last_grown t (followed t u c) (grown_followed t u c) (clause_at clauses.db.now d) p (was d p from is);
+    extended = extended_by g h (option_to_list (edge_of clauses.links.now u)) limits kept;
+    in_step = λ base step. step_followed t clauses.db.now clauses.links.now base g h work.trail limits step u c why kept;
   }
 
-  pub stopped_followed : h.edges ≡ g.edges → IsRefused links u h → IsStopped db links t g u (followed t u c) h
+  pub stopped_followed : h.edges ≡ g.edges → IsRefused clauses.links.now u h → IsStopped clauses (t, g) u (followed t u c, h)
   stopped_followed same refused =
       let e : Entry = record { lit = u; level = length t.levels; reason = Some c } in
       record {
-        reasons = reasons_followed t db u c work.reasons why;
-        watched = watched_push t db e t.levels work.trail work.watched;
+        reasons = reasons_followed t clauses.db.now u c work.reasons why;
+        watched = watched_push t clauses.db.now e t.levels work.trail work.watched;
         grown = grown_followed t u c;
         extended = extended_same g h limits same;
         last = record { place = length t.entries; is_last = length_push t.entries e; is = ap (λ (x : Entry). x.lit) (new_entry t.entries e (length t.entries) refl) };
         refused = refused;
-        lacks_last = λ base step. lacks_followed t db links base g h work.trail limits step u c why same;
+        lacks_last = λ base step. lacks_followed t clauses.db.now clauses.links.now base g h work.trail limits step u c why same;
       }
 
 -- a literal of a clause that is assigned is in range
 pub literal_below : (t : Assigned) (db : List (List Lit)) (c : ℕ) (u : Lit) → HasReasons t db → c < length db → LeavesOnly negation (literals t.entries) (clause_at db c) u → u.var < t.vars
 literal_below t db c u reasons held leaves = All-contains (λ (l : Lit). l.var < t.vars) (clause_at db c) u (reasons.variables c [] held) leaves.has
 
--- other watched literals, and other literals taken
+-- other watched literals, and so many literals propagated
 module _ (t : Assigned) (db : List (List Lit)) (w : Watching) (n : ℕ) where
   abbrev s : Assigned
   s = rewatched t w n
@@ -258,13 +259,14 @@ module _ (t : Assigned) (db : List (List Lit)) (w : Watching) (n : ℕ) where
     marks = old.marks;
   }
 
-  pub progress_rewatched : (links : List (Option (Edge × Edge))) (a : Assigned) (g h : Constraints) → IsTrail (rewatched t w n)
-      → AreWatched (rewatched t w n) db → length t.watching.watches ≤ length w.watches
-      → ((k : ℕ) → AreLastToFallFrom k t db → AreLastToFallFrom k (rewatched t w n) db) → IsProgress db links a g t h → IsProgress db links a g (rewatched t w n) h
-  progress_rewatched links a g h trail watched more kept old = record {
+module _ (t : Assigned) (clauses : LinkedClauses) (w : Watching) (n : ℕ) where
+  pub progress_rewatched : (a : Assigned) (g h : Constraints) → IsTrail (rewatched t w n)
+      → AreWatched (rewatched t w n) clauses.db.now → length t.watching.watches ≤ length w.watches
+      → ((k : ℕ) → AreLastToFallFrom k t clauses.db.now → AreLastToFallFrom k (rewatched t w n) clauses.db.now) → IsProgress clauses (a, g) (t, h) → IsProgress clauses (a, g) (rewatched t w n, h)
+  progress_rewatched a g h trail watched more kept old = record {
     work = record {
       trail = trail;
-      reasons = reasons_rewatched old.work.reasons;
+      reasons = reasons_rewatched t clauses.db.now w n old.work.reasons;
       watched = watched;
       closed = old.work.closed;
       linked = record { variables = old.work.linked.variables; edges = old.work.linked.edges };
@@ -274,46 +276,46 @@ module _ (t : Assigned) (db : List (List Lit)) (w : Watching) (n : ℕ) where
     known = let known = old.known in omega (arith, known, more);
     last = λ k was. kept k (old.last k was);
     extended = old.extended;
-    in_step = λ base step. step_rewatched (literals t.entries) links base h watched (old.in_step base step);
+    in_step = λ base step. step_rewatched t clauses.db.now w n (literals t.entries) clauses.links.now base h watched (old.in_step base step);
   }
 
-  stopped_rewatched : (links : List (Option (Edge × Edge))) (a : Assigned) (g h : Constraints) (u : Lit) → AreWatched (rewatched t w n) db
-      → IsStopped db links a g u t h → IsStopped db links a g u (rewatched t w n) h
-  stopped_rewatched links a g h u watched old = record {
-    reasons = reasons_rewatched old.reasons;
+  stopped_rewatched : (a : Assigned) (g h : Constraints) (u : Lit) → AreWatched (rewatched t w n) clauses.db.now
+      → IsStopped clauses (a, g) u (t, h) → IsStopped clauses (a, g) u (rewatched t w n, h)
+  stopped_rewatched a g h u watched old = record {
+    reasons = reasons_rewatched t clauses.db.now w n old.reasons;
     watched = watched;
     grown = record { vars = old.grown.vars; levels = old.grown.levels; longer = old.grown.longer; kept = old.grown.kept; added = old.grown.added };
     extended = old.extended;
     last = record { place = old.last.place; is_last = old.last.is_last; is = old.last.is };
     refused = old.refused;
-    lacks_last = λ base step. let lacks = old.lacks_last base step in record { some = lacks.some; step = step_rewatched _ links base h watched lacks.step };
+    lacks_last = λ base step. let lacks = old.lacks_last base step in record { some = lacks.some; step = step_rewatched t clauses.db.now w n _ clauses.links.now base h watched lacks.step };
   }
 
--- fewer literals that count as taken
-module _ (t s : Assigned) (db : List (List Lit)) (links : List (Option (Edge × Edge))) (a : Assigned) (g h : Constraints) (is : s ≡ rewatched t t.watching s.taken) (le : s.taken ≤ t.taken) (trail : IsTrail s) where
-  pub progress_untaken : IsProgress db links a g t h → IsProgress db links a g s h
-  progress_untaken old =
-      let n = s.taken in
-      subst (λ (x : Assigned). IsProgress db links a g x h) (sym is)
-      (progress_rewatched t db t.watching n links a g h (subst IsTrail is trail) (watched_taken t db n le old.work.watched)
+-- fewer literals count as propagated
+module _ (t s : Assigned) (clauses : LinkedClauses) (a : Assigned) (g h : Constraints) (is : s ≡ rewatched t t.watching s.propagated) (le : s.propagated ≤ t.propagated) (trail : IsTrail s) where
+  pub progress_rewound : IsProgress clauses (a, g) (t, h) → IsProgress clauses (a, g) (s, h)
+  progress_rewound old =
+      let n = s.propagated in
+      subst (λ (x : Assigned). IsProgress clauses (a, g) (x, h)) (sym is)
+      (progress_rewatched t clauses t.watching n a g h (subst IsTrail is trail) (watched_propagated t clauses.db.now n le old.work.watched)
       (omega arith) (λ k was. was) old)
 
-  pub stop_untaken : (k : Stop) → HasStopped db links a g k t h → HasStopped db links a g k s h
-  stop_untaken (stop.Clause c) old = (progress_untaken old.0, subst (λ (x : Assigned). IsConflict x db c) (sym is) (record { held = old.1.held; falsified = old.1.falsified }))
-  stop_untaken (stop.Theory u) old =
-      let n = s.taken in
-      subst (λ (x : Assigned). IsStopped db links a g u x h) (sym is) (stopped_rewatched t db t.watching n links a g h u (watched_taken t db n le old.watched) old)
-  stop_untaken stop.Memory old = progress_untaken old
+  pub stop_rewound : (k : Stop) → HasStopped clauses (a, g) k (t, h) → HasStopped clauses (a, g) k (s, h)
+  stop_rewound (stop.Clause c) old = (progress_rewound old.0, subst (λ (x : Assigned). IsConflict x clauses.db.now c) (sym is) (record { held = old.1.held; falsified = old.1.falsified }))
+  stop_rewound (stop.Theory u) old =
+      let n = s.propagated in
+      subst (λ (x : Assigned). IsStopped clauses (a, g) u (x, h)) (sym is) (stopped_rewatched t clauses t.watching n a g h u (watched_propagated t clauses.db.now n le old.watched) old)
+  stop_rewound stop.Memory old = progress_rewound old
 
 -- what is told of a stop
-module _ (db : List (List Lit)) (links : List (Option (Edge × Edge))) (a : Assigned) (g : Constraints) (s : Assigned) (h : Constraints) where
+module _ (clauses : LinkedClauses) (a : Assigned) (g : Constraints) (s : Assigned) (h : Constraints) where
   abbrev IsTold : {E : Type 0} → Result Reached E → Type 0
   IsTold (Ok reached.Quiet) = ⊥
-  IsTold (Ok (reached.ClauseConflict c)) = IsProgress db links a g s h × IsConflict s db c
-  IsTold (Ok (reached.TheoryConflict u)) = IsStopped db links a g u s h
-  IsTold (Err y) = IsProgress db links a g s h
+  IsTold (Ok (reached.ClauseConflict c)) = IsProgress clauses (a, g) (s, h) × IsConflict s clauses.db.now c
+  IsTold (Ok (reached.TheoryConflict u)) = IsStopped clauses (a, g) u (s, h)
+  IsTold (Err y) = IsProgress clauses (a, g) (s, h)
 
-  pub told : {E : Type 0} (r : Result Reached E) (k : Stop) → IfOk r (IsToldAs k) → OnErr r (k ≡ stop.Memory) → HasStopped db links a g k s h → IsTold r
+  pub told : {E : Type 0} (r : Result Reached E) (k : Stop) → IfOk r (IsToldAs k) → OnErr r (k ≡ stop.Memory) → HasStopped clauses (a, g) k (s, h) → IsTold r
   told (Ok x) (stop.Clause c) is memory stopped = rw is stopped
   told (Ok x) (stop.Theory u) is memory stopped = rw is stopped
   told (Ok x) stop.Memory is memory stopped = absurd is
@@ -325,13 +327,13 @@ module _ (db : List (List Lit)) (links : List (Option (Edge × Edge))) (a : Assi
   told_not_quiet (Ok (reached.TheoryConflict u)) P is = tt
   told_not_quiet (Err y) P is = tt
 
-  pub told_reasons : {E : Type 0} (r : Result Reached E) → IsTold r → HasReasons s db
+  pub told_reasons : {E : Type 0} (r : Result Reached E) → IsTold r → HasReasons s clauses.db.now
   told_reasons (Ok reached.Quiet) is = absurd is
   told_reasons (Ok (reached.ClauseConflict c)) is = is.0.work.reasons
   told_reasons (Ok (reached.TheoryConflict u)) is = is.reasons
   told_reasons (Err y) is = is.work.reasons
 
-  pub told_watched : {E : Type 0} (r : Result Reached E) → IsTold r → AreWatched s db
+  pub told_watched : {E : Type 0} (r : Result Reached E) → IsTold r → AreWatched s clauses.db.now
   told_watched (Ok reached.Quiet) is = absurd is
   told_watched (Ok (reached.ClauseConflict c)) is = is.0.work.watched
   told_watched (Ok (reached.TheoryConflict u)) is = is.watched
@@ -349,31 +351,31 @@ module _ (db : List (List Lit)) (links : List (Option (Edge × Edge))) (a : Assi
   told_edges (Ok (reached.TheoryConflict u)) is = is.extended
   told_edges (Err y) is = is.extended
 
-  pub told_clause : {E : Type 0} (r : Result Reached E) → IsTold r → IfOk r (λ x. IfClause x (IsConflict s db))
+  pub told_clause : {E : Type 0} (r : Result Reached E) → IsTold r → IfOk r (λ x. IfClause x (IsConflict s clauses.db.now))
   told_clause (Ok reached.Quiet) is = absurd is
   told_clause (Ok (reached.ClauseConflict c)) is = is.1
   told_clause (Ok (reached.TheoryConflict u)) is = tt
   told_clause (Err y) is = tt
 
-  pub told_theory : {E : Type 0} (r : Result Reached E) → IsTold r → IfOk r (λ x. IfTheory x (λ l. IsLast s l × IsRefused links l h))
+  pub told_theory : {E : Type 0} (r : Result Reached E) → IsTold r → IfOk r (λ x. IfTheory x (λ l. IsLast s l × IsRefused clauses.links.now l h))
   told_theory (Ok reached.Quiet) is = absurd is
   told_theory (Ok (reached.ClauseConflict c)) is = tt
   told_theory (Ok (reached.TheoryConflict u)) is = (is.last, is.refused)
   told_theory (Err y) is = tt
 
-  pub told_step : {E : Type 0} (r : Result Reached E) → IsTold r → IfOk r (λ x. UnlessTheory x ((base : List Edge) → InStep a db links base g → InStep s db links base h))
+  pub told_step : {E : Type 0} (r : Result Reached E) → IsTold r → IfOk r (λ x. UnlessTheory x ((base : List Edge) → InStep a clauses.db.now clauses.links.now base g → InStep s clauses.db.now clauses.links.now base h))
   told_step (Ok reached.Quiet) is = absurd is
   told_step (Ok (reached.ClauseConflict c)) is = is.0.in_step
   told_step (Ok (reached.TheoryConflict u)) is = tt
   told_step (Err y) is = tt
 
-  pub told_lacks : {E : Type 0} (r : Result Reached E) → IsTold r → IfOk r (λ x. IfTheory x (λ _. (base : List Edge) → InStep a db links base g → LacksLast s db links base h))
+  pub told_lacks : {E : Type 0} (r : Result Reached E) → IsTold r → IfOk r (λ x. IfTheory x (λ _. (base : List Edge) → InStep a clauses.db.now clauses.links.now base g → LacksLast s clauses.db.now clauses.links.now base h))
   told_lacks (Ok reached.Quiet) is = absurd is
   told_lacks (Ok (reached.ClauseConflict c)) is = tt
   told_lacks (Ok (reached.TheoryConflict u)) is = is.lacks_last
   told_lacks (Err y) is = tt
 
-  pub told_memory : {E : Type 0} (r : Result Reached E) → IsTold r → OnErr r ((base : List Edge) → InStep a db links base g → InStep s db links base h)
+  pub told_memory : {E : Type 0} (r : Result Reached E) → IsTold r → OnErr r ((base : List Edge) → InStep a clauses.db.now clauses.links.now base g → InStep s clauses.db.now clauses.links.now base h)
   told_memory (Ok x) is = tt
   told_memory (Err y) is = is.in_step
 

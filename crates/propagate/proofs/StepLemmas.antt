@@ -62,7 +62,7 @@ module _ (links : List (Option (Edge × Edge))) where
 
   -- marks after one more literal
   marks_push : (base : List Edge) (t : Assigned) (e : Entry) (levels : AreLevels t.entries t.levels) → HasMarks t links base
-      → HasMarks (record { vars = t.vars; entries = t.entries ++ e ∷ []; levels = t.levels; watching = t.watching; taken = t.taken }) links base
+      → HasMarks (record { vars = t.vars; entries = t.entries ++ e ∷ []; levels = t.levels; watching = t.watching; propagated = t.propagated }) links base
   marks_push base t e levels marks j op =
       let low = levels.within j op in
       rw (front_kept t.entries e (start_of t.levels j) (omega (arith, low))) (marks j op)
@@ -70,7 +70,7 @@ module _ (links : List (Option (Edge × Edge))) where
   -- marks after one more level, with its decision
   marks_open : (base : List Edge) (t : Assigned) (e : Entry) (l : Level) (levels : AreLevels t.entries t.levels) → HasMarks t links base
       → l.start ≡ length t.entries → l.mark ≡ length base + length (edges_of links (literals t.entries))
-      → HasMarks (record { vars = t.vars; entries = t.entries ++ e ∷ []; levels = t.levels ++ l ∷ []; watching = t.watching; taken = t.taken }) links base
+      → HasMarks (record { vars = t.vars; entries = t.entries ++ e ∷ []; levels = t.levels ++ l ∷ []; watching = t.watching; propagated = t.propagated }) links base
   marks_open base t e l levels marks start mark j op = elim (cases_push t.levels l j op) [
     | inl a ↦
         let low = levels.within j a in
@@ -80,7 +80,7 @@ module _ (links : List (Option (Edge × Edge))) where
 
 -- the reasons after one more literal
 reasons_push : (t : Assigned) (db : List (List Lit)) (e : Entry) (levels : List Level) → HasReasons t db → ((c : ℕ) → e.reason ≡ Some c → IsReason db (literals t.entries) e.lit c)
-    → HasReasons (record { vars = t.vars; entries = t.entries ++ e ∷ []; levels = levels; watching = t.watching; taken = t.taken }) db
+    → HasReasons (record { vars = t.vars; entries = t.entries ++ e ∷ []; levels = levels; watching = t.watching; propagated = t.propagated }) db
 reasons_push t db e levels old why = record {
   variables = old.variables;
   reasons = λ k c within is. elim (cases_push t.entries e k within) [

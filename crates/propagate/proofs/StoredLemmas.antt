@@ -23,7 +23,7 @@ module _ (xs : List Entry) (places : List (Option ℕ)) (ls : List Level) (w : W
       below = stored.trail.below;
       once = stored.trail.once;
       levels = stored.trail.levels;
-      taken = stored.trail.taken;
+      propagated = stored.trail.propagated;
       lists = count ∙ stored.trail.lists;
       listed = listed;
       satisfied = satisfied;
@@ -34,13 +34,13 @@ module _ (xs : List Entry) (places : List (Option ℕ)) (ls : List Level) (w : W
     level_room = stored.level_room;
   }
 
-  pub stored_taken : (k : ℕ) → k ≤ length xs → IsStored xs places ls w k ec lc
-  stored_taken k most = record {
+  pub stored_propagated : (k : ℕ) → k ≤ length xs → IsStored xs places ls w k ec lc
+  stored_propagated k most = record {
     trail = record {
       below = stored.trail.below;
       once = stored.trail.once;
       levels = stored.trail.levels;
-      taken = most;
+      propagated = most;
       lists = stored.trail.lists;
       listed = stored.trail.listed;
       satisfied = stored.trail.satisfied;
@@ -83,10 +83,10 @@ module _ (xs : List Entry) (places : List (Option ℕ)) (ls : List Level) (w : W
       → IsStored xs places ls (record { watches = watches; watchers = w.watchers; satisfied = w.satisfied }) n ec lc
   stored_up r watches is new = rw is (stored_watching (watching w (w.watches ++ r ∷ [])) refl (let satisfied = stored.trail.satisfied in omega (arith, satisfied, unwatched_longer w.watches r)) (all_listed_up w r new stored.trail.listed))
 
-  pub stored_taken_up : (r : Option Watch) (watches : List (Option Watch)) → (watches ≡ w.watches ++ r ∷ []) ⊎ (watches ≡ w.watches) → ((p : Watch) → r ≡ Some p → IsListed w (length w.watches) p)
+  pub stored_attached : (r : Option Watch) (watches : List (Option Watch)) → (watches ≡ w.watches ++ r ∷ []) ⊎ (watches ≡ w.watches) → ((p : Watch) → r ≡ Some p → IsListed w (length w.watches) p)
       → IsStored xs places ls (record { watches = watches; watchers = w.watchers; satisfied = w.satisfied }) n ec lc
-  stored_taken_up r watches (inl more) new = stored_up r watches more new
-  stored_taken_up r watches (inr same) new = rw same stored
+  stored_attached r watches (inl more) new = stored_up r watches more new
+  stored_attached r watches (inr same) new = rw same stored
 
   pub stored_set : (c : ℕ) (q : Watch) (watches : List (Option Watch)) → watches ≡ set w.watches c (Some q) → c < length w.watches
       → IsSome (watch_at w c) → IsListed w c q

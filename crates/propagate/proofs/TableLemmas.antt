@@ -98,13 +98,13 @@ place_below (p ∷ ps) zero k found = omega arith
 place_below (p ∷ ps) (suc v) k found = let below = place_below ps v k found in omega (arith, below)
 
 abbrev pub trail_of : ℕ → List Entry → List Level → Watching → ℕ → Assigned
-trail_of vars entries levels watching taken = record { vars = vars; entries = entries; levels = levels; watching = watching; taken = taken }
+trail_of vars entries levels watching propagated = record { vars = vars; entries = entries; levels = levels; watching = watching; propagated = propagated }
 
 -- a trail with an unassigned variable has room for its literal
 pub room_for_entry : (xs : List Entry) (places : List (Option ℕ)) (ls : List Level) (w : Watching) (n ec lc : ℕ) (u : Lit)
     → IsStored xs places ls w n ec lc → u.var < length places → IsUnassigned xs u.var → length xs < length places
 room_for_entry xs places ls w n ec lc u stored below free =
-    let t : Assigned = record { vars = length places; entries = xs; levels = ls; watching = w; taken = n } in
+    let t : Assigned = record { vars = length places; entries = xs; levels = ls; watching = w; propagated = n } in
     let most = few_literals (followed t u 0) (trail_followed t u 0 stored.trail below free) in
     omega (arith, most, length_push xs (record { lit = u; level = length ls; reason = Some 0 }))
 
@@ -120,7 +120,7 @@ pub stored_followed : (xs ys : List Entry) (places : List (Option ℕ)) (ls : Li
     → u.var < length places → IsUnassigned xs u.var → v ≡ u.var → place ≡ length xs → level ≡ length ls → ys ≡ xs ++ record { lit = u; level = level; reason = Some c } ∷ []
     → IsStored ys (set places v (Some place)) ls w n more lc
 stored_followed xs ys places ls w n ec lc more u c v level place stored room below free var at deep is =
-    let t : Assigned = record { vars = length places; entries = xs; levels = ls; watching = w; taken = n } in
+    let t : Assigned = record { vars = length places; entries = xs; levels = ls; watching = w; propagated = n } in
     let e : Entry = record { lit = u; level = length ls; reason = Some c } in
     rw (is, var, at, deep) (record {
       trail = rw (length-set places u.var (Some (length xs))) (trail_followed t u c stored.trail below free);
@@ -136,7 +136,7 @@ pub stored_decided : (xs ys : List Entry) (places : List (Option ℕ)) (ls ms : 
     → u.var < length places → IsUnassigned xs u.var → v ≡ u.var → place ≡ length xs → level ≡ length ls → ys ≡ xs ++ record { lit = u; level = level + 1; reason = None } ∷ []
     → ms ≡ ls ++ record { start = place; mark = mark } ∷ [] → IsStored ys (set places v (Some place)) ms w n more deeper
 stored_decided xs ys places ls ms w n ec lc more deeper u mark v level place stored room depth below free var at deep is opened =
-    let t : Assigned = record { vars = length places; entries = xs; levels = ls; watching = w; taken = n } in
+    let t : Assigned = record { vars = length places; entries = xs; levels = ls; watching = w; propagated = n } in
     let e : Entry = record { lit = u; level = length ls + 1; reason = None } in
     rw (is, opened, var, at, deep) (record {
       trail = rw (length-set places u.var (Some (length xs))) (trail_decided t u mark stored.trail below free);
@@ -151,7 +151,7 @@ pub stored_cut : (xs ys : List Entry) (places rest : List (Option ℕ)) (ls ms :
     → m < length ls → IsStored xs places ls w n ec lc → ys ≡ take (start_of ls m) xs → ms ≡ take m ls
     → length rest ≡ length places → IsTable ys rest → IsStored ys rest ms w (min n (start_of ls m)) ec lc
 stored_cut xs ys places rest ls ms w n ec lc m op stored is undone count table =
-    let t : Assigned = record { vars = length places; entries = xs; levels = ls; watching = w; taken = n } in
+    let t : Assigned = record { vars = length places; entries = xs; levels = ls; watching = w; propagated = n } in
     record {
       trail = rw (count, is, undone) (trail_cut t m op stored.trail);
       table = table;
@@ -170,10 +170,10 @@ pub cut_is : (xs ys : List Entry) (places rest : List (Option ℕ)) (ls ms : Lis
     → length rest ≡ length places → trail_of (length rest) ys ms w (min n (start_of ls m)) ≡ cut_to m (trail_of (length places) xs ls w n)
 cut_is xs ys places rest ls ms w n m op trail is undone count = rw (count, is, undone) (cut_is_at (trail_of (length places) xs ls w n) m op trail)
 
--- where no more literals are taken than begin before the present level, none of that level is
-pub untaken : (xs : List Entry) (ls : List Level) (n start k : ℕ) → AreLevels xs ls → n ≤ length xs → (length ls ≡ 0 → start ≡ 0)
+-- where no more literals are propagated than begin before the present level, none of that level is
+pub unpropagated : (xs : List Entry) (ls : List Level) (n start k : ℕ) → AreLevels xs ls → n ≤ length xs → (length ls ≡ 0 → start ≡ 0)
     → ((j : ℕ) → length ls ≡ j + 1 → start ≡ start_of ls j) → k < min n start → (entry_at xs k).level < length ls
-untaken xs ls n start k levels most lowest above less = elim (cases_lt 0 (length ls)) [
+unpropagated xs ls n start k levels most lowest above less = elim (cases_lt 0 (length ls)) [
   | inr none ↦
       let first = lowest (omega (arith, none)) in
       absurd (omega (arith, less, first))

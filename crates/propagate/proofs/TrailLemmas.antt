@@ -107,7 +107,7 @@ trail_followed t lit c old below free =
       below = All-push (λ (x : Entry). x.lit.var < t.vars) t.entries e old.below below;
       once = all_pairs_push (λ (d x : Entry). d.lit.var ≢ x.lit.var) t.entries e old.once free;
       levels = levels_followed t.entries t.levels e c old.levels refl refl;
-      taken = let most = old.taken in omega (arith, most, length_push t.entries e);
+      propagated = let most = old.propagated in omega (arith, most, length_push t.entries e);
       lists = old.lists;
       listed = old.listed;
       satisfied = old.satisfied;
@@ -120,7 +120,7 @@ trail_decided t lit mark old below free =
       below = All-push (λ (x : Entry). x.lit.var < t.vars) t.entries e old.below below;
       once = all_pairs_push (λ (d x : Entry). d.lit.var ≢ x.lit.var) t.entries e old.once free;
       levels = levels_decided t.entries t.levels e (record { start = length t.entries; mark = mark }) old.levels refl refl refl;
-      taken = let most = old.taken in omega (arith, most, length_push t.entries e);
+      propagated = let most = old.propagated in omega (arith, most, length_push t.entries e);
       lists = old.lists;
       listed = old.listed;
       satisfied = old.satisfied;
@@ -201,9 +201,9 @@ up_to_top xs ls m old le =
 
 pub cut_at_top : (t : Assigned) (m : ℕ) → IsTrail t → length t.levels ≤ m → cut_to m t ≡ t
 cut_at_top t m old le =
-    let cut : List Entry → List Level → ℕ → Assigned = λ xs ls n. record { vars = t.vars; entries = xs; levels = ls; watching = t.watching; taken = n } in
-    let few : min t.taken (length t.entries) ≡ t.taken = let most = old.taken in omega (arith, most) in
-    ap (λ xs. cut xs (take m t.levels) (min t.taken (length xs))) (up_to_top t.entries t.levels m old.levels le) ∙ ap (λ ls. cut t.entries ls (min t.taken (length t.entries))) (take_all m t.levels le)
+    let cut : List Entry → List Level → ℕ → Assigned = λ xs ls n. record { vars = t.vars; entries = xs; levels = ls; watching = t.watching; propagated = n } in
+    let few : min t.propagated (length t.entries) ≡ t.propagated = let most = old.propagated in omega (arith, most) in
+    ap (λ xs. cut xs (take m t.levels) (min t.propagated (length xs))) (up_to_top t.entries t.levels m old.levels le) ∙ ap (λ ls. cut t.entries ls (min t.propagated (length t.entries))) (take_all m t.levels le)
     ∙ ap (λ n. cut t.entries t.levels n) few
 
 -- the levels up to one that is below the present one
@@ -263,9 +263,9 @@ module _ (xs : List Entry) (ls : List Level) (m : ℕ) (op : m < length ls) (old
         (first.0, rw lower less, rw (at_start first.0 less) first.2);
   }
 
--- the trail from which all is taken from the start of a level on
+-- the trail without its literals from the start of a level on
 abbrev pub cut_at : ℕ → Assigned → Assigned
-cut_at m t = record { vars = t.vars; entries = take (start_of t.levels m) t.entries; levels = take m t.levels; watching = t.watching; taken = min t.taken (start_of t.levels m) }
+cut_at m t = record { vars = t.vars; entries = take (start_of t.levels m) t.entries; levels = take m t.levels; watching = t.watching; propagated = min t.propagated (start_of t.levels m) }
 
 pub trail_cut : (t : Assigned) (m : ℕ) → m < length t.levels → IsTrail t → IsTrail (cut_at m t)
 trail_cut t m op old = record {
@@ -277,7 +277,7 @@ trail_cut t m op old = record {
       let i_front : i < n = omega (arith, j_front, less) in
       rw (get_or-take n t.entries i d i_front, get_or-take n t.entries j d j_front) (old.once i j d less (omega (arith, short, within)));
   levels = levels_cut t.entries t.levels m op old.levels;
-  taken = let within = old.levels.within m op in omega (arith, within, length-take-le (start_of t.levels m) t.entries (omega (arith, within)));
+  propagated = let within = old.levels.within m op in omega (arith, within, length-take-le (start_of t.levels m) t.entries (omega (arith, within)));
   lists = old.lists;
   listed = old.listed;
   satisfied = old.satisfied;
@@ -287,5 +287,5 @@ pub cut_is_at : (t : Assigned) (m : ℕ) → m < length t.levels → IsTrail t �
 cut_is_at t m op old =
     let n = start_of t.levels m in
     let within = old.levels.within m op in
-    let cut : List Entry → ℕ → Assigned = λ xs k. record { vars = t.vars; entries = xs; levels = take m t.levels; watching = t.watching; taken = min t.taken k } in
+    let cut : List Entry → ℕ → Assigned = λ xs k. record { vars = t.vars; entries = xs; levels = take m t.levels; watching = t.watching; propagated = min t.propagated k } in
     ap (λ k. cut (take n t.entries) k) (sym (length-take-le n t.entries (omega (arith, within)))) ∙ ap (λ xs. cut xs (length xs)) (sym (up_to_start t.entries t.levels m op old.levels))

@@ -14,7 +14,7 @@ use Rattle.propagate.specs.Watched.{AreTwoOf, AreGuarded, AreWatched, IsGuarded,
 use Rattle.propagate.specs.Visits.{IsRewatched}
 use Rattle.propagate.proofs.TrailLemmas.{cases_push, cut_at, shallow}
 use Rattle.propagate.proofs.UnwatchedLemmas.{unwatched_below, unwatched_stays}
-use Rattle.propagate.proofs.WatchingLemmas.{cases_taken_up}
+use Rattle.propagate.proofs.WatchingLemmas.{cases_attached}
 use Rattle.std.proofs.lemmas.Option.{same_Some, none-some}
 
 pub known_at : (xs : List (Option Watch)) (c : ℕ) (p : Watch) → get_or xs c None ≡ Some p → c < length xs
@@ -45,21 +45,21 @@ module _ (xs ys : List Entry) (longer : length xs ≤ length ys) (same : (k : �
   pub guards_longer : (n : ℕ) (p : Watch) → n ≤ length xs → AreGuarded xs n p → AreGuarded ys n p
   guards_longer n p le old = record { first = guard_longer n p.first p.second le old.first; second = guard_longer n p.second p.first le old.second }
 
-pub watched_longer : (t : Assigned) (db : List (List Lit)) (ys : List Entry) (ls : List Level) → t.taken ≤ length t.entries
+pub watched_longer : (t : Assigned) (db : List (List Lit)) (ys : List Entry) (ls : List Level) → t.propagated ≤ length t.entries
     → length t.entries ≤ length ys → ((k : ℕ) → k < length t.entries → entry_at ys k ≡ entry_at t.entries k)
-    → AreWatched t db → AreWatched (record { vars = t.vars; entries = ys; levels = ls; watching = t.watching; taken = t.taken }) db
+    → AreWatched t db → AreWatched (record { vars = t.vars; entries = ys; levels = ls; watching = t.watching; propagated = t.propagated }) db
 watched_longer t db ys ls le longer same old = record {
   known = old.known;
   two = old.two;
   short = old.short;
-  rule = λ c p is. guards_longer t.entries ys longer same t.taken p le (old.rule c p is);
+  rule = λ c p is. guards_longer t.entries ys longer same t.propagated p le (old.rule c p is);
   satisfied = λ k less within. satisfied_more t.entries ys _ (up_to_longer t.entries ys longer same 0) (old.satisfied k less within);
 }
 
 pub watched_push : (t : Assigned) (db : List (List Lit)) (e : Entry) (ls : List Level) → IsTrail t → AreWatched t db
-    → AreWatched (record { vars = t.vars; entries = t.entries ++ e ∷ []; levels = ls; watching = t.watching; taken = t.taken }) db
+    → AreWatched (record { vars = t.vars; entries = t.entries ++ e ∷ []; levels = ls; watching = t.watching; propagated = t.propagated }) db
 watched_push t db e ls trail old =
-    watched_longer t db (t.entries ++ e ∷ []) ls trail.taken (omega (arith, length_push t.entries e)) (λ k within. get_or_append_left t.entries (e ∷ []) no_entry k within) old
+    watched_longer t db (t.entries ++ e ∷ []) ls trail.propagated (omega (arith, length_push t.entries e)) (λ k within. get_or_append_left t.entries (e ∷ []) no_entry k within) old
 
 -- levels that are undone: the true companion of a literal that stays false stays true
 pub watched_cut : (t : Assigned) (db : List (List Lit)) (m : ℕ) → m < length t.levels → IsTrail t → AreWatched t db → AreWatched (cut_at m t) db
@@ -80,7 +80,7 @@ watched_cut t db m op trail old = record {
       let here = get_or-take (start_of t.levels m) t.entries j no_entry stays in
       (j, omega (arith, stays, length-take-le (start_of t.levels m) t.entries (omega (arith, most))), rw here is, rw here level)
 
-  guard : (l o : Lit) → IsGuarded t.entries t.taken l o → IsGuarded (take (start_of t.levels m) t.entries) (min t.taken (start_of t.levels m)) l o
+  guard : (l o : Lit) → IsGuarded t.entries t.propagated l o → IsGuarded (take (start_of t.levels m) t.entries) (min t.propagated (start_of t.levels m)) l o
   guard l o was k less is =
       let most = trail.levels.within m op in
       let front : k < start_of t.levels m = omega (arith, less) in
@@ -111,12 +111,12 @@ watched_added t db clause old = record {
   held : (c : ℕ) → c < length t.watching.watches → c < length db
   held c within = let known = old.known in omega (arith, within, known)
 
--- fewer literals that count as taken
-pub watched_taken : (t : Assigned) (db : List (List Lit)) (n : ℕ) → n ≤ t.taken → AreWatched t db → AreWatched (rewatched t t.watching n) db
-watched_taken t db n le old = record { known = old.known; two = old.two; short = old.short; rule = λ c p is. guards_fewer t.entries t.taken n p le (old.rule c p is); satisfied = old.satisfied }
+-- fewer literals count as propagated
+pub watched_propagated : (t : Assigned) (db : List (List Lit)) (n : ℕ) → n ≤ t.propagated → AreWatched t db → AreWatched (rewatched t t.watching n) db
+watched_propagated t db n le old = record { known = old.known; two = old.two; short = old.short; rule = λ c p is. guards_fewer t.entries t.propagated n p le (old.rule c p is); satisfied = old.satisfied }
 
 -- other watchers of the same literals
-pub watched_lists : (t : Assigned) (db : List (List Lit)) (v : Watching) → v.watches ≡ t.watching.watches → v.satisfied ≡ t.watching.satisfied → AreWatched t db → AreWatched (rewatched t v t.taken) db
+pub watched_lists : (t : Assigned) (db : List (List Lit)) (v : Watching) → v.watches ≡ t.watching.watches → v.satisfied ≡ t.watching.satisfied → AreWatched t db → AreWatched (rewatched t v t.propagated) db
 watched_lists t db v same count old = record {
   known = rw same old.known;
   two = λ c p is. old.two c p (rw same at is);
@@ -129,11 +129,11 @@ watched_lists t db v same count old = record {
 pub watched_up : (t : Assigned) (db : List (List Lit)) (v : Watching) (r : Option Watch) → v.watches ≡ t.watching.watches ++ r ∷ []
     → v.satisfied ≡ t.watching.satisfied → t.watching.satisfied ≤ length (unwatched t.watching.watches)
     → length t.watching.watches < length db
-    → (r ≡ None → length (clause_at db (length t.watching.watches)) < 2) → ((p : Watch) → r ≡ Some p → AreTwoOf (clause_at db (length t.watching.watches)) p × AreGuarded t.entries t.taken p)
-    → AreWatched t db → AreWatched (rewatched t v t.taken) db
+    → (r ≡ None → length (clause_at db (length t.watching.watches)) < 2) → ((p : Watch) → r ≡ Some p → AreTwoOf (clause_at db (length t.watching.watches)) p × AreGuarded t.entries t.propagated p)
+    → AreWatched t db → AreWatched (rewatched t v t.propagated) db
 watched_up t db v r added count few more none some old = record {
   known = rw added (omega (arith, more, length_push t.watching.watches r));
-  two = λ c p is. elim (cases_taken_up t.watching.watches r c p (rw added at is)) [
+  two = λ c p is. elim (cases_attached t.watching.watches r c p (rw added at is)) [
     | inl was ↦ old.two c p was
     | inr new ↦ rw new.0 (some p new.1).0
   ];
@@ -141,7 +141,7 @@ watched_up t db v r added count few more none some old = record {
     | inl before ↦ old.short c before (rw (added, get_or_append_left t.watching.watches (r ∷ []) None c before) at is)
     | inr last ↦ rw last (none (rw (added, get_or_push t.watching.watches r None c (sym last)) at is))
   ];
-  rule = λ c p is. elim (cases_taken_up t.watching.watches r c p (rw added at is)) [
+  rule = λ c p is. elim (cases_attached t.watching.watches r c p (rw added at is)) [
     | inl was ↦ old.rule c p was
     | inr new ↦ (some p new.1).1
   ];
@@ -152,8 +152,8 @@ watched_up t db v r added count few more none some old = record {
 }
 
 -- a clause that is watched anew
-pub watched_again : (t : Assigned) (db : List (List Lit)) (v : Watching) (c : ℕ) (q : Watch) → IsRewatched t.watching v c q → AreTwoOf (clause_at db c) q → AreGuarded t.entries t.taken q
-    → AreWatched t db → AreWatched (rewatched t v t.taken) db
+pub watched_again : (t : Assigned) (db : List (List Lit)) (v : Watching) (c : ℕ) (q : Watch) → IsRewatched t.watching v c q → AreTwoOf (clause_at db c) q → AreGuarded t.entries t.propagated q
+    → AreWatched t db → AreWatched (rewatched t v t.propagated) db
 watched_again t db v c q anew both guards old = record {
   known = rw anew.count old.known;
   two = λ d p is. elim (cases d p is) [ inl was ↦ old.two d p was | inr new ↦ rw (new.0, ← new.1) both ];
@@ -178,7 +178,7 @@ watched_again t db v c q anew both guards old = record {
 
 -- one clause more that counts as satisfied
 pub watched_satisfied : (t : Assigned) (db : List (List Lit)) → Any (IsTrueUpTo t.entries 0) (clause_at db (get_or (unwatched t.watching.watches) t.watching.satisfied 0)) → AreWatched t db
-    → AreWatched (rewatched t (satisfying t.watching (t.watching.satisfied + 1)) t.taken) db
+    → AreWatched (rewatched t (satisfying t.watching (t.watching.satisfied + 1)) t.propagated) db
 watched_satisfied t db next old = record {
   known = old.known;
   two = old.two;

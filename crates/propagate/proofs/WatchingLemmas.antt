@@ -114,17 +114,17 @@ all_listed_less w l i within here unwatched old d p is =
       ]
 
 -- one more clause that is attached
-pub cases_taken_up : (xs : List (Option Watch)) (r : Option Watch) (c : ℕ) (p : Watch) → get_or (xs ++ r ∷ []) c None ≡ Some p → (get_or xs c None ≡ Some p) ⊎ ((c ≡ length xs) × (r ≡ Some p))
-cases_taken_up [] r zero p is = inr (refl, is)
-cases_taken_up [] r (suc c) p is = absurd (none-some _ is)
-cases_taken_up (x ∷ xs) r zero p is = inl is
-cases_taken_up (x ∷ xs) r (suc c) p is = elim (cases_taken_up xs r c p is) [
+pub cases_attached : (xs : List (Option Watch)) (r : Option Watch) (c : ℕ) (p : Watch) → get_or (xs ++ r ∷ []) c None ≡ Some p → (get_or xs c None ≡ Some p) ⊎ ((c ≡ length xs) × (r ≡ Some p))
+cases_attached [] r zero p is = inr (refl, is)
+cases_attached [] r (suc c) p is = absurd (none-some _ is)
+cases_attached (x ∷ xs) r zero p is = inl is
+cases_attached (x ∷ xs) r (suc c) p is = elim (cases_attached xs r c p is) [
   | inl old ↦ inl old
   | inr new ↦ inr (omega (arith, new.0), new.1)
 ]
 
 pub all_listed_up : (w : Watching) (r : Option Watch) → ((p : Watch) → r ≡ Some p → IsListed w (length w.watches) p) → AreListed w → AreListed (watching w (w.watches ++ r ∷ []))
-all_listed_up w r new old c p is = elim (cases_taken_up w.watches r c p is) [
+all_listed_up w r new old c p is = elim (cases_attached w.watches r c p is) [
   | inl was ↦ let here = old c p was in record { first = here.first; second = here.second }
   | inr last ↦ let here = new p last.1 in rw last.0 (record { first = here.first; second = here.second })
 ]

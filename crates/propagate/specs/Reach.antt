@@ -1,11 +1,12 @@
 -- What propagation does to a trail and a graph.
-use Rattle.std.specs.Prelude.{◌≡◌, ℕ, ◌+◌, ◌<◌, ◌≤◌, List, length, take, Option, IsSome}
+use Rattle.std.specs.Prelude.{◌≡◌, ℕ, ◌+◌, ◌<◌, ◌≤◌, List, length, take, IsSome}
 use Rattle.std.specs.declared.result.Result.{Result}
 use Rattle.std.specs.declared.result.Result.TheVariants.{Ok, Err}
 use Rattle.neg_cycle.specs.declared.system.Edge.{Edge}
 use Rattle.difference_graph.specs.Graphs.{Constraints, HasSameLimits}
 use Rattle.clause_db.specs.declared.lit.Lit.{Lit}
 use Rattle.clause_db.specs.Clauses.{clause_at}
+use Rattle.propagate.specs.declared.linked_clauses.LinkedClauses.{LinkedClauses}
 use Rattle.propagate.specs.declared.propagation.Reached.{Reached}
 use Rattle.propagate.specs.declared.propagation.Reached.TheVariants as reached
 use Rattle.propagate.specs.declared.stop.Stop.{Stop}
@@ -67,33 +68,33 @@ UnlessQuiet reached.Quiet P = Unit {0}
 UnlessQuiet (reached.ClauseConflict c) P = P
 UnlessQuiet (reached.TheoryConflict l) P = P
 
--- what propagation asks of a trail, and keeps as it goes on
-pub record IsAtWork (db : List (List Lit)) (links : List (Option (Edge × Edge))) (t : Assigned) (g : Constraints) : Type 0 where
+-- what propagation over clauses asks of a trail and a graph, and keeps as it goes on
+pub record IsAtWork (clauses : LinkedClauses) (t : Assigned) (g : Constraints) : Type 0 where
   pub trail : IsTrail t
-  pub reasons : HasReasons t db
-  pub watched : AreWatched t db
-  pub closed : Closed t db
-  pub linked : IsLinked t links g
-  pub room : HasRoomFor t links g
+  pub reasons : HasReasons t clauses.db.now
+  pub watched : AreWatched t clauses.db.now
+  pub closed : Closed t clauses.db.now
+  pub linked : IsLinked t clauses.links.now g
+  pub room : HasRoomFor t clauses.links.now g
 
--- how propagation goes on
-pub record IsProgress (db : List (List Lit)) (links : List (Option (Edge × Edge))) (old : Assigned) (before : Constraints) (new : Assigned) (after : Constraints) : Type 0 where
-  pub work : IsAtWork db links new after
-  pub grown : IsGrown old new
-  pub known : length old.watching.watches ≤ length new.watching.watches
-  pub last : (n : ℕ) → AreLastToFallFrom n old db → AreLastToFallFrom n new db
-  pub extended : IsExtended before after
-  pub in_step : (base : List Edge) → InStep old db links base before → InStep new db links base after
+-- how propagation over clauses goes on, from a trail with its graph to later ones
+pub record IsProgress (clauses : LinkedClauses) (old new : Assigned × Constraints) : Type 0 where
+  pub work : IsAtWork clauses new.0 new.1
+  pub grown : IsGrown old.0 new.0
+  pub known : length old.0.watching.watches ≤ length new.0.watching.watches
+  pub last : (n : ℕ) → AreLastToFallFrom n old.0 clauses.db.now → AreLastToFallFrom n new.0 clauses.db.now
+  pub extended : IsExtended old.1 new.1
+  pub in_step : (base : List Edge) → InStep old.0 clauses.db.now clauses.links.now base old.1 → InStep new.0 clauses.db.now clauses.links.now base new.1
 
--- what is so where an edge was refused
-pub record IsStopped (db : List (List Lit)) (links : List (Option (Edge × Edge))) (old : Assigned) (before : Constraints) (l : Lit) (new : Assigned) (after : Constraints) : Type 0 where
-  pub reasons : HasReasons new db
-  pub watched : AreWatched new db
-  pub grown : IsGrown old new
-  pub extended : IsExtended before after
-  pub last : IsLast new l
-  pub refused : IsRefused links l after
-  pub lacks_last : (base : List Edge) → InStep old db links base before → LacksLast new db links base after
+-- what is so where the literal's edge was refused
+pub record IsStopped (clauses : LinkedClauses) (old : Assigned × Constraints) (l : Lit) (new : Assigned × Constraints) : Type 0 where
+  pub reasons : HasReasons new.0 clauses.db.now
+  pub watched : AreWatched new.0 clauses.db.now
+  pub grown : IsGrown old.0 new.0
+  pub extended : IsExtended old.1 new.1
+  pub last : IsLast new.0 l
+  pub refused : IsRefused clauses.links.now l new.1
+  pub lacks_last : (base : List Edge) → InStep old.0 clauses.db.now clauses.links.now base old.1 → LacksLast new.0 clauses.db.now clauses.links.now base new.1
 
 -- a clause that is false
 pub record IsConflict (t : Assigned) (db : List (List Lit)) (c : ℕ) : Type 0 where
@@ -101,15 +102,15 @@ pub record IsConflict (t : Assigned) (db : List (List Lit)) (c : ℕ) : Type 0 w
   pub falsified : IsFalsified t.entries (clause_at db c)
 
 -- what is so where propagation stopped
-abbrev pub HasStopped : List (List Lit) → List (Option (Edge × Edge)) → Assigned → Constraints → Stop → Assigned → Constraints → Type 0
-HasStopped db links old before (stop.Clause c) new after = IsProgress db links old before new after × IsConflict new db c
-HasStopped db links old before (stop.Theory l) new after = IsStopped db links old before l new after
-HasStopped db links old before stop.Memory new after = IsProgress db links old before new after
+abbrev pub HasStopped : LinkedClauses → Assigned × Constraints → Stop → Assigned × Constraints → Type 0
+HasStopped clauses old (stop.Clause c) new = IsProgress clauses old new × IsConflict new.0 clauses.db.now c
+HasStopped clauses old (stop.Theory l) new = IsStopped clauses old l new
+HasStopped clauses old stop.Memory new = IsProgress clauses old new
 
 -- how propagation went on, or where it stopped
-abbrev pub IsReached : {T : Type 0} → List (List Lit) → List (Option (Edge × Edge)) → Assigned → Constraints → Result T Stop → Assigned → Constraints → Type 0
-IsReached db links old before (Ok x) new after = IsProgress db links old before new after
-IsReached db links old before (Err s) new after = HasStopped db links old before s new after
+abbrev pub IsReached : {T : Type 0} → LinkedClauses → Assigned × Constraints → Result T Stop → Assigned × Constraints → Type 0
+IsReached clauses old (Ok x) new = IsProgress clauses old new
+IsReached clauses old (Err s) new = HasStopped clauses old s new
 
 -- this is told of a stop
 abbrev pub IsToldAs : Stop → Reached → Type 0

@@ -21,14 +21,14 @@ pub record AreValues (entries : List Entry) (places : List (Option ℕ)) (values
   pub is : (v : ℕ) → slice_index_or values v None ≡ value_of entries (slice_index_or places v None)
 
 -- a trail with its table, and room for an entry and a level for each variable
-pub record IsStored (entries : List Entry) (places : List (Option ℕ)) (levels : List Level) (watching : Watching) (taken entry_capacity level_capacity : ℕ) : Type 0 where
-  pub trail : IsTrail (record { vars = length places; entries = entries; levels = levels; watching = watching; taken = taken })
+pub record IsStored (entries : List Entry) (places : List (Option ℕ)) (levels : List Level) (watching : Watching) (propagated entry_capacity level_capacity : ℕ) : Type 0 where
+  pub trail : IsTrail (record { vars = length places; entries = entries; levels = levels; watching = watching; propagated = propagated })
   pub table : IsTable entries places
   pub few : length places < 2 ^ 32
   pub entry_room : length places ≤ entry_capacity
   pub level_room : length places ≤ level_capacity
 
 -- the same with the values of variables, which are at hand without the trail
-pub record IsKept (entries : List Entry) (places : List (Option ℕ)) (values : List (Option Bool)) (levels : List Level) (watching : Watching) (taken entry_capacity level_capacity : ℕ) : Type 0 where
-  pub stored : IsStored entries places levels watching taken entry_capacity level_capacity
+pub record IsKept (entries : List Entry) (places : List (Option ℕ)) (values : List (Option Bool)) (levels : List Level) (watching : Watching) (propagated entry_capacity level_capacity : ℕ) : Type 0 where
+  pub stored : IsStored entries places levels watching propagated entry_capacity level_capacity
   pub valued : AreValues entries places values

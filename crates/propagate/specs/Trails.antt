@@ -6,13 +6,13 @@ use Rattle.propagate.specs.declared.entry.Level.{Level}
 use Rattle.propagate.specs.Watching.{Watching, AreListed, unwatched}
 
 -- a trail over variables below a number: its literals with what is kept for each, its levels above 0, the lowest first, what
--- is watched, and how many of the literals, from the first on, are taken: these are propagated, and the next one is the head
+-- is watched, and how many of the literals, from the first on, are propagated: the next one is the head
 pub record Assigned : Type 0 where
   pub vars : ℕ
   pub entries : List Entry
   pub levels : List Level
   pub watching : Watching
-  pub taken : ℕ
+  pub propagated : ℕ
 
 -- the literals, in the order of assignment
 abbrev pub literals : List Entry → List Lit
@@ -62,21 +62,21 @@ pub record AreLevels (entries : List Entry) (levels : List Level) : Type 0 where
   -- no other literal is one
   pub only : (k : ℕ) → k < length entries → IsNone (entry_at entries k).reason → (j : ℕ) × (j < length levels) × (start_of levels j ≡ k)
 
--- variables are in range, none is assigned twice, the levels lie as they should, no more literals are taken than there are,
+-- variables are in range, none is assigned twice, the levels lie as they should, no more literals are propagated than there are,
 -- each variable has its watchers, each clause stands among those of its watched literals, and of the clauses without these no
 -- more count as satisfied than there are
 pub record IsTrail (t : Assigned) : Type 0 where
   pub below : All (λ e. e.lit.var < t.vars) t.entries
   pub once : AllPairs (λ d e. d.lit.var ≢ e.lit.var) t.entries
   pub levels : AreLevels t.entries t.levels
-  pub taken : t.taken ≤ length t.entries
+  pub propagated : t.propagated ≤ length t.entries
   pub lists : length t.watching.watchers ≡ t.vars
   pub listed : AreListed t.watching
   pub satisfied : t.watching.satisfied ≤ length (unwatched t.watching.watches)
 
 -- the trail with one more literal of the present level, which follows from a clause
 abbrev pub followed : Assigned → Lit → ℕ → Assigned
-followed t lit c = record { vars = t.vars; entries = t.entries ++ record { lit = lit; level = length t.levels; reason = Some c } ∷ []; levels = t.levels; watching = t.watching; taken = t.taken }
+followed t lit c = record { vars = t.vars; entries = t.entries ++ record { lit = lit; level = length t.levels; reason = Some c } ∷ []; levels = t.levels; watching = t.watching; propagated = t.propagated }
 
 -- the trail with one more level, which begins with a decided literal where the graph held so many edges
 abbrev pub decided : Assigned → Lit → ℕ → Assigned
@@ -85,21 +85,21 @@ decided t lit mark = record {
   entries = t.entries ++ record { lit = lit; level = length t.levels + 1; reason = None } ∷ [];
   levels = t.levels ++ record { start = length t.entries; mark = mark } ∷ [];
   watching = t.watching;
-  taken = t.taken;
+  propagated = t.propagated;
 }
 
 -- the entries of levels up to m
 abbrev pub up_to : ℕ → List Entry → List Entry
 up_to m entries = filter (λ e. nat_le e.level m) entries
 
--- the trail without the levels above m, where no more literals are taken than are left
+-- the trail without the levels above m, where no more literals are propagated than are left
 abbrev pub cut_to : ℕ → Assigned → Assigned
-cut_to m t = record { vars = t.vars; entries = up_to m t.entries; levels = take m t.levels; watching = t.watching; taken = min t.taken (length (up_to m t.entries)) }
+cut_to m t = record { vars = t.vars; entries = up_to m t.entries; levels = take m t.levels; watching = t.watching; propagated = min t.propagated (length (up_to m t.entries)) }
 
--- the trail with other watched literals, and other literals taken
+-- the trail with other watched literals, and so many literals propagated
 abbrev pub rewatched : Assigned → Watching → ℕ → Assigned
-rewatched t w taken = record { vars = t.vars; entries = t.entries; levels = t.levels; watching = w; taken = taken }
+rewatched t w propagated = record { vars = t.vars; entries = t.entries; levels = t.levels; watching = w; propagated = propagated }
 
--- no literal of the present level is taken
-abbrev pub IsUntaken : Assigned → Type 0
-IsUntaken t = (k : ℕ) → k < t.taken → (entry_at t.entries k).level < length t.levels
+-- no literal of the present level is propagated
+abbrev pub IsUnpropagated : Assigned → Type 0
+IsUnpropagated t = (k : ℕ) → k < t.propagated → (entry_at t.entries k).level < length t.levels

@@ -4,10 +4,12 @@ use Rattle.clause_db.specs.declared.lit.Lit.{Lit}
 use Rattle.clause_db.specs.Literals.{negation}
 use Rattle.clause_db.specs.Clauses.{clause_at}
 use Rattle.propagate.specs.declared.watch.Watch.{Watch}
+use Rattle.propagate.specs.declared.watch.Watcher.{Watcher}
 use Rattle.propagate.specs.declared.visit.Visit.{Visit}
 use Rattle.propagate.specs.declared.visit.Visit.TheVariants as visit
 use Rattle.propagate.specs.Watching.{Watching, unwatched, watch_at, watchers_of}
 use Rattle.propagate.specs.Trails.{Assigned, entry_at, literals}
+use Rattle.propagate.specs.Best.{AreFalseUpTo}
 use Rattle.propagate.specs.Watched.{AreGuarded, IsGuarded, IsTrueUpTo}
 
 -- if the clause has fewer than two literals, it has a true one
@@ -23,15 +25,19 @@ AreShortSatisfied t db = (c : ℕ) → c < length db → IsSatisfiedIfShort t (c
 abbrev pub IsAssignedIfUnit : Assigned → Assigned → Lit → Lit → Type 0
 IsAssignedIfUnit old new l best = ((Contains (literals old.entries) (negation best) → ⊥) × (new ≡ old)) ⊎ (Contains (literals new.entries) l × IsGuarded new.entries (length new.entries) best l)
 
--- what is watched stayed, and so did the number of literals that are taken
+-- the literal of a clause is true since any level up to which the others are false
+abbrev pub IsTrueSinceUnit : Assigned → Assigned → List Lit → Lit → Type 0
+IsTrueSinceUnit old new clause l = (m : ℕ) → AreFalseUpTo old.entries m clause (Some l) → IsTrueUpTo new.entries m l
+
+-- what is watched stayed, and so did the number of literals that are propagated
 pub record IsUnmoved (old new : Assigned) : Type 0 where
   pub watching : new.watching ≡ old.watching
-  pub taken : new.taken ≡ old.taken
+  pub propagated : new.propagated ≡ old.propagated
 
--- the next literal to take is the negation of this one
+-- the next literal to propagate is the negation of this one
 pub record IsNextFalse (t : Assigned) (l : Lit) : Type 0 where
-  pub more : t.taken < length t.entries
-  pub is : (entry_at t.entries t.taken).lit ≡ negation l
+  pub more : t.propagated < length t.entries
+  pub is : (entry_at t.entries t.propagated).lit ≡ negation l
 
 -- the clause stands in the list at that place or a later one
 abbrev pub IsAmong : List ℕ → ℕ → ℕ → Type 0
@@ -51,16 +57,16 @@ pub record IsMoved (old new : Watching) (l : Lit) (p : Watch) (c place : ℕ) : 
   pub count : length (watchers_of new l) + 1 ≡ length (watchers_of old l)
   pub left : (d : ℕ) → d ≢ c → IsAmong (watchers_of old l) place d → IsAmong (watchers_of new l) place d
 
--- the clause stayed, since its best literal was false at the level of the next literal to take, or it moved
-abbrev pub HasMoved : Assigned → Assigned → Lit → Watch → ℕ → ℕ → Visit → Type 0
-HasMoved old new l p c place visit.Stayed = (new ≡ old) × IsTrueUpTo old.entries (entry_at old.entries old.taken).level (negation p.first)
-HasMoved old new l p c place visit.Moved = IsMoved old.watching new.watching l p c place
+-- the clause stayed, since the second of the two literals was false at the level of the next literal to propagate, or it moved
+abbrev pub HasMoved : Assigned → Assigned → Watcher → Watch → Visit → Type 0
+HasMoved old new watcher p visit.Stayed = (new ≡ old) × IsTrueUpTo old.entries (entry_at old.entries old.propagated).level (negation p.second)
+HasMoved old new watcher p visit.Moved = IsMoved old.watching new.watching watcher.lit p watcher.clause watcher.place
 
--- the clause keeps the watch rule with the next literal taken too, the others are watched as before, and of the watchers of
+-- the clause keeps the watch rule with the next literal propagated too, the others are watched as before, and of the watchers of
 -- the literal those others remain from the next place on that remained from this one on
 pub record IsVisited (old new : Assigned) (l : Lit) (c place next : ℕ) : Type 0 where
-  pub taken : new.taken ≡ old.taken
-  pub guarded : (p : Watch) → watch_at new.watching c ≡ Some p → AreGuarded new.entries (old.taken + 1) p
+  pub propagated : new.propagated ≡ old.propagated
+  pub guarded : (p : Watch) → watch_at new.watching c ≡ Some p → AreGuarded new.entries (old.propagated + 1) p
   pub others : (d : ℕ) → d ≢ c → watch_at new.watching d ≡ watch_at old.watching d
   pub count : length (watchers_of new.watching l) + place + 1 ≡ length (watchers_of old.watching l) + next
   pub left : (d : ℕ) → d ≢ c → IsAmong (watchers_of old.watching l) place d → IsAmong (watchers_of new.watching l) next d
@@ -69,3 +75,7 @@ pub record IsVisited (old new : Assigned) (l : Lit) (c place next : ℕ) : Type 
 abbrev pub place_after : Visit → ℕ → ℕ
 place_after visit.Stayed place = place + 1
 place_after visit.Moved place = place
+
+-- the watcher was visited, with this end
+abbrev pub WasVisited : Assigned → Assigned → Watcher → Visit → Type 0
+WasVisited old new watcher v = IsVisited old new watcher.lit watcher.clause watcher.place (place_after v watcher.place)

@@ -36,10 +36,10 @@ abbrev pub AreAllWatched : Assigned → List (List Lit) → Type 0
 AreAllWatched t db = (c : ℕ) → c < length db → 2 ≤ length (clause_at db c) → IsSome (watch_at t.watching c)
 
 -- of the first so many clauses, those with two literals have two that are watched, and keep the watch rule but where the
--- negation of a watched literal isn't yet taken; of the others, those that count as satisfied have a literal that is true since level 0
+-- negation of a watched literal isn't yet propagated; of the others, those that count as satisfied have a literal that is true since level 0
 pub record AreWatched (t : Assigned) (db : List (List Lit)) : Type 0 where
   pub known : length t.watching.watches ≤ length db
   pub two : (c : ℕ) (p : Watch) → watch_at t.watching c ≡ Some p → AreTwoOf (clause_at db c) p
   pub short : (c : ℕ) → c < length t.watching.watches → watch_at t.watching c ≡ None → length (clause_at db c) < 2
-  pub rule : (c : ℕ) (p : Watch) → watch_at t.watching c ≡ Some p → AreGuarded t.entries t.taken p
+  pub rule : (c : ℕ) (p : Watch) → watch_at t.watching c ≡ Some p → AreGuarded t.entries t.propagated p
   pub satisfied : (k : ℕ) → k < t.watching.satisfied → k < length (unwatched t.watching.watches) → Any (IsTrueUpTo t.entries 0) (clause_at db (slice_index_or (unwatched t.watching.watches) k 0))

@@ -4,11 +4,12 @@ ghost use Rattle.std.specs.Prelude.{◌≡◌, ◌+◌, ◌<◌, ◌≤◌, [], 
 ghost use Rattle.propagate.specs.Trails.{IsTrail, rewatched};
 ghost use Rattle.propagate.specs.Reach.{IsAtWork, IsReached};
 
+use crate::Trail;
 use crate::best::best_two;
+use crate::linked_clauses::LinkedClauses;
 use crate::stop::Stop;
 use crate::watch::Watch;
-use crate::{Links, Trail};
-use clause_db::{ClauseRef, Db};
+use clause_db::ClauseRef;
 use difference_graph::Graph;
 use std::alloc::AllocError;
 
@@ -16,17 +17,16 @@ impl Trail {
     // Attaches the clauses that were added since the last call.
     pub(crate) fn attach_new(
         &mut self,
-        db: &Db,
-        links: &Links,
+        clauses: &LinkedClauses<'_>,
         graph: &mut Graph,
     ) -> Result<(), Stop>
-        requires work { IsAtWork db.now links.now self.old graph.old }
-        ensures reached { IsReached db.now links.now self.old graph.old result self.new graph.new }
-        ensures all { OnOk result (length db.now ≤ length self.new.watching.watches) }
+        requires work { IsAtWork clauses.now self.old graph.old }
+        ensures reached { IsReached clauses.now (self.old, graph.old) result (self.new, graph.new) }
+        ensures all { OnOk result (length clauses.now.db.now ≤ length self.new.watching.watches) }
     {
-        let clauses = db.len();
-        for c in self.known() as u32..clauses {
-            self.attach_next(ClauseRef::new(c), db, links, graph)?;
+        let count = clauses.db.len();
+        for c in self.known() as u32..count {
+            self.attach_next(ClauseRef::new(c), clauses, graph)?;
         }
         Ok(())
     }
@@ -35,23 +35,22 @@ impl Trail {
     fn attach_next(
         &mut self,
         clause: ClauseRef,
-        db: &Db,
-        links: &Links,
+        clauses: &LinkedClauses<'_>,
         graph: &mut Graph,
     ) -> Result<(), Stop>
-        requires work { IsAtWork db.now links.now self.old graph.old }
+        requires work { IsAtWork clauses.now self.old graph.old }
         requires next { clause ≡ length self.old.watching.watches }
-        requires held { clause < length db.now }
-        ensures reached { IsReached db.now links.now self.old graph.old result self.new graph.new }
+        requires held { clause < length clauses.now.db.now }
+        ensures reached { IsReached clauses.now (self.old, graph.old) result (self.new, graph.new) }
         ensures one { OnOk result (length self.new.watching.watches ≡ clause + 1) }
     {
-        match best_two(self, db.lits(clause)) {
+        match best_two(self, clauses.db.lits(clause)) {
             None => {
                 self.attach(clause, None)?;
                 Ok(())
             }
             Some(watch) => {
-                self.assign_if_unit(watch.second, watch.first, clause, db, links, graph)?;
+                self.assign_if_unit(watch, clause, clauses, graph)?;
                 self.attach_watched(clause, watch)?;
                 Ok(())
             }
@@ -63,7 +62,7 @@ impl Trail {
         requires next { clause ≡ length self.old.watching.watches }
         requires first { watch.first.var < self.old.vars }
         requires second { watch.second.var < self.old.vars }
-        ensures same { self.new ≡ rewatched self.old self.new.watching self.old.taken }
+        ensures same { self.new ≡ rewatched self.old self.new.watching self.old.propagated }
         ensures after { IsTrail self.new }
         ensures ok { OnOk result (self.new.watching.watches ≡ self.old.watching.watches ++ Some watch ∷ []) }
         ensures satisfied { self.new.watching.satisfied ≡ self.old.watching.satisfied }

@@ -6,6 +6,7 @@ mod best;
 mod entry;
 mod laws;
 mod levels;
+mod linked_clauses;
 mod links;
 mod propagation;
 mod stop;

@@ -1,16 +1,16 @@
 //! Unit propagation, with the edges of what it assigns.
 
-ghost use Rattle.std.specs.Prelude.{◌≡◌, ◌≤◌, List, length, IfOk, OnOk, OnErr};
+ghost use Rattle.std.specs.Prelude.{◌≡◌, List, length, IfOk, OnOk, OnErr};
 ghost use Rattle.neg_cycle.specs.declared.system.Edge.{Edge};
-ghost use Rattle.propagate.specs.Trails.{IsUntaken};
+ghost use Rattle.propagate.specs.Trails.{IsUnpropagated};
 ghost use Rattle.propagate.specs.Clauses.{AreSettled, HasReasons};
 ghost use Rattle.propagate.specs.Watched.{AreAllWatched, AreWatched};
 ghost use Rattle.propagate.specs.Best.{AreHighestFrom};
 ghost use Rattle.propagate.specs.Steps.{HasRoomFor, InStep, IsLinked, IsRefused, LacksLast};
 ghost use Rattle.propagate.specs.Closed.{Closed, ClosedAt};
-ghost use Rattle.propagate.specs.Visits.{AreShortSatisfied};
 ghost use Rattle.propagate.specs.Reach.{IfClause, IfQuiet, IfTheory, IsAtWork, IsConflict, IsExtended, IsGrown, IsLast, IsReached, UnlessQuiet, UnlessTheory};
 
+use crate::linked_clauses::LinkedClauses;
 use crate::stop::Stop;
 use crate::trail::trails_are_in_order;
 use crate::{Links, Trail};
@@ -70,13 +70,14 @@ impl Trail {
         // and Sörensson (2003) choose them.
         ensures highest { IfOk result (λ r. IfQuiet r (AreHighestFrom (length self.old.watching.watches) self.new db.now)) }
 
-        // At Quiet each literal is taken, and else none of the present level is.
-        ensures taken { IfOk result (λ r. IfQuiet r (self.new.taken ≡ length self.new.entries)) }
-        ensures untaken { IfOk result (λ r. UnlessQuiet r (IsUntaken self.new)) }
-        ensures untaken_at_want { OnErr result (IsUntaken self.new) }
+        // At Quiet each literal is propagated, and else none of the present level is.
+        ensures propagated { IfOk result (λ r. IfQuiet r (self.new.propagated ≡ length self.new.entries)) }
+        ensures unpropagated { IfOk result (λ r. UnlessQuiet r (IsUnpropagated self.new)) }
+        ensures unpropagated_at_want { OnErr result (IsUnpropagated self.new) }
     {
         trails_are_in_order(self);
-        match self.settle(db, links, graph) {
+        let clauses = LinkedClauses { db, links };
+        match self.settle(&clauses, graph) {
             Ok(()) => Ok(Reached::Quiet),
             Err(stop) => {
                 self.rewind();
@@ -86,30 +87,17 @@ impl Trail {
     }
 
     // Attaches new clauses, satisfies the short ones, and propagates each literal from the head on.
-    fn settle(&mut self, db: &Db, links: &Links, graph: &mut Graph) -> Result<(), Stop>
-        requires work { IsAtWork db.now links.now self.old graph.old }
-        ensures reached { IsReached db.now links.now self.old graph.old result self.new graph.new }
-        ensures settled { OnOk result (AreSettled self.new.entries db.now) }
-        ensures every { OnOk result (AreAllWatched self.new db.now) }
-        ensures taken { OnOk result (self.new.taken ≡ length self.new.entries) }
+    fn settle(&mut self, clauses: &LinkedClauses<'_>, graph: &mut Graph) -> Result<(), Stop>
+        requires work { IsAtWork clauses.now self.old graph.old }
+        ensures reached { IsReached clauses.now (self.old, graph.old) result (self.new, graph.new) }
+        ensures settled { OnOk result (AreSettled self.new.entries clauses.now.db.now) }
+        ensures every { OnOk result (AreAllWatched self.new clauses.now.db.now) }
+        ensures propagated { OnOk result (self.new.propagated ≡ length self.new.entries) }
     {
-        self.attach_new(db, links, graph)?;
-        self.satisfy_short(db, links, graph)?;
-        self.propagate_each(db, links, graph)
-    }
-
-    // Propagates each literal from the head on, where all clauses are attached and the short ones are satisfied.
-    fn propagate_each(&mut self, db: &Db, links: &Links, graph: &mut Graph) -> Result<(), Stop>
-        requires work { IsAtWork db.now links.now self.old graph.old }
-        requires known { length db.now ≤ length self.old.watching.watches }
-        requires short { AreShortSatisfied self.old db.now }
-        ensures reached { IsReached db.now links.now self.old graph.old result self.new graph.new }
-        ensures settled { OnOk result (AreSettled self.new.entries db.now) }
-        ensures every { OnOk result (AreAllWatched self.new db.now) }
-        ensures taken { OnOk result (self.new.taken ≡ length self.new.entries) }
-    {
+        self.attach_new(clauses, graph)?;
+        self.satisfy_short(clauses, graph)?;
         'literals: while self.head() < self.len() {
-            self.visit_watchers(db, links, graph)?;
+            self.visit_watchers(clauses, graph)?;
         }
         Ok(())
     }

@@ -1,10 +1,9 @@
 //! The trail.
 
-ghost use Rattle.std.specs.Prelude.{◌≡◌, ◌↔◌, ◌+◌, ◌^◌, ◌<◌, ◌≤◌, [], ◌∷◌, ◌++◌, length, set, Some, IfOk, OnOk, OnErr, IfSome, IsNone, IsSome, IsTrue, Contains, slice_index_or, vec_capacity};
-ghost use Rattle.std.specs.List.{swap_remove};
+ghost use Rattle.std.specs.Prelude.{◌≡◌, ◌↔◌, ◌+◌, ◌^◌, ◌<◌, ◌≤◌, [], length, IfOk, OnOk, OnErr, IfSome, IsNone, IsSome, IsTrue, Contains, slice_index_or, vec_capacity};
 ghost use Rattle.clause_db.specs.Literals.{negation};
-ghost use Rattle.propagate.specs.Watching.{IsListed, IsUnwatched, IsWatcherAt, listing, satisfying, unwatched, watch_at, watchers_of, watching};
-ghost use Rattle.propagate.specs.Trails.{HasEntry, IsAssigned, IsTrail, IsUnassigned, IsUntaken, cut_to, decided, entry_at, followed, literals, mark_of, rewatched};
+ghost use Rattle.propagate.specs.Watching.{IsListed, IsNextShort, IsUnwatched, IsWatcherAt, attaching, rewatching, satisfying, unwatched, watch_at, watchers_of, with_watcher, without_watcher};
+ghost use Rattle.propagate.specs.Trails.{HasEntry, IsAssigned, IsTrail, IsUnassigned, IsUnpropagated, cut_to, decided, entry_at, followed, literals, mark_of, rewatched};
 ghost use Rattle.propagate.specs.Watched.{IsTrueAt, IsTrueUpTo};
 ghost use Rattle.propagate.specs.Clauses.{IsTruth};
 
@@ -43,9 +42,17 @@ impl Model for Trail {
 
     ghost Value = { Assigned };
 
-    ghost view = { λ t. record { vars = length t.places.items; entries = t.entries.items; levels = t.levels.items; watching = record { watches = t.watches; watchers = t.watchers.items; satisfied = t.satisfied }; taken = t.head } };
+    ghost view = { λ t. record {
+      vars = length t.places.items;
+      entries = t.entries.items;
+      levels = t.levels.items;
+      watching = record { watches = t.watches; watchers = t.watchers.items; satisfied = t.satisfied };
+      propagated = t.head;
+    } };
 
-    ghost invariant = { λ t. IsKept t.entries.items t.places.items t.values.items t.levels.items (record { watches = t.watches; watchers = t.watchers.items; satisfied = t.satisfied }) t.head (vec_capacity t.entries) (vec_capacity t.levels) };
+    ghost invariant = { λ t. IsKept t.entries.items t.places.items t.values.items t.levels.items
+        (record { watches = t.watches; watchers = t.watchers.items; satisfied = t.satisfied })
+        t.head (vec_capacity t.entries) (vec_capacity t.levels) };
 }
 
 impl Trail {
@@ -56,7 +63,7 @@ impl Trail {
         ensures none { IfOk result (λ t. t.entries ≡ []) }
         ensures level { IfOk result (λ t. t.levels ≡ []) }
         ensures unwatched { IfOk result (λ t. t.watching.watches ≡ []) }
-        ensures untaken { IfOk result (λ t. t.taken ≡ 0) }
+        ensures unpropagated { IfOk result (λ t. t.propagated ≡ 0) }
     {
         Ok(Trail {
             entries: Vec::with_capacity(alloc, vars as usize)?,
@@ -271,7 +278,7 @@ impl Trail {
 
     // The first clause of which no two literals are watched and that doesn't count as satisfied, and None behind the last.
     pub(crate) fn next_short(&self) -> Option<ClauseRef>
-        ensures some { IfSome result (λ c. (self.now.watching.satisfied < length (unwatched self.now.watching.watches)) × (slice_index_or (unwatched self.now.watching.watches) self.now.watching.satisfied 0 ≡ c)) }
+        ensures some { IfSome result (IsNextShort self.now.watching) }
         ensures none { IsNone result → length (unwatched self.now.watching.watches) ≤ self.now.watching.satisfied }
         ensures few { IfSome result (λ _. self.now.watching.satisfied + 1 < 2 ^ 64) }
     {
@@ -282,7 +289,7 @@ impl Trail {
     pub(crate) fn count_satisfied(&mut self)
         requires more { self.old.watching.satisfied < length (unwatched self.old.watching.watches) }
         requires few { self.old.watching.satisfied + 1 < 2 ^ 64 }
-        ensures trail { self.new ≡ rewatched self.old (satisfying self.old.watching (self.old.watching.satisfied + 1)) self.old.taken }
+        ensures trail { self.new ≡ rewatched self.old (satisfying self.old.watching (self.old.watching.satisfied + 1)) self.old.propagated }
         ensures after { IsTrail self.new }
     {
         self.satisfied += 1;
@@ -301,7 +308,7 @@ impl Trail {
     // Adds a clause to the watchers of a literal; want of memory leaves them as they were.
     pub(crate) fn add_watcher(&mut self, lit: Lit, clause: ClauseRef) -> Result<(), AllocError>
         requires in_range { lit.var < self.old.vars }
-        ensures ok { OnOk result (self.new ≡ rewatched self.old (listing self.old.watching lit (watchers_of self.old.watching lit ++ clause ∷ [])) self.old.taken) }
+        ensures ok { OnOk result (self.new ≡ rewatched self.old (with_watcher self.old.watching lit clause) self.old.propagated) }
         ensures err { OnErr result (self.new ≡ self.old) }
         ensures before { IsTrail self.old }
         ensures after { IsTrail self.new }
@@ -314,7 +321,7 @@ impl Trail {
         requires in_range { lit.var < self.old.vars }
         requires within { place < length (watchers_of self.old.watching lit) }
         requires unwatched { IsUnwatched self.old.watching (slice_index_or (watchers_of self.old.watching lit) place 0) lit }
-        ensures trail { self.new ≡ rewatched self.old (listing self.old.watching lit (swap_remove (watchers_of self.old.watching lit) place 0)) self.old.taken }
+        ensures trail { self.new ≡ rewatched self.old (without_watcher self.old.watching lit place) self.old.propagated }
         ensures before { IsTrail self.old }
         ensures after { IsTrail self.new }
     {
@@ -329,7 +336,7 @@ impl Trail {
     ) -> Result<(), AllocError>
         requires next { clause ≡ length self.old.watching.watches }
         requires listed { IfSome watch (λ p. IsListed self.old.watching (length self.old.watching.watches) p) }
-        ensures ok { OnOk result (self.new ≡ rewatched self.old (watching self.old.watching (self.old.watching.watches ++ watch ∷ [])) self.old.taken) }
+        ensures ok { OnOk result (self.new ≡ rewatched self.old (attaching self.old.watching watch) self.old.propagated) }
         ensures err { OnErr result (self.new ≡ self.old) }
         ensures before { IsTrail self.old }
         ensures after { IsTrail self.new }
@@ -342,24 +349,24 @@ impl Trail {
         requires known { clause < length self.old.watching.watches }
         requires watched { IsSome (watch_at self.old.watching clause) }
         requires listed { IsListed self.old.watching clause watch }
-        ensures trail { self.new ≡ rewatched self.old (watching self.old.watching (set self.old.watching.watches clause (Some watch))) self.old.taken }
+        ensures trail { self.new ≡ rewatched self.old (rewatching self.old.watching clause watch) self.old.propagated }
         ensures before { IsTrail self.old }
         ensures after { IsTrail self.new }
     {
         self.watches.set(clause, watch, cursor);
     }
 
-    // The place of the next literal to propagate: those before it are taken.
+    // The place of the next literal to propagate: those before it are.
     pub(crate) fn head(&self) -> u32
-        ensures head { result ≡ self.now.taken }
+        ensures head { result ≡ self.now.propagated }
     {
         self.head
     }
 
     // Moves the head behind the literal that was propagated.
     pub(crate) fn advance(&mut self)
-        requires more { self.old.taken < length self.old.entries }
-        ensures trail { self.new ≡ rewatched self.old self.old.watching (self.old.taken + 1) }
+        requires more { self.old.propagated < length self.old.entries }
+        ensures trail { self.new ≡ rewatched self.old self.old.watching (self.old.propagated + 1) }
         ensures after { IsTrail self.new }
     {
         self.head += 1;
@@ -367,9 +374,9 @@ impl Trail {
 
     // Moves the head back before the literals of the present level.
     pub(crate) fn rewind(&mut self)
-        ensures trail { self.new ≡ rewatched self.old self.old.watching self.new.taken }
-        ensures untaken { IsUntaken self.new }
-        ensures fewer { self.new.taken ≤ self.old.taken }
+        ensures trail { self.new ≡ rewatched self.old self.old.watching self.new.propagated }
+        ensures unpropagated { IsUnpropagated self.new }
+        ensures fewer { self.new.propagated ≤ self.old.propagated }
         ensures before { IsTrail self.old }
         ensures after { IsTrail self.new }
     {

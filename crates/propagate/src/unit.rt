@@ -1,6 +1,6 @@
 //! The literals of unit clauses, which are assigned with their edges.
 
-ghost use Rattle.std.specs.Prelude.{◌≡◌, ◌↔◌, ℕ, ◌<◌, ◌≤◌, [], ◌∷◌, ◌++◌, length, Some, option_to_list, Contains, OnOk, IfSome, IsNone};
+ghost use Rattle.std.specs.Prelude.{◌≡◌, ◌↔◌, ◌<◌, ◌≤◌, [], ◌∷◌, ◌++◌, length, Some, option_to_list, Contains, OnOk, IfSome, IsNone};
 ghost use Rattle.neg_cycle.specs.Systems.{IsEdge};
 ghost use Rattle.difference_graph.specs.declared.push.Push.TheVariants.{Kept, Cycle};
 ghost use Rattle.difference_graph.specs.Graphs.{HasSameLimits, HasSolution, IfKept, IfRefused};
@@ -9,15 +9,16 @@ ghost use Rattle.clause_db.specs.Literals.{negation};
 ghost use Rattle.clause_db.specs.Clauses.{clause_at};
 ghost use Rattle.propagate.specs.Links.{edge_of};
 ghost use Rattle.propagate.specs.Trails.{IsTrail, IsUnassigned, followed, literals};
-ghost use Rattle.propagate.specs.Watched.{IsTrueUpTo};
 ghost use Rattle.propagate.specs.Steps.{IsRefused};
 ghost use Rattle.propagate.specs.Reach.{IsAtWork, IsReached};
-ghost use Rattle.propagate.specs.Best.{AreFalseUpTo, IsBest};
-ghost use Rattle.propagate.specs.Visits.{AreShortSatisfied, IsAssignedIfUnit, IsSatisfiedIfShort, IsUnmoved};
+ghost use Rattle.propagate.specs.Best.{IsBest};
+ghost use Rattle.propagate.specs.Visits.{AreShortSatisfied, IsAssignedIfUnit, IsSatisfiedIfShort, IsTrueSinceUnit, IsUnmoved};
 
+use crate::linked_clauses::LinkedClauses;
 use crate::stop::Stop;
+use crate::watch::Watch;
 use crate::{Links, Trail};
-use clause_db::{ClauseRef, Db, Lit};
+use clause_db::{ClauseRef, Lit};
 use difference_graph::{Graph, Push};
 
 impl Trail {
@@ -26,81 +27,65 @@ impl Trail {
         &mut self,
         lit: Lit,
         clause: ClauseRef,
-        db: &Db,
-        links: &Links,
+        clauses: &LinkedClauses<'_>,
         graph: &mut Graph,
     ) -> Result<(), Stop>
-        requires work { IsAtWork db.now links.now self.old graph.old }
-        requires held { clause < length db.now }
-        requires leaves { LeavesOnly negation (literals self.old.entries) (clause_at db.now clause) lit }
-        ensures reached { IsReached db.now links.now self.old graph.old result self.new graph.new }
+        requires work { IsAtWork clauses.now self.old graph.old }
+        requires held { clause < length clauses.now.db.now }
+        requires leaves { LeavesOnly negation (literals self.old.entries) (clause_at clauses.now.db.now clause) lit }
+        ensures reached { IsReached clauses.now (self.old, graph.old) result (self.new, graph.new) }
         ensures unmoved { IsUnmoved self.old self.new }
         ensures made { OnOk result (Contains (literals self.new.entries) lit) }
-        ensures since { OnOk result ((m : ℕ) → AreFalseUpTo self.old.entries m (clause_at db.now clause) (Some lit) → IsTrueUpTo self.new.entries m lit) }
+        ensures since { OnOk result (IsTrueSinceUnit self.old self.new (clause_at clauses.now.db.now clause) lit) }
     {
         match self.truth(lit) {
             Some(true) => Ok(()),
             Some(false) => Err(Stop::Clause(clause)),
-            None => match self.assign(lit, clause, links, graph) {
+            None => match self.assign(lit, clause, clauses.links, graph) {
                 Push::Kept => Ok(()),
                 Push::Cycle => Err(Stop::Theory(lit)),
             },
         }
     }
 
-    // The same, if the best literal beside it is false: then all the others are.
+    // Assigns the first of two literals of a clause, if the second, the best one beside it, is false: then all the others are.
     pub(crate) fn assign_if_unit(
         &mut self,
-        best: Lit,
-        lit: Lit,
+        watch: Watch,
         clause: ClauseRef,
-        db: &Db,
-        links: &Links,
+        clauses: &LinkedClauses<'_>,
         graph: &mut Graph,
     ) -> Result<(), Stop>
-        requires work { IsAtWork db.now links.now self.old graph.old }
-        requires held { clause < length db.now }
-        requires has { Contains (clause_at db.now clause) lit }
-        requires best { IsBest self.old.entries (clause_at db.now clause) (Some lit) best }
-        ensures reached { IsReached db.now links.now self.old graph.old result self.new graph.new }
+        requires work { IsAtWork clauses.now self.old graph.old }
+        requires held { clause < length clauses.now.db.now }
+        requires has { Contains (clause_at clauses.now.db.now clause) watch.first }
+        requires best { IsBest self.old.entries (clause_at clauses.now.db.now clause) (Some watch.first) watch.second }
+        ensures reached { IsReached clauses.now (self.old, graph.old) result (self.new, graph.new) }
         ensures unmoved { IsUnmoved self.old self.new }
-        ensures assigned { OnOk result (IsAssignedIfUnit self.old self.new lit best) }
+        ensures assigned { OnOk result (IsAssignedIfUnit self.old self.new watch.first watch.second) }
     {
-        match self.false_at(best) {
+        match self.false_at(watch.second) {
             None => Ok(()),
-            Some(_) => self.assign_unit(lit, clause, db, links, graph),
+            Some(_) => self.assign_unit(watch.first, clause, clauses, graph),
         }
     }
 
-    // Satisfies the clauses of fewer than two literals. Above level 0 each is satisfied already.
+    // Satisfies the clauses of fewer than two literals, but for those that count as satisfied. Above level 0 each is satisfied already.
     pub(crate) fn satisfy_short(
         &mut self,
-        db: &Db,
-        links: &Links,
+        clauses: &LinkedClauses<'_>,
         graph: &mut Graph,
     ) -> Result<(), Stop>
-        requires work { IsAtWork db.now links.now self.old graph.old }
-        requires known { length db.now ≤ length self.old.watching.watches }
-        ensures reached { IsReached db.now links.now self.old graph.old result self.new graph.new }
-        ensures short { OnOk result (AreShortSatisfied self.new db.now) }
+        requires work { IsAtWork clauses.now self.old graph.old }
+        requires known { length clauses.now.db.now ≤ length self.old.watching.watches }
+        ensures reached { IsReached clauses.now (self.old, graph.old) result (self.new, graph.new) }
+        ensures short { OnOk result (AreShortSatisfied self.new clauses.now.db.now) }
     {
         if self.level() > 0 {
-            Ok(())
-        } else {
-            self.satisfy_each_short(db, links, graph)
+            return Ok(());
         }
-    }
-
-    // Satisfies the clauses of fewer than two literals at level 0, but for those that count as satisfied.
-    fn satisfy_each_short(&mut self, db: &Db, links: &Links, graph: &mut Graph) -> Result<(), Stop>
-        requires work { IsAtWork db.now links.now self.old graph.old }
-        requires known { length db.now ≤ length self.old.watching.watches }
-        requires lowest { length self.old.levels ≡ 0 }
-        ensures reached { IsReached db.now links.now self.old graph.old result self.new graph.new }
-        ensures short { OnOk result (AreShortSatisfied self.new db.now) }
-    {
         'short: while let Some(clause) = self.next_short() {
-            self.satisfy_if_short(clause, db, links, graph)?;
+            self.satisfy_if_short(clause, clauses, graph)?;
             self.count_satisfied();
         }
         Ok(())
@@ -110,19 +95,18 @@ impl Trail {
     fn satisfy_if_short(
         &mut self,
         clause: ClauseRef,
-        db: &Db,
-        links: &Links,
+        clauses: &LinkedClauses<'_>,
         graph: &mut Graph,
     ) -> Result<(), Stop>
-        requires work { IsAtWork db.now links.now self.old graph.old }
-        requires held { clause < length db.now }
-        ensures reached { IsReached db.now links.now self.old graph.old result self.new graph.new }
+        requires work { IsAtWork clauses.now self.old graph.old }
+        requires held { clause < length clauses.now.db.now }
+        ensures reached { IsReached clauses.now (self.old, graph.old) result (self.new, graph.new) }
         ensures unmoved { IsUnmoved self.old self.new }
-        ensures short { OnOk result (IsSatisfiedIfShort self.new (clause_at db.now clause)) }
+        ensures short { OnOk result (IsSatisfiedIfShort self.new (clause_at clauses.now.db.now clause)) }
     {
-        match db.lits(clause) {
+        match clauses.db.lits(clause) {
             [] => Err(Stop::Clause(clause)),
-            [lit] => self.assign_unit(*lit, clause, db, links, graph),
+            [lit] => self.assign_unit(*lit, clause, clauses, graph),
             _ => Ok(()),
         }
     }

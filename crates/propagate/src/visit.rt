@@ -1,16 +1,17 @@
 //! The clauses that watch a literal which became false.
 
 ghost use Rattle.std.specs.Prelude.{◌≡◌, ◌≢◌, ◌+◌, ◌<◌, length, IfOk, OnOk, IfSome, IsNone};
-ghost use Rattle.propagate.specs.Watching.{AreWatchedOf, IsUnwatched, IsWatcherAt};
+ghost use Rattle.propagate.specs.Watching.{AreWatchedOf, IsUnwatched, IsWatcher};
 ghost use Rattle.propagate.specs.Trails.{IsTrail, rewatched};
 ghost use Rattle.propagate.specs.Reach.{IsAtWork, IsReached};
-ghost use Rattle.propagate.specs.Visits.{HasMoved, IsNextFalse, IsRewatched, IsVisited, place_after};
+ghost use Rattle.propagate.specs.Visits.{HasMoved, IsNextFalse, IsRewatched, WasVisited};
 
-use crate::best::{Found, best_after};
+use crate::Trail;
+use crate::best::best_after;
+use crate::linked_clauses::LinkedClauses;
 use crate::stop::Stop;
-use crate::watch::Watch;
-use crate::{Links, Trail};
-use clause_db::{ClauseRef, Db, Lit};
+use crate::watch::{Watch, Watcher};
+use clause_db::{ClauseRef, Lit};
 use difference_graph::Graph;
 use std::alloc::AllocError;
 
@@ -25,19 +26,18 @@ impl Trail {
     // Propagates the literal at the head: visits the clauses that watch its negation.
     pub(crate) fn visit_watchers(
         &mut self,
-        db: &Db,
-        links: &Links,
+        clauses: &LinkedClauses<'_>,
         graph: &mut Graph,
     ) -> Result<(), Stop>
-        requires work { IsAtWork db.now links.now self.old graph.old }
-        requires more { self.old.taken < length self.old.entries }
-        ensures reached { IsReached db.now links.now self.old graph.old result self.new graph.new }
-        ensures next { OnOk result (self.new.taken ≡ self.old.taken + 1) }
+        requires work { IsAtWork clauses.now self.old graph.old }
+        requires more { self.old.propagated < length self.old.entries }
+        ensures reached { IsReached clauses.now (self.old, graph.old) result (self.new, graph.new) }
+        ensures next { OnOk result (self.new.propagated ≡ self.old.propagated + 1) }
     {
         let lit = self.lit(self.head()).negated();
         let mut place = 0;
         'watchers: while let Some(clause) = self.watcher(lit, place) {
-            match self.visit(clause, lit, place, db, links, graph)? {
+            match self.visit(Watcher { clause, lit, place }, clauses, graph)? {
                 Visit::Stayed => place += 1,
                 Visit::Moved => {}
             }
@@ -50,26 +50,23 @@ impl Trail {
     // watched literal is true since a level not above.
     fn visit(
         &mut self,
-        clause: ClauseRef,
-        lit: Lit,
-        place: usize,
-        db: &Db,
-        links: &Links,
+        watcher: Watcher,
+        clauses: &LinkedClauses<'_>,
         graph: &mut Graph,
     ) -> Result<Visit, Stop>
-        requires work { IsAtWork db.now links.now self.old graph.old }
-        requires next { IsNextFalse self.old lit }
-        requires here { IsWatcherAt self.old.watching lit place clause }
-        ensures reached { IsReached db.now links.now self.old graph.old result self.new graph.new }
-        ensures visited { IfOk result (λ v. IsVisited self.old self.new lit clause place (place_after v place)) }
+        requires work { IsAtWork clauses.now self.old graph.old }
+        requires next { IsNextFalse self.old watcher.lit }
+        requires here { IsWatcher self.old.watching watcher }
+        ensures reached { IsReached clauses.now (self.old, graph.old) result (self.new, graph.new) }
+        ensures visited { IfOk result (WasVisited self.old self.new watcher) }
     {
-        match self.watched_beside(clause, lit) {
+        match self.watched_beside(watcher.clause, watcher.lit) {
             None => Ok(Visit::Stayed),
             Some(other) => {
-                if self.true_up_to(other, self.level_of(lit.var())) {
+                if self.true_up_to(other, self.level_of(watcher.lit.var())) {
                     Ok(Visit::Stayed)
                 } else {
-                    self.watch_best(clause, lit, other, place, db, links, graph)
+                    self.watch_best(watcher, other, clauses, graph)
                 }
             }
         }
@@ -97,59 +94,58 @@ impl Trail {
     // Watches the best literal of a clause beside another one in place of a literal that became false.
     fn watch_best(
         &mut self,
-        clause: ClauseRef,
-        lit: Lit,
+        watcher: Watcher,
         other: Lit,
-        place: usize,
-        db: &Db,
-        links: &Links,
+        clauses: &LinkedClauses<'_>,
         graph: &mut Graph,
     ) -> Result<Visit, Stop>
-        requires work { IsAtWork db.now links.now self.old graph.old }
-        requires next { IsNextFalse self.old lit }
-        requires here { IsWatcherAt self.old.watching lit place clause }
-        requires both { AreWatchedOf self.old.watching clause lit other }
-        ensures reached { IsReached db.now links.now self.old graph.old result self.new graph.new }
-        ensures visited { IfOk result (λ v. IsVisited self.old self.new lit clause place (place_after v place)) }
+        requires work { IsAtWork clauses.now self.old graph.old }
+        requires next { IsNextFalse self.old watcher.lit }
+        requires here { IsWatcher self.old.watching watcher }
+        requires both { AreWatchedOf self.old.watching watcher.clause watcher.lit other }
+        ensures reached { IsReached clauses.now (self.old, graph.old) result (self.new, graph.new) }
+        ensures visited { IfOk result (WasVisited self.old self.new watcher) }
     {
-        match best_after(self, db.lits(clause), other, lit, self.cursor(clause)) {
+        let Watcher { clause, lit, .. } = watcher;
+        let from = self.cursor(clause);
+        match best_after(self, clauses.db.lits(clause), other, lit, from) {
             None => unreachable!(),
             Some(best) => {
-                self.assign_if_unit(best.lit, other, clause, db, links, graph)?;
-                Ok(self.move_watch(clause, lit, best, other, place)?)
+                let watch = Watch {
+                    first: other,
+                    second: best.lit,
+                };
+                self.assign_if_unit(watch, clause, clauses, graph)?;
+                Ok(self.move_watch(watcher, watch, best.place)?)
             }
         }
     }
 
-    // Watches a literal of a clause in place of one that became false, unless it was false before.
+    // Watches two literals of a clause: the first stays, and the second comes in place of one that became false, unless it was
+    // false before. The next search begins at a place of the clause.
     fn move_watch(
         &mut self,
-        clause: ClauseRef,
-        lit: Lit,
-        best: Found,
-        other: Lit,
-        place: usize,
+        watcher: Watcher,
+        watch: Watch,
+        cursor: usize,
     ) -> Result<Visit, AllocError>
         requires trail { IsTrail self.old }
-        requires in_range { best.lit.var < self.old.vars }
-        requires next { IsNextFalse self.old lit }
-        requires here { IsWatcherAt self.old.watching lit place clause }
-        requires both { AreWatchedOf self.old.watching clause lit other }
-        requires apart { other ≢ lit }
-        ensures same { self.new ≡ rewatched self.old self.new.watching self.old.taken }
+        requires in_range { watch.second.var < self.old.vars }
+        requires next { IsNextFalse self.old watcher.lit }
+        requires here { IsWatcher self.old.watching watcher }
+        requires both { AreWatchedOf self.old.watching watcher.clause watcher.lit watch.first }
+        requires apart { watch.first ≢ watcher.lit }
+        ensures same { self.new ≡ rewatched self.old self.new.watching self.old.propagated }
         ensures trail { IsTrail self.new }
-        ensures rewatched { IsRewatched self.old.watching self.new.watching clause (record { first = best.lit; second = other }) }
-        ensures moved { IfOk result (HasMoved self.old self.new lit (record { first = best.lit; second = other }) clause place) }
+        ensures rewatched { IsRewatched self.old.watching self.new.watching watcher.clause watch }
+        ensures moved { IfOk result (HasMoved self.old self.new watcher watch) }
     {
-        if self.true_up_to(best.lit.negated(), self.level_of(lit.var())) {
+        let Watcher { clause, lit, place } = watcher;
+        if self.true_up_to(watch.second.negated(), self.level_of(lit.var())) {
             return Ok(Visit::Stayed);
         }
-        self.add_watcher(best.lit, clause)?;
-        let watch = Watch {
-            first: best.lit,
-            second: other,
-        };
-        self.set_watch(clause, watch, best.place);
+        self.add_watcher(watch.second, clause)?;
+        self.set_watch(clause, watch, cursor);
         self.drop_watcher(lit, place);
         Ok(Visit::Moved)
     }

@@ -15,6 +15,14 @@ pub struct Watch {
     pub second: Lit,
 }
 
+/// A clause that watches a literal, and its place among those that do.
+#[derive(Clone, Copy)]
+pub struct Watcher {
+    pub clause: ClauseRef,
+    pub lit: Lit,
+    pub place: usize,
+}
+
 /// The clauses that watch the literals of a variable, which contracts see as two lists: those of the
 /// positive literal, and those of the negative one.
 #[derive(Drop)]

@@ -1,10 +1,10 @@
-//! Why nothing is asked.
+//! Why nothing is judged.
 
 use formula_arena::ArenaFault;
 use std::alloc::AllocError;
 use thiserror::Error;
 
-/// Why a formula isn't asked of a log.
+/// Why a formula isn't judged of a log.
 #[derive(Clone, Copy, Debug, Error)]
 pub enum QuestionFault {
     /// The number, from 0 and from left to right, of the first proposition whose host isn't in the log.
@@ -13,6 +13,9 @@ pub enum QuestionFault {
     /// The formula has more than 512 nodes.
     #[error("more than 512 nodes")]
     TooManyNodes,
+    /// The size of the problem is above 4,194,304 (`size_of`).
+    #[error("size {size}")]
+    TooLarge { size: u128 },
     #[error("out of memory")]
     Memory,
 }

@@ -1,5 +1,5 @@
 -- Reports by where their parts stand.
-use Rattle.std.specs.Prelude.{◌≡◌, ◌⊎◌, ℕ, List, length, Result, Ok, Err, MatchResult}
+use Rattle.std.specs.Prelude.{◌≡◌, ◌⊎◌, ℕ, Bool, false, List, ◌++◌, length, Result, Ok, Err, MatchResult}
 use Rattle.std.specs.List.{flat_map}
 use Rattle.mt_model.specs.declared.step.Step.{Step}
 use Rattle.report_text.specs.declared.fault.ReportFault.{ReportFault}
@@ -11,10 +11,11 @@ use Rattle.report_text.specs.declared.part.Kind.{Kind}
 use Rattle.report_text.specs.declared.report.Section.{Section}
 use Rattle.report_text.specs.declared.report.Report.{Report}
 use Rattle.report_text.specs.declared.report.Report.TheVariants as report
-use Rattle.report_text.specs.Parts.{IsFront, kind_of}
+use Rattle.report_text.specs.Parts.{IsFront, kind_of, kind_text}
 use Rattle.report_text.specs.ReportOf.{ReportOf}
-use Rattle.report_text.specs.ReportText.{bound_text, entries_text}
-use Rattle.report_text.specs.Stops.{AreRead, AreVerdictsRead}
+use Rattle.report_text.specs.ReportText.{bound_text, entries_text, section_text}
+use Rattle.report_text.specs.Spelled.{IsSpelledSection}
+use Rattle.report_text.specs.Stops.{AreRead, AreVerdictsRead, IsOfKind}
 
 -- the section is of this kind, and its lines after the first are this text
 pub record IsSectionOutline (o : SectionOutline) (s : Section) : Type 0 where
@@ -67,3 +68,15 @@ pub record IsOutlineIn (bytes : List ℕ) (o : Outline) : Type 0 where
 -- a call answered the outline of the report that the bytes are, or what the bytes are in place of one, or want of memory
 abbrev pub AnswersOutline : List ℕ → Result Outline ReportFault → Type 0
 AnswersOutline bytes result = MatchResult result (IsOutlineIn bytes) (λ f. (f ≡ fault.Memory) ⊎ ReportOf bytes (Err f))
+
+-- the lines of a section of this kind after its first were outlined, and the rest follows
+abbrev pub AreEntriesOutlined : ℕ → Kind → List ℕ → SectionOutline → List ℕ → Type 0
+AreEntriesOutlined events k bytes o rest = IsOutlinedFront IsSectionOutline (IsOfKind events k) entries_text bytes o rest
+
+-- the section of false was outlined, and the rest follows
+abbrev pub IsFalseOutlined : ℕ → List ℕ → SectionOutline → List ℕ → Type 0
+IsFalseOutlined events bytes o rest = IsOutlinedFront IsSectionOutline (IsSpelledSection events) (section_text false) bytes o rest
+
+-- the text of the section of a truth value that has this outline
+abbrev pub outlined_text : Bool → SectionOutline → List ℕ
+outlined_text v o = kind_text v o.kind ++ o.text.now

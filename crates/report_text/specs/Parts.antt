@@ -1,7 +1,11 @@
 -- The lines that say what follows them, and what stands at the front of bytes.
-use Rattle.std.specs.Prelude.{◌≡◌, ℕ, Bool, true, List, ◌++◌, length, codes}
-use Rattle.std.specs.Fmt.{decimal}
-use Rattle.proof_log.specs.Spelled.{IsNumber}
+use Rattle.std.specs.Prelude.{◌≡◌, ℕ, Bool, true, List, ◌++◌, length, codes, ℤ}
+use Rattle.std.specs.Fmt.{decimal, signed_decimal}
+use Rattle.mt_model.specs.declared.limits.TheConstants.{MAX_TIME}
+use Rattle.mt_model.specs.Log.{IsWithin}
+use Rattle.proof_log.specs.declared.line.Line.{Line}
+use Rattle.proof_log.specs.LinesText.{line_text}
+use Rattle.proof_log.specs.Spelled.{IsNumber, IsSpelled as IsSpelledLine}
 use Rattle.report_text.specs.declared.part.Kind.{Kind}
 use Rattle.report_text.specs.declared.part.Kind.TheVariants as kind
 use Rattle.report_text.specs.declared.part.Opening.{Opening}
@@ -74,3 +78,11 @@ opening_text o = ended (opening_line o)
 -- the line with the number of events, with its newline
 abbrev pub events_text : ℕ → List ℕ
 events_text n = ended (events_line n)
+
+-- the line is the spelling of a time without the newline
+abbrev pub IsTimeLine : List ℕ → ℤ → Type 0
+IsTimeLine line t = IsLineOf (IsWithin MAX_TIME) signed_decimal line t
+
+-- the bytes begin with a line of a derivation, and the rest follows
+abbrev pub BeginWithLine : List ℕ → List ℕ → Type 0
+BeginWithLine bytes rest = (line : Line) × IsFront IsSpelledLine line_text bytes line rest

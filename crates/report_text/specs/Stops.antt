@@ -7,10 +7,14 @@ use Rattle.report_text.specs.declared.report.Report.{Report}
 use Rattle.report_text.specs.declared.report.Report.TheVariants as report
 use Rattle.report_text.specs.declared.stop.Stop.{Stop}
 use Rattle.report_text.specs.declared.stop.Stop.TheVariants as stop
-use Rattle.report_text.specs.Parts.{kind_of}
+use Rattle.mt_model.specs.declared.limits.TheConstants.{MAX_TIME}
+use Rattle.mt_model.specs.Log.{IsWithin}
+use Rattle.proof_log.specs.LinesText.{line_text}
+use Rattle.proof_log.specs.Spelled.{IsSpelled as IsSpelledLine}
+use Rattle.report_text.specs.Parts.{IsFront, kind_of}
 use Rattle.report_text.specs.ReportOf.{AreLines, Begins, NoneGoesOn}
-use Rattle.report_text.specs.ReportText.{body_text, entries_text, events_of, marked_text, section_text}
-use Rattle.report_text.specs.Spelled.{IsSpelled, IsSpelledSection}
+use Rattle.report_text.specs.ReportText.{body_text, bound_text, entries_text, events_of, marked_text, section_text, time_text}
+use Rattle.report_text.specs.Spelled.{IsSpelled, IsSpelledBound, IsSpelledSection}
 
 -- bytes that begin with no text of a kind: some text begins with the lines before those left, and none with these and the line after them
 pub record IsStoppedAt (IsText : List ℕ → Type 0) (bytes : List ℕ) (left : ℕ) : Type 0 where
@@ -91,3 +95,17 @@ pub record IsMarked (bytes : List ℕ) : Type 0 where
   pub report : Report
   pub spelled : IsSpelled report
   pub text : marked_text report ≡ bytes
+
+-- the texts of so many times, bounds of a walk, or lines of a derivation
+abbrev pub AreTimes : ℕ → List ℕ → Type 0
+AreTimes count bytes = AreItems (IsWithin MAX_TIME) time_text count bytes
+
+abbrev pub AreBounds : ℕ → List ℕ → Type 0
+AreBounds count bytes = AreItems IsSpelledBound bound_text count bytes
+
+abbrev pub AreDerivation : ℕ → List ℕ → Type 0
+AreDerivation count bytes = AreItems IsSpelledLine line_text count bytes
+
+-- the bytes begin with the lines of a section of this kind after its first, and the rest follows
+abbrev pub BeginWithEntries : ℕ → Kind → List ℕ → List ℕ → Type 0
+BeginWithEntries events k bytes rest = (s : Section) × IsFront (IsOfKind events k) entries_text bytes s rest

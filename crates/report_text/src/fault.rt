@@ -1,3 +1,5 @@
+//! What is wrong with the text of a report.
+
 use std::alloc::AllocError;
 use thiserror::Error;
 

@@ -1,14 +1,12 @@
 //! What stands at the front of bytes, up to a newline.
 
 ghost use Rattle.std.specs.Prelude.{◌≡◌, ◌↔◌, ◌++◌, IfOk, IsTrue, List, MatchOption, ℕ, ℤ};
-ghost use Rattle.std.specs.Fmt.{signed_decimal};
 ghost use Rattle.mt_model.specs.declared.limits.TheConstants.{MAX_TIME};
 ghost use Rattle.mt_model.specs.Log.{IsWithin};
 ghost use Rattle.mt_model.specs.Texts.{step_text};
-ghost use Rattle.proof_log.specs.declared.line.Line.{Line};
 ghost use Rattle.proof_log.specs.LinesText.{line_text};
 ghost use Rattle.proof_log.specs.Spelled.{IsNumber, IsSpelled as IsSpelledLine};
-ghost use Rattle.report_text.specs.Parts.{IsCut, IsFront, IsKind, IsLineOf, IsNumbered, IsOpening, NoFront, events_text, kind_line, kind_text, opening_line, opening_text};
+ghost use Rattle.report_text.specs.Parts.{BeginWithLine, IsCut, IsFront, IsKind, IsLineOf, IsNumbered, IsOpening, IsTimeLine, NoFront, events_text, kind_line, kind_text, opening_line, opening_text};
 ghost use Rattle.report_text.specs.ReportOf.{LacksNewline};
 ghost use Rattle.report_text.specs.ReportText.{bound_text, ended, time_text, value_word};
 ghost use Rattle.report_text.specs.Spelled.{IsSpelledBound};
@@ -52,7 +50,7 @@ pub fn is_time(time: i128) -> bool
 }
 
 fn time_of(line: &[u8]) -> Option<i128>
-    ensures { MatchOption result ((t : ℤ) → IsLineOf (IsWithin MAX_TIME) signed_decimal line.now t → ⊥) (IsLineOf (IsWithin MAX_TIME) signed_decimal line.now) }
+    ensures { MatchOption result ((t : ℤ) → IsTimeLine line.now t → ⊥) (IsTimeLine line.now) }
 {
     signed_number(line, MAX_TIME)
 }
@@ -165,7 +163,7 @@ pub fn next_bound(bytes: &[u8]) -> Option<(Step, &[u8])>
 
 /// What follows a line of a derivation.
 pub fn after_line(alloc: Global, bytes: &[u8]) -> Result<Option<&[u8]>, AllocError>
-    ensures { IfOk result (λ o. MatchOption o (NoFront IsSpelledLine line_text bytes.now) (λ rest. (line : Line) × IsFront IsSpelledLine line_text bytes.now line rest.now)) }
+    ensures { IfOk result (λ o. MatchOption o (NoFront IsSpelledLine line_text bytes.now) (λ rest. BeginWithLine bytes.now rest.now)) }
 {
     pass_line(alloc, bytes)
 }

@@ -8,7 +8,7 @@ ghost use Rattle.proof_log.specs.Spelled.{IsSpelled as IsSpelledLine};
 ghost use Rattle.report_text.specs.Outlines.{ArePassed};
 ghost use Rattle.report_text.specs.ReportText.{bound_text, time_text};
 ghost use Rattle.report_text.specs.Spelled.{IsSpelledBound};
-ghost use Rattle.report_text.specs.Stops.{AreItems, AreRead, Stopped};
+ghost use Rattle.report_text.specs.Stops.{AreBounds, AreDerivation, AreRead, AreTimes, Stopped};
 
 use crate::front::{after_line, next_bound, next_time};
 use crate::stop::Stop;
@@ -18,7 +18,7 @@ use std::alloc::Global;
 /// So many times.
 pub fn read_times<'a>(times: &mut Times, count: u32, bytes: &'a [u8]) -> Result<&'a [u8], Stop>
     requires { times.old ≡ [] }
-    ensures { MatchResult result (λ rest. AreRead (IsWithin MAX_TIME) time_text count bytes.now times.new rest.now) (Stopped (AreItems (IsWithin MAX_TIME) time_text count) bytes.now) }
+    ensures { MatchResult result (λ rest. AreRead (IsWithin MAX_TIME) time_text count bytes.now times.new rest.now) (Stopped (AreTimes count) bytes.now) }
 {
     let mut rest = bytes;
     while times.len() < count as usize {
@@ -34,7 +34,7 @@ pub fn read_times<'a>(times: &mut Times, count: u32, bytes: &'a [u8]) -> Result<
 /// So many bounds of a log.
 pub fn read_bounds<'a>(steps: &mut Steps, count: u32, bytes: &'a [u8]) -> Result<&'a [u8], Stop>
     requires { steps.old ≡ [] }
-    ensures { MatchResult result (λ rest. AreRead IsSpelledBound bound_text count bytes.now steps.new rest.now) (Stopped (AreItems IsSpelledBound bound_text count) bytes.now) }
+    ensures { MatchResult result (λ rest. AreRead IsSpelledBound bound_text count bytes.now steps.new rest.now) (Stopped (AreBounds count) bytes.now) }
 {
     let mut rest = bytes;
     while steps.len() < count as usize {
@@ -49,7 +49,7 @@ pub fn read_bounds<'a>(steps: &mut Steps, count: u32, bytes: &'a [u8]) -> Result
 
 /// So many times, of which none is kept.
 pub fn pass_times(count: u32, bytes: &[u8]) -> Result<&[u8], Stop>
-    ensures { MatchResult result (λ rest. ArePassed (IsWithin MAX_TIME) time_text count bytes.now rest.now) (Stopped (AreItems (IsWithin MAX_TIME) time_text count) bytes.now) }
+    ensures { MatchResult result (λ rest. ArePassed (IsWithin MAX_TIME) time_text count bytes.now rest.now) (Stopped (AreTimes count) bytes.now) }
 {
     let mut rest = bytes;
     let mut passed = 0;
@@ -65,7 +65,7 @@ pub fn pass_times(count: u32, bytes: &[u8]) -> Result<&[u8], Stop>
 
 /// So many bounds of a log, of which none is kept.
 pub fn pass_bounds(count: u32, bytes: &[u8]) -> Result<&[u8], Stop>
-    ensures { MatchResult result (λ rest. ArePassed IsSpelledBound bound_text count bytes.now rest.now) (Stopped (AreItems IsSpelledBound bound_text count) bytes.now) }
+    ensures { MatchResult result (λ rest. ArePassed IsSpelledBound bound_text count bytes.now rest.now) (Stopped (AreBounds count) bytes.now) }
 {
     let mut rest = bytes;
     let mut passed = 0;
@@ -81,7 +81,7 @@ pub fn pass_bounds(count: u32, bytes: &[u8]) -> Result<&[u8], Stop>
 
 /// So many lines of a derivation, of which none is kept: memory is taken for the atoms of one of them.
 pub fn pass_lines(alloc: Global, count: u32, bytes: &[u8]) -> Result<&[u8], Stop>
-    ensures { MatchResult result (λ rest. ArePassed IsSpelledLine line_text count bytes.now rest.now) (Stopped (AreItems IsSpelledLine line_text count) bytes.now) }
+    ensures { MatchResult result (λ rest. ArePassed IsSpelledLine line_text count bytes.now rest.now) (Stopped (AreDerivation count) bytes.now) }
 {
     let mut rest = bytes;
     let mut passed = 0;

@@ -1,3 +1,5 @@
+//! What holds of reports and their texts.
+
 ghost use Rattle.report_text.specs.Laws.{BytesAreUnambiguous, CutTextsAreFaulty, TextsReadBack, TextsTellApart};
 
 /// Bytes are at most one report, or have at most one first faulty line.

@@ -1,3 +1,5 @@
+//! Reports by where their parts stand in a text.
+
 use crate::part::Kind;
 
 /// A section by its first line and the text of the lines after it.

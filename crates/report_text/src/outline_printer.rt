@@ -3,7 +3,7 @@
 ghost use Rattle.std.specs.Prelude.{◌≡◌, ◌++◌, IfOk, OnOk, codes, false, true};
 ghost use Rattle.std.specs.Fmt.{decimal};
 ghost use Rattle.report_text.specs.declared.report.Report.{Report};
-ghost use Rattle.report_text.specs.Outlines.{IsOutlineOf};
+ghost use Rattle.report_text.specs.Outlines.{IsOutlineOf, outlined_text};
 ghost use Rattle.report_text.specs.Parts.{kind_text};
 ghost use Rattle.report_text.specs.ReportText.{body_text, ended, events_of as events_of_report, report_text};
 
@@ -54,7 +54,7 @@ fn push_sections(
     on_true: SectionOutline,
     on_false: SectionOutline,
 ) -> Result<(), AllocError>
-    ensures { OnOk result (text.new.items ≡ text.old.items ++ ((kind_text true on_true.entry.kind ++ on_true.entry.text.now) ++ (kind_text false on_false.entry.kind ++ on_false.entry.text.now))) }
+    ensures { OnOk result (text.new.items ≡ text.old.items ++ (outlined_text true on_true.entry ++ outlined_text false on_false.entry)) }
 {
     push_section(alloc, text, true, on_true)?;
     push_section(alloc, text, false, on_false)

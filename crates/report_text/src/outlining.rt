@@ -1,13 +1,11 @@
 //! Outlines of reports from their text.
 
 ghost use Rattle.std.specs.Prelude.{◌≡◌, ◌<◌, ◌≤◌, ◌+◌, ◌-◌, ◌^◌, length, take, false, MatchResult};
-ghost use Rattle.report_text.specs.declared.report.Section.{Section};
-ghost use Rattle.report_text.specs.Outlines.{AnswersOutline, AreVerdictsOutlined, IsOutlineOf, IsOutlinedFront, IsSectionOutline};
-ghost use Rattle.report_text.specs.Parts.{IsFront};
+ghost use Rattle.report_text.specs.Outlines.{AnswersOutline, AreEntriesOutlined, AreVerdictsOutlined, IsFalseOutlined, IsOutlineOf, IsOutlinedFront};
 ghost use Rattle.report_text.specs.ReportOf.{IsReport, lines_in};
-ghost use Rattle.report_text.specs.ReportText.{body_text, entries_text, marked_text, report_text, section_text};
-ghost use Rattle.report_text.specs.Spelled.{IsSpelled, IsSpelledSection};
-ghost use Rattle.report_text.specs.Stops.{AreEntries, AreVerdicts, IsBody, IsMarked, IsOfKind, IsOn, IsSectionText, Stopped};
+ghost use Rattle.report_text.specs.ReportText.{body_text, marked_text, report_text};
+ghost use Rattle.report_text.specs.Spelled.{IsSpelled};
+ghost use Rattle.report_text.specs.Stops.{AreEntries, AreVerdicts, BeginWithEntries, IsBody, IsMarked, IsOn, IsSectionText, Stopped};
 
 use crate::fault::ReportFault;
 use crate::front::{after_words, next_events, next_kind, next_opening};
@@ -27,7 +25,7 @@ fn before<'a>(bytes: &'a [u8], rest: &[u8]) -> &'a [u8]
 
 // What follows the lines of a section after its first.
 fn after_entries(alloc: Global, kind: Kind, events: u32, bytes: &[u8]) -> Result<&[u8], Stop>
-    ensures { MatchResult result (λ rest. (s : Section) × IsFront (IsOfKind events kind) entries_text bytes.now s rest.now) (Stopped (AreEntries events kind) bytes.now) }
+    ensures { MatchResult result (λ rest. BeginWithEntries events kind bytes.now rest.now) (Stopped (AreEntries events kind) bytes.now) }
 {
     match kind {
         Kind::Witness => pass_times(events, bytes),
@@ -43,7 +41,7 @@ fn outline_entries(
     events: u32,
     bytes: &[u8],
 ) -> Result<(SectionOutline, &[u8]), Stop>
-    ensures { MatchResult result (λ r. IsOutlinedFront IsSectionOutline (IsOfKind events kind) entries_text bytes.now r.0 r.1.now) (Stopped (AreEntries events kind) bytes.now) }
+    ensures { MatchResult result (λ r. AreEntriesOutlined events kind bytes.now r.0 r.1.now) (Stopped (AreEntries events kind) bytes.now) }
 {
     let rest = after_entries(alloc, kind, events, bytes)?;
     let text = before(bytes, rest);
@@ -55,7 +53,7 @@ fn outline_false_section(
     events: u32,
     bytes: &[u8],
 ) -> Result<(SectionOutline, &[u8]), Stop>
-    ensures { MatchResult result (λ r. IsOutlinedFront IsSectionOutline (IsSpelledSection events) (section_text false) bytes.now r.0 r.1.now) (Stopped (IsSectionText false events) bytes.now) }
+    ensures { MatchResult result (λ r. IsFalseOutlined events bytes.now r.0 r.1.now) (Stopped (IsSectionText false events) bytes.now) }
 {
     let Some((kind, rest)) = next_kind(false, bytes) else {
         return Err(Stop::Syntax { left: bytes.len() });

@@ -1,3 +1,5 @@
+//! What is said of both truth values of a formula.
+
 use mt_model::{Steps, Times};
 use proof_log::Lines;
 

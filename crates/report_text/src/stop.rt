@@ -1,3 +1,5 @@
+//! Where and why the reading of a report stops.
+
 use std::alloc::AllocError;
 
 /// Why reading stopped.

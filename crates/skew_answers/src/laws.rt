@@ -1,3 +1,5 @@
+//! What holds of files of times.
+
 ghost use Rattle.skew_answers.specs.Laws.{TimesReadBack};
 
 /// A file with a number on each line has these numbers as its times.

@@ -1,3 +1,5 @@
+//! The statuses with which runs end.
+
 ghost use Rattle.std.specs.Prelude.{◌≡◌};
 ghost use Rattle.skew_answers.specs.Statuses.{code_of};
 

@@ -9,7 +9,7 @@ use Rattle.mt_port.specs.Port.{Files, file_of}
 use Rattle.log_read.specs.LogOf.{log_of}
 use Rattle.formula_arena.specs.Nodes.{nodes_of}
 use Rattle.formula_arena.specs.declared.arena.TheConstants.{MAX_NODES}
-use Rattle.mtl_encode.specs.Size.{IsSmall}
+use Rattle.question.specs.Size.{IsSmall}
 use Rattle.mtl_parse.specs.FormulaOf.{FormulaOf}
 use Rattle.mtl_parse.specs.Laws.{TextsAreUnambiguous}
 use Rattle.skew_answers.specs.declared.status.Status.{Status}

@@ -3,7 +3,7 @@ use Rattle.std.proofs.Common.{◌≡◌, refl, ℕ, List, inl, inr}
 use Rattle.mt_model.specs.Form.{Form}
 use Rattle.mt_model.specs.Log.{Logged}
 use Rattle.formula_arena.specs.Nodes.{nodes_of}
-use Rattle.mtl_encode.specs.Size.{IsSmall}
+use Rattle.question.specs.Size.{IsSmall}
 use Rattle.skew_answers.specs.declared.status.Status.{Status}
 use Rattle.skew_answers.specs.Texts.{line}
 use Rattle.skew_commands.specs.declared.refusal.Refusal.{Refusal}

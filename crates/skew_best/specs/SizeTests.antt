@@ -4,8 +4,8 @@ use Rattle.mt_model.specs.Form.{Form}
 use Rattle.mt_model.specs.Log.{Logged}
 use Rattle.formula_arena.specs.Nodes.{nodes_of}
 use Rattle.formula_arena.specs.declared.arena.TheConstants.{MAX_NODES}
-use Rattle.mtl_encode.specs.Size.{IsSize, IsSmall}
-use Rattle.mtl_encode.specs.declared.size.TheConstants.{MAX_SIZE}
+use Rattle.question.specs.Size.{IsSize, IsSmall}
+use Rattle.question.specs.declared.size.TheConstants.{MAX_SIZE}
 use Rattle.skew_answers.specs.declared.status.Status.{Status}
 use Rattle.skew_commands.specs.declared.refusal.Refusal.{Refusal}
 use Rattle.skew_commands.specs.declared.refusal.Refusal.TheVariants as refusal

@@ -1,3 +1,5 @@
+//! What the answers of the two commands say.
+
 ghost use Rattle.skew_best.specs.BestLaws.{TolerancesAreAsked, TolerancesAreBest};
 ghost use Rattle.skew_best.specs.SpanLaws.{SpansAreAsked, SpansAreBest};
 

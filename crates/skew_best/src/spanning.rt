@@ -1,3 +1,5 @@
+//! The command `span`.
+
 ghost use Rattle.std.specs.Prelude.{◌≡◌, ◌≢◌, ◌^◌, ◌<◌, ◌≤◌, length, true, IfOk, IsErrOf, None, Ok, OnOk};
 ghost use Rattle.mt_model.specs.Form.{form_of};
 ghost use Rattle.mt_model.specs.Log.{IsPlain};

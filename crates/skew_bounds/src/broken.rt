@@ -1,3 +1,5 @@
+//! The bounds of a log that times break.
+
 ghost use Rattle.std.specs.Prelude.{◌≡◌, ◌+◌, ◌<◌, length, find, All, IsNone, IsSome, ◌-ℤ◌};
 ghost use Rattle.mt_model.specs.Bounds.{bounds_of, breaks, first_broken as first_broken_of, meets};
 ghost use Rattle.mt_model.specs.Log.{IsWithin};

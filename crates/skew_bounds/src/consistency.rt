@@ -1,3 +1,5 @@
+//! Whether the bounds of a log can be met: a timing, or a closed walk of bounds in conflict.
+
 ghost use Rattle.std.specs.Prelude.{◌≡◌, ◌+◌, ◌<◌, length, map, All, IsSome, IfOk};
 ghost use Rattle.mt_model.specs.Bounds.{step_of as step_of_bound};
 ghost use Rattle.mt_model.specs.Walks.{edge_of};

@@ -1,11 +1,13 @@
+//! The least and greatest differences of rows, looked up.
+
 ghost use Rattle.std.specs.Prelude.{◌≡◌, ◌+◌, ◌<◌, IfOk, ◌+ℤ◌};
 ghost use Rattle.mt_model.specs.Log.{IsWithin};
 ghost use Rattle.mt_model.specs.declared.limits.TheConstants.{MAX_TIME};
 ghost use Rattle.skew_bounds.specs.Differences.{IsOfRows};
 ghost use Rattle.skew_bounds.specs.Tight.{events_of, greatest_of, least_of};
 
+use crate::difference_table::turned;
 use crate::matrix::Matrix;
-use crate::table::turned;
 use mt_model::EventId;
 use std::alloc::{AllocError, Global};
 use std::marker::Model;

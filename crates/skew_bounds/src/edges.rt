@@ -1,3 +1,5 @@
+//! The edges of bounds, between the zero moment and the rows.
+
 ghost use Rattle.std.specs.Prelude.{◌≡◌, ◌+◌, ◌<◌, length, option_map, IfSome, Some};
 ghost use Rattle.mt_model.specs.Bounds.{step_of};
 ghost use Rattle.mt_model.specs.Spans.{spans_of};

@@ -1,3 +1,5 @@
+//! Edges by the nodes where they end.
+
 ghost use Rattle.std.specs.Prelude.{◌≡◌, ◌<◌, ◌++◌, ◌∷◌, [], length, replicate, slice_set, All, IfOk, OnOk};
 ghost use Rattle.neg_cycle.specs.Systems.{IsEdge};
 ghost use Rattle.skew_bounds.specs.Incoming.{AreIncoming, ending_at, lists_of};

@@ -6,28 +6,28 @@
 //! negative sum (Bellman, On a routing problem, 1958). Times and bounds are in the log's unit of time.
 #![tactic(auto)]
 
+mod bound_list;
 mod broken;
 mod consistency;
+mod difference_table;
 mod differences;
 mod edges;
 mod incoming;
 mod latest;
-mod list;
 mod lowering;
 mod matrix;
 mod row_edges;
 mod rows;
 mod steps;
 mod system;
-mod table;
 mod tightening;
 mod times;
 
+pub use bound_list::bounds;
 pub use broken::first_broken;
 pub use consistency::{Consistency, edges_of, settle, settle_by};
 pub use differences::Tight;
 pub use edges::edge_of;
-pub use list::bounds;
 pub use row_edges::EdgeTable;
 pub use steps::{bound_of, step_of};
 pub use system::{BoundSystem, system_of};

@@ -1,3 +1,5 @@
+//! What rows say of their clocks: local times, skews and gaps.
+
 ghost use Rattle.std.specs.Prelude.{◌≡◌, ◌<◌, ◌≤◌, length, MatchOption};
 ghost use Rattle.mt_model.specs.Log.{IsWithin};
 ghost use Rattle.mt_model.specs.Spans.{spans_of};

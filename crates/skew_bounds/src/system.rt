@@ -3,8 +3,8 @@
 ghost use Rattle.std.specs.Prelude.{IfOk};
 ghost use Rattle.skew_bounds.specs.System.{IsSystemOf};
 
+use crate::bound_list::bounds;
 use crate::consistency::edges_of;
-use crate::list::bounds;
 use mt_model::{BoundList, Log};
 use neg_cycle::EdgeList;
 use std::alloc::{AllocError, Global};

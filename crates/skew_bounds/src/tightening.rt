@@ -1,10 +1,12 @@
+//! The least and greatest differences of a log's rows over all its timings, or why there are none.
+
 ghost use Rattle.std.specs.Prelude.{IfErr, IfOk, OnOk};
 ghost use Rattle.mt_model.specs.Timing.{Admissible};
 ghost use Rattle.skew_bounds.specs.Consistency.{IsConflict};
 ghost use Rattle.skew_bounds.specs.System.{IsSystemOf};
 ghost use Rattle.skew_bounds.specs.Tight.{IfCycle, IsConsistent, IsInconsistent, IsTight};
 
-use crate::table::table_of;
+use crate::difference_table::table_of;
 use crate::{BoundSystem, Consistency, Tight, settle_by, system_of};
 use mt_model::{Log, Steps, conflict_excludes_timings};
 use std::alloc::{AllocError, Global};

@@ -7,8 +7,8 @@ use Rattle.mt_model.specs.Log.{Logged, plain_log}
 use Rattle.mt_model.specs.State.{unknown_host}
 use Rattle.formula_arena.specs.Nodes.{nodes_of}
 use Rattle.formula_arena.specs.declared.arena.TheConstants.{MAX_NODES}
-use Rattle.mtl_encode.specs.Size.{IsSmall}
-use Rattle.mtl_encode.proofs.SizeBounds.{small-cubes}
+use Rattle.question.specs.Size.{IsSmall}
+use Rattle.question.proofs.SizeBounds.{small-cubes}
 use Rattle.demo_log.specs.DemoFormula.{demo_formula}
 use Rattle.demo_log.specs.DemoLog.{demo_host, demo_row, log_of_seed}
 

@@ -6,7 +6,7 @@ use Rattle.mt_model.specs.Log.{Logged}
 use Rattle.mt_model.specs.State.{unknown_host}
 use Rattle.formula_arena.specs.Nodes.{nodes_of}
 use Rattle.formula_arena.specs.declared.arena.TheConstants.{MAX_NODES}
-use Rattle.mtl_encode.specs.Size.{IsSmall}
+use Rattle.question.specs.Size.{IsSmall}
 use Rattle.report_text.specs.declared.report.Report.{Report}
 use Rattle.verdict.specs.Claims.{Claims}
 use Rattle.verdict.specs.Right.{IsRight}

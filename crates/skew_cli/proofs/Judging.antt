@@ -8,7 +8,7 @@ use Rattle.verdict.specs.declared.answer.Part.{Part}
 use Rattle.verdict.specs.AuditPlace.{AuditPlace, IsAccepted}
 use Rattle.verdict.specs.Claims.{Claims}
 use Rattle.question.specs.Faults.{HasTooManyNodes}
-use Rattle.verdict.specs.Faults.{IsJudged, IsTooLarge}
+use Rattle.question.specs.Faults.{IsJudged, IsTooLarge}
 use Rattle.skew_answers.specs.declared.status.Status.TheVariants as status
 use Rattle.skew_answers.specs.Texts.{line}
 use Rattle.skew_commands.specs.declared.refusal.Refusal.TheVariants as refusal

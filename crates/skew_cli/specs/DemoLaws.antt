@@ -1,6 +1,6 @@
 -- What the summaries of `demo` say of the values that its formula can have.
 use Rattle.std.specs.Prelude.{◌≡◌, ℕ, List, Bool, IsTrue}
-use Rattle.verdict.specs.Faults.{IsJudged}
+use Rattle.question.specs.Faults.{IsJudged}
 use Rattle.verdict.specs.Unknown.{CanBeUnknown}
 use Rattle.skew_words.specs.declared.limits.TheConstants.{DEFAULT_CONFLICTS}
 use Rattle.skew_answers.specs.declared.status.Status.{Status}

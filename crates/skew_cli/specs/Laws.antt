@@ -10,7 +10,7 @@ use Rattle.report_text.specs.declared.report.Report.TheVariants as report
 use Rattle.report_text.specs.declared.report.Section.TheVariants as section
 use Rattle.report_text.specs.ReportOf.{ReportOf}
 use Rattle.verdict.specs.Claims.{Claims}
-use Rattle.verdict.specs.Faults.{IsJudged}
+use Rattle.question.specs.Faults.{IsJudged}
 use Rattle.verdict.specs.Right.{is_unknown, is_witness}
 use Rattle.verdict.specs.Unknown.{CanBeUnknown}
 use Rattle.skew_answers.specs.declared.status.Status.{Status}

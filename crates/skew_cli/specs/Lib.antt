@@ -45,7 +45,7 @@ pub use Rattle.json_log.specs.JsonLogOf
 pub use Rattle.mtl_parse.specs.FormulaOf
 pub use Rattle.mtl_parse.specs.Places
 pub use Rattle.times_read.specs.TimesOf
-pub use Rattle.mtl_encode.specs.Size
+pub use Rattle.question.specs.Size
 pub use Rattle.proof_trim.specs.Needed
 pub use Rattle.proof_trim.specs.Trimmed
 pub use Rattle.report_text.specs.ReportText

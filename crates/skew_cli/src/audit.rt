@@ -1,3 +1,5 @@
+//! What `audit` answers: whether a report is right for a formula and a log.
+
 ghost use Rattle.std.specs.Prelude.{◌≡◌, ◌^◌, ◌<◌, ◌≤◌, ℕ, List, length, codes, true, IfOk, IsErrOf, None, Ok};
 ghost use Rattle.formula_arena.specs.Nodes.{nodes_of};
 ghost use Rattle.formula_arena.specs.declared.arena.TheConstants.{MAX_NODES};
@@ -64,7 +66,7 @@ fn audit_of_report(
     requires few { length (nodes_of (form_of question.now.formula)) ≤ MAX_NODES }
     ensures outcome { (r : Report) → IsOutlineOf outline.entry r → IsSpelled r → Gives (OnSize (form_of question.now.formula) question.now.log (AuditOfReport conflicts (form_of question.now.formula) question.now.log r)) result }
     ensures verdict { IfOk result (λ r. IsVerdict r.status) }
-    ensures read { IsErrOf result Stop.ReadFailed → ⊥ }
+    ensures reads_nothing { IsErrOf result Stop.ReadFailed → ⊥ }
 {
     match verdict::audit_outline(alloc, &question.log, &question.formula, conflicts, outline) {
         Ok(Audit::Accepted) => Ok(accepted(alloc)?),

@@ -1,3 +1,5 @@
+//! What `check` answers: the truth values of a formula over all timings of a log.
+
 ghost use Rattle.std.specs.Prelude.{◌≡◌, ◌^◌, ◌<◌, ◌≤◌, ◌||◌, length, true, IfOk, IsErrOf, IsTrue, None, Ok, OnOk};
 ghost use Rattle.mt_model.specs.Form.{form_of};
 ghost use Rattle.mt_model.specs.State.{unknown_host};
@@ -6,7 +8,7 @@ ghost use Rattle.mtl_parse.specs.FormulaOf.{FormulaOf};
 ghost use Rattle.report_text.specs.ReportText.{report_text};
 ghost use Rattle.report_text.specs.Spelled.{IsSpelled};
 ghost use Rattle.verdict.specs.Claims.{Claims};
-ghost use Rattle.verdict.specs.Faults.{IsJudged};
+ghost use Rattle.question.specs.Faults.{IsJudged};
 ghost use Rattle.verdict.specs.Right.{CyclesOnce, IsRight, is_witness};
 ghost use Rattle.skew_words.specs.declared.limits.TheConstants.{MAX_CONFLICTS};
 ghost use Rattle.skew_answers.specs.Statuses.{IsVerdict};
@@ -84,7 +86,7 @@ pub fn report_on(
     ensures claims { IfOk result (Claims log.now (form_of formula.now)) }
     ensures once { IfOk result (CyclesOnce log.now) }
     ensures judged { OnOk result (IsJudged log.now (form_of formula.now)) }
-    ensures read { IsErrOf result Stop.ReadFailed → ⊥ }
+    ensures reads_nothing { IsErrOf result Stop.ReadFailed → ⊥ }
     ensures refused { RefusesFor result (TellsLarge (form_of formula.now) log.now) }
 {
     match decide(alloc, log, formula, conflicts) {
@@ -104,7 +106,7 @@ fn check_of_question(alloc: Global, conflicts: u32, question: &Question) -> Resu
     requires reads { FormulaOf question.now.text.items (Ok (form_of question.now.formula)) }
     ensures outcome { Gives (CheckOfLog conflicts question.now.text.items (form_of question.now.formula) question.now.log) result }
     ensures verdict { IfOk result (λ r. IsVerdict r.status) }
-    ensures read { IsErrOf result Stop.ReadFailed → ⊥ }
+    ensures reads_nothing { IsErrOf result Stop.ReadFailed → ⊥ }
 {
     files::known_hosts(&question.text, &question.formula, &question.log)?;
     let report = report_on(alloc, conflicts, &question.log, &question.formula)?;

@@ -1,3 +1,5 @@
+//! What `demo` answers: the decision of `check` on the log of a seed, in short.
+
 ghost use Rattle.std.specs.Prelude.{◌≡◌, ◌++◌, codes, IfOk, IsErrOf, string_bytes};
 ghost use Rattle.std.specs.Fmt.{decimal};
 ghost use Rattle.report_text.specs.Spelled.{IsSpelled};
@@ -124,7 +126,7 @@ fn demo_reply(alloc: Global, seed: u64, report: &Report) -> Result<Reply, AllocE
 fn demo_report(alloc: Global, seed: u64) -> Result<Report, Stop>
     ensures right { IfOk result (IsRight (log_of_seed seed) demo_form DEFAULT_CONFLICTS) }
     ensures claims { IfOk result (Claims (log_of_seed seed) demo_form) }
-    ensures read { IsErrOf result Stop.ReadFailed → ⊥ }
+    ensures reads_nothing { IsErrOf result Stop.ReadFailed → ⊥ }
     ensures refused { RefusesFor result (λ r. ⊥) }
 {
     let log = demo_log(alloc, seed)?;
@@ -137,7 +139,7 @@ fn demo_report(alloc: Global, seed: u64) -> Result<Report, Stop>
 pub fn demo(alloc: Global, seed: u64) -> Result<Reply, Stop>
     ensures outcome { Gives (DemoOutcome seed) result }
     ensures verdict { IfOk result (λ r. IsVerdict r.status) }
-    ensures read { IsErrOf result Stop.ReadFailed → ⊥ }
+    ensures reads_nothing { IsErrOf result Stop.ReadFailed → ⊥ }
 {
     let report = demo_report(alloc, seed)?;
     Ok(demo_reply(alloc, seed, &report)?)

@@ -1,3 +1,5 @@
+//! What `json` answers: the text of the log that a JSON file is.
+
 ghost use Rattle.std.specs.Prelude.{◌≡◌, ◌^◌, ◌<◌, ◌≤◌, length, true, IfOk, IsErrOf, IsSome, Ok};
 ghost use Rattle.json_log.specs.JsonLogOf.{json_log_of};
 ghost use Rattle.mt_model.specs.Log.{IsPlain};
@@ -21,7 +23,7 @@ fn json_file(alloc: Global, file: &[u8]) -> Result<Log, Stop>
     requires { length file.now < 2 ^ 30 }
     ensures log { IfOk result (λ log. json_log_of file.now ≡ Ok log) }
     ensures plain { IfOk result IsPlain }
-    ensures read { IsErrOf result Stop.ReadFailed → ⊥ }
+    ensures reads_nothing { IsErrOf result Stop.ReadFailed → ⊥ }
     ensures refused { RefusesFor result (TellsJsonFault (json_log_of file.now)) }
 {
     match read_json(alloc, file) {

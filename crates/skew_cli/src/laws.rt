@@ -1,3 +1,5 @@
+//! What holds of the commands' answers, and of what one command answers to what another wrote.
+
 ghost use Rattle.demo_log.specs.DemoLog.{SeedsAreConsistent, SeedsHaveLogs};
 ghost use Rattle.skew_cli.specs.DemoLaws.{DemoUnknownIsBounded, DemosAreExact, DemosAreJudged};
 ghost use Rattle.skew_cli.specs.Laws.{AcceptedFilesAreTrue, ChecksAreAccepted, ChecksAreExact, ChecksAreJudged, UnknownIsBounded, WitnessesAreReplayed};

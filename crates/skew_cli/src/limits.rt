@@ -2,7 +2,7 @@
 
 ghost use Rattle.std.specs.Prelude.{◌≡◌};
 ghost use Rattle.demo_log.specs.declared.limits.TheConstants.{MAX_SEED};
-ghost use Rattle.mtl_encode.specs.declared.size.TheConstants.{MAX_SIZE};
+ghost use Rattle.question.specs.declared.size.TheConstants.{MAX_SIZE};
 ghost use Rattle.skew_commands.specs.declared.limits.TheConstants.{FORMULA_LIMIT, LOG_LIMIT, TIMES_LIMIT};
 ghost use Rattle.skew_words.specs.declared.limits.TheConstants.{DEFAULT_CONFLICTS, MAX_CONFLICTS};
 

@@ -1,3 +1,5 @@
+//! What the program does for its words: the command that they are is done, and its answer written.
+
 ghost use Rattle.std.specs.Prelude.{◌≡◌, ◌⊎◌, ◌++◌, ◌≤◌, ℕ, List, true, None, IfOk, IfErr, IsErrOf, codes, map, string_bytes};
 ghost use Rattle.mt_port.specs.Port.{Files, Rose};
 ghost use Rattle.skew_words.specs.Called.{HasFewConflicts, HasSmallWidening, HasTwoEvents, command_in};

@@ -20,7 +20,7 @@ fn refused_at(line: u32) -> Stop
 pub fn outline_of(alloc: Global, file: &[u8]) -> Result<Outline, Stop>
     requires { length file.now < 2 ^ 31 }
     ensures outline { IfOk result (IsOutlineIn file.now) }
-    ensures read { IsErrOf result Stop.ReadFailed → ⊥ }
+    ensures reads_nothing { IsErrOf result Stop.ReadFailed → ⊥ }
     ensures refused { RefusesFor result (TellsFaultyLine file.now) }
 {
     match read_outline(alloc, file) {

@@ -1,3 +1,5 @@
+//! What `trim` answers: a report whose refuted sections have the needed lines alone.
+
 ghost use Rattle.std.specs.Prelude.{◌≡◌, ◌^◌, ◌<◌, ◌≤◌, ℕ, List, length, true, IfOk, OnOk, IsErrOf, IsSome};
 ghost use Rattle.mt_port.specs.Port.{IsOneMore, Rose, file_of};
 ghost use Rattle.proof_log.specs.declared.line.Line.{Line};
@@ -34,7 +36,7 @@ fn trimmed_lines(
     requires lines { (lines : List Line) × IsTextOf text.now lines }
     ensures trimmed { IfOk result (λ t. (lines : List Line) → IsTextOf text.now lines → IsTrimmedText lines t.text.items t.count) }
     ensures can { OnOk result ((lines : List Line) → IsTextOf text.now lines → CanTrimSection (Refuted lines)) }
-    ensures read { IsErrOf result Stop.ReadFailed → ⊥ }
+    ensures reads_nothing { IsErrOf result Stop.ReadFailed → ⊥ }
     ensures refused { (lines : List Line) → IsTextOf text.now lines → RefusesFor result (TellsSection part (Refuted lines)) }
 {
     match trim_text(alloc, text, count) {
@@ -55,7 +57,7 @@ fn trimmed_section(
     requires some { (events : ℕ) × (s : Section) × IsSectionOutline section s × IsSpelledSection events s }
     ensures trimmed { IfOk result (λ o. (events : ℕ) (s : Section) → IsSectionOutline section.entry s → IsSpelledSection events s → IsSectionLeft events section.entry s o) }
     ensures can { OnOk result ((events : ℕ) (s : Section) → IsSectionOutline section.entry s → IsSpelledSection events s → CanTrimSection s) }
-    ensures read { IsErrOf result Stop.ReadFailed → ⊥ }
+    ensures reads_nothing { IsErrOf result Stop.ReadFailed → ⊥ }
     ensures refused { (events : ℕ) (s : Section) → IsSectionOutline section.entry s → IsSpelledSection events s → RefusesFor result (TellsSection part s) }
 {
     match section.kind {
@@ -93,7 +95,7 @@ fn trimmed_verdicts(
     requires some { (s t : Section) × AreOutlined events on_true on_false s t }
     ensures trimmed { IfOk result (λ text. (s t : Section) → AreOutlined events on_true.entry on_false.entry s t → IsTrimText (Verdicts events s t) text.items) }
     ensures can { OnOk result ((s t : Section) → AreOutlined events on_true.entry on_false.entry s t → CanTrim (Verdicts events s t)) }
-    ensures read { IsErrOf result Stop.ReadFailed → ⊥ }
+    ensures reads_nothing { IsErrOf result Stop.ReadFailed → ⊥ }
     ensures refused { (s t : Section) → AreOutlined events on_true.entry on_false.entry s t → RefusesFor result (TellsUntrimmed (Verdicts events s t)) }
 {
     let left_true = trimmed_section(alloc, ReportPart::OnTrue, on_true)?;
@@ -111,7 +113,7 @@ fn trimmed_report(alloc: Global, outline: Outline) -> Result<Vec<u8>, Stop>
     requires whole { (bytes : List ℕ) × (length bytes < 2 ^ 31) × IsOutlineIn bytes outline }
     ensures trimmed { IfOk result (λ text. (r : Report) → IsOutlineOf outline.entry r → IsSpelled r → IsTrimText r text.items) }
     ensures can { OnOk result ((r : Report) → IsOutlineOf outline.entry r → IsSpelled r → CanTrim r) }
-    ensures read { IsErrOf result Stop.ReadFailed → ⊥ }
+    ensures reads_nothing { IsErrOf result Stop.ReadFailed → ⊥ }
     ensures refused { (r : Report) → IsOutlineOf outline.entry r → IsSpelled r → RefusesFor result (TellsUntrimmed r) }
 {
     match outline {
@@ -129,7 +131,7 @@ fn trim_of_report(alloc: Global, outline: Outline) -> Result<Reply, Stop>
     requires whole { (bytes : List ℕ) × (length bytes < 2 ^ 31) × IsOutlineIn bytes outline }
     ensures outcome { (r : Report) → IsOutlineOf outline.entry r → IsSpelled r → Gives (TrimOfReport r) result }
     ensures verdict { IfOk result (λ r. IsVerdict r.status) }
-    ensures read { IsErrOf result Stop.ReadFailed → ⊥ }
+    ensures reads_nothing { IsErrOf result Stop.ReadFailed → ⊥ }
 {
     let text = trimmed_report(alloc, outline)?;
     Ok(Reply {

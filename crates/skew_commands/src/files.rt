@@ -60,7 +60,7 @@ pub fn file<S: Shelf>(
 pub fn formula(alloc: Global, text: &[u8]) -> Result<Formula, Stop>
     requires { length text.now < 2 ^ 31 }
     ensures formula { IfOk result (λ f. FormulaOf text.now (Ok (form_of f))) }
-    ensures read { IsErrOf result Stop.ReadFailed → ⊥ }
+    ensures reads_nothing { IsErrOf result Stop.ReadFailed → ⊥ }
     ensures refused { RefusesFor result (TellsFormulaFault text.now) }
 {
     match parse_formula(alloc, text) {
@@ -74,7 +74,7 @@ pub fn formula(alloc: Global, text: &[u8]) -> Result<Formula, Stop>
 pub fn log(alloc: Global, file: &[u8]) -> Result<Log, Stop>
     requires { length file.now < 2 ^ 31 }
     ensures log { IfOk result (λ log. log_of file.now ≡ Ok log) }
-    ensures read { IsErrOf result Stop.ReadFailed → ⊥ }
+    ensures reads_nothing { IsErrOf result Stop.ReadFailed → ⊥ }
     ensures refused { RefusesFor result (TellsLogFault (log_of file.now)) }
 {
     match read_log(alloc, file) {
@@ -89,7 +89,7 @@ pub fn known_hosts(text: &[u8], formula: &Formula, log: &Log) -> Result<(), Stop
     requires short { length text.now < 2 ^ 31 }
     requires reads { FormulaOf text.now (Ok (form_of formula.now)) }
     ensures known { OnOk result (unknown_host log.now (form_of formula.now) ≡ None) }
-    ensures read { IsErrOf result Stop.ReadFailed → ⊥ }
+    ensures reads_nothing { IsErrOf result Stop.ReadFailed → ⊥ }
     ensures refused { RefusesFor result (NamesHost text.now (unknown_host log.now (form_of formula.now))) }
 {
     let Some(number) = formula.unknown_host(log) else {
@@ -107,7 +107,7 @@ pub fn replayer(alloc: Global, log: &Log, formula: &Formula) -> Result<Replayer,
     ensures log { IfOk result (λ r. r.log ≡ log.now) }
     ensures core { IfOk result (λ r. r.core ≡ core_of (form_of formula.now)) }
     ensures few { OnOk result (length (nodes_of (form_of formula.now)) ≤ MAX_NODES) }
-    ensures read { IsErrOf result Stop.ReadFailed → ⊥ }
+    ensures reads_nothing { IsErrOf result Stop.ReadFailed → ⊥ }
     ensures refused { RefusesFor result (λ r. (r ≡ Refusal.Nodes) × (MAX_NODES < length (nodes_of (form_of formula.now)))) }
 {
     match Replayer::new(alloc, log, formula) {
@@ -122,7 +122,7 @@ pub fn timing(alloc: Global, file: &[u8], log: &Log) -> Result<Times, Stop>
     ensures times { IfOk result (λ t. times_of (length log.now.rows) file.now ≡ Ok t) }
     ensures range { IfOk result (λ t. All (IsWithin MAX_TIME) t) }
     ensures full { IfOk result (λ t. length t ≡ length log.now.rows) }
-    ensures read { IsErrOf result Stop.ReadFailed → ⊥ }
+    ensures reads_nothing { IsErrOf result Stop.ReadFailed → ⊥ }
     ensures refused { RefusesFor result (TellsFault (times_of (length log.now.rows) file.now)) }
 {
     match read_times(alloc, file, log.rows().len()) {
@@ -136,7 +136,7 @@ pub fn timing(alloc: Global, file: &[u8], log: &Log) -> Result<Times, Stop>
 /// That the distinct nodes of a formula are few enough.
 pub fn few_nodes(alloc: Global, formula: &Formula) -> Result<(), Stop>
     ensures few { OnOk result (length (nodes_of (form_of formula.now)) ≤ MAX_NODES) }
-    ensures read { IsErrOf result Stop.ReadFailed → ⊥ }
+    ensures reads_nothing { IsErrOf result Stop.ReadFailed → ⊥ }
     ensures refused { RefusesFor result (λ r. (r ≡ Refusal.Nodes) × (MAX_NODES < length (nodes_of (form_of formula.now)))) }
 {
     let mut arena = Arena::new(alloc);

@@ -2,17 +2,17 @@
 #![tactic(auto)]
 
 pub mod files;
+mod formula_and_log;
 mod limits;
 mod ordering;
-mod question;
 mod refusal;
 mod replaying;
 mod reply;
 mod timing;
 
+pub use formula_and_log::{Question, read_question};
 pub use limits::{FORMULA_LIMIT, LOG_LIMIT, TIMES_LIMIT, limits_are_numbers};
 pub use ordering::order;
-pub use question::{Question, read_question};
 pub use refusal::{Named, Refusal, ReportPart};
 pub use replaying::replay;
 pub use reply::{Reply, Stop};

@@ -1,3 +1,5 @@
+//! The limits of the files of formulas, logs and times, in one place.
+
 ghost use Rattle.std.specs.Prelude.{◌≡◌};
 
 /// The most bytes of a formula's file.

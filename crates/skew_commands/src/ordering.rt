@@ -1,3 +1,5 @@
+//! What `order` answers: the vector clocks of a log's events, or the cycle that they are in.
+
 ghost use Rattle.std.specs.Prelude.{◌≡◌, ◌≤◌, true, IfOk, IsErrOf, IsSome};
 ghost use Rattle.mt_port.specs.Port.{IsOneMore, Rose, file_of};
 ghost use Rattle.skew_answers.specs.Statuses.{IsVerdict};

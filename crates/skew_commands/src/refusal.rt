@@ -1,3 +1,5 @@
+//! Why a command is refused, and the line that tells it.
+
 ghost use Rattle.std.specs.Prelude.{◌≡◌, IfOk};
 ghost use Rattle.skew_answers.specs.Statuses.{IsAnswer};
 ghost use Rattle.skew_answers.specs.Texts.{line};

@@ -1,3 +1,5 @@
+//! What `replay` answers: the truth of a formula on one timing of a log.
+
 ghost use Rattle.std.specs.Prelude.{◌≡◌, ◌^◌, ◌<◌, ◌≤◌, true, length, All, IfOk, IsErrOf, IsSome, Ok};
 ghost use Rattle.formula_arena.specs.Cores.{core_of};
 ghost use Rattle.mt_model.specs.Form.{Form, form_of};
@@ -17,8 +19,8 @@ ghost use Rattle.skew_commands.specs.Untold.{GivesForSome};
 ghost use Rattle.skew_commands.specs.declared.limits.TheConstants.{TIMES_LIMIT};
 
 use crate::files;
+use crate::formula_and_log::{Question, read_question};
 use crate::limits::TIMES_LIMIT;
-use crate::question::{Question, read_question};
 use crate::refusal::Named;
 use crate::reply::{Reply, Stop};
 use mt_model::Log;
@@ -76,7 +78,7 @@ fn replay_of_bytes(
     requires { replayer.old.log ≡ log.now }
     ensures outcome { (f : Form) → core_of f ≡ replayer.old.core → Gives (OnTimes bytes.now log.now (ReplayOfTimes log.now f)) result }
     ensures verdict { IfOk result (λ r. IsVerdict r.status) }
-    ensures read { IsErrOf result Stop.ReadFailed → ⊥ }
+    ensures reads_nothing { IsErrOf result Stop.ReadFailed → ⊥ }
 {
     let timing = files::timing(alloc, bytes, log)?;
     Ok(replay_of_times(alloc, replayer, timing.as_slice())?)

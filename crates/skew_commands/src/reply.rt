@@ -1,3 +1,5 @@
+//! How the work of a command ends: with a reply, or early.
+
 use crate::refusal::Refusal;
 use skew_answers::Status;
 use std::alloc::AllocError;

@@ -1,3 +1,5 @@
+//! What `times` answers: an admissible timing of a log, or bounds of it in conflict.
+
 ghost use Rattle.std.specs.Prelude.{◌≡◌, ◌<◌, ◌≤◌, true, IfOk, IsErrOf, IsSome};
 ghost use Rattle.mt_port.specs.Port.{IsOneMore, Rose, file_of};
 ghost use Rattle.skew_answers.specs.Statuses.{IsVerdict};

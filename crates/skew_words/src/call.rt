@@ -1,3 +1,5 @@
+//! Commands with the names of their files and the numbers that they are given.
+
 /// A command with the names of its files, and the number of conflicts of each section of a report or of each search.
 #[derive(Clone, Copy)]
 pub enum Call<'a> {

@@ -1,3 +1,5 @@
+//! The limits of the numbers that words write, in one place.
+
 ghost use Rattle.std.specs.Prelude.{◌≡◌};
 
 /// The number of conflicts in each section of a report, where none is given.

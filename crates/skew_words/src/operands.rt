@@ -1,3 +1,5 @@
+//! The operands among the words of a command.
+
 ghost use Rattle.std.specs.Prelude.{◌≡◌, ◌<◌, ◌++◌, [], length, map, codes, bytes_eq, option_map, slice_index_or, string_bytes};
 ghost use Rattle.skew_words.specs.Words.{is_option, operands_of};
 

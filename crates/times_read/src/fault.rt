@@ -1,3 +1,5 @@
+//! What can be wrong with a file of times, by number and line.
+
 ghost use Rattle.std.specs.Prelude.{◌≡◌};
 ghost use Rattle.times_read.specs.Faults.{number_of};
 

@@ -6,7 +6,7 @@ use Rattle.std.proofs.lemmas.List.{drop_more, take_all, take_more}
 use Rattle.std.proofs.lemmas.List.Elements.{All-get_or}
 use Rattle.mt_model.specs.declared.step.Step.{Step}
 use Rattle.mt_model.specs.Log.{Logged}
-use Rattle.proof_check.specs.declared.course.CycleWalk.{CycleWalk}
+use Rattle.proof_check.specs.declared.cycle_walk.CycleWalk.{CycleWalk}
 use Rattle.proof_check.specs.Walking.{HasRoom, HasWalked}
 use Rattle.report_text.specs.ReportText.{bound_text}
 use Rattle.report_text.specs.Spelled.{IsSpelledBound}

@@ -5,8 +5,6 @@ pub mod Spelling
 pub mod Reporting
 pub mod Searching
 pub mod Audits
-pub mod NotJudged
-mod Roots
 mod OutlineAudits
 mod BoundWalks
 mod Outlining

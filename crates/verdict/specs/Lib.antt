@@ -1,4 +1,3 @@
-pub mod Faults
 pub mod Right
 pub mod Claims
 pub mod AuditPlace

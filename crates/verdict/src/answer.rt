@@ -1,3 +1,5 @@
+//! What an audit says of a report.
+
 /// A part of a report.
 #[derive(Clone, Copy, PartialEq, Eq)]
 pub enum Part {

@@ -8,7 +8,7 @@ ghost use Rattle.report_text.specs.Spelled.{IsSpelled};
 ghost use Rattle.report_text.specs.declared.report.Report.{Report};
 ghost use Rattle.verdict.specs.AuditPlace.{AuditPlace, IsAccepted};
 ghost use Rattle.verdict.specs.Claims.{Claims};
-ghost use Rattle.verdict.specs.Faults.{IsFault, IsJudged};
+ghost use Rattle.question.specs.Faults.{IsFault, IsJudged};
 ghost use Rattle.verdict.specs.Right.{IsRight};
 
 use crate::{Audit, Part, VerdictFault, audit_outline};

@@ -5,22 +5,22 @@ ghost use Rattle.mt_model.specs.Form.{form_of};
 ghost use Rattle.mt_model.specs.State.{unknown_host};
 ghost use Rattle.mt_model.specs.Timing.{Admissible};
 ghost use Rattle.mt_model.specs.Truth.{truth};
-ghost use Rattle.skew_bounds.specs.Tight.{IsConsistent, IsTight};
+ghost use Rattle.skew_bounds.specs.Tight.{IsTight};
 ghost use Rattle.question.specs.Settled.{IsSettled};
 ghost use Rattle.report_text.specs.Spelled.{IsSpelledSection};
 ghost use Rattle.verdict.specs.Claims.{Claims};
-ghost use Rattle.verdict.specs.Faults.{IsFault, IsJudged};
+ghost use Rattle.question.specs.Faults.{IsFault, IsJudged};
 ghost use Rattle.verdict.specs.Right.{CyclesOnce, IsRight, IsRightSection};
 
 use crate::VerdictFault;
-use crate::judging::{settled_if_small, truth_in};
 use crate::laws::right_reports_are_true;
-use cdcl_core::{Searched, search_value};
+use cdcl_core::{Budget, Searched, search_value};
 use mt_model::{Formula, Log, Times, log_is_valid};
 use question::{Nodes, Question, Settled};
 use report_text::{Report, Section};
 use skew_bounds::Tight;
 use std::alloc::{AllocError, Global};
+use witness_replay::truth_by;
 
 // What a search finds of a value, with so many conflicts at most.
 fn searched(
@@ -28,17 +28,16 @@ fn searched(
     question: Question,
     tight: &Tight,
     value: bool,
-    budget: u32,
+    budget: Budget,
 ) -> Result<Section, AllocError>
-    requires some { 1 ≤ budget }
-    requires most { budget ≤ 1000000 }
-    requires consistent { IsConsistent question.log }
     requires judged { IsJudged question.log question.form }
     requires tight { IsTight question.log tight.now }
     ensures right { IfOk result (IsRightSection question.entry.log question.entry.form budget value) }
     ensures spelled { IfOk result (IsSpelledSection (length question.entry.log.rows)) }
 {
     log_is_valid(question.log());
+    // How small a budget is, its number is known with.
+    let _ = budget.get();
     match search_value(alloc, question, tight, value, budget)? {
         Searched::Timing(times) => Ok(Section::Witness(times)),
         Searched::Refuted(lines) => Ok(Section::Refuted(lines)),
@@ -52,7 +51,7 @@ fn value_in(alloc: Global, question: &Question, times: &[i128]) -> Result<bool, 
     ensures value { IfOk result (λ v. v ≡ truth question.now.log times.now 0 question.now.form) }
 {
     log_is_valid(question.log());
-    truth_in(alloc, question, times)
+    truth_by(alloc, question, times)
 }
 
 // The timing is a witness of the value that the formula has in it, and the other value is searched for.
@@ -61,10 +60,8 @@ fn verdicts(
     question: Question,
     tight: &Tight,
     times: Times,
-    budget: u32,
+    budget: Budget,
 ) -> Result<Report, AllocError>
-    requires some { 1 ≤ budget }
-    requires most { budget ≤ 1000000 }
     requires judged { IsJudged question.log question.form }
     requires tight { IsTight question.log tight.now }
     requires admissible { Admissible question.log times }
@@ -96,10 +93,8 @@ fn report_of(
     alloc: Global,
     question: Question,
     settled: Settled,
-    budget: u32,
+    budget: Budget,
 ) -> Result<Report, AllocError>
-    requires some { 1 ≤ budget }
-    requires most { budget ≤ 1000000 }
     requires judged { IsJudged question.log question.form }
     requires settled { IsSettled question.log settled }
     ensures right { IfOk result (IsRight question.entry.log question.entry.form budget) }
@@ -115,9 +110,12 @@ fn report_of(
 }
 
 // The report of the formula of these nodes, whose hosts are in the log.
-fn report_on(alloc: Global, log: &Log, nodes: &Nodes, budget: u32) -> Result<Report, VerdictFault>
-    requires some { 1 ≤ budget }
-    requires most { budget ≤ 1000000 }
+fn report_on(
+    alloc: Global,
+    log: &Log,
+    nodes: &Nodes,
+    budget: Budget,
+) -> Result<Report, VerdictFault>
     requires hosts { unknown_host log.now nodes.now ≡ None }
     ensures right { IfOk result (IsRight log.now nodes.now budget) }
     ensures once { IfOk result (CyclesOnce log.now) }
@@ -125,7 +123,7 @@ fn report_on(alloc: Global, log: &Log, nodes: &Nodes, budget: u32) -> Result<Rep
     ensures fault { IfErr result (IsFault log.now nodes.now) }
 {
     let question = Question::new(alloc, log, nodes)?;
-    let settled = settled_if_small(alloc, &question)?;
+    let settled = question.ready(alloc)?;
     Ok(report_of(alloc, question, settled, budget)?)
 }
 
@@ -147,5 +145,5 @@ pub fn decide(alloc: Global, log: &Log, f: &Formula, budget: u32) -> Result<Repo
     right_reports_are_true();
     log_is_valid(log);
     let nodes = Nodes::asked(alloc, log, f)?;
-    report_on(alloc, log, &nodes, budget)
+    report_on(alloc, log, &nodes, Budget::new(budget))
 }

@@ -1,3 +1,5 @@
+//! Laws of reports: right ones are accepted, and what accepted ones claim is so.
+
 ghost use Rattle.verdict.specs.Laws.{AcceptedReportsAreTrue, AuditsAreExact, RightReportsAreAccepted, RightReportsAreTrue, RightVerdictsAreExact, SpentConflictsAreBounded};
 
 use mt_model::conflict_excludes_timings;

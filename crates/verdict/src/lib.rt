@@ -6,17 +6,15 @@ mod answer;
 mod auditing;
 mod bounds;
 mod deciding;
-mod fault;
-mod judging;
 mod laws;
 mod outlined;
 
 pub use answer::{Audit, Part};
 pub use auditing::audit;
 pub use deciding::decide;
-pub use fault::VerdictFault;
 pub use laws::{
     accepted_reports_are_true, audits_are_exact, right_reports_are_accepted,
     right_reports_are_true, spent_conflicts_are_bounded,
 };
 pub use outlined::audit_outline;
+pub use question::QuestionFault as VerdictFault;

@@ -17,13 +17,12 @@ ghost use Rattle.report_text.specs.declared.report.Report.{Report};
 ghost use Rattle.report_text.specs.declared.report.Section.{Section};
 ghost use Rattle.verdict.specs.AuditPlace.{AuditPlace, IsAccepted, IsAudit, IsJudgedAt};
 ghost use Rattle.verdict.specs.Claims.{Claims};
-ghost use Rattle.verdict.specs.Faults.{IsFault, IsJudged};
+ghost use Rattle.question.specs.Faults.{IsFault, IsJudged};
 ghost use Rattle.verdict.specs.Right.{IsRight, IsWitness};
 ghost use Rattle.report_text.specs.declared.report.Section.TheVariants as section;
 ghost use Rattle.report_text.specs.declared.report.Report.TheVariants as report;
 
 use crate::bounds::audit_of_bounds;
-use crate::judging::{settled_if_small, truth_in};
 use crate::laws::{accepted_reports_are_true, audits_are_exact, right_reports_are_accepted};
 use crate::{Audit, Part, VerdictFault};
 use mt_model::{Formula, Log, log_is_valid};
@@ -32,6 +31,7 @@ use question::{Nodes, Question};
 use report_text::{Kind, Outline, SectionOutline, times_of};
 use skew_bounds::{BoundSystem, EdgeTable, first_broken};
 use std::alloc::{AllocError, Global};
+use witness_replay::truth_by;
 
 // Whether a log admits times, of which there is one for each row.
 fn admits(log: &Log, system: &BoundSystem, times: &[i128]) -> bool
@@ -53,7 +53,7 @@ fn is_witness(
     ensures witness { IfOk result (λ b. IsTrue b ↔ IsWitness question.now.log question.now.form value times.now) }
 {
     if admits(question.log(), question.system(), times) {
-        Ok(truth_in(alloc, question, times)? == value)
+        Ok(truth_by(alloc, question, times)? == value)
     } else {
         Ok(false)
     }
@@ -70,8 +70,7 @@ fn checked_text(
     ensures answer { IfOk result (λ t. (lines : List Line) → IsTextOf text.now lines → IsAnswer question.now.log question.now.form value lines t.check) }
     ensures learn { IfOk result (λ t. (lines : List Line) → IsTextOf text.now lines → t.check ≡ Check.Derives → t.learn_lines ≡ learn_lines lines) }
 {
-    let nodes = question.nodes();
-    let mut judge = Checker::by(alloc, question.log(), nodes.arena(), nodes.root(), value)?;
+    let mut judge = Checker::by(alloc, question.log(), question.nodes(), value)?;
     judge.check_text(text)
 }
 
@@ -204,7 +203,7 @@ fn audit_on(
     ensures fault { IfErr result (IsFault log.now nodes.now) }
 {
     let question = Question::new(alloc, log, nodes)?;
-    settled_if_small(alloc, &question)?;
+    question.ready(alloc)?;
     Ok(audit_by(alloc, &question, budget, outline)?)
 }
 

@@ -5,15 +5,17 @@ use Rattle.formula_arena.specs.Nodes.{nodes_of}
 use Rattle.mt_model.specs.Form.{Form}
 use Rattle.mt_model.specs.Log.{IsLog, IsWithin, Logged}
 use Rattle.mt_model.specs.declared.limits.TheConstants.{MAX_EXTRA, MAX_TIME}
-use Rattle.mtl_encode.specs.Size.{IsSmall}
-use Rattle.mtl_encode.specs.SizesFall.{SizesFall}
-use Rattle.skew_bounds.specs.Tight.{IsGreatestDifference, difference}
+use Rattle.question.specs.Size.{IsSmall}
+use Rattle.question.specs.SizesFall.{SizesFall}
+use Rattle.mt_model.specs.Timing.{Admissible}
+use Rattle.skew_bounds.specs.Differences.{Differences}
+use Rattle.skew_bounds.specs.Tight.{IsGreatestDifference, IsTight, difference}
 use Rattle.proof_check.specs.Laws.{RefutedIsNoValue}
 use Rattle.proof_log.specs.declared.line.Line.{Line}
 use Rattle.proof_log.specs.Derivations.{Refutes}
 use Rattle.cdcl_core.specs.declared.value.Searched.{Searched}
 use Rattle.cdcl_core.specs.Values.{GivesValue, IsSearched, RefuteEachValue, RefutesWithin}
-use Rattle.search_ground.specs.Grounds.{HasSmallSize}
+use Rattle.best_answer.proofs.SmallSizes.{small-within}
 use Rattle.verdict_span.specs.Spaced.{CanBeSpaced, spaced}
 use Rattle.verdict_span.proofs.Extras.{extras-keep-truth, spaced-valid, the-extra, unspaced}
 use Rattle.verdict_span.proofs.Telling.{below-refuted}
@@ -75,15 +77,6 @@ pub searched-at : {X : Type 0} (r : Result Searched X) (log : Logged) (f : Form)
 searched-at r log f v e to budget c d found same = subst (λ (x : ℤ). IfOk r (IsSearched (spaced e to x log) f v budget)) same found
 
 -- the problem of the log with the extra bound is small enough where that of the log is
-pub small-spaced : SizesFall → (log : Logged) (f : Form) (e to : ℕ) → HasSmallSize log f → (c : ℤ) → IsSmall (spaced e to c log) (nodes_of f)
-small-spaced fall log f e to small c n is =
-    let le = fall (spaced e to c log) log (nodes_of f) n small.size (record { rows = refl; admits = λ t ok. unspaced log e to c t ok }) is small.is_size in
-    let most = small.small in
-    omega (arith, le, most)
-
--- and no size of the log's problem is above one that is
-pub small-itself : SizesFall → (log : Logged) (f : Form) → HasSmallSize log f → IsSmall log (nodes_of f)
-small-itself fall log f small n is =
-    let le = fall log log (nodes_of f) n small.size (record { rows = refl; admits = λ t ok. ok }) is small.is_size in
-    let most = small.small in
-    omega (arith, le, most)
+pub small-spaced : SizesFall → (log : Logged) (f : Form) (e to : ℕ) (times : List ℤ) (d : Differences) → Admissible log times → IsTight log d → IsSmall log (nodes_of f) → (c : ℤ) → IsSmall (spaced e to c log) (nodes_of f)
+small-spaced fall log f e to times d admissible tight small c =
+    small-within fall (spaced e to c log) log f times d admissible tight small (record { rows = refl; admits = λ t ok. unspaced log e to c t ok })

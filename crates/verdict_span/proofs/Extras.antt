@@ -11,7 +11,7 @@ use Rattle.mt_model.specs.Timing.{Admissible, time_of}
 use Rattle.mt_model.specs.Truth.{positions_in}
 use Rattle.skew_bounds.specs.Tight.{difference}
 use Rattle.axiom_rules.proofs.ShapeLemmas.{slice-end}
-use Rattle.search_ground.proofs.SameStates.{truths}
+use Rattle.best_answer.proofs.SameStates.{truths}
 use Rattle.verdict_span.specs.Laws.{ExtrasKeepTruth, ExtrasOnlyExclude}
 use Rattle.verdict_span.specs.Spaced.{CanBeSpaced, spaced}
 use Rattle.mt_list.proofs.Lists.{got_last}

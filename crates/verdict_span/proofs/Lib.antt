@@ -1,4 +1,3 @@
 pub mod Extras
 pub mod Telling
-pub mod NotAsked
 pub mod Climbing

@@ -14,7 +14,7 @@ use Rattle.proof_log.specs.declared.line.Line.{Line}
 use Rattle.proof_log.specs.FreshLaws.{RefutedByRulesIsNotSpent, SpentIsBounded}
 use Rattle.proof_check.specs.Laws.{RefutedIsNoValue}
 use Rattle.cdcl_core.specs.Values.{RefutesWithin}
-use Rattle.search_ground.proofs.Spending.{could-be-spent}
+use Rattle.best_answer.proofs.Spending.{could-be-spent}
 use Rattle.verdict_span.specs.declared.greatest.Widest.{Widest}
 use Rattle.verdict_span.specs.declared.greatest.Widest.TheVariants as widest
 use Rattle.verdict_span.specs.Laws.{RightSpansAreGreatest}

@@ -2,5 +2,6 @@ pub mod Spaced
 pub mod Faults
 pub mod Widest
 pub mod Told
+pub mod Spans
 pub mod Climbs
 pub mod Laws

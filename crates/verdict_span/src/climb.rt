@@ -1,14 +1,13 @@
 //! Up to where the greatest distance with the value may lie.
 
-ghost use Rattle.std.specs.Prelude.{◌≡◌, ◌<◌, ◌≤◌, Bool, ℕ, pos, ◌+ℤ◌, ◌≤ℤ◌};
-ghost use Rattle.mt_model.specs.Form.{Form};
-ghost use Rattle.mt_model.specs.Log.{IsWithin, Logged};
+ghost use Rattle.std.specs.Prelude.{◌≡◌, ◌<◌, ◌≤◌, pos, ◌+ℤ◌, ◌≤ℤ◌};
+ghost use Rattle.mt_model.specs.Log.{IsWithin};
 ghost use Rattle.mt_model.specs.declared.limits.TheConstants.{MAX_TIME};
 ghost use Rattle.skew_bounds.specs.Tight.{difference};
-ghost use Rattle.cdcl_core.specs.Values.{GivesValue, RefutesWithin};
+ghost use Rattle.best_answer.specs.Aims.{Gives, RefuteWithin};
 ghost use Rattle.verdict_span.specs.Climbs.{IsClimb};
-ghost use Rattle.verdict_span.specs.Spaced.{spaced};
-ghost use Rattle.verdict_span.specs.Widest.{WidestRight};
+ghost use Rattle.verdict_span.specs.Spans.{IsRight, distant};
+ghost use Rattle.verdict_span.specs.declared.span.Span.{Span};
 
 use crate::Widest;
 use mt_model::Times;
@@ -54,7 +53,7 @@ impl Climb {
         requires near { IsWithin (MAX_TIME +ℤ MAX_TIME) self.distance }
         requires top { (self.distance +ℤ pos self.room) ≤ℤ (MAX_TIME +ℤ MAX_TIME) }
         ensures room { result.room < self.room }
-        ensures climb { (log : Logged) (f : Form) (v : Bool) (e to budget : ℕ) → IsClimb log f v e to budget self → GivesValue log f v times → difference times e to ≡ distance → IsClimb log f v e to budget result }
+        ensures climb { (s : Span) → IsClimb s self → Gives s.aim s.aim.log.now times → difference times s.e s.to ≡ distance → IsClimb s result }
     {
         let Climb {
             distance: low,
@@ -72,12 +71,14 @@ impl Climb {
         }
     }
 
-    /// The climb where these lines refute the value so far above its distance.
-    pub fn down_to(self, above: u128, lines: Lines) -> Climb
-        requires some { 1 ≤ above }
-        requires within { above ≤ self.room }
+    /// The climb where these lines refute the value with a greater distance.
+    pub fn down_to(self, c: i128, lines: Lines) -> Climb
+        requires from { (self.distance +ℤ pos 1) ≤ℤ c }
+        requires to { c ≤ℤ (self.distance +ℤ pos self.room) }
+        requires near { IsWithin (MAX_TIME +ℤ MAX_TIME) self.distance }
+        requires top { (self.distance +ℤ pos self.room) ≤ℤ (MAX_TIME +ℤ MAX_TIME) }
         ensures room { result.room < self.room }
-        ensures climb { (log : Logged) (f : Form) (v : Bool) (e to budget : ℕ) → IsClimb log f v e to budget self → RefutesWithin (spaced e to (self.distance +ℤ pos above) log) f v budget lines → IsClimb log f v e to budget result }
+        ensures climb { (s : Span) → IsClimb s self → RefuteWithin s.aim (distant s c) lines → IsClimb s result }
     {
         let Climb {
             distance,
@@ -89,7 +90,7 @@ impl Climb {
         Climb {
             distance,
             times,
-            room: above - 1,
+            room: gap(distance, c) - 1,
             beyond: lines,
             turns: turns.saturating_add(1),
         }
@@ -98,7 +99,7 @@ impl Climb {
     /// The answer, once there is no room.
     pub fn answer(self) -> Widest
         requires { self.room ≡ 0 }
-        ensures right { (log : Logged) (f : Form) (v : Bool) (e to budget : ℕ) → IsClimb log f v e to budget self → WidestRight log f v e to budget result }
+        ensures right { (s : Span) → IsClimb s self → IsRight s result }
     {
         let Climb {
             distance,

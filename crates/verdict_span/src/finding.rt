@@ -1,74 +1,58 @@
 //! The greatest distance.
 
-ghost use Rattle.std.specs.Prelude.{◌≡◌, ◌≢◌, ◌≤◌, ◌<◌, Bool, ℕ, ℤ, length, pos, ◌+ℤ◌, IfErr, IfOk, OnOk, None};
-ghost use Rattle.mt_model.specs.Form.{Form, form_of};
+ghost use Rattle.std.specs.Prelude.{◌≡◌, ◌≢◌, ◌≤◌, ◌<◌, length, pos, ◌+ℤ◌, IfErr, IfOk, OnOk};
+ghost use Rattle.mt_model.specs.Form.{form_of};
 ghost use Rattle.mt_model.specs.Log.{IsWithin};
-ghost use Rattle.mt_model.specs.State.{unknown_host};
-ghost use Rattle.mt_model.specs.Timing.{Admissible};
 ghost use Rattle.mt_model.specs.declared.limits.TheConstants.{MAX_EXTRAS, MAX_TIME};
 ghost use Rattle.formula_arena.specs.Nodes.{nodes_of};
 ghost use Rattle.skew_bounds.specs.Tight.{IsConsistent, IsGreatestDifference, IsTight};
-ghost use Rattle.mtl_encode.specs.Size.{IsSmall};
-ghost use Rattle.cdcl_core.specs.Values.{GivesValue, RefuteEachValue};
+ghost use Rattle.question.specs.Size.{IsSmall};
+ghost use Rattle.cdcl_core.specs.Values.{RefuteEachValue};
+ghost use Rattle.best_answer.specs.Aims.{Gives};
 ghost use Rattle.verdict_span.specs.Climbs.{IsClimb};
 ghost use Rattle.verdict_span.specs.Faults.{IsAsked, IsFault};
-ghost use Rattle.verdict_span.specs.Spaced.{CanBeSpaced, spaced as spaced_log};
+ghost use Rattle.verdict_span.specs.Spans.{AreSmall, IsRight, distant};
 ghost use Rattle.verdict_span.specs.Told.{IsInconsistentExactly, Tells};
 ghost use Rattle.verdict_span.specs.Widest.{WidestRight};
 
 use crate::climb::{Climb, gap};
 use crate::laws::right_spans_are_greatest;
 use crate::spacing::{distance, spaced};
+use crate::span::Span;
 use crate::turn::{Turned, turn};
 use crate::{SpanFault, Widest};
-use cdcl_core::{Searched, refuted_by_conflict, search_value};
-use mt_model::{EventId, Formula, Log, Times, conflict_excludes_timings, log_is_valid};
-use mtl_encode::sizes_fall;
+use best_answer::Aim;
+use cdcl_core::{Budget, Searched, refuted_by_conflict, search_value};
+use mt_model::{EventId, Formula, Log, Times, log_is_valid};
 use proof_log::Lines;
-use question::{Nodes, Question, question_is_asked};
-use search_ground::{Ground, ground_of};
+use question::{Nodes, Question, Settled, sizes_fall};
 use skew_bounds::{Consistency, Tight, settle};
 use std::alloc::{AllocError, Global};
 
 // The line that refutes each value where `to` comes later after e than it can, which is at most `top` after it.
-fn refuted_above(
-    alloc: Global,
-    log: &Log,
-    e: EventId,
-    to: EventId,
-    top: i128,
-) -> Result<Lines, AllocError>
-    requires pair { CanBeSpaced log.now e to }
+fn refuted_above(alloc: Global, span: &Span, top: i128) -> Result<Lines, AllocError>
     requires near { IsWithin (MAX_TIME +ℤ MAX_TIME) top }
-    requires top { IsGreatestDifference log.now e to top }
-    ensures refuted { IfOk result (RefuteEachValue (spaced_log e to (top +ℤ pos 1) log.now)) }
+    requires top { IsGreatestDifference span.now.aim.log.now span.now.e span.now.to top }
+    ensures refuted { IfOk result (RefuteEachValue (distant span.now (top +ℤ pos 1))) }
     ensures one { IfOk result (λ lines. length lines ≡ 1) }
 {
-    let far = spaced(alloc, log, e, to, top + 1)?;
-    match settle(alloc, &far)? {
-        Consistency::Conflict(steps) => refuted_by_conflict(alloc, &far, steps),
+    let far = spaced(alloc, span, top + 1)?;
+    match settle(alloc, &far.log)? {
+        Consistency::Conflict(steps) => refuted_by_conflict(alloc, &far.log, steps),
         Consistency::Timing(_) => unreachable!(),
     }
 }
 
 // The climb from a timing that gives the value, where `to` comes at most `top` after e.
-fn climb_from(
-    alloc: Global,
-    log: &Log,
-    e: EventId,
-    to: EventId,
-    top: i128,
-    times: Times,
-) -> Result<Climb, AllocError>
-    requires pair { CanBeSpaced log.now e to }
+fn climb_from(alloc: Global, span: &Span, top: i128, times: Times) -> Result<Climb, AllocError>
     requires near { IsWithin (MAX_TIME +ℤ MAX_TIME) top }
-    requires top { IsGreatestDifference log.now e to top }
-    requires admissible { Admissible log.now times }
-    ensures climb { IfOk result (λ climb. (f : Form) (v : Bool) (budget : ℕ) → 1 ≤ budget → GivesValue log.now f v times → IsClimb log.now f v e to budget climb) }
+    requires top { IsGreatestDifference span.now.aim.log.now span.now.e span.now.to top }
+    requires gives { Gives span.now.aim span.now.aim.log.now times }
+    ensures climb { IfOk result (IsClimb span.now) }
 {
-    log_is_valid(log);
-    let distance = distance(times.as_slice(), e, to);
-    let beyond = refuted_above(alloc, log, e, to, top)?;
+    log_is_valid(span.aim.log);
+    let distance = distance(times.as_slice(), span.e, span.to);
+    let beyond = refuted_above(alloc, span, top)?;
     Ok(Climb {
         distance,
         times,
@@ -79,27 +63,14 @@ fn climb_from(
 }
 
 // The greatest distance, where a climb has begun.
-fn climb_on(
-    alloc: Global,
-    log: &Log,
-    nodes: &Nodes,
-    value: bool,
-    e: EventId,
-    to: EventId,
-    budget: u32,
-    climb: Climb,
-) -> Result<Widest, AllocError>
-    requires some { 1 ≤ budget }
-    requires most { budget ≤ 1000000 }
-    requires pair { CanBeSpaced log.now e to }
-    requires hosts { unknown_host log.now nodes.now ≡ None }
-    requires small { (c : ℤ) → IsSmall (spaced_log e to c log.now) (nodes_of nodes.now) }
-    requires climb { IsClimb log.now nodes.now value e to budget climb }
-    ensures right { IfOk result (WidestRight log.now nodes.now value e to budget) }
+fn climb_on(alloc: Global, span: &Span, climb: Climb) -> Result<Widest, AllocError>
+    requires small { AreSmall span.now }
+    requires climb { IsClimb span.now climb }
+    ensures right { IfOk result (IsRight span.now) }
 {
     let mut climb = climb;
     while 0 < climb.room {
-        match turn(alloc, log, nodes, value, e, to, budget, climb)? {
+        match turn(alloc, span, climb)? {
             Turned::Narrowed(narrowed) => climb = narrowed,
             Turned::Spent { c, lines } => {
                 return Ok(Widest::Unknown {
@@ -112,65 +83,44 @@ fn climb_on(
     Ok(climb.answer())
 }
 
-// The greatest distance, where some timing is admissible and `to` comes at most `top` after e.
+// The greatest distance, where some timing is admissible, by the question of the log itself.
 fn search_widest(
     alloc: Global,
+    span: &Span,
     question: Question,
     tight: &Tight,
-    value: bool,
-    e: EventId,
-    to: EventId,
-    budget: u32,
-    top: i128,
 ) -> Result<Widest, AllocError>
-    requires some { 1 ≤ budget }
-    requires most { budget ≤ 1000000 }
-    requires pair { CanBeSpaced question.log e to }
-    requires consistent { IsConsistent question.log }
-    requires small { IsSmall question.log (nodes_of question.form) }
-    requires spaced_small { (c : ℤ) → IsSmall (spaced_log e to c question.log) (nodes_of question.form) }
-    requires tight { IsTight question.log tight.now }
-    requires near { IsWithin (MAX_TIME +ℤ MAX_TIME) top }
-    requires top { IsGreatestDifference question.log e to top }
-    ensures right { IfOk result (WidestRight question.entry.log question.entry.form value e to budget) }
+    requires log { question.log ≡ span.now.aim.log.now }
+    requires form { question.form ≡ span.now.aim.nodes.now }
+    requires consistent { IsConsistent span.now.aim.log.now }
+    requires small { IsSmall span.now.aim.log.now (nodes_of span.now.aim.nodes.now) }
+    requires spaced_small { AreSmall span.now }
+    requires tight { IsTight span.now.aim.log.now tight.now }
+    ensures right { IfOk result (IsRight span.now) }
 {
-    question_is_asked(&question);
-    let (log, nodes) = (question.log(), question.nodes());
-    match search_value(alloc, question, tight, value, budget)? {
+    let top = tight.greatest(span.e, span.to);
+    let budget = Budget::new(span.aim.budget);
+    match search_value(alloc, question, tight, span.aim.value, budget)? {
         Searched::Timing(times) => {
-            let climb = climb_from(alloc, log, e, to, top, times)?;
-            climb_on(alloc, log, nodes, value, e, to, budget, climb)
+            let climb = climb_from(alloc, span, top, times)?;
+            climb_on(alloc, span, climb)
         }
         Searched::Refuted(lines) => Ok(Widest::Never { lines }),
         Searched::Spent(lines) => Ok(Widest::Unknown { least: None, lines }),
     }
 }
 
-// The greatest distance for a question.
-fn widest_of_question(
-    alloc: Global,
-    question: Question,
-    value: bool,
-    e: EventId,
-    to: EventId,
-    budget: u32,
-) -> Result<Widest, SpanFault>
-    requires some { 1 ≤ budget }
-    requires most { budget ≤ 1000000 }
-    requires pair { CanBeSpaced question.log e to }
-    ensures right { IfOk result (WidestRight question.entry.log question.entry.form value e to budget) }
-    ensures asked { OnOk result (IsAsked question.entry.log question.entry.form) }
-    ensures fault { IfErr result (IsFault question.entry.log question.entry.form) }
+// The greatest distance, for what is sought.
+fn widest_of(alloc: Global, span: &Span) -> Result<Widest, SpanFault>
+    ensures right { IfOk result (IsRight span.now) }
+    ensures asked { OnOk result (IsAsked span.now.aim.log.now span.now.aim.nodes.now) }
+    ensures fault { IfErr result (IsFault span.now.aim.log.now span.now.aim.nodes.now) }
 {
     sizes_fall();
-    conflict_excludes_timings();
-    question_is_asked(&question);
-    match ground_of(alloc, &question)? {
-        Ground::Conflict(steps) => Ok(Widest::Inconsistent(steps)),
-        Ground::Consistent(tight) => {
-            let top = tight.greatest(e, to);
-            Ok(search_widest(alloc, question, &tight, value, e, to, budget, top)?)
-        }
+    let question = Question::new(alloc, span.aim.log, span.aim.nodes)?;
+    match question.ready(alloc)? {
+        Settled::Conflict(steps) => Ok(Widest::Inconsistent(steps)),
+        Settled::Timing { times: _, tight } => Ok(search_widest(alloc, span, question, &tight)?),
     }
 }
 
@@ -207,6 +157,11 @@ pub fn widest(
     right_spans_are_greatest();
     log_is_valid(log);
     let nodes = Nodes::asked(alloc, log, f)?;
-    let question = Question::new(alloc, log, &nodes)?;
-    widest_of_question(alloc, question, value, e, to, budget)
+    let aim = Aim {
+        log,
+        nodes: &nodes,
+        value,
+        budget,
+    };
+    widest_of(alloc, &Span { aim, e, to })
 }

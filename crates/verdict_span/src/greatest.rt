@@ -1,3 +1,5 @@
+//! How far apart two events are at most where a formula has a value.
+
 use mt_model::{Steps, Times};
 use proof_log::Lines;
 

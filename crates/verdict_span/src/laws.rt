@@ -1,3 +1,5 @@
+//! What an extra bound changes, and what a right answer says.
+
 ghost use Rattle.verdict_span.specs.Laws.{ExtrasKeepTruth, ExtrasOnlyExclude, RightSpansAreGreatest};
 
 use mt_model::conflict_excludes_timings;

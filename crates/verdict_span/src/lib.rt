@@ -3,15 +3,15 @@
 #![tactic(auto)]
 
 mod climb;
-mod fault;
 mod finding;
 mod greatest;
 mod laws;
 mod reach;
 mod spacing;
+mod span;
 mod turn;
 
-pub use fault::SpanFault;
 pub use finding::widest;
 pub use greatest::Widest;
 pub use laws::{extras_keep_truth, extras_only_exclude, right_spans_are_greatest};
+pub use question::QuestionFault as SpanFault;

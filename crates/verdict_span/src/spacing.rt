@@ -4,21 +4,34 @@ ghost use Rattle.std.specs.Prelude.{◌≡◌, ◌<◌, All, length, IfOk};
 ghost use Rattle.mt_model.specs.Log.{IsWithin};
 ghost use Rattle.mt_model.specs.declared.limits.TheConstants.{MAX_EXTRA, MAX_TIME};
 ghost use Rattle.skew_bounds.specs.Tight.{difference};
-ghost use Rattle.verdict_span.specs.Spaced.{CanBeSpaced, spaced as spaced_log};
+ghost use Rattle.verdict_span.specs.Spans.{distant};
 
+use crate::span::Span;
 use mt_model::{EventId, Extra, Log, log_is_valid};
 use std::alloc::{AllocError, Global};
 
+/// A log with the extra bound that of two events the one comes at least c after the other.
+#[derive(Drop)]
+pub struct SpacedLog {
+    pub c: i128,
+    pub log: Log,
+}
+
 /// The log with the extra bound that `to` comes at least c after e, in memory of its own.
-pub fn spaced(alloc: Global, log: &Log, e: EventId, to: EventId, c: i128) -> Result<Log, AllocError>
-    requires pair { CanBeSpaced log.now e to }
+pub fn spaced(alloc: Global, span: &Span, c: i128) -> Result<SpacedLog, AllocError>
     requires range { IsWithin MAX_EXTRA c }
-    ensures spaced { IfOk result (λ l. l ≡ spaced_log e to c log.now) }
+    ensures by { IfOk result (λ there. there.c ≡ c) }
+    ensures spaced { IfOk result (λ there. there.log ≡ distant span.now c) }
 {
-    log_is_valid(log);
-    let copy = log.copy(alloc)?;
-    match copy.with_extra(Extra { e, f: to, c: -c }) {
-        Ok(spaced) => Ok(spaced),
+    log_is_valid(span.aim.log);
+    let copy = span.aim.log.copy(alloc)?;
+    let extra = Extra {
+        e: span.e,
+        f: span.to,
+        c: -c,
+    };
+    match copy.with_extra(extra) {
+        Ok(log) => Ok(SpacedLog { c, log }),
         Err(_) => Err(AllocError),
     }
 }

@@ -1,27 +1,20 @@
 //! One search, and what is known after it.
 
-ghost use Rattle.std.specs.Prelude.{◌≡◌, ◌≤◌, ◌<◌, ◌^◌, Bool, ℕ, ℤ, length, pos, ◌+ℤ◌, ◌≤ℤ◌, IfOk, None};
-ghost use Rattle.mt_model.specs.Form.{Form};
-ghost use Rattle.mt_model.specs.Log.{IsWithin};
-ghost use Rattle.mt_model.specs.State.{unknown_host};
-ghost use Rattle.mt_model.specs.Timing.{Admissible};
-ghost use Rattle.mt_model.specs.declared.limits.TheConstants.{MAX_EXTRA, MAX_TIME};
+ghost use Rattle.std.specs.Prelude.{◌≡◌, ◌<◌, pos, ◌+ℤ◌, ◌≤ℤ◌, IfOk};
 ghost use Rattle.formula_arena.specs.Nodes.{nodes_of};
-ghost use Rattle.skew_bounds.specs.Tight.{difference};
-ghost use Rattle.mtl_encode.specs.Size.{IsSmall};
-ghost use Rattle.proof_log.specs.Derivations.{Refutes};
-ghost use Rattle.cdcl_core.specs.Values.{GivesValue, IsSearched, RefutesWithin};
+ghost use Rattle.question.specs.Size.{IsSmall};
+ghost use Rattle.best_answer.specs.Aims.{Gives, RefuteWithin};
 ghost use Rattle.verdict_span.specs.Climbs.{IsClimb, IsTurned};
-ghost use Rattle.verdict_span.specs.Spaced.{CanBeSpaced, spaced as spaced_log};
+ghost use Rattle.verdict_span.specs.Spans.{AreSmall, distant};
 
 use crate::climb::Climb;
-use crate::reach::refuted_below;
-use crate::spacing::{distance, spaced};
-use cdcl_core::{Searched, search_log};
-use mt_model::{EventId, Log, Times, log_is_valid};
+use crate::reach::refuted_from;
+use crate::spacing::{SpacedLog, distance, spaced};
+use crate::span::Span;
+use cdcl_core::Searched;
+use mt_model::{Times, log_is_valid};
 use proof_check::refuted_is_no_value;
 use proof_log::Lines;
-use question::{Nodes, Question};
 use std::alloc::{AllocError, Global};
 
 /// What a search at a distance of a climb gives.
@@ -33,116 +26,78 @@ pub enum Turned {
     Spent { c: i128, lines: Lines },
 }
 
-// What a search of the log in which `to` comes at least c after e gives.
-fn searched_at(
-    alloc: Global,
-    log: &Log,
-    nodes: &Nodes,
-    value: bool,
-    e: EventId,
-    to: EventId,
-    budget: u32,
-    c: i128,
-) -> Result<Searched, AllocError>
-    requires some { 1 ≤ budget }
-    requires most { budget ≤ 1000000 }
-    requires pair { CanBeSpaced log.now e to }
-    requires range { IsWithin MAX_EXTRA c }
-    requires hosts { unknown_host log.now nodes.now ≡ None }
-    requires small { (c : ℤ) → IsSmall (spaced_log e to c log.now) (nodes_of nodes.now) }
-    ensures found { IfOk result (IsSearched (spaced_log e to c log.now) nodes.now value budget) }
-{
-    let far = spaced(alloc, log, e, to, c)?;
-    let question = Question::new(alloc, &far, nodes)?;
-    search_log(alloc, question, value, budget)
-}
-
 // The climb where a timing gives the value with a distance above its own.
-fn narrowed_by_timing(log: &Log, e: EventId, to: EventId, climb: Climb, times: Times) -> Climb
-    requires pair { CanBeSpaced log.now e to }
-    requires admissible { Admissible log.now times }
-    requires near { IsWithin (MAX_TIME +ℤ MAX_TIME) climb.distance }
-    requires top { (climb.distance +ℤ pos climb.room) ≤ℤ (MAX_TIME +ℤ MAX_TIME) }
-    requires from { (climb.distance +ℤ pos 1) ≤ℤ difference times e to }
-    requires to { difference times e to ≤ℤ (climb.distance +ℤ pos climb.room) }
+fn narrowed_by_timing(span: &Span, climb: Climb, there: &SpacedLog, times: Times) -> Climb
+    requires spaced { there.now.log ≡ distant span.now there.now.c }
+    requires climb { IsClimb span.now climb }
+    requires from { (climb.distance +ℤ pos 1) ≤ℤ there.now.c }
+    requires to { there.now.c ≤ℤ (climb.distance +ℤ pos climb.room) }
+    requires gives { Gives span.now.aim there.now.log times }
     ensures room { result.room < climb.room }
-    ensures climb { (f : Form) (v : Bool) (budget : ℕ) → IsClimb log.now f v e to budget climb → GivesValue log.now f v times → IsClimb log.now f v e to budget result }
+    ensures climb { IsClimb span.now result }
 {
-    log_is_valid(log);
-    let d = distance(times.as_slice(), e, to);
+    refuted_is_no_value();
+    log_is_valid(span.aim.log);
+    let d = distance(times.as_slice(), span.e, span.to);
     climb.up_to(times, d)
 }
 
-// The climb where lines refute the value so far above its distance, and maybe below that too.
+// The climb where lines refute the value with a distance above its own, and maybe with smaller ones too.
 fn narrowed_by_lines(
     alloc: Global,
-    log: &Log,
-    nodes: &Nodes,
-    value: bool,
-    e: EventId,
-    to: EventId,
+    span: &Span,
     climb: Climb,
-    above: u128,
+    there: &SpacedLog,
     lines: Lines,
 ) -> Result<Climb, AllocError>
-    requires pair { CanBeSpaced log.now e to }
-    requires near { IsWithin (MAX_TIME +ℤ MAX_TIME) climb.distance }
-    requires top { (climb.distance +ℤ pos climb.room) ≤ℤ (MAX_TIME +ℤ MAX_TIME) }
-    requires some { 1 ≤ above }
-    requires within { above ≤ climb.room }
-    requires few { length lines < 2 ^ 32 }
-    requires refutes { Refutes (spaced_log e to (climb.distance +ℤ pos above) log.now) nodes.now value lines }
+    requires spaced { there.now.log ≡ distant span.now there.now.c }
+    requires climb { IsClimb span.now climb }
+    requires from { (climb.distance +ℤ pos 1) ≤ℤ there.now.c }
+    requires to { there.now.c ≤ℤ (climb.distance +ℤ pos climb.room) }
+    requires refuted { RefuteWithin span.now.aim there.now.log lines }
     ensures room { IfOk result (λ narrowed. narrowed.room < climb.room) }
-    ensures climb { IfOk result (λ narrowed. (budget : ℕ) → IsClimb log.now nodes.now value e to budget climb → RefutesWithin (spaced_log e to (climb.distance +ℤ pos above) log.now) nodes.now value budget lines → IsClimb log.now nodes.now value e to budget narrowed) }
+    ensures climb { IfOk result (IsClimb span.now) }
 {
-    let c = climb.distance + above as i128;
-    let r = refuted_below(
-        alloc,
-        log,
-        nodes,
-        value,
-        e,
-        to,
-        c,
-        above - 1,
-        lines.as_slice(),
-    )?;
-    Ok(climb.down_to(above - r, lines))
+    let low = climb.distance + 1;
+    let c = refuted_from(alloc, span, low, there, lines.as_slice())?;
+    Ok(climb.down_to(c, lines))
 }
 
-/// Searches at one distance of a climb, and takes from its room by what is found.
-pub fn turn(
+// The climb after a search at a distance above its own.
+fn turned_by(
     alloc: Global,
-    log: &Log,
-    nodes: &Nodes,
-    value: bool,
-    e: EventId,
-    to: EventId,
-    budget: u32,
+    span: &Span,
     climb: Climb,
+    there: &SpacedLog,
 ) -> Result<Turned, AllocError>
-    requires some { 1 ≤ budget }
-    requires most { budget ≤ 1000000 }
-    requires pair { CanBeSpaced log.now e to }
-    requires hosts { unknown_host log.now nodes.now ≡ None }
-    requires small { (c : ℤ) → IsSmall (spaced_log e to c log.now) (nodes_of nodes.now) }
-    requires climb { IsClimb log.now nodes.now value e to budget climb }
-    requires room { 0 < climb.room }
-    ensures turned { IfOk result (IsTurned log.now nodes.now value e to budget climb.room) }
+    requires spaced { there.now.log ≡ distant span.now there.now.c }
+    requires small { IsSmall there.now.log (nodes_of span.now.aim.nodes.now) }
+    requires climb { IsClimb span.now climb }
+    requires from { (climb.distance +ℤ pos 1) ≤ℤ there.now.c }
+    requires to { there.now.c ≤ℤ (climb.distance +ℤ pos climb.room) }
+    ensures turned { IfOk result (IsTurned span.now climb.room) }
 {
-    refuted_is_no_value();
-    log_is_valid(log);
-    let above = climb.next();
-    let c = climb.distance + above as i128;
-    match searched_at(alloc, log, nodes, value, e, to, budget, c)? {
+    match span.aim.search_in(alloc, &there.log)? {
         Searched::Timing(times) => {
-            let narrowed = narrowed_by_timing(log, e, to, climb, times);
+            let narrowed = narrowed_by_timing(span, climb, there, times);
             Ok(Turned::Narrowed(narrowed))
         }
         Searched::Refuted(lines) => {
-            let narrowed = narrowed_by_lines(alloc, log, nodes, value, e, to, climb, above, lines)?;
+            let narrowed = narrowed_by_lines(alloc, span, climb, there, lines)?;
             Ok(Turned::Narrowed(narrowed))
         }
-        Searched::Spent(lines) => Ok(Turned::Spent { c, lines }),
+        Searched::Spent(lines) => Ok(Turned::Spent { c: there.c, lines }),
     }
+}
+
+/// Searches at one distance of a climb, and takes from its room by what is found.
+pub fn turn(alloc: Global, span: &Span, climb: Climb) -> Result<Turned, AllocError>
+    requires small { AreSmall span.now }
+    requires climb { IsClimb span.now climb }
+    requires room { 0 < climb.room }
+    ensures turned { IfOk result (IsTurned span.now climb.room) }
+{
+    let c = climb.distance + climb.next() as i128;
+    let there = spaced(alloc, span, c)?;
+    turned_by(alloc, span, climb, &there)
 }

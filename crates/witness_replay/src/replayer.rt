@@ -1,3 +1,5 @@
+//! The evaluator of one log and one formula, with the memory that it takes beforehand.
+
 ghost use Rattle.std.specs.Prelude.{◌≡◌, ◌↔◌, ◌<◌, ◌≤◌, ◌*◌, length, All, IsTrue, IfOk, OnOk, None, Err, ◌^◌};
 ghost use Rattle.mt_model.specs.Bounds.{bounds_of, first_broken as first_broken_of};
 ghost use Rattle.mt_model.specs.Form.{Form, form_of};
@@ -12,8 +14,9 @@ ghost use Rattle.formula_arena.specs.declared.arena.TheConstants.{MAX_NODES};
 
 use crate::evaluator::truth_at_first;
 use crate::timeline::Moment;
-use formula_arena::{Arena, ArenaFault, truth_of_core};
+use formula_arena::{Arena, ArenaFault, nodes_are_subtrees, truth_of_core};
 use mt_model::{Bound, BoundList, Formula, Log, NodeId};
+use question::{Question, question_is_asked};
 use skew_bounds::{bounds, first_broken};
 use std::alloc::{AllocError, Global};
 use std::marker::Model;
@@ -138,23 +141,27 @@ impl Replayer {
     }
 }
 
-/// The truth of a formula, whose core is that of this node, at the first position of a timing. There is a time for each
-/// row. It takes the memory of a replayer, and no copies. An error is want of memory.
-pub fn truth_by(
-    alloc: Global,
-    log: &Log,
-    arena: &Arena,
-    root: NodeId,
-    times: &[i128],
-) -> Result<bool, AllocError>
-    requires node { root < length arena.now }
-    requires few { length arena.now ≤ MAX_NODES }
-    requires count { length times.now ≡ length log.now.rows }
+/// The truth of a question's formula at the first position of a timing of its log. There is a time for each row. It takes
+/// the memory of a replayer, and no copies. An error is want of memory.
+pub fn truth_by(alloc: Global, question: &Question, times: &[i128]) -> Result<bool, AllocError>
+    requires count { length times.now ≡ length question.now.log.rows }
     requires range { All (IsWithin MAX_TIME) times.now }
-    ensures value { IfOk result (λ v. (f : Form) → core_of f ≡ tree_at arena.now root → v ≡ truth log.now times.now 0 f) }
+    ensures value { IfOk result (λ v. v ≡ truth question.now.log times.now 0 question.now.form) }
 {
     truth_of_core();
+    nodes_are_subtrees();
+    question_is_asked(question);
+    // What a formula is, its parts are known with.
+    let _ = question.formula().tree();
+    let (log, nodes) = (question.log(), question.nodes());
     let mut moments = make_moments(alloc, log.rows().len())?;
-    let mut table = make_table(alloc, arena.len(), log.rows().len())?;
-    Ok(truth_at_first(log, arena, root, times, &mut moments, &mut table))
+    let mut table = make_table(alloc, nodes.arena().len(), log.rows().len())?;
+    Ok(truth_at_first(
+        log,
+        nodes.arena(),
+        nodes.root(),
+        times,
+        &mut moments,
+        &mut table,
+    ))
 }

@@ -8,6 +8,6 @@ returns-in-Conflict c =
     let form = c.args.question.form in
     record {
       found = if_ok_more c.refuted.result _ (IsSearched c.args.question.log form c.args.value c.args.budget)
-          (λ searched found. subst (λ log. IsSearched log form c.args.value c.args.budget searched) c.log.ensures.log (found form c.args.value c.args.budget c.requires.some))
+          (λ searched found. subst (λ log. IsSearched log form c.args.value c.args.budget searched) c.log.ensures.log (found form c.args.value))
           c.refuted.ensures.found;
     }

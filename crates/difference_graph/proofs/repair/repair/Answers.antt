@@ -35,12 +35,12 @@ pub loop-next-init : goal.loop-next-init
 loop-next-init c =
     let edges = c.args.held.now.edges.items in
     let is_end = ap (λ (e : Edge). e.to) (c.index.ensures ∙ get_or_default edges c.args.place _ _ (omega (arith, c.requires.place))) in
-    let taken = rw c.deref.ensures.value at c.in_default.ensures.taken in
+    let enqueued = rw c.deref.ensures.value at c.in_default.ensures.enqueued in
     record {
       others = rw is_end (others_of_first edges c.args.place c.args.numbers.now c.requires.place c.requires.first);
       state =
           state_first edges c.args.place c.index.result.now.to c.args.numbers.now _ _ _ _ is_end c.requires.system c.requires.near
-          c.requires.place c.requires.first c.clear-2.ensures.items c.clear-3.ensures.items c.clear.ensures.items taken;
+          c.requires.place c.requires.first c.clear-2.ensures.items c.clear-3.ensures.items c.clear.ensures.items enqueued;
       order = c.in_default.ensures.order;
       room = record {
         waiting = omega (arith, c.clear.ensures.capacity, c.in_default.ensures.room);
@@ -92,8 +92,8 @@ lower-requires-clause-former_room c =
     c.in-Some-next_missed.ensures.waited in
     omega (arith, room, inv.room.former, c.requires.room.former, inv.state.noted.count)
 
-pub take_up_all-requires-clause-numbers : goal.take_up_all-requires-clause-numbers
-take_up_all-requires-clause-numbers c =
+pub enqueue_incoming-requires-clause-numbers : goal.enqueue_incoming-requires-clause-numbers
+enqueue_incoming-requires-clause-numbers c =
     let edges = c.args.held.now.edges.items in
     let end = c.index.result.now.to in
     let old = c.args.numbers.now in
@@ -104,8 +104,8 @@ take_up_all-requires-clause-numbers c =
     c.loop-next.work.former.items (heap_items c.loop-next.work.waiting) inv.state c.in-Some-next_missed.next next
     c.in-Some-next_missed.ensures.waited c.lower.new.numbers lowered c.lower.new.order.items c.lower.ensures.order
 
-pub take_up_all-requires-clause-queue : goal.take_up_all-requires-clause-queue
-take_up_all-requires-clause-queue c =
+pub enqueue_incoming-requires-clause-queue : goal.enqueue_incoming-requires-clause-queue
+enqueue_incoming-requires-clause-queue c =
     let edges = c.args.held.now.edges.items in
     let end = c.index.result.now.to in
     let old = c.args.numbers.now in
@@ -119,38 +119,38 @@ take_up_all-requires-clause-queue c =
     c.in-Some-next_missed.ensures.waited c.lower.new.numbers lowered c.lower.new.order.items c.lower.ensures.order
     (heap_items c.next_missed.new.waiting) rest c.in-Some-next_missed.ensures.fewer)
 
-pub trace-requires-in-Some-take_up_all-clause-tree : goal.trace-requires-in-Some-take_up_all-clause-tree
-trace-requires-in-Some-take_up_all-clause-tree c =
+pub trace-requires-in-Some-enqueue_incoming-clause-tree : goal.trace-requires-in-Some-enqueue_incoming-clause-tree
+trace-requires-in-Some-enqueue_incoming-clause-tree c =
     let edges = c.args.held.now.edges.items in
     let end = c.index.result.now.to in
     let old = c.args.numbers.now in
     let inv = c.loop-next.invariant in
     let next = rw c.deref-in-loop-next.ensures.value at c.in-Some-next_missed.ensures.next in
     let lowered = rw c.deref-in-Some-next_missed.ensures.value at c.lower.ensures.numbers in
-    rw (c.deref-in-Some-take_up_all.ensures.value, c.deref-in-Some-take_up_all-2.ensures.value)
+    rw (c.deref-in-Some-enqueue_incoming.ensures.value, c.deref-in-Some-enqueue_incoming-2.ensures.value)
     (closing_tree edges end old inv.others c.lower.new.numbers c.lower.new.order.items
     (lowered_repair edges end old c.requires.system inv.others c.requires.near c.loop-next.numbers c.loop-next.work.order.items
     c.loop-next.work.former.items (heap_items c.loop-next.work.waiting) inv.state c.in-Some-next_missed.next next
     c.in-Some-next_missed.ensures.waited c.lower.new.numbers lowered c.lower.new.order.items c.lower.ensures.order)
-    c.in-Some-take_up_all.closing c.in-Some-take_up_all.ensures.closing)
+    c.in-Some-enqueue_incoming.closing c.in-Some-enqueue_incoming.ensures.closing)
 
-pub trace-requires-in-Some-take_up_all-clause-leads : goal.trace-requires-in-Some-take_up_all-clause-leads
-trace-requires-in-Some-take_up_all-clause-leads c =
+pub trace-requires-in-Some-enqueue_incoming-clause-leads : goal.trace-requires-in-Some-enqueue_incoming-clause-leads
+trace-requires-in-Some-enqueue_incoming-clause-leads c =
     let edges = c.args.held.now.edges.items in
     let end = c.index.result.now.to in
     let old = c.args.numbers.now in
     let inv = c.loop-next.invariant in
     let next = rw c.deref-in-loop-next.ensures.value at c.in-Some-next_missed.ensures.next in
     let lowered = rw c.deref-in-Some-next_missed.ensures.value at c.lower.ensures.numbers in
-    rw (c.deref-in-Some-take_up_all.ensures.value, c.deref-in-Some-take_up_all-2.ensures.value)
+    rw (c.deref-in-Some-enqueue_incoming.ensures.value, c.deref-in-Some-enqueue_incoming-2.ensures.value)
     (closing_leads edges end old inv.others c.lower.new.numbers c.lower.new.order.items
     (lowered_repair edges end old c.requires.system inv.others c.requires.near c.loop-next.numbers c.loop-next.work.order.items
     c.loop-next.work.former.items (heap_items c.loop-next.work.waiting) inv.state c.in-Some-next_missed.next next
     c.in-Some-next_missed.ensures.waited c.lower.new.numbers lowered c.lower.new.order.items c.lower.ensures.order)
-    c.in-Some-take_up_all.closing c.in-Some-take_up_all.ensures.closing)
+    c.in-Some-enqueue_incoming.closing c.in-Some-enqueue_incoming.ensures.closing)
 
-pub trace-requires-in-Some-take_up_all-clause-room : goal.trace-requires-in-Some-take_up_all-clause-room
-trace-requires-in-Some-take_up_all-clause-room c =
+pub trace-requires-in-Some-enqueue_incoming-clause-room : goal.trace-requires-in-Some-enqueue_incoming-clause-room
+trace-requires-in-Some-enqueue_incoming-clause-room c =
     let edges = c.args.held.now.edges.items in
     let end = c.index.result.now.to in
     let old = c.args.numbers.now in
@@ -162,7 +162,7 @@ trace-requires-in-Some-take_up_all-clause-room c =
     (lowered_repair edges end old c.requires.system inv.others c.requires.near c.loop-next.numbers c.loop-next.work.order.items
     c.loop-next.work.former.items (heap_items c.loop-next.work.waiting) inv.state c.in-Some-next_missed.next next
     c.in-Some-next_missed.ensures.waited c.lower.new.numbers lowered c.lower.new.order.items c.lower.ensures.order).tree in
-    rw c.deref-in-Some-take_up_all-2.ensures.value (omega (arith, few, inv.room.walk, c.requires.room.walk))
+    rw c.deref-in-Some-enqueue_incoming-2.ensures.value (omega (arith, few, inv.room.walk, c.requires.room.walk))
 
 pub put_back-requires-clause-within : goal.put_back-requires-clause-within
 put_back-requires-clause-within c =
@@ -172,20 +172,20 @@ put_back-requires-clause-within c =
     let inv = c.loop-next.invariant in
     let next = rw c.deref-in-loop-next.ensures.value at c.in-Some-next_missed.ensures.next in
     let lowered = rw c.deref-in-Some-next_missed.ensures.value at c.lower.ensures.numbers in
-    rw (c.deref-in-Some-take_up_all-3.ensures.value, c.deref-in-Some-take_up_all-4.ensures.value)
+    rw (c.deref-in-Some-enqueue_incoming-3.ensures.value, c.deref-in-Some-enqueue_incoming-4.ensures.value)
     (lowered_repair edges end old c.requires.system inv.others c.requires.near c.loop-next.numbers c.loop-next.work.order.items
     c.loop-next.work.former.items (heap_items c.loop-next.work.waiting) inv.state c.in-Some-next_missed.next next
     c.in-Some-next_missed.ensures.waited c.lower.new.numbers lowered c.lower.new.order.items c.lower.ensures.order).tree.within
 
-pub returns-in-Some-take_up_all-clause-same : goal.returns-in-Some-take_up_all-clause-same
-returns-in-Some-take_up_all-clause-same c =
+pub returns-in-Some-enqueue_incoming-clause-same : goal.returns-in-Some-enqueue_incoming-clause-same
+returns-in-Some-enqueue_incoming-clause-same c =
     let edges = c.args.held.now.edges.items in
     let end = c.index.result.now.to in
     let old = c.args.numbers.now in
     let inv = c.loop-next.invariant in
     let next = rw c.deref-in-loop-next.ensures.value at c.in-Some-next_missed.ensures.next in
     let lowered = rw c.deref-in-Some-next_missed.ensures.value at c.lower.ensures.numbers in
-    let back = rw (c.deref-in-Some-take_up_all-3.ensures.value, c.deref-in-Some-take_up_all-4.ensures.value, c.deref-in-Some-take_up_all-5.ensures.value) at c.put_back.ensures.same in
+    let back = rw (c.deref-in-Some-enqueue_incoming-3.ensures.value, c.deref-in-Some-enqueue_incoming-4.ensures.value, c.deref-in-Some-enqueue_incoming-5.ensures.value) at c.put_back.ensures.same in
     let repair =
     lowered_repair edges end old c.requires.system inv.others c.requires.near c.loop-next.numbers c.loop-next.work.order.items
     c.loop-next.work.former.items (heap_items c.loop-next.work.waiting) inv.state c.in-Some-next_missed.next next
@@ -196,15 +196,15 @@ returns-in-Some-take_up_all-clause-same c =
     c.lower.new.former.items (rw c.deref-in-Some-next_missed.ensures.value at c.lower.ensures.former))
     (repair_differs edges end old c.lower.new.numbers c.lower.new.order.items repair)
 
-pub returns-in-Some-take_up_all-clause-numbers : goal.returns-in-Some-take_up_all-clause-numbers
-returns-in-Some-take_up_all-clause-numbers c =
+pub returns-in-Some-enqueue_incoming-clause-numbers : goal.returns-in-Some-enqueue_incoming-clause-numbers
+returns-in-Some-enqueue_incoming-clause-numbers c =
     let edges = c.args.held.now.edges.items in
     let end = c.index.result.now.to in
     let old = c.args.numbers.now in
     let inv = c.loop-next.invariant in
     let next = rw c.deref-in-loop-next.ensures.value at c.in-Some-next_missed.ensures.next in
     let lowered = rw c.deref-in-Some-next_missed.ensures.value at c.lower.ensures.numbers in
-    let back = rw (c.deref-in-Some-take_up_all-3.ensures.value, c.deref-in-Some-take_up_all-4.ensures.value, c.deref-in-Some-take_up_all-5.ensures.value) at c.put_back.ensures.same in
+    let back = rw (c.deref-in-Some-enqueue_incoming-3.ensures.value, c.deref-in-Some-enqueue_incoming-4.ensures.value, c.deref-in-Some-enqueue_incoming-5.ensures.value) at c.put_back.ensures.same in
     let repair =
     lowered_repair edges end old c.requires.system inv.others c.requires.near c.loop-next.numbers c.loop-next.work.order.items
     c.loop-next.work.former.items (heap_items c.loop-next.work.waiting) inv.state c.in-Some-next_missed.next next
@@ -217,24 +217,24 @@ returns-in-Some-take_up_all-clause-numbers c =
     (repair_differs edges end old c.lower.new.numbers c.lower.new.order.items repair) in
     rw same (near_numbers old c.requires.near)
 
-pub returns-in-Some-take_up_all-clause-cycle : goal.returns-in-Some-take_up_all-clause-cycle
-returns-in-Some-take_up_all-clause-cycle c =
+pub returns-in-Some-enqueue_incoming-clause-cycle : goal.returns-in-Some-enqueue_incoming-clause-cycle
+returns-in-Some-enqueue_incoming-clause-cycle c =
     let edges = c.args.held.now.edges.items in
     let end = c.index.result.now.to in
     let old = c.args.numbers.now in
     let inv = c.loop-next.invariant in
     let next = rw c.deref-in-loop-next.ensures.value at c.in-Some-next_missed.ensures.next in
     let lowered = rw c.deref-in-Some-next_missed.ensures.value at c.lower.ensures.numbers in
-    let trace = rw (c.deref-in-Some-take_up_all.ensures.value, c.deref-in-Some-take_up_all-2.ensures.value) at c.trace-in-Some-take_up_all.ensures.trace in
+    let trace = rw (c.deref-in-Some-enqueue_incoming.ensures.value, c.deref-in-Some-enqueue_incoming-2.ensures.value) at c.trace-in-Some-enqueue_incoming.ensures.trace in
     closing_cycle edges end old inv.others c.lower.new.numbers c.lower.new.order.items
     (lowered_repair edges end old c.requires.system inv.others c.requires.near c.loop-next.numbers c.loop-next.work.order.items
     c.loop-next.work.former.items (heap_items c.loop-next.work.waiting) inv.state c.in-Some-next_missed.next next
     c.in-Some-next_missed.ensures.waited c.lower.new.numbers lowered c.lower.new.order.items c.lower.ensures.order)
-    c.in-Some-take_up_all.closing c.in-Some-take_up_all.ensures.closing c.trace-in-Some-take_up_all.new.walk.items trace
+    c.in-Some-enqueue_incoming.closing c.in-Some-enqueue_incoming.ensures.closing c.trace-in-Some-enqueue_incoming.new.walk.items trace
 
-pub returns-in-Some-take_up_all-clause-once : goal.returns-in-Some-take_up_all-clause-once
-returns-in-Some-take_up_all-clause-once c =
-    let trace = rw (c.deref-in-Some-take_up_all.ensures.value, c.deref-in-Some-take_up_all-2.ensures.value) at c.trace-in-Some-take_up_all.ensures.trace in
+pub returns-in-Some-enqueue_incoming-clause-once : goal.returns-in-Some-enqueue_incoming-clause-once
+returns-in-Some-enqueue_incoming-clause-once c =
+    let trace = rw (c.deref-in-Some-enqueue_incoming.ensures.value, c.deref-in-Some-enqueue_incoming-2.ensures.value) at c.trace-in-Some-enqueue_incoming.ensures.trace in
     trace.once
 
 pub loop-next-smaller : goal.loop-next-smaller
@@ -261,19 +261,19 @@ loop-next-preserved c =
     let lowered = rw c.deref-in-Some-next_missed.ensures.value at c.lower.ensures.numbers in
     let rest = rw c.deref-in-loop-next.ensures.value at c.in-Some-next_missed.ensures.rest in
     let is_node = ap (λ (e : Edge). e.from) (c.index-in-Some-next_missed.ensures ∙ get_or_default edges c.in-Some-next_missed.next _ _ next.tightest.within) in
-    let queue = rw is_node at c.in_default-take_up_all.ensures.queue in
-    let added = rw is_node at c.in_default-take_up_all.ensures.added in
+    let queue = rw is_node at c.in_default-enqueue_incoming.ensures.queue in
+    let added = rw is_node at c.in_default-enqueue_incoming.ensures.added in
     record {
       others = inv.others;
       state =
           state_more edges end old c.requires.system inv.others c.requires.near c.loop-next.numbers c.loop-next.work.order.items
           c.loop-next.work.former.items (heap_items c.loop-next.work.waiting) inv.state c.in-Some-next_missed.next next
           c.in-Some-next_missed.ensures.waited c.lower.new.numbers lowered c.lower.new.order.items c.lower.ensures.order
-          (heap_items c.next_missed.new.waiting) rest c.in-Some-next_missed.ensures.fewer (heap_items c.take_up_all.new.waiting)
+          (heap_items c.next_missed.new.waiting) rest c.in-Some-next_missed.ensures.fewer (heap_items c.enqueue_incoming.new.waiting)
           c.lower.new.former.items (rw c.deref-in-Some-next_missed.ensures.value at c.lower.ensures.former) queue added;
-      order = c.in_default-take_up_all.ensures.order;
+      order = c.in_default-enqueue_incoming.ensures.order;
       room = record {
-        waiting = omega (arith, inv.room.waiting, c.in-Some-next_missed.ensures.room, c.in_default-take_up_all.ensures.room);
+        waiting = omega (arith, inv.room.waiting, c.in-Some-next_missed.ensures.room, c.in_default-enqueue_incoming.ensures.room);
         order = omega (arith, inv.room.order, c.lower.ensures.order_room);
         former = omega (arith, inv.room.former, c.lower.ensures.former_room);
         walk = inv.room.walk;
@@ -288,20 +288,20 @@ returns-clause-numbers c =
     let inv = c.loop-next.invariant in
     repair_numbers edges end old inv.others c.loop-next.numbers c.loop-next.work.order.items inv.state.repair c.requires.near
 
-pub take_up-requires-clause-place : goal.take_up-requires-clause-place
-take_up-requires-clause-place c =
+pub enqueue_missed-requires-clause-place : goal.enqueue_missed-requires-clause-place
+enqueue_missed-requires-clause-place c =
     rw c.deref.ensures.value (omega (arith, c.requires.place))
 
-pub take_up-requires-clause-edges : goal.take_up-requires-clause-edges
-take_up-requires-clause-edges c =
+pub enqueue_missed-requires-clause-edges : goal.enqueue_missed-requires-clause-edges
+enqueue_missed-requires-clause-edges c =
     rw c.deref.ensures.value c.requires.system.each
 
-pub take_up-requires-clause-numbers : goal.take_up-requires-clause-numbers
-take_up-requires-clause-numbers c =
+pub enqueue_missed-requires-clause-numbers : goal.enqueue_missed-requires-clause-numbers
+enqueue_missed-requires-clause-numbers c =
     near_numbers c.args.numbers.now c.requires.near
 
-pub take_up-requires-clause-room : goal.take_up-requires-clause-room
-take_up-requires-clause-room c =
+pub enqueue_missed-requires-clause-room : goal.enqueue_missed-requires-clause-room
+enqueue_missed-requires-clause-room c =
     rw c.clear.ensures.items (omega (arith, c.clear.ensures.capacity, c.requires.room.waiting, c.requires.place))
 
 pub trace-requires-clause-place : goal.trace-requires-clause-place
@@ -378,8 +378,8 @@ lower-requires-clause-edges c =
     let inv = c.loop-next.invariant in
     rw c.deref-in-Some-next_missed.ensures.value (subst (λ (n : ℕ). All (IsEdge n) edges) (sym inv.state.repair.count) c.requires.system.each)
 
-pub take_up_all-requires-clause-node : goal.take_up_all-requires-clause-node
-take_up_all-requires-clause-node c =
+pub enqueue_incoming-requires-clause-node : goal.enqueue_incoming-requires-clause-node
+enqueue_incoming-requires-clause-node c =
     let edges = c.args.held.now.edges.items in
     let next = rw c.deref-in-loop-next.ensures.value at c.in-Some-next_missed.ensures.next in
     let is_node : c.index-in-Some-next_missed.result.now.from ≡ (edge_at edges c.in-Some-next_missed.next).from =
@@ -388,8 +388,8 @@ take_up_all-requires-clause-node c =
     let from = (c.requires.system.each c.in-Some-next_missed.next (record { from = 0; to = 0; bound = pos 0 }) next.tightest.within).from in
     rw (is_node, c.requires.nodes) from
 
-pub take_up_all-requires-clause-edges : goal.take_up_all-requires-clause-edges
-take_up_all-requires-clause-edges c =
+pub enqueue_incoming-requires-clause-edges : goal.enqueue_incoming-requires-clause-edges
+enqueue_incoming-requires-clause-edges c =
     let edges = c.args.held.now.edges.items in
     let end = c.index.result.now.to in
     let old = c.args.numbers.now in
@@ -402,22 +402,22 @@ take_up_all-requires-clause-edges c =
     c.in-Some-next_missed.ensures.waited c.lower.new.numbers lowered c.lower.new.order.items c.lower.ensures.order).count)
     c.requires.system.each
 
-pub take_up_all-requires-clause-incoming : goal.take_up_all-requires-clause-incoming
-take_up_all-requires-clause-incoming c =
+pub enqueue_incoming-requires-clause-incoming : goal.enqueue_incoming-requires-clause-incoming
+enqueue_incoming-requires-clause-incoming c =
     c.requires.incoming
 
-pub take_up_all-requires-clause-order : goal.take_up_all-requires-clause-order
-take_up_all-requires-clause-order c =
+pub enqueue_incoming-requires-clause-order : goal.enqueue_incoming-requires-clause-order
+enqueue_incoming-requires-clause-order c =
     c.in-Some-next_missed.ensures.order
 
-pub take_up_all-requires-clause-room : goal.take_up_all-requires-clause-room
-take_up_all-requires-clause-room c =
+pub enqueue_incoming-requires-clause-room : goal.enqueue_incoming-requires-clause-room
+enqueue_incoming-requires-clause-room c =
     let inv = c.loop-next.invariant in
     omega (arith, c.requires.room.waiting, inv.room.waiting, c.in-Some-next_missed.ensures.room)
 
-pub trace-requires-in-Some-take_up_all-clause-place : goal.trace-requires-in-Some-take_up_all-clause-place
-trace-requires-in-Some-take_up_all-clause-place c =
-    rw c.deref-in-Some-take_up_all.ensures.value c.in-Some-take_up_all.ensures.closing.within
+pub trace-requires-in-Some-enqueue_incoming-clause-place : goal.trace-requires-in-Some-enqueue_incoming-clause-place
+trace-requires-in-Some-enqueue_incoming-clause-place c =
+    rw c.deref-in-Some-enqueue_incoming.ensures.value c.in-Some-enqueue_incoming.ensures.closing.within
 
 pub put_back-requires-clause-edges : goal.put_back-requires-clause-edges
 put_back-requires-clause-edges c =
@@ -427,7 +427,7 @@ put_back-requires-clause-edges c =
     let inv = c.loop-next.invariant in
     let next = rw c.deref-in-loop-next.ensures.value at c.in-Some-next_missed.ensures.next in
     let lowered = rw c.deref-in-Some-next_missed.ensures.value at c.lower.ensures.numbers in
-    rw c.deref-in-Some-take_up_all-3.ensures.value (subst (λ (n : ℕ). All (IsEdge n) edges)
+    rw c.deref-in-Some-enqueue_incoming-3.ensures.value (subst (λ (n : ℕ). All (IsEdge n) edges)
     (sym (lowered_repair edges end old c.requires.system inv.others c.requires.near c.loop-next.numbers c.loop-next.work.order.items
     c.loop-next.work.former.items (heap_items c.loop-next.work.waiting) inv.state c.in-Some-next_missed.next next
     c.in-Some-next_missed.ensures.waited c.lower.new.numbers lowered c.lower.new.order.items c.lower.ensures.order).count)
@@ -441,21 +441,21 @@ put_back-requires-clause-count c =
     let inv = c.loop-next.invariant in
     let next = rw c.deref-in-loop-next.ensures.value at c.in-Some-next_missed.ensures.next in
     let lowered = rw c.deref-in-Some-next_missed.ensures.value at c.lower.ensures.numbers in
-    rw (c.deref-in-Some-take_up_all-4.ensures.value, c.deref-in-Some-take_up_all-5.ensures.value)
+    rw (c.deref-in-Some-enqueue_incoming-4.ensures.value, c.deref-in-Some-enqueue_incoming-5.ensures.value)
     (lowered_noted edges end old c.requires.system inv.others c.requires.near c.loop-next.numbers c.loop-next.work.order.items
     c.loop-next.work.former.items (heap_items c.loop-next.work.waiting) inv.state c.in-Some-next_missed.next next
     c.in-Some-next_missed.ensures.waited c.lower.new.numbers lowered c.lower.new.order.items c.lower.ensures.order
     c.lower.new.former.items (rw c.deref-in-Some-next_missed.ensures.value at c.lower.ensures.former)).count
 
-pub returns-in-Some-take_up_all-clause-count : goal.returns-in-Some-take_up_all-clause-count
-returns-in-Some-take_up_all-clause-count c =
+pub returns-in-Some-enqueue_incoming-clause-count : goal.returns-in-Some-enqueue_incoming-clause-count
+returns-in-Some-enqueue_incoming-clause-count c =
     let edges = c.args.held.now.edges.items in
     let end = c.index.result.now.to in
     let old = c.args.numbers.now in
     let inv = c.loop-next.invariant in
     let next = rw c.deref-in-loop-next.ensures.value at c.in-Some-next_missed.ensures.next in
     let lowered = rw c.deref-in-Some-next_missed.ensures.value at c.lower.ensures.numbers in
-    let back = rw (c.deref-in-Some-take_up_all-3.ensures.value, c.deref-in-Some-take_up_all-4.ensures.value, c.deref-in-Some-take_up_all-5.ensures.value) at c.put_back.ensures.same in
+    let back = rw (c.deref-in-Some-enqueue_incoming-3.ensures.value, c.deref-in-Some-enqueue_incoming-4.ensures.value, c.deref-in-Some-enqueue_incoming-5.ensures.value) at c.put_back.ensures.same in
     let repair =
     lowered_repair edges end old c.requires.system inv.others c.requires.near c.loop-next.numbers c.loop-next.work.order.items
     c.loop-next.work.former.items (heap_items c.loop-next.work.waiting) inv.state c.in-Some-next_missed.next next
@@ -467,18 +467,18 @@ returns-in-Some-take_up_all-clause-count c =
     c.lower.new.former.items (rw c.deref-in-Some-next_missed.ensures.value at c.lower.ensures.former))
     (repair_differs edges end old c.lower.new.numbers c.lower.new.order.items repair))
 
-pub returns-in-Some-take_up_all-clause-met : goal.returns-in-Some-take_up_all-clause-met
-returns-in-Some-take_up_all-clause-met c =
+pub returns-in-Some-enqueue_incoming-clause-met : goal.returns-in-Some-enqueue_incoming-clause-met
+returns-in-Some-enqueue_incoming-clause-met c =
     tt
 
-pub returns-in-Some-take_up_all-clause-room : goal.returns-in-Some-take_up_all-clause-room
-returns-in-Some-take_up_all-clause-room c =
+pub returns-in-Some-enqueue_incoming-clause-room : goal.returns-in-Some-enqueue_incoming-clause-room
+returns-in-Some-enqueue_incoming-clause-room c =
     let inv = c.loop-next.invariant in
     record {
-      waiting = omega (arith, inv.room.waiting, c.in-Some-next_missed.ensures.room, c.in-Some-take_up_all.ensures.room);
+      waiting = omega (arith, inv.room.waiting, c.in-Some-next_missed.ensures.room, c.in-Some-enqueue_incoming.ensures.room);
       order = omega (arith, inv.room.order, c.lower.ensures.order_room);
       former = omega (arith, inv.room.former, c.lower.ensures.former_room);
-      walk = omega (arith, inv.room.walk, c.trace-in-Some-take_up_all.ensures.room);
+      walk = omega (arith, inv.room.walk, c.trace-in-Some-enqueue_incoming.ensures.room);
     }
 
 pub returns-clause-count : goal.returns-clause-count

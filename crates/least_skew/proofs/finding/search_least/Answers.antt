@@ -1,7 +1,7 @@
 use Rattle.least_skew.proofs.finding.search_least.Goals as goal
 
 pub loop-bracket-init : goal.loop-bracket-init
-loop-bracket-init c = c.up_to-bracket.ensures.bracket c.args.log.now c.args.nodes.now c.args.value c.args.budget
+loop-bracket-init c = c.up_to-bracket.ensures.bracket c.args.aim.now
 
 pub returns : goal.returns
-returns c = record { right = c.answer.ensures.right c.args.log.now c.args.nodes.now c.args.value c.args.max c.args.budget c.loop-bracket.invariant c.requires.consistent }
+returns c = record { right = c.answer.ensures.right c.args.aim.now c.args.max c.loop-bracket.invariant c.requires.consistent }

@@ -1,30 +1,21 @@
-use Rattle.std.proofs.Common.{◌≡◌, [], ◌∷◌, ◌++◌, ap, length, arith, rules}
-use Rattle.proof_log.specs.Derivations.{clause_of_line}
-use Rattle.proof_check.specs.Judging.{IsNext}
-use Rattle.proof_check.specs.Keeping.{Kept, closed_only}
-use Rattle.proof_check.proofs.AnswerLemmas.{judged_all, judged_more, judged_wrong}
+use Rattle.std.proofs.Common.{◌≡◌, ◌∙◌, ◌<◌, length, take, arith}
+use Rattle.proof_log.specs.LinesText.{lines_text}
+use Rattle.proof_check.proofs.FrontLemmas.{all_answered, front_answered}
 use Rattle.proof_check.proofs.taking.check_lines.Goals as goal
 
-pub returns-then-not-branch : goal.returns-then-not-branch
-returns-then-not-branch c =
-    let wrong : IsNext c.args.rules.now c.loop-i.kept.closed c.index-lines-i.result → ⊥ = λ next. let yes = c.in_ok-has_spelling.ensures.spelled.1 next.right.spelled in search rules in
-    judged_wrong c.args.rules.now c.args.lines.now c.loop-i.i c.loop-i.kept.closed c.index-lines-i.result c.loop-i-test.true c.index-lines-i.is c.loop-i.invariant.0 wrong
-
-pub returns-then-not-branch-2 : goal.returns-then-not-branch-2
-returns-then-not-branch-2 c =
-    let wrong : IsNext c.args.rules.now c.loop-i.kept.closed c.index-lines-i.result → ⊥ = λ next. let yes = c.in_ok-takes_line.ensures.good.1 next in search rules in
-    judged_wrong c.args.rules.now c.args.lines.now c.loop-i.i c.loop-i.kept.closed c.index-lines-i.result c.loop-i-test.true c.index-lines-i.is c.loop-i.invariant.0 wrong
-
-pub loop-i-preserved : goal.loop-i-preserved
-loop-i-preserved c =
-    let next : IsNext c.args.rules.now c.loop-i.kept.closed c.index-lines-i.result = search rules in
-    let grown : c.takes_line.new.kept ≡ closed_only (c.loop-i.kept.closed ++ clause_of_line c.index-lines-i.result ∷ []) = search rules in (
-      judged_more c.args.rules.now c.args.lines.now c.loop-i.i c.loop-i.kept.closed c.index-lines-i.result c.loop-i-test.true c.index-lines-i.is c.loop-i.invariant.0 next c.takes_line.new.kept.closed
-          (ap (λ (k : Kept). k.closed) grown),
-      ap (λ (k : Kept). k.pending) grown,
-    )
+pub returns-then-spelled-lines : goal.returns-then-spelled-lines
+returns-then-spelled-lines c =
+    let lines = c.args.lines.now in
+    let n = c.in_ok-spelled.spelled in
+    let is : c.as_slice.result.now ≡ lines_text (take n lines) = c.as_slice.ensures.value ∙ c.in_ok-text.ensures.text in
+    let all : n ≡ length lines = omega arith in
+    all_answered c.args.rules.now lines n c.in_ok-spelled.ensures c.as_slice.result.now is c.in_ok-front.field-0.check c.in_ok-front.ensures.answer all
 
 pub returns : goal.returns
 returns c =
-    let all : c.loop-i.i ≡ length c.args.lines.now = omega arith in
-    judged_all c.args.rules.now c.args.lines.now c.loop-i.i c.loop-i.kept.closed c.check_of.result all c.loop-i.invariant.0 c.check_of.ensures.refutes c.check_of.ensures.derives
+    let lines = c.args.lines.now in
+    let n = c.in_ok-spelled.spelled in
+    let is : c.as_slice.result.now ≡ lines_text (take n lines) = c.as_slice.ensures.value ∙ c.in_ok-text.ensures.text in
+    let low : n < length lines = omega (arith, c.in_ok-spelled.ensures.within) in
+    front_answered c.args.rules.now lines n c.in_ok-spelled.ensures c.as_slice.result.now is c.in_ok-front.field-0.check c.in_ok-front.ensures.answer low
+    c.with_unspelled.result c.with_unspelled.ensures

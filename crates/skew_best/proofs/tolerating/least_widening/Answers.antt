@@ -1,4 +1,6 @@
 use Rattle.mt_model.specs.Form.{form_of}
+use Rattle.std.proofs.Common.{pos}
+use Rattle.least_skew.proofs.Widenings.{hosts-at}
 use Rattle.skew_best.proofs.Faults.{large-told, many-told}
 use Rattle.skew_best.proofs.Spelling.{tolerance-spelled}
 use Rattle.skew_best.proofs.tolerating.least_widening.Goals as goal
@@ -9,7 +11,10 @@ returns-in-Ok-clause-spelled c =
     (form_of c.args.formula.now) c.args.value c.args.max c.args.conflicts c.log_is_valid.ensures.valid c.requires.skews c.requires.range c.requires.most c.in-Ok.answer c.in-Ok.ensures.right
 
 pub unreachable-requires : goal.unreachable-requires
-unreachable-requires c = let unknown = rw c.in-Err-UnknownHost.field-0-is at c.in-Err-UnknownHost.ensures.fault in cc
+unreachable-requires c =
+    let unknown = rw c.in-Err-UnknownHost.field-0-is at c.in-Err-UnknownHost.ensures.fault in
+    let known = hosts-at c.args.log.now (pos c.args.max) (form_of c.args.formula.now) in
+    cc
 
 pub returns-in-Err-TooManyNodes-clause-refused : goal.returns-in-Err-TooManyNodes-clause-refused
 returns-in-Err-TooManyNodes-clause-refused c =

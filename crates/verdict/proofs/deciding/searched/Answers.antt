@@ -13,14 +13,14 @@ pub returns-in-Refuted : goal.returns-in-Refuted
 returns-in-Refuted c =
     let found = rw c.in-Refuted.is at c.in_ok-times.ensures.found in
     record {
-      right = refuted_right c.args.question.log c.args.question.form c.args.budget c.args.value (rw c.log.ensures.log at c.log_is_valid.ensures.valid) c.in-Refuted.lines c.requires.most found;
-      spelled = refuted_spelled c.args.question.log c.args.question.form c.args.budget c.args.value (rw c.log.ensures.log at c.log_is_valid.ensures.valid) c.in-Refuted.lines c.requires.most found;
+      right = refuted_right c.args.question.log c.args.question.form c.args.budget c.args.value (rw c.log.ensures.log at c.log_is_valid.ensures.valid) c.in-Refuted.lines c.get.ensures.most found;
+      spelled = refuted_spelled c.args.question.log c.args.question.form c.args.budget c.args.value (rw c.log.ensures.log at c.log_is_valid.ensures.valid) c.in-Refuted.lines c.get.ensures.most found;
     }
 
 pub returns-in-Spent : goal.returns-in-Spent
 returns-in-Spent c =
     let found = rw c.in-Spent.is at c.in_ok-times.ensures.found in
     record {
-      right = spent_right c.args.question.log c.args.question.form c.args.budget c.args.value (rw c.log.ensures.log at c.log_is_valid.ensures.valid) c.in-Spent.lines c.requires.most found;
-      spelled = spent_spelled c.args.question.log c.args.question.form c.args.budget c.args.value (rw c.log.ensures.log at c.log_is_valid.ensures.valid) c.in-Spent.lines c.requires.most found;
+      right = spent_right c.args.question.log c.args.question.form c.args.budget c.args.value (rw c.log.ensures.log at c.log_is_valid.ensures.valid) c.in-Spent.lines c.get.ensures.most found;
+      spelled = spent_spelled c.args.question.log c.args.question.form c.args.budget c.args.value (rw c.log.ensures.log at c.log_is_valid.ensures.valid) c.in-Spent.lines c.get.ensures.most found;
     }

@@ -1,25 +1,23 @@
-use Rattle.std.proofs.lemmas.Result.{IfOk-weaker, err_from_is_err_and}
-use Rattle.mt_model.specs.Form.{form_of}
-use Rattle.verdict_span.proofs.NotAsked.{of-question}
+use Rattle.std.proofs.Common.{subst, IfErr, IfOk, OnOk}
+use Rattle.std.proofs.lemmas.Result.{IfOk-weaker}
+use Rattle.mt_model.specs.Form.{Form, form_of}
+use Rattle.verdict_span.specs.Faults.{IsAsked, IsFault}
+use Rattle.verdict_span.specs.Widest.{WidestRight}
 use Rattle.verdict_span.proofs.finding.widest.Goals as goal
-
-pub returns-in_err-nodes-clause-fault : goal.returns-in_err-nodes-clause-fault
-returns-in_err-nodes-clause-fault c =
-    let p = err_from_is_err_and c.from_residual.result c.from_residual.ensures.1 in
-    rw p.1 (of-question c.args.log.now (form_of c.args.f.now) c.in_err-nodes.field-0.0 p.0 c.in_err-nodes.ensures.fault p.2)
 
 pub returns : goal.returns
 returns c =
-    let right = rw (c.in_ok-question.ensures.log, c.in_ok-question.ensures.form, c.in_ok-nodes.ensures.formula) at c.widest_of_question.ensures.right in
+    let log = c.args.log.now in
+    let form = c.in_ok-nodes.ensures.formula in
+    let right = subst (λ (f : Form). IfOk c.widest_of.result (WidestRight log f c.args.value c.args.e c.args.to c.args.budget)) form c.widest_of.ensures.right in
+    let told = c.right_spans_are_greatest.ensures.greatest in
     record {
       right = right;
-      tells = IfOk-weaker c.widest_of_question.result _ _
-          (λ answer. c.right_spans_are_greatest.ensures.greatest.tells c.args.log.now (form_of c.args.f.now) c.args.value c.args.e c.args.to c.args.budget answer c.log_is_valid.ensures.valid
+      tells = IfOk-weaker c.widest_of.result _ _
+          (λ answer. told.tells log (form_of c.args.f.now) c.args.value c.args.e c.args.to c.args.budget answer c.log_is_valid.ensures.valid
           (record { row = c.requires.row; other = c.requires.other; apart = c.requires.apart; room = c.requires.room }) c.requires.some)
           right;
-      inconsistent = IfOk-weaker c.widest_of_question.result _ _
-          (λ answer. c.right_spans_are_greatest.ensures.greatest.exactly c.args.log.now (form_of c.args.f.now) c.args.value c.args.e c.args.to c.args.budget answer)
-          right;
-      asked = rw (c.in_ok-question.ensures.log, c.in_ok-question.ensures.form, c.in_ok-nodes.ensures.formula) at c.widest_of_question.ensures.asked;
-      fault = rw (c.in_ok-question.ensures.log, c.in_ok-question.ensures.form, c.in_ok-nodes.ensures.formula) at c.widest_of_question.ensures.fault;
+      inconsistent = IfOk-weaker c.widest_of.result _ _ (λ answer. told.exactly log (form_of c.args.f.now) c.args.value c.args.e c.args.to c.args.budget answer) right;
+      asked = subst (λ (f : Form). OnOk c.widest_of.result (IsAsked log f)) form c.widest_of.ensures.asked;
+      fault = subst (λ (f : Form). IfErr c.widest_of.result (IsFault log f)) form c.widest_of.ensures.fault;
     }

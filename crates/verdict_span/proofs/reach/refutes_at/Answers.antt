@@ -5,7 +5,9 @@ use Rattle.verdict_span.proofs.reach.refutes_at.Goals as goal
 
 pub returns : goal.returns
 returns c =
-    let told = rw c.in_ok-near.ensures.spaced at c.refutes.ensures.refutes in
+    let s = c.args.span.now in
+    let a = s.aim in
+    let told = rw c.in_ok-near.ensures.spaced at c.is_refuted_in.ensures.refutes in
     let low = c.requires.range.low in
     let high = c.requires.range.high in
-    record { refutes = whether-at c.refutes.result c.args.log.now c.args.nodes.now c.args.value c.args.e c.args.to _ c.args.c c.args.lines.now told (omega (arith, ints, low, high)) }
+    record { refutes = whether-at c.is_refuted_in.result a.log.now a.nodes.now a.value s.e s.to _ c.args.c c.args.lines.now told (omega (arith, ints, low, high)) }

@@ -11,7 +11,7 @@ invariant_of-self-in-None c =
     let items = c.self.inside.atoms.items in
     let absent : has_atom items c.args.atom ≡ false = rw c.deref-2.ensures.value at c.in-None.ensures.none refl in
     rw c.in_ok-push-in-None.ensures.items
-    (table-added items c.args.atom c.take_in.new.self (rw c.self.view_is c.requires.room) absent c.self.invariant.once (rw c.deref.ensures.value at c.in_ok-take_in.ensures.index))
+    (table-added items c.args.atom c.extend_to.new.self (rw c.self.view_is c.requires.room) absent c.self.invariant.once (rw c.deref.ensures.value at c.in_ok-extend_to.ensures.index))
 
 pub returns-clause-var : goal.returns-clause-var
 returns-clause-var c = elim c.match-find.branch [

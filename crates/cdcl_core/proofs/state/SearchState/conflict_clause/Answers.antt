@@ -6,8 +6,8 @@ use Rattle.cdcl_core.proofs.state.SearchState.conflict_clause.Goals as goal
 pub returns-in-False : goal.returns-in-False
 returns-in-False c = record { midway = λ p n stopped. midway_false p c.args.self.now n c.in-False.clause (rw c.in-False.is at stopped) }
 
-pub take_in-requires : goal.take_in-requires
-take_in-requires c =
+pub extend_to-requires : goal.extend_to-requires
+extend_to-requires c =
     let own = c.requires.stopped.stopped.search_for in
     record { vars = own.theory_of.links_are.count ∙ sym (trail_vars c.requires.stopped.problem c.args.self.now own); within = own.linked.within; linked = own.linked.lits }
 
@@ -20,7 +20,7 @@ add_cycle-requires c =
       orders = own.theory_of.orders;
       links = own.theory_of.links_are;
       vars = trail_vars w.problem s own;
-      linked = rw c.deref.ensures.value c.in_ok-take_in-in-Refused.ensures.linked;
+      linked = rw c.deref.ensures.value c.in_ok-extend_to-in-Refused.ensures.linked;
       stuck = rw c.as_slice.ensures.items (stuck_over w.problem s w.conflicts c.in-Refused.field-0 (rw c.in-Refused.is at w.stopped));
       clause_room = clause_room w.problem s own w.conflicts 0 s.derived.db w.few (omega arith) w.stopped.spent;
       line_room = line_room w.problem s own w.conflicts 0 s.derived.db w.few (omega arith) w.stopped.spent;
@@ -32,14 +32,14 @@ of_success : {T E : Type 0} (r : Result T E) (A B C D F G : Type 0) (H P : T →
 of_success (Ok x) A B C D F G H P then a b c d h f g = then x a b c d h f g
 of_success (Err e) A B C D F G H P then a b c d h f g = tt
 
-pub returns-in_ok-take_in-in-Refused : goal.returns-in_ok-take_in-in-Refused
-returns-in_ok-take_in-in-Refused c =
+pub returns-in_ok-extend_to-in-Refused : goal.returns-in_ok-extend_to-in-Refused
+returns-in_ok-extend_to-in-Refused c =
     let s = c.args.self.now in
     let e = c.add_cycle.ensures in
     record {
       midway = of_success c.add_cycle.result _ _ _ _ _ _ _ _ (λ place clauses kept lines lessons conflicted derives spending p n stopped.
-          midway_cycle p s n place c.in-Refused.field-0 c.take_in.new.self c.add_cycle.new.derived
-          (rw c.in-Refused.is at stopped) c.in_ok-take_in-in-Refused.ensures.all c.in_ok-take_in-in-Refused.ensures.linked clauses kept lines lessons
+          midway_cycle p s n place c.in-Refused.field-0 c.extend_to.new.self c.add_cycle.new.derived
+          (rw c.in-Refused.is at stopped) c.in_ok-extend_to-in-Refused.ensures.all c.in_ok-extend_to-in-Refused.ensures.linked clauses kept lines lessons
           (λ base m count stuck. conflicted base m (count ∙ ap length (sym c.as_slice.ensures.items)) stuck)
           (λ log f v base m are stuck old. derives log f v base m (rw c.as_slice.ensures.items are) stuck old) spending)
           e.clauses e.kept e.lines e.lessons e.conflicted e.derives e.spending;

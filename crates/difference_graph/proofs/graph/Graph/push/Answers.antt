@@ -85,15 +85,15 @@ invariant_of-self-in-Cycle c =
     (take i.current.len (c.bring_near.new.numbers ++ drop (length c.bring_near.new.numbers) i.current.items))
     (same ∙ c.bring_near.ensures.count ∙ c.deref_mut.ensures.len) in
     let had = c.self.invariant.1 in
-    let held = c.take_back.ensures.edges ∙ ap (λ (es : List Edge). take (length es - 1) es) c.hold-2.ensures.edges ∙ take_last i.held.edges.items c.args.edge in
+    let held = c.release_last.ensures.edges ∙ ap (λ (es : List Edge). take (length es - 1) es) c.hold-2.ensures.edges ∙ take_last i.held.edges.items c.args.edge in
     let numbers = subst (λ (xs : List ℤ). All IsNumber xs) back refused.numbers in
     rw now (
       rw (held, back) (still i.held.edges.items i.limit i.current.items c.self.invariant.0 c.bring_near.new.numbers count keeps numbers),
       record {
-        incoming = c.take_back.ensures.incoming;
-        ends = omega (arith, c.take_back.ensures.nodes, c.hold-2.ensures.nodes, had.ends, same, count);
-        edges = omega (arith, had.edges, c.hold-2.ensures.edge_room, c.take_back.ensures.edge_room);
-        before = omega (arith, had.before, c.hold-2.ensures.before_room, c.take_back.ensures.before_room);
+        incoming = c.release_last.ensures.incoming;
+        ends = omega (arith, c.release_last.ensures.nodes, c.hold-2.ensures.nodes, had.ends, same, count);
+        edges = omega (arith, had.edges, c.hold-2.ensures.edge_room, c.release_last.ensures.edge_room);
+        before = omega (arith, had.before, c.hold-2.ensures.before_room, c.release_last.ensures.before_room);
         repair = keeps_room (length i.current.items) (length c.repair.new.numbers) i.limit i.work c.repair.new.work (same ∙ count) had.repair refused.room;
       },
     )
@@ -347,14 +347,14 @@ repair-requires-clause-room c =
     let edges = ap length c.hold-2.ensures.edges ∙ length_push i.held.edges.items c.args.edge in
     room_within (length i.current.items) (length c.deref_mut-2.result.now) i.limit (length c.hold-2.new.held.edges.items) i.work (ap length near ∙ count) (omega (arith, edges, room)) had.repair
 
-pub take_back-requires-clause-some : goal.take_back-requires-clause-some
-take_back-requires-clause-some c =
+pub release_last-requires-clause-some : goal.release_last-requires-clause-some
+release_last-requires-clause-some c =
     let i = c.self.inside in
     let edges = ap length c.hold-2.ensures.edges ∙ length_push i.held.edges.items c.args.edge in
     omega (arith, edges)
 
-pub take_back-requires-clause-incoming : goal.take_back-requires-clause-incoming
-take_back-requires-clause-incoming c =
+pub release_last-requires-clause-incoming : goal.release_last-requires-clause-incoming
+release_last-requires-clause-incoming c =
     c.hold-2.ensures.incoming
 
 pub returns-in-Kept-clause-limits : goal.returns-in-Kept-clause-limits
@@ -412,7 +412,7 @@ returns-in-Cycle-clause-added c =
 pub returns-in-Cycle-clause-same : goal.returns-in-Cycle-clause-same
 returns-in-Cycle-clause-same c =
     let i = c.self.inside in
-    c.take_back.ensures.edges ∙ ap (λ (es : List Edge). take (length es - 1) es) c.hold-2.ensures.edges ∙ take_last i.held.edges.items c.args.edge ∙ ap (λ (g : Constraints). g.edges) c.self.view_is
+    c.release_last.ensures.edges ∙ ap (λ (es : List Edge). take (length es - 1) es) c.hold-2.ensures.edges ∙ take_last i.held.edges.items c.args.edge ∙ ap (λ (g : Constraints). g.edges) c.self.view_is
 
 pub returns-in-Cycle-clause-cycle : goal.returns-in-Cycle-clause-cycle
 returns-in-Cycle-clause-cycle c =

@@ -3,6 +3,6 @@ use Rattle.least_skew.proofs.Ends.{low-refuted}
 use Rattle.least_skew.proofs.bracket.Bracket.above.Goals as goal
 
 pub returns-clause-bracket : goal.returns-clause-bracket
-returns-clause-bracket c = λ log f v max budget is refuted.
+returns-clause-bracket c = λ a max is refuted.
     let below = c.requires in
-    record { in_order = omega (arith, below); below = low-refuted log f v max budget c.args.s c.args.lines refuted; above = is.above }
+    record { in_order = omega (arith, below); below = low-refuted a max c.args.s c.args.lines refuted; above = is.above }

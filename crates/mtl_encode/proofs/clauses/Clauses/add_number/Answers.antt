@@ -28,18 +28,18 @@ counts-of s number arguments counts is are = go (row_of number) is
     go None is = absurd (cc)
     go (Some row) is = let same : arguments ≡ row.arguments = cc in ap (λ (xs : List ℕ). Some xs) (are ∙ ap (map (count_of s)) same)
 
-pub add_with_none-requires-clause-counts : goal.add_with_none-requires-clause-counts
-add_with_none-requires-clause-counts c = counts-of c.args.rules.now c.args.number c.in-Some.arguments c.counts_of-counts.result (sym c.in-Some.is ∙ c.arguments_of.ensures) c.counts_of-counts.ensures
+pub add_instances-requires-clause-counts : goal.add_instances-requires-clause-counts
+add_instances-requires-clause-counts c = counts-of c.args.source.rules.now c.args.number c.in-Some.arguments c.counts_of-counts.result (sym c.in-Some.is ∙ c.arguments_of.ensures) c.counts_of-counts.ensures
 
-pub add_with_none-requires-clause-room : goal.add_with_none-requires-clause-room
-add_with_none-requires-clause-room c = subst (λ rules. HasRoom c.args.rules.now (c.args.self.now.rules ++ rules))
+pub add_instances-requires-clause-room : goal.add_instances-requires-clause-room
+add_instances-requires-clause-room c = subst (λ rules. HasRoom c.args.source.rules.now (c.args.self.now.rules ++ rules))
     (sym
-    (number-of c.args.rules.now (out_by c.args.tight.now c.args.rules.now) c.args.number c.in-Some.arguments c.counts_of-counts.result
+    (number-of c.args.source.rules.now (out_by c.args.source.tight.now c.args.source.rules.now) c.args.number c.in-Some.arguments c.counts_of-counts.result
     (sym c.in-Some.is ∙ c.arguments_of.ensures) c.counts_of-counts.ensures))
     c.requires.room
 
 pub returns-in-Some : goal.returns-in-Some
-returns-in-Some c = subst (λ rules. OnOk c.add_with_none.result (Gains c.args.rules.now c.args.self.now c.add_with_none.new.self rules))
-    (number-of c.args.rules.now (out_by c.args.tight.now c.args.rules.now) c.args.number c.in-Some.arguments c.counts_of-counts.result
+returns-in-Some c = subst (λ rules. OnOk c.add_instances.result (Gains c.args.source.rules.now c.args.self.now c.add_instances.new.self rules))
+    (number-of c.args.source.rules.now (out_by c.args.source.tight.now c.args.source.rules.now) c.args.number c.in-Some.arguments c.counts_of-counts.result
     (sym c.in-Some.is ∙ c.arguments_of.ensures) c.counts_of-counts.ensures)
-    c.add_with_none.ensures
+    c.add_instances.ensures

@@ -25,7 +25,7 @@ stored_new n xs places ls w ec lc none unplaced no_level unwatched_all lists uns
       decided = λ j below. absurd (omega (arith, below));
       only = λ k below _. absurd (omega (arith, below));
     };
-    taken = omega arith;
+    propagated = omega arith;
     lists = lists ∙ sym count;
     listed = λ c p at. absurd (none-some p (rw unwatched_all at at));
     satisfied = omega (arith, unsatisfied);

@@ -7,8 +7,8 @@ use Rattle.propagate.proofs.trail.Trail.visit_watchers.Given as goal
 
 abbrev pub invariant-watchers : goal.invariant-watchers
 invariant-watchers l = record {
-  progress : IsProgress l.db l.links l.fn.self l.fn.graph l.self l.graph;
-  taken : l.self.taken ≡ l.fn.self.taken;
+  progress : IsProgress l.clauses (l.fn.self, l.fn.graph) (l.self, l.graph);
+  propagated : l.self.propagated ≡ l.fn.self.propagated;
   next : IsNextFalse l.self l.lit;
   left : AreLeft l.self l.lit l.place;
 }

@@ -5,7 +5,8 @@ use Rattle.verdict_span.proofs.climb.Climb.answer.Goals as goal
 
 pub returns : goal.returns
 returns c = record {
-  right = λ log f v e to budget is.
+  right = λ s is.
+      let a = s.aim in
       let none = c.requires in
       let same = is.distance in
       let low = is.near.low in
@@ -13,6 +14,6 @@ returns c = record {
       record {
         gives = is.gives;
         distance = omega (arith, ints, same, low, high);
-        refuted = refuted-at log f v e to (c.args.self.distance +ℤ pos (c.args.self.room + 1)) _ budget c.args.self.beyond (omega (arith, ints, none, low, high)) is.refuted;
+        refuted = refuted-at a.log.now a.nodes.now a.value s.e s.to (c.args.self.distance +ℤ pos (c.args.self.room + 1)) _ a.budget c.args.self.beyond (omega (arith, ints, none, low, high)) is.refuted;
       };
 }

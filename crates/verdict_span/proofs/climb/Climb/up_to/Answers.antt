@@ -4,7 +4,8 @@ use Rattle.verdict_span.proofs.Climbing.{refuted-at}
 use Rattle.verdict_span.proofs.climb.Climb.up_to.Goals as goal
 
 pub returns-clause-climb : goal.returns-clause-climb
-returns-clause-climb c = λ log f v e to budget is gives same.
+returns-clause-climb c = λ s is gives same.
+    let a = s.aim in
     let from = c.requires.from in
     let most = c.requires.to in
     let low = is.near.low in
@@ -16,5 +17,6 @@ returns-clause-climb c = λ log f v e to budget is gives same.
       distance = omega (arith, ints, same, from, most, low, top);
       near = record { low = omega (arith, ints, from, most, low, top); high = omega (arith, ints, from, most, low, top) };
       top = omega (arith, ints, from, most, low, high, top, gained);
-      refuted = refuted-at log f v e to (c.args.self.distance +ℤ pos (c.args.self.room + 1)) _ budget c.args.self.beyond (omega (arith, ints, from, most, low, high, top, gained)) is.refuted;
+      refuted = refuted-at a.log.now a.nodes.now a.value s.e s.to (c.args.self.distance +ℤ pos (c.args.self.room + 1)) _ a.budget c.args.self.beyond
+          (omega (arith, ints, from, most, low, high, top, gained)) is.refuted;
     }

@@ -1,0 +1,69 @@
+//! How far bounds of a log can grow with the walks of a derivation staying negative.
+
+ghost use Rattle.std.specs.Prelude.{◌≤◌};
+
+use crate::slack::walk_slack;
+use mt_model::{Log, Step};
+use proof_log::Line;
+
+/// Which bounds of a log grow, all by the same.
+#[derive(Clone, Copy)]
+pub enum Growing {
+    /// The bounds of each row by its clock, as all skews do.
+    Skews,
+    /// The extra bound of this number.
+    Extra(u32),
+}
+
+/// A number from 0 to this one.
+pub fn clamped(number: i128, most: u128) -> u128
+    ensures at_most { result ≤ most }
+{
+    if number <= 0 {
+        0
+    } else {
+        (number as u128).min(most)
+    }
+}
+
+impl Growing {
+    // Whether the bound of a step grows.
+    fn has(self, step: Step) -> bool {
+        match self {
+            Growing::Skews => matches!(step, Step::Low(_) | Step::High(_)),
+            Growing::Extra(extra) => step == Step::Extra(extra),
+        }
+    }
+
+    // How many steps of a walk grow.
+    fn steps_of(self, steps: &[Step]) -> i128 {
+        let mut growing: i128 = 0;
+        for step in steps {
+            if self.has(*step) {
+                growing = growing.saturating_add(1);
+            }
+        }
+        growing
+    }
+
+    // By how much the bounds can grow with the sum of a walk below 0.
+    fn walk_room(self, log: &Log, steps: &[Step]) -> i128 {
+        match walk_slack(log, steps).checked_div(self.steps_of(steps)) {
+            Some(room) => room,
+            None => i128::MAX,
+        }
+    }
+
+    /// By how much the bounds can grow with the sums of all walks of a derivation below 0, as far as this.
+    pub fn room(self, log: &Log, lines: &[Line], most: u128) -> u128
+        ensures at_most { result ≤ most }
+    {
+        let mut room = most;
+        for line in lines {
+            if let Line::Cycle(steps) = line {
+                room = clamped(self.walk_room(log, steps.as_slice()), room);
+            }
+        }
+        room
+    }
+}

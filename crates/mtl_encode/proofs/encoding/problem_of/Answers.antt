@@ -1,0 +1,47 @@
+use Rattle.std.proofs.Common.{◌+◌, ap, arith, length}
+use Rattle.std.proofs.lemmas.Result.{IfOk-from_err}
+use Rattle.question.proofs.TightExtremes.{tight-consistent}
+use Rattle.mtl_encode.proofs.EncodeLemmas.{all-listed, few-atoms, fits-of, lists-of, room-first, room-of}
+use Rattle.mtl_encode.specs.Instances.{instances, out_by}
+use Rattle.mtl_encode.specs.Growth.{HasRoom}
+use Rattle.mtl_encode.proofs.encoding.problem_of.Goals as goal
+
+-- there is room for all rules that are kept
+pub add_all-requires-clause-room : goal.add_all-requires-clause-room
+add_all-requires-clause-room c =
+    let s = c.args.sought.now in
+    let valid = rw c.log.ensures.log at c.rows.ensures.valid in
+    room-first s c.new-clauses.result.rules (instances s (out_by c.args.tight.now s)) c.new-clauses.ensures.rules
+    (room-of c.cores_are_cores.ensures.equality s c.args.tight.now valid c.requires.arena c.requires.tight c.requires.small)
+
+pub in_order-requires-clause-few : goal.in_order-requires-clause-few
+in_order-requires-clause-few c =
+    let s = c.args.sought.now in
+    let valid = rw c.log.ensures.log at c.rows.ensures.valid in
+    few-atoms s (out_by c.args.tight.now s) c.new-clauses.result c.add_all.new.self c.new-clauses.ensures.rules c.in_ok-add_all.ensures
+    (room-of c.cores_are_cores.ensures.equality s c.args.tight.now valid c.requires.arena c.requires.tight c.requires.small)
+
+pub returns-clause-fits : goal.returns-clause-fits
+returns-clause-fits c =
+    let s = c.args.sought.now in
+    let valid = rw c.log.ensures.log at c.rows.ensures.valid in
+    fits-of s (out_by c.args.tight.now s) c.in_ok-ordered.ordered c.args.system.bounds c.args.system.edges _ c.in_ok-ordered.ensures.clauses
+    (all-listed s (out_by c.args.tight.now s) c.new-clauses.result c.add_all.new.self c.in_ok-ordered.ordered.rules c.new-clauses.ensures.rules c.in_ok-add_all.ensures c.in_ok-ordered.ensures.rules)
+    (room-of c.cores_are_cores.ensures.equality s c.args.tight.now valid c.requires.arena c.requires.tight c.requires.small)
+    valid c.requires.system.bounds c.requires.system.edges c.requires.system.within
+    (ap (λ rows. length rows + 1) (rw c.log.ensures.log at c.rows.ensures.same))
+
+pub returns-clause-lists : goal.returns-clause-lists
+returns-clause-lists c =
+    let s = c.args.sought.now in
+    lists-of s (out_by c.args.tight.now) c.in_ok-ordered.ordered.rules
+    (all-listed s (out_by c.args.tight.now s) c.new-clauses.result c.add_all.new.self c.in_ok-ordered.ordered.rules c.new-clauses.ensures.rules c.in_ok-add_all.ensures c.in_ok-ordered.ensures.rules)
+
+pub returns-in_err-ordered-clause-fits : goal.returns-in_err-ordered-clause-fits
+returns-in_err-ordered-clause-fits c = IfOk-from_err _ _ c.from_residual-in_err-ordered.ensures.0
+
+pub returns-in_err-ordered-clause-lists : goal.returns-in_err-ordered-clause-lists
+returns-in_err-ordered-clause-lists c = IfOk-from_err _ _ c.from_residual-in_err-ordered.ensures.0
+
+pub overflow_add-result : goal.overflow_add-result
+overflow_add-result c = let valid = rw c.log.ensures.log at c.rows.ensures.valid in let same = rw c.log.ensures.log at c.rows.ensures.same in let few = rw (← same) at valid.few_rows in omega (arith, few)

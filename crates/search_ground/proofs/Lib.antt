@@ -1,3 +1,0 @@
-pub mod Conflicts
-pub mod Spending
-pub mod SameStates

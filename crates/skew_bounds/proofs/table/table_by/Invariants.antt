@@ -1,6 +1,0 @@
-use Rattle.skew_bounds.specs.Incoming.{lists_of}
-use Rattle.skew_bounds.proofs.Columns.{IsTableUpTo}
-use Rattle.skew_bounds.proofs.table.table_by.Given as goal
-
-abbrev pub invariant-loop-node : goal.invariant-loop-node
-invariant-loop-node l = IsTableUpTo (lists_of l.incoming) l.node l.table
