@@ -88,13 +88,8 @@ def never_set(log: Log, tree: Tree) -> Iterator[Tuple[int, Tree]]:
     """The propositions that no row sets or pulses, each with the number of its host."""
     for part in propositions(tree):
         host = log.host_numbered(part.host)
-        if host is not None and part.name not in set_names(log, host):
+        if host is not None and part.name not in log.set_names(host):
             yield host, part
-
-
-def set_names(log: Log, host: int) -> List[str]:
-    """The names that rows of a host set or pulse, each once."""
-    return list(dict.fromkeys(row.name for row in log.rows if row.host == host and row.kind in ("set", "pulse")))
 
 
 def caution_of_name(formula: Source, log: Log, host: int, part: Tree, run: Optional[str] = None) -> Caution:
@@ -110,7 +105,7 @@ def caution_of_name(formula: Source, log: Log, host: int, part: Tree, run: Optio
             f"{where} is false throughout: {name} is the name of a {what} ({lines_words(log, others)}), "
             f"and only rows of the kinds set, clear and pulse make propositions"
         ), run)
-    names = set_names(log, host)
+    names = log.set_names(host)
     named = log.hosts[host].name
     verb, verbs = ("set", "sets") if log.version == 1 else ("set or pulse", "sets or pulses")
     has = f"Rows of {named} {verb} {listed(names)}" if names else f"No row of {named} {verbs} anything"

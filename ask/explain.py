@@ -23,6 +23,7 @@ class Timing:
     question: Question
     log: Log
     times: Sequence[int]
+    where: str = "the log"  # what has the rows
 
     def __post_init__(self) -> None:
         self.positions = sorted(set(self.times))
@@ -233,7 +234,7 @@ def steps_of_all(timing: Timing, tree: Tree, place: int, value: bool) -> List[st
     found = nearest(timing, sign, tree.interval[0], child, place)
     if found is None:
         way = "later" if sign == "F" else "earlier"
-        return [f"{line}, nor {way} in the log{last_words(timing, child, sign, place)}"]
+        return [f"{line}, nor {way} in {timing.where}{last_words(timing, child, sign, place)}"]
     return [f"{line}: next it holds {timing.place_words(found)}, {distance_words(timing, place, found)}"]
 
 

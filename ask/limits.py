@@ -190,10 +190,10 @@ def clocks_of(making: Making, words: LimitWords) -> Dict[str, Clock]:
 # Hosts
 
 
-def hosts_of(making: Making, found: Found, words: LimitWords) -> Dict[str, LogHost]:
-    """The hosts in the order of their first rows, by their names in the files."""
+def hosts_of(making: Making, found: Found, words: LimitWords, most: int = MOST_HOSTS) -> Dict[str, LogHost]:
+    """The hosts in the order of their first rows, by their names in the files; more than so many are refused."""
     names = making.hosts()
-    if len(names) > MOST_HOSTS:
+    if len(names) > most:
         raise Trouble(
             WRONG, f"{counted(len(names), 'host')}; at most 64: cut a window by --only or by --from and --to",
         )

@@ -81,6 +81,10 @@ class Log:
         """The number of the host of that name, or None."""
         return next((place for place, host in enumerate(self.hosts) if host.name == name), None)
 
+    def set_names(self, host: int) -> List[str]:
+        """The names that rows of a host set or pulse, each once."""
+        return list(dict.fromkeys(row.name for row in self.rows if row.host == host and row.kind in ("set", "pulse")))
+
     def stamps(self) -> List[int]:
         """The stamps of all rows."""
         return [row.stamp for row in self.rows]
@@ -91,6 +95,15 @@ class Log:
         if rows not in self.sent_by:
             self.sent_by = {rows: {row.name: event for event, row in enumerate(self.rows) if row.kind == "send"}}
         return self.sent_by[rows]
+
+    def send_of(self, event: int) -> Optional[int]:
+        """The row that sends what a row receives, or None where it receives nothing."""
+        row = self.rows[event]
+        return self.sends().get(row.name) if row.kind == "recv" else None
+
+    def row_before(self, event: int) -> Optional[int]:
+        """The last earlier row of the host of a row, or None."""
+        return self.rows_before()[event]
 
     def rows_before(self) -> List[Optional[int]]:
         """For each row the last earlier one of its host."""
@@ -242,6 +255,8 @@ def is_name(text: str) -> bool:
 class Reader:
     """A log as far as it was read, with what its next records are tested against."""
 
+    most_rows = MOST_ROWS
+
     def __init__(self, version: int):
         self.log = Log(version)
         self.numbers: Dict[str, int] = {}
@@ -319,7 +334,7 @@ class Reader:
             return 8
         if kind == "send" and name in self.sent:
             return 9
-        if len(self.log.rows) >= MOST_ROWS:
+        if len(self.log.rows) >= self.most_rows:
             return 13
         if kind == "send":
             self.sent[name] = len(self.log.rows)
@@ -375,9 +390,9 @@ def bound_of(log: Log, kind: str, event: int) -> Optional[Bound]:
     if kind == "high":
         return Bound(event, None, row.stamp + row.skew)
     if kind == "rise":
-        before = log.rows_before()[event]
+        before = log.row_before(event)
         return None if before is None else Bound(before, event, -row.gap)
-    send = log.sends().get(row.name) if row.kind == "recv" else None
+    send = log.send_of(event)
     host = log.hosts[row.host]
     if kind == "message" and send is not None:
         return Bound(send, event, -host.least)

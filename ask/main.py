@@ -8,14 +8,14 @@ import gc
 import sys
 from typing import List, NoReturn, Sequence
 
-from ask.commands import between, check, deadline, draw, each, log, tolerance
+from ask.commands import audit, between, check, deadline, draw, each, log, split, tolerance
 from ask.ends import ended, limit_time, run_script
 from ask.program import STOPPED, Stopped
 from ask.texts import Trouble, say, write_output
 from ask.version import answer_of_version
 from ask.words import USAGE, Answer, print_answer, print_facts
 
-COMMANDS = (check, deadline, between, tolerance, each, log, draw)
+COMMANDS = (check, deadline, between, tolerance, each, log, split, draw, audit)
 
 STATUSES = """\
 statuses:

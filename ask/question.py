@@ -72,11 +72,11 @@ def formula_source(word: str) -> Source:
     return refuse_marks(Source(TYPED, data), REFUSED)
 
 
-def sources_of(formula: str, log: str) -> Tuple[Source, Source]:
+def sources_of(formula: str, log: str, kind: str = "log") -> Tuple[Source, Source]:
     """A formula and the file of a log."""
     first = formula_source(formula)
     try:
-        return first, read_source(log, "log")
+        return first, read_source(log, kind)
     except Trouble as trouble:
         is_turned = re.match(rb"\W*(kind|skewlog2),host,", first.data)
         hint = f", and {first.name} is a log: the formula stands before the log" if is_turned else ""

@@ -4,7 +4,7 @@ from __future__ import annotations
 
 import re
 from itertools import islice
-from typing import Optional, Sequence
+from typing import List, Optional, Sequence
 
 from ask.encoding import wide_words
 from ask.logs import HEADERS, KINDS, Record, declared_hosts, field_start, is_log_in_json, number as number_of, records_in
@@ -160,19 +160,27 @@ def log_refusal(words: Sequence[str], log: Source) -> str:
     if number == "11":
         return f"{log.name} has no row: only its header and hosts"
     place = int(words[-1])
-    records = list(islice(records_in(log.data), place))
-    if place > len(records):
+    records = records_up_to(log.data, place)
+    if not records:
         return f"{log.name} is empty: the first line has to be kind,host,time,name"
     wide = wide_words(log)
     if number == "1" and wide:
         return wide
     if number == "1" and is_log_in_json(log.data):
         return log_in_json_words(log)
-    record = records[place - 1]
+    record = records[-1]
     said, wrong = log_fault_words(number, record, records, log.data)
     start = field_start(log.data, record, wrong)
     column = 1 if start is None else place_of(log.data, start).column
     return f"{log.name}, line {record.line}, column {column}: {said}"
+
+
+def records_up_to(data: bytes, place: int) -> List[Record]:
+    """The record of a number, and before it the header and the hosts that are declared above it."""
+    return [
+        record for number, record in enumerate(islice(records_in(data), place), start=1)
+        if number in (1, place) or record.fields[0] == "host"
+    ]
 
 
 def header_hint(line: str) -> str:

@@ -149,6 +149,7 @@ LIMITS = {
     "log": Limit(
         1_048_576, "the log is longer than 1,048,576 bytes, which is the limit: cut a window of it (ask log --help)",
     ),
+    "long log": Limit(1 << 31, "the log is longer than 2,147,483,648 bytes, which is the most that ask reads: cut it before"),
     "formula": Limit(65_536, "the formula is longer than 65,536 bytes, which is the limit"),
     "times": Limit(65_536, "the file of times is longer than 65,536 bytes, which is the limit"),
     "report": Limit(1 << 26, "the report is longer than 67,108,864 bytes, which is the most that ask reads"),
@@ -156,15 +157,25 @@ LIMITS = {
 }
 
 
+LOG_BEGINS = re.compile(rb"(?:\xef\xbb\xbf)?[\r\n]*\"?(?:kind|skewlog2)\"?,\"?host")
+
+
 def read_source(name: str, kind: str = "file") -> Source:
-    """The file of that name, or the standard input where it is `-`; one that is longer than its kind is refused."""
+    """The file of that name, or the standard input where it is `-`; one that is longer than its kind is refused.
+
+    A long log may be longer than a log where it begins as one.
+    """
     shown = "the standard input" if name == "-" else escaped(name)
-    limit = LIMITS[kind]
+    is_long = kind == "long log"
+    limit = LIMITS["log" if is_long else kind]
+    rest = LIMITS[kind].most - limit.most
     try:
         if name == "-":
-            data = sys.stdin.buffer.read(limit.most + 1)
+            data = read_beginning(sys.stdin.buffer, limit.most + 1, rest)
         else:
-            data = read_file(name, limit.most + 1)
+            data = read_file(name, limit.most + 1, rest)
+        if is_long and LOG_BEGINS.match(data):
+            limit = LIMITS[kind]
     except (OSError, ValueError) as error:
         raise Trouble(CANNOT_READ, f"{shown} can't be read: {reason_of(error)}") from None
     if len(data) > limit.most:
@@ -172,8 +183,14 @@ def read_source(name: str, kind: str = "file") -> Source:
     return Source(shown, data)
 
 
-def read_file(name: Union[str, "os.PathLike[str]"], most: int) -> bytes:
-    """The first bytes of a file, at most so many; of a FIFO, once somebody writes to it."""
+def read_beginning(file: IO[bytes], most: int, rest: int) -> bytes:
+    """The first bytes of a file, at most so many, and so many more where they begin as a log."""
+    data = file.read(most)
+    return data + file.read(rest) if rest and len(data) == most and LOG_BEGINS.match(data) else data
+
+
+def read_file(name: Union[str, "os.PathLike[str]"], most: int, rest: int = 0) -> bytes:
+    """The first bytes of a file, at most so many, and the rest of a long log; of a FIFO, once somebody writes to it."""
     descriptor = os.open(name, os.O_RDONLY | os.O_NONBLOCK | os.O_NOCTTY)
     try:
         is_fifo = stat.S_ISFIFO(os.fstat(descriptor).st_mode)
@@ -181,7 +198,7 @@ def read_file(name: Union[str, "os.PathLike[str]"], most: int) -> bytes:
             wait_for_writer(descriptor)
         os.set_blocking(descriptor, True)
         with open(descriptor, "rb", closefd=False) as file:
-            return file.read(most)
+            return read_beginning(file, most, rest)
     finally:
         os.close(descriptor)
 

@@ -18,6 +18,8 @@ from ask.question import (
 )
 from ask.reports import Report, Section, Step
 from ask.texts import Trouble, write_text
+from ask.windows.answer import long_answer
+from ask.windows.opening import add_window_words, long_question
 from ask.words import USAGE, Answer, bold, counted, grouped, signed, step_words, table, walk_facts, walk_words
 
 FEW_CONFLICTS = 100  # what is tried where a run was stopped
@@ -45,6 +47,7 @@ def add_words(commands: "argparse._SubParsersAction[argparse.ArgumentParser]", c
         "--all", action="store_true", help="show all rows, all reasons, and all bounds that a refutation rests on",
     )
     words.add_argument("--runs", action="store_true", help="name all runs of the program")
+    add_window_words(words)
     words.set_defaults(do=do)
 
 
@@ -52,10 +55,16 @@ def do(arguments: argparse.Namespace) -> Answer:
     """The answer of the command."""
     options = ["--conflicts", arguments.conflicts] if arguments.conflicts else []
     program = program_of(arguments)
-    question = Question(program, *sources_of(arguments.formula, arguments.log), options)
+    question = Question(program, *sources_of(arguments.formula, arguments.log, "long log"), options)
     refuse_wrong_conflicts(arguments.conflicts)
     if arguments.report == "-":
         raise Trouble(USAGE, "--report names a file, since the standard output has the answer")
+    is_by_windows = arguments.windows or arguments.keep is not None
+    long = long_question(program, question.formula, question.log_source, options, is_by_windows)
+    if long is not None:
+        if arguments.report is not None:
+            raise Trouble(USAGE, "--report is for one run of the program: --keep FOLDER keeps the reports of windows")
+        return long_answer(long, arguments)
     notes: List[str] = []
     try:
         run = answered(question.check(), question)

@@ -3,18 +3,25 @@
 from __future__ import annotations
 
 import argparse
-from typing import Any, Dict, Optional, Tuple
+from typing import Any, Dict, Optional, Tuple, Union
 
-from ask.cautions import add_strict_words, cautions_wanted, values_of_status, with_cautions
+from ask.cautions import add_strict_words, cautions_wanted, cautions_without_runs, values_of_status, with_cautions
 from ask.commands.check import refuse_wrong_conflicts
 from ask.formulas import Tree, grows_truer, is_higher, read_formula, stray_mark, subtrees, with_number
-from ask.logs import Log
+from ask.logs import Fault, Log
 from ask.program import Run, program_of
 from ask.question import (
     REFUSED, Question, accepted_log, answered, run_facts, run_lines, shown_formula, sources_of, text_of_source,
 )
 from ask.refusals import file_hint
 from ask.texts import Source, Trouble, place_of
+from ask.windows.answer import Progress, setting_of
+from ask.windows.asking import Whole
+from ask.windows.bounds import Contradiction
+from ask.windows.least_number import Numbers, Undecided
+from ask.windows.longlog import LongLog
+from ask.windows.opening import LongQuestion, add_window_words, long_log_of, question_of
+from ask.windows.shape import Shape, shape_of
 from ask.words import USAGE, Answer, bold
 
 MOST_NUMBER = 10**18  # in an interval
@@ -41,6 +48,7 @@ def add_words(commands: "argparse._SubParsersAction[argparse.ArgumentParser]", c
     words.add_argument("--conflicts", metavar="N", help="of the search for each value, as for the program")
     add_strict_words(words)
     words.add_argument("--runs", action="store_true", help="name all runs of the program")
+    add_window_words(words, has_folder=False)
     words.set_defaults(do=do)
 
 
@@ -57,9 +65,12 @@ def do(arguments: argparse.Namespace) -> Answer:
     refuse_wrong_conflicts(arguments.conflicts)
     options = ["--conflicts", arguments.conflicts] if arguments.conflicts else []
     program = program_of(arguments)
-    template, source = sources_of(arguments.formula, arguments.log)
+    template, source = sources_of(arguments.formula, arguments.log, "long log")
     question = Question(program, template, source, options)
-    answer = Search(question, tree_of(template), arguments).answer()
+    tree = tree_of(template)
+    log = long_log_of(source, arguments.windows)
+    search = Search(question, tree, arguments) if log is None else LongSearch(question, tree, arguments, log)
+    answer = search.answer()
     answer.facts["runs"] = run_facts(program.runs)
     if arguments.runs:
         answer.lines += run_lines(program.runs)
@@ -242,6 +253,69 @@ class Search:
             "sentence": sentence, "number": number, "which": which, "least": None, "greatest": None,
             "statuses": statuses, "warnings": [],
         }
+
+
+class LongSearch(Search):
+    """The same on a long log, by windows: with a number that won't do only that is known, by some timing."""
+
+    def __init__(
+        self, question: Question, tree: Optional[Tree], arguments: argparse.Namespace, log: Union[LongLog, Fault]
+    ):
+        super().__init__(question, tree, arguments)
+        self.at_least = self.question_at(self.least, log)
+
+    def run_at(self, number: int) -> Run:
+        """What windows said with a number."""
+        return self.runs[number]
+
+    def answer(self) -> Answer:
+        """Which numbers will do."""
+        try:
+            whole = Whole(self.at_least.log, shape_of(self.at_least.tree))
+        except Contradiction:
+            said = f"No timing: {self.at_least.source.name} admits none, so there is nothing to ask."
+            return Answer(3, [bold(said)], self.facts(said, None, None))
+        self.last = max(self.least, min(self.most, max(whole.times.greatest) - min(whole.times.least) + 1))
+        progress = Progress(not self.arguments.quiet)
+        setting = setting_of(self.at_least, self.arguments, progress)
+        try:
+            answer, number = self.answer_at(Numbers(whole, setting, self.shape_at, self.rises))
+        except Undecided as undecided:
+            answer, number = self.unknown(undecided.number), undecided.number
+        finally:
+            progress.end()
+        tree = self.tree and with_number(self.tree, number)
+        return with_cautions(answer, cautions_without_runs(self.question.formula, self.at_least.log, tree), self.arguments)
+
+    def answer_at(self, numbers: Numbers) -> Tuple[Answer, int]:
+        """The answer at the edge, and the number that it is about."""
+        met, failed = numbers.edge(self.least, self.last)
+        words = "check of windows"
+        for number, status in ((met, 0), (failed, 4)):
+            if number is not None:
+                self.runs[number] = Run(f"{words} with {number}", status, b"")
+        if met is None:
+            assert failed is not None
+            return self.none(failed), failed
+        if failed is None:
+            return self.any_number(met), met
+        return self.found(met), met
+
+    def unknown(self, number: int) -> Answer:
+        """The answer where windows with a number left open whether they can be false."""
+        said = f"Unknown: with {number} windows didn't tell whether it can be false."
+        return Answer(4, [bold(said)], {**self.facts(said, None, None), "unknown_at": number})
+
+    def question_at(self, number: int, log: Union[LongLog, Fault]) -> LongQuestion:
+        """The question with a number in place of `?`."""
+        text = " ".join(self.template.replace("?", str(number)).split())
+        formula, question = Source(self.question.formula.name, text.encode()), self.question
+        return question_of(question.program, formula, question.log_source, log, question.options)
+
+    def shape_at(self, number: int) -> Shape:
+        """What is asked of windows with a number."""
+        assert self.tree
+        return shape_of(with_number(self.tree, number))
 
 
 def greatest_distance(log: Log) -> int:

@@ -8,11 +8,11 @@ from collections import Counter
 from typing import Any, Dict, List, NamedTuple, Optional, Pattern, Sequence, Tuple
 
 from ask.cautions import (
-    Caution, add_strict_words, caution_facts, cautions_of, cautions_of_names, strict_status, values_of_status,
-    wants_runs,
+    Caution, add_strict_words, caution_facts, cautions_of, cautions_of_names, cautions_without_runs, strict_status,
+    values_of_status, wants_runs,
 )
 from ask.commands.check import refuse_wrong_conflicts
-from ask.logs import Log
+from ask.logs import Fault, Log
 from ask.program import STOPPED, Program, Stopped, program_of
 from ask.question import (
     VERDICTS, Question, accepted_tree, log_with_rows, report_of_run, run_facts, shown_formula, sources_of,
@@ -21,6 +21,14 @@ from ask.question import (
 from ask.refusals import file_hint, refusal
 from ask.reports import Step
 from ask.texts import Source, Trouble
+from ask.windows.answer import Progress, setting_of
+from ask.windows.asking import Whole
+from ask.windows.bounds import Contradiction
+from ask.windows.cautions import cautions_of_long_log
+from ask.windows.longlog import LongLog
+from ask.windows.opening import LongQuestion, add_window_words, formula_on_hosts, long_log_of, long_log_refusal
+from ask.windows.shape import Shape, shape_of
+from ask.windows.verdict import verdict_of_slices
 from ask.words import USAGE, Answer, bold, counted, table, walk_facts, walk_words
 
 # Which status the table has: the first of these that a line has.
@@ -48,6 +56,7 @@ def add_words(commands: "argparse._SubParsersAction[argparse.ArgumentParser]", c
     words.add_argument("--over", metavar="REGEX", required=True, help="the names, as '(\\w+)\\.(\\w+)_asked'")
     words.add_argument("--conflicts", metavar="N", help="of the search for each value, as for the program")
     add_strict_words(words)
+    add_window_words(words, has_folder=False)
     words.set_defaults(do=do)
 
 
@@ -74,17 +83,21 @@ def do(arguments: argparse.Namespace) -> Answer:
     refuse_wrong_conflicts(arguments.conflicts)
     options = ["--conflicts", arguments.conflicts] if arguments.conflicts else []
     program = program_of(arguments)
-    template, source = sources_of(arguments.template, arguments.log)
+    template, source = sources_of(arguments.template, arguments.log, "long log")
     if not re.search(PLACE, text_of_source(template)):
         said = f"{shown_formula(template)} has no {{}} for the names: each of them would have this formula"
         raise Trouble(USAGE, said + file_hint(template))
     pattern = pattern_of(arguments.over)
-    log = log_with_rows(program, source)
+    long = long_log_of(source, arguments.windows)
+    if isinstance(long, Fault):
+        raise long_log_refusal(long, source)
+    log = log_with_rows(program, source) if long is None else long
     matches = matching(log, pattern)
     if not matches:
         raise Trouble(USAGE, f"{arguments.over} matches no name of {source.name} as a whole")
     table_of = Table(program, template, source, log, options, wants_runs(arguments))
-    lines = [table_of.line(name, groups) for name, groups in matches.items()]
+    line = table_of.line if long is None else LongTable(table_of, long, arguments).line
+    lines = [line(name, groups) for name, groups in matches.items()]
     status = next(status for status in ORDER if any(line.status == status for line in lines))
     facts: Dict[str, Any] = {"lines": [line.facts() for line in lines]}
     walk = next((line.walk for line in lines if line.walk is not None), None)
@@ -159,6 +172,45 @@ class Table(NamedTuple):
         else:
             warnings = list(cautions_of_names(question, self.log, tree))
         return Line(name, text, run.status, warnings)
+
+
+class LongTable:
+    """A template and a long log, and how windows are asked for each name."""
+
+    def __init__(self, table_of: Table, log: LongLog, arguments: argparse.Namespace):
+        self.table, self.log, self.arguments = table_of, log, arguments
+        self.whole: Optional[Whole] = None
+
+    def line(self, name: str, groups: Sequence[str]) -> Line:
+        """The line of a name."""
+        text = " ".join(filled(text_of_source(self.table.template), name, groups).split())
+        formula = Source(f"the formula for {name}", text.encode("utf-8", "surrogateescape"))
+        program, options = self.table.program, self.table.options
+        tree = accepted_tree(formula_on_hosts(program, formula, self.table.source, self.log).formula)
+        asked = LongQuestion(program, formula, self.table.source, self.log, tree, options)
+        try:
+            self.take_shape(shape_of(tree))
+        except Contradiction as contradiction:
+            return Line(name, text, 3, (), contradiction.walk)
+        assert self.whole
+        progress = Progress(not self.arguments.quiet)
+        setting = setting_of(asked, self.arguments, progress)
+        try:
+            verdict = verdict_of_slices(self.whole, setting)
+        except Stopped:
+            return Line(name, text, STOPPED)
+        finally:
+            progress.end()
+        if self.table.is_warned_by_runs:
+            return Line(name, text, verdict.status(), cautions_of_long_log(asked, self.whole, setting, verdict))
+        return Line(name, text, verdict.status(), cautions_without_runs(formula, self.log, tree))
+
+    def take_shape(self, shape: Shape) -> None:
+        """Has a formula be asked of the log, whose bounds are found once."""
+        if self.whole is None:
+            self.whole = Whole(self.log, shape)
+        else:
+            self.whole.take_shape(shape)
 
 
 def shown(lines: Sequence[Line]) -> List[str]:

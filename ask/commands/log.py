@@ -137,7 +137,7 @@ def do(arguments: argparse.Namespace) -> Answer:
     cut_window(making, arguments)
     if not making.lines and not arguments.part:
         raise Trouble(WRONG, "no row is left in the window")
-    refuse_too_many(making)
+    note_many(making)
     settle_messages(making, arguments.part)
     settle_idle_hosts(making, found, arguments.part)
     words = LimitWords(
@@ -145,7 +145,8 @@ def do(arguments: argparse.Namespace) -> Answer:
     )
     idle = settle_limits(making, words)
     spread_carried(making)
-    text = log_text(making, hosts_of(making, found, words), idle)
+    hosts = hosts_of(making, found, words)
+    text = log_text(making, hosts, idle, mapped_names(making))
     warnings = [f"warning: {warning}" for warning in making.warnings]
     if arguments.notes is not None:
         write_text(arguments.notes, "".join(f"{escaped(note)}\n" for note in [*warnings, *making.notes]))
@@ -196,13 +197,12 @@ def input_file(name: str) -> Source:
     return refuse_wide(read_source(name), WRONG)
 
 
-def refuse_too_many(making: Making) -> None:
-    """Refuses more rows than a log may have, before anything else is asked of them."""
+def note_many(making: Making) -> None:
+    """Tells of more rows than the program takes, which windows are asked of."""
     if len(making.lines) > MOST_ROWS:
-        raise Trouble(
-            WRONG,
-            f"{counted(len(making.lines), 'row')}; at most 1,024: cut a window by --only or by --from and --to "
-            "(docs/real-logs.md)",
+        making.notes.append(
+            f"{counted(len(making.lines), 'row')}, and the program takes 1,024: `ask check`, `each` and `deadline` ask by "
+            "windows (docs/real-logs.md)"
         )
 
 
@@ -233,11 +233,18 @@ def row_table(words: Sequence[str]) -> Rows:
 # The log
 
 
-def log_text(making: Making, hosts: Dict[str, LogHost], idle: Dict[str, Tuple[int, int]]) -> List[str]:
-    """The lines of the log, of version 2 where a latency, a pulse or a change of a skew needs it."""
+def mapped_names(making: Making) -> Dict[str, str]:
+    """The names of the log for those of the files."""
     mapped = name_map([line.name for line in making.lines])
     making.warnings += spelling_warnings("names", [line.name for line in making.lines], mapped)
     making.notes += [f"name: {shortened(name)!r} is {short}" for name, short in mapped.items() if name != short]
+    return mapped
+
+
+def log_text(
+    making: Making, hosts: Dict[str, LogHost], idle: Dict[str, Tuple[int, int]], mapped: Dict[str, str]
+) -> List[str]:
+    """The lines of the log, of version 2 where a latency, a pulse or a change of a skew needs it."""
     known: Dict[str, Tuple[int, int]] = {}  # the skew and the gap of each host from here on
     heads, body = [], []
     for line in making.lines:

@@ -15,7 +15,7 @@ ANSWERED = (
     (0, "check within_9.formula answered.csv"), (1, "check within_0.formula answered.csv"), (2, "check within_8.formula answered.csv"),
     (3, "check p.formula received_first.csv"), (4, "check --conflicts 1 either.formula apart.csv"), (65, "check a.aksed answered.csv --strict"),
     (0, "check within_8000.formula checkout.csv"), (1, "check heartbeat.formula heartbeat.csv"),
-    (2, "check within_7999.formula checkout.csv --as-found"),
+    (2, "check within_7999.formula checkout.csv --as-found"), (2, "check within_8.formula answered.csv --windows"),
     (0, "deadline F[0,?]a.req answered.csv"), (0, "deadline G(a.req->F[0,?]b.ack) answered.csv"), (0, "deadline G[0,?]a.req answered.csv"),
     (1, "deadline G(b.ack->F[1,?]a.req) answered.csv"), (3, "deadline F[0,?]a.p twice_apart.csv"), (0, "deadline F[?,9]a.req answered.csv"),
     (0, "deadline G[?,9]a.req answered.csv"), (65, "deadline F[0,?]a.p|F[0,?]a.req answered.csv --strict"),
@@ -32,7 +32,7 @@ ANSWERED = (
 REFUSED = (
     (64, ""), (64, "what"), (64, "check"), (64, "check a.p set.csv --nothing"), (64, "check a.p set.csv --seconds x"),
     (64, "tolerance either a.p set.csv"), (64, "deadline F[0,5]a.p set.csv"), (64, "each F{} set.csv"), (64, "log"), (64, "--version x"),
-    (65, "check a. set.csv"), (65, "check c.p set.csv"), (65, "deadline a.p? set.csv"), (65, "draw set.csv --formula a."),
+    (74, "audit ."), (65, "check a. set.csv"), (65, "check c.p set.csv"), (65, "deadline a.p? set.csv"), (65, "draw set.csv --formula a."),
     (66, "check a.p p.formula"), (66, "log p.formula"), (68, "draw answered.csv --times overlap.times"), (72, "check a.p set.csv --program x"),
     (74, "check a.p missing.csv"), (75, "log set.csv --notes missing/x"), (75, "check a.p set.csv --report missing/x"),
 )

@@ -191,5 +191,39 @@ class Clocks(Making):
         self.assertIn("begins with no time", self.refusal("clock_step +0.031211 s\n", "--clock"))
 
 
+class Parts(unittest.TestCase):
+    """`ask split`: a log for each value of a key."""
+
+    TABLE = (
+        "time,host,event,kind,request\n1,a,up,set,\n2,a,go,send,x\n3,b,go,recv,x\n4,a,work,set,y\n5,a,up,clear,\n6,b,end,note,y\n"
+        "7,a,end,note,x\n8,a,late,note,x/y\n9,b,go,recv,y\n"
+    )
+
+    def split(self, *words):
+        with tempfile.TemporaryDirectory() as folder:
+            Path(folder, "t").write_text(self.TABLE)
+            ended, text, said = asked(["split", "t", "--by", "request", "--into", "p", "--name", "event", "--skew", "1", *words], folder)
+            parts = Path(folder, "p")
+            return ended, {path.name: path.read_text() for path in parts.iterdir()} if parts.is_dir() else {}, said
+
+    def test_what_was_set_before_is_carried_in(self):
+        ended, parts, said = self.split()
+        self.assertEqual(ended, 0, said)
+        head = "kind,host,time,name\n"
+        self.assertEqual(parts["x.csv"], head + "host,a,1,0\nhost,b,1,0\nset,a,2,up\nsend,a,2,go\nrecv,b,3,go\nnote,a,7,end\n")
+        self.assertEqual(parts["y.csv"], head + "host,a,1,0\nhost,b,1,0\nset,a,4,up\nset,a,4,work\nnote,b,6,end\nnote,b,9,go\n")
+        other = next(text for name, text in parts.items() if name.startswith("x_y-"))
+        self.assertEqual(other, head + "host,a,1,0\nset,a,8,work\nnote,a,8,late\n")
+        self.assertIn("2 rows without a value left out", said)
+
+    def test_refusals(self):
+        self.assertEqual(self.split("--by", "nothing")[0], 66)
+        with tempfile.TemporaryDirectory() as folder:
+            Path(folder, "t").write_text(self.TABLE)
+            for into, status in ((".", 73), ("t", 73), ("t/x", 73)):
+                ended, _, said = asked(["split", "t", "--by", "request", "--into", into, "--name", "event", "--skew", "1"], folder)
+                self.assertEqual(ended, status, said)
+
+
 if __name__ == "__main__":
     unittest.main()

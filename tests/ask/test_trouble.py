@@ -156,7 +156,6 @@ class Refusals(unittest.TestCase):
             (HEAD + "set,a,1\n", ["four fields", "has 3"]), (HEAD + "host,b,-1,0\n", ["the skew '-1'"]), (HEAD + "host,b,1,x\n", ["the gap 'x'"]),
             (HEAD + "host,a,1,0\n", ["declared twice"]), (HEAD + "recv,a,1,m\n", ["m is received", "note"]),
             (HEAD + "send,a,1,m\nsend,a,2,m\n", ["line 4", "sent twice"]), (HEAD + "host,true,1,1\n", ["'true' is no host"]),
-            (HEAD + "".join(f"note,a,{n},n\n" for n in range(1300)), ["1,300 rows; at most 1,024"]),
             (HEAD + "".join(f"host,h{n},1,0\n" for n in range(70)), ["71 hosts; at most 64"]),
             (HEAD + "pulse,a,1,p\n", ["line 3", "no kind 'pulse'", "skewlog2,host,time,name allows it"]), (HEAD + "resync,a,1,1\n", ["skewlog2"]),
             ("skewlog2,host,time,name\nhost,a,1,1\nlatency,a,5,3\n", ["greatest latency", "column 13"]),
@@ -178,7 +177,12 @@ class Refusals(unittest.TestCase):
     def test_sizes(self):
         rows = HEAD + "".join(f"note,a,{3 * n},n\n" for n in range(1000))
         self.refused("F a.p & F F a.p & F F F a.p & F F F F a.p & F F F F F a.p", rows, 67, "1,000 rows", "4,194,304")
-        self.refused("a.p", HEAD + "set,a,1,p\n" * 120_000, 67, "1,048,576 bytes")
+        self.refused("a.p", HEAD + "set,a,1,p\n" * 120_000, 67, "more than 1,024 rows", "ask log --help")
+        self.refused("a.p", HEAD + "set,a,1,p\n" * 1025, 67, "more than 1,024 rows")
+        with tempfile.TemporaryDirectory() as folder:
+            Path(folder, "l").write_text(HEAD + "set,a,1,p\n" * 1300)
+            ended, _, said = asked(["between", "l", "0", "1"], folder)
+            self.assertEqual((ended, "1,300 rows; at most 1,024" in said), (66, True), said)
 
     def test_bytes_by_chance(self):
         draw = random.Random(38)
@@ -230,10 +234,11 @@ class Logs(unittest.TestCase):
         self.assertEqual((ended, log), (0, "kind,host,time,name\nhost,a,2,1\nnote,a,30,m\n"))
         self.assertIn("is a note", said)
 
-    def test_too_many_rows(self):
-        ended, log, said = self.made(HEAD + "".join(f"note,a,{n},n\n" for n in range(1300)))
-        self.assertEqual((ended, log), (66, ""))
-        self.assertIn("1,300 rows; at most 1,024", said)
+    def test_more_rows_than_the_program_takes(self):
+        text = HEAD + "".join(f"note,a,{n},n\n" for n in range(1300))
+        ended, log, said = self.made(text)
+        self.assertEqual((ended, log), (0, text))
+        self.assertIn("1,300 rows, and the program takes 1,024", said)
 
 
 if __name__ == "__main__":

@@ -1,0 +1,279 @@
+"""The least and the greatest time of each row of a whole log, in passes over its rows (Bellman 1958).
+
+A bound is `t_start - t_end <= most`, so from the zero moment walks of bounds tell how early each row can be, and back
+to it how late. Rows are in the order of what happens before what, but for greatest latencies, which go back.
+"""
+
+from __future__ import annotations
+
+from array import array
+from collections import deque
+from typing import Deque, Dict, Iterator, List, NamedTuple, Optional, Sequence, Tuple
+
+from ask.reports import Step
+from ask.windows.longlog import NONE, LongLog
+
+
+class Contradiction(Exception):
+    """A log admits no timing: a closed walk of bounds of negative sum."""
+
+    def __init__(self, walk: List[Step]):
+        super().__init__(f"{len(walk)} bounds")
+        self.walk = walk
+
+
+class Times(NamedTuple):
+    """The least and the greatest time of each row, both of which are timings that the log admits."""
+
+    least: array
+    greatest: array
+
+
+class Bounds:
+    """The bounds of a long log between its rows, in the order in which a pass goes through them."""
+
+    def __init__(self, log: LongLog):
+        self.log = log
+        self.low, self.high = log.low(), log.high()
+        self.gaps = log.rows.gaps()
+        least = [host.least for host in log.hosts]
+        self.delay = array("q", (least[host] for host in log.rows.host))  # of a message to a row, at least
+        self.late = log.latencies()
+        self.late_of: Dict[int, List[Tuple[int, int]]] = {}  # of a receive its send, and of a send its receives
+        for send, receive, most in self.late:
+            self.late_of.setdefault(receive, []).append((send, most))
+            self.late_of.setdefault(send, []).append((receive, most))
+        self.order = self.ordered()
+
+    # The order
+
+    def ordered(self) -> array:
+        """The rows, each behind those that are directly before it."""
+        log, count = self.log, len(self.log.rows)
+        missing = bytearray((before != NONE) + (send != NONE) for before, send in zip(log.earlier, log.sender))
+        later, receiver, receiver_before = log.later, log.receiver, log.receiver_before
+        order = array("i")
+        waiting = [event for event in range(count - 1, -1, -1) if not missing[event]]
+        while waiting:
+            event = waiting.pop()
+            order.append(event)
+            found = receiver[event]
+            while found != NONE:
+                missing[found] -= 1
+                if not missing[found]:
+                    waiting.append(found)
+                found = receiver_before[found]
+            found = later[event]
+            if found != NONE:
+                missing[found] -= 1
+                if not missing[found]:
+                    waiting.append(found)
+        if len(order) < count:
+            raise Contradiction(self.cycle(missing))
+        return order
+
+    def cycle(self, missing: bytearray) -> List[Step]:
+        """A cycle of rows each of which is directly before the next, where some rows can't be put in order."""
+        event = next(event for event, count in enumerate(missing) if count)
+        seen: Dict[int, int] = {}
+        path: List[Step] = []
+        while event not in seen:
+            seen[event] = len(path)
+            kind, before = next(step for step in self.into(event) if missing[step[1]])
+            path.append(Step(kind, (event,)))
+            event = before
+        return path[seen[event] :][::-1]
+
+    def into(self, event: int) -> Iterator[Tuple[str, int]]:
+        """The bounds by which a row can't be before another, each with that row."""
+        if self.log.earlier[event] != NONE:
+            yield "rise", self.log.earlier[event]
+        if self.log.sender[event] != NONE:
+            yield "message", self.log.sender[event]
+
+    def before(self, event: int) -> Iterator[Tuple[int, int]]:
+        """The rows that a row comes behind, and by how much at least."""
+        if self.log.earlier[event] != NONE:
+            yield self.log.earlier[event], self.gaps[event]
+        if self.log.sender[event] != NONE:
+            yield self.log.sender[event], self.delay[event]
+
+    def behind(self, event: int) -> Iterator[Tuple[int, int]]:
+        """The rows that come behind a row, and by how much at least."""
+        later = self.log.later[event]
+        if later != NONE:
+            yield later, self.gaps[later]
+        for receive in self.log.receivers(event):
+            yield receive, self.delay[receive]
+
+    def late_receives(self, event: int) -> Iterator[Tuple[int, int]]:
+        """The receives of what a row sends that have a greatest latency, each with it."""
+        return ((other, most) for other, most in self.late_of.get(event, ()) if self.log.sender[event] != other)
+
+    def late_send(self, event: int) -> Iterator[Tuple[int, int]]:
+        """The send of what a row receives, with the greatest latency, where it has one."""
+        return ((other, most) for other, most in self.late_of.get(event, ()) if self.log.sender[event] == other)
+
+    # Times
+
+    def times(self) -> Times:
+        """The least and the greatest time of each row, or a contradiction."""
+        least = self.least(self.low, self.high)
+        return Times(least, self.greatest(self.high))
+
+    def least(self, low: Sequence[int], high: Sequence[int]) -> array:
+        """The least time of each row where rows are in these ranges, or the contradiction that there is none."""
+        found = array("q", low)
+        earlier, sender, gaps, delay = self.log.earlier, self.log.sender, self.gaps, self.delay
+        for event in self.order:
+            time = found[event]
+            before = earlier[event]
+            if before != NONE and found[before] + gaps[event] > time:
+                time = found[before] + gaps[event]
+            send = sender[event]
+            if send != NONE and found[send] + delay[event] > time:
+                time = found[send] + delay[event]
+            if time > high[event]:
+                raise Contradiction(self.walk_to(found, event, time))
+            found[event] = time
+        if self.late:
+            Raising(self, found, high).settle()
+        return found
+
+    def walk_to(self, found: Sequence[int], event: int, time: int) -> List[Step]:
+        """The walk from the zero moment that tells that a row isn't before a time, and back by its latest one."""
+        walk = [Step("high", (event,))]
+        while True:
+            step = next(
+                ((kind, other) for (kind, other), (_, least) in zip(self.into(event), self.before(event))
+                 if found[other] + least == time), None,
+            )
+            if step is None:
+                return [Step("low", (event,)), *walk[::-1]]
+            walk.append(Step(step[0], (event,)))
+            event, time = step[1], found[step[1]]
+
+    def greatest(self, high: Sequence[int]) -> array:
+        """The greatest time of each row, where some timing is admissible."""
+        found = array("q", high)
+        earlier, sender, gaps, delay = self.log.earlier, self.log.sender, self.gaps, self.delay
+        for event in reversed(self.order):
+            time = found[event]
+            before = earlier[event]
+            if before != NONE and time - gaps[event] < found[before]:
+                found[before] = time - gaps[event]
+            send = sender[event]
+            if send != NONE and time - delay[event] < found[send]:
+                found[send] = time - delay[event]
+        if self.late:
+            self.lower(found)
+        return found
+
+    def lower(self, found: array) -> None:
+        """Lowers greatest times until greatest latencies hold of them too."""
+        waiting = deque(send for send, receive, most in self.late if found[send] + most < found[receive])
+        while waiting:
+            event = waiting.popleft()
+            time = found[event]
+            for other, most in self.late_receives(event):
+                if time + most < found[other]:
+                    found[other] = time + most
+                    waiting.append(other)
+            for other, least in self.before(event):
+                if time - least < found[other]:
+                    found[other] = time - least
+                    waiting.append(other)
+
+    # Timings
+
+    def broken(self, times: Sequence[int]) -> Optional[Step]:
+        """The first bound, row by row, that times don't keep, or None."""
+        log, low, high, gaps, delay = self.log, self.low, self.high, self.gaps, self.delay
+        columns = zip(times, low, high, log.earlier, log.sender)
+        for event, (time, least, greatest, before, send) in enumerate(columns):
+            if time < least:
+                return Step("low", (event,))
+            if time > greatest:
+                return Step("high", (event,))
+            if before != NONE and time < times[before] + gaps[event]:
+                return Step("rise", (event,))
+            if send != NONE and time < times[send] + delay[event]:
+                return Step("message", (event,))
+        late = ((receive, times[receive] - times[send] > most) for send, receive, most in self.late)
+        return next((Step("late", (receive,)) for receive, is_late in late if is_late), None)
+
+    def near(self, wanted: Sequence[int], times: Times) -> array:
+        """A timing of the log that is near to wanted times: each put where the log allows it, and later ones behind."""
+        low = array("q", map(min, map(max, wanted, times.least), times.greatest))
+        return self.least(low, times.greatest)  # which isn't above the greatest times, since they are a timing too
+
+    def with_rows_at(self, fixed: Dict[int, int], times: Times) -> array:
+        """The least timing of the log in which some rows are at these times, or the contradiction."""
+        low, high = array("q", times.least), array("q", times.greatest)
+        for event, time in fixed.items():
+            low[event] = high[event] = time
+        return self.least(low, high)
+
+
+class Raising:
+    """Least times that are raised until greatest latencies hold of them too.
+
+    What raised a row last is kept, so that a closed walk of negative sum is seen (Cherkassky and Goldberg 1999).
+    """
+
+    def __init__(self, bounds: Bounds, found: array, high: Sequence[int]):
+        self.bounds, self.found, self.high = bounds, found, high
+        self.raised_by: Dict[int, Tuple[str, int]] = {}
+        self.left = len(found)  # raises until a closed walk is looked for
+
+    def settle(self) -> None:
+        """Raises least times, or finds the contradiction."""
+        found = self.found
+        waiting = deque(
+            receive for send, receive, most in self.bounds.late if found[receive] - most > found[send]
+        )
+        while waiting:
+            event = waiting.popleft()
+            for other, most in self.bounds.late_send(event):
+                self.put(other, found[event] - most, ("late", event), waiting)
+            for other, least in self.bounds.behind(event):
+                kind = "rise" if self.bounds.log.earlier[other] == event else "message"
+                self.put(other, found[event] + least, (kind, event), waiting)
+
+    def put(self, event: int, time: int, by: Tuple[str, int], waiting: Deque[int]) -> None:
+        """Raises a row to a time, where it isn't as late already."""
+        if time <= self.found[event]:
+            return
+        self.found[event] = time
+        self.raised_by[event] = by
+        waiting.append(event)
+        self.left -= 1
+        if time > self.high[event]:
+            raise Contradiction(self.walk(event))
+        if self.left == 0:
+            self.left = len(self.found)
+            self.look_for_cycle()
+
+    def look_for_cycle(self) -> None:
+        """Raises the contradiction where rows raise each other round and round."""
+        known: Dict[int, int] = {}
+        for start in self.raised_by:
+            event = start
+            while event in self.raised_by and event not in known:
+                known[event] = start
+                event = self.raised_by[event][1]
+            if event in self.raised_by and known[event] == start:
+                raise Contradiction(self.walk(event))
+
+    def walk(self, event: int) -> List[Step]:
+        """The walk by which a row was raised: to where it begins, or until it is closed."""
+        walk, seen, first = [], {}, event
+        while event in self.raised_by and event not in seen:
+            seen[event] = len(walk)
+            kind, other = self.raised_by[event]
+            walk.append(Step(kind, (other if kind == "late" else event,)))
+            event = other
+        if event in seen:
+            return walk[seen[event] :][::-1]
+        begun = self.bounds.walk_to(self.found, event, self.found[event])
+        return [*begun[:-1], *walk[::-1], Step("high", (first,))]
