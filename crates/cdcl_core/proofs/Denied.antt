@@ -50,6 +50,8 @@ bound_not_denied (bound.High e) = refl
 bound_not_denied (bound.Rise e) = refl
 bound_not_denied (bound.Message e) = refl
 bound_not_denied (bound.Late e) = refl
+bound_not_denied (bound.Under e) = refl
+bound_not_denied (bound.Over e) = refl
 bound_not_denied (bound.Extra k) = refl
 
 module _ (log : Logged) (bounds : List Bound) (base : List SystemEdge) (atoms : List Atom) (links : List (Option (SystemEdge × SystemEdge))) (lits : List Lit) (are : AreEdges log bounds base)

@@ -1,5 +1,5 @@
 -- A problem that fits a log which admits times is posed.
-use Rattle.std.proofs.Common.{◌≡◌, refl, arith, ℕ, zero, suc, List, [], ◌∷◌, Some, All, ℤ, pos}
+use Rattle.std.proofs.Common.{◌≡◌, refl, arith, ℕ, zero, suc, List, [], ◌∷◌, ◌++◌, length-append, Some, All, ℤ, pos}
 use Rattle.std.specs.Prelude.{Bool, IfSome}
 use Rattle.std.proofs.lemmas.List.Elements.{All-nil, All-cons, All-head, All-tail}
 use Rattle.mt_model.specs.declared.bound.Bound.{Bound}
@@ -35,14 +35,16 @@ edges_met log t (b ∷ bs) (e ∷ es) are met =
     (edges_met log t bs es others (All-tail (λ x. IfSome (edge_of log (step_of x)) (MeetsEdge t)) b bs met))
 
 -- times that the log admits solve the edges
-solvable : BoundsAreAdmissible → (log : Logged) (f : Form) (v : Bool) (p : Problem) (t : List ℤ) → Admissible log t → Fits (sought_of log f v) p → HasSolution p.nodes p.edges
-solvable law log f v p t admissible fits = record {
-  numbers = pos 0 ∷ t;
-  potential = record {
-    count = let count = admissible.count in omega (arith, count, fits.nodes);
-    meets = edges_met log t p.bounds p.edges fits.edges (rw fits.bounds ((law log t).0 admissible).1);
-  };
-}
+solvable : BoundsAreAdmissible → (log : Logged) (f : Form) (v : Bool) (p : Problem) (t : List ℤ) → IsLog log → Admissible log t → Fits (sought_of log f v) p → HasSolution p.nodes p.edges
+solvable law log f v p t valid admissible fits =
+    let met = ((law log t valid).0 admissible).1 in
+    record {
+      numbers = pos 0 ∷ t ++ met.offsets;
+      potential = record {
+        count = let count = admissible.count in let clocks = met.count in omega (arith, count, clocks, fits.nodes, length-append t met.offsets);
+        meets = edges_met log (t ++ met.offsets) p.bounds p.edges fits.edges (rw fits.bounds met.each);
+      };
+    }
 
 pub posed : BoundsAreAdmissible → (log : Logged) (f : Form) (v : Bool) (p : Problem) (t : List ℤ) → IsLog log → IsFormula f → Admissible log t → Fits (sought_of log f v) p → IsPosed p
 posed law log f v p t valid formula admissible fits = record {
@@ -52,5 +54,5 @@ posed law log f v p t valid formula admissible fits = record {
   valid = valid;
   formula = formula;
   fits = fits;
-  solvable = solvable law log f v p t admissible fits;
+  solvable = solvable law log f v p t valid admissible fits;
 }

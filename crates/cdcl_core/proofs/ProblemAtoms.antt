@@ -1,7 +1,7 @@
 -- The atoms of a problem that fits are in range, and its orders are differences within the limits; so is the number of its edges.
 use Rattle.std.proofs.Common.{◌≡◌, sym, ap, subst, ℕ, ◌+◌, ◌<◌, ◌≤◌, Bool, true, List, length, Some, Ok, arith, ℤ, pos, neg_ℤ}
 use Rattle.std.specs.Prelude.{◌&&◌, All, IsTrue, nat_le, nat_lt, slice_index_or}
-use Rattle.std.proofs.lemmas.Bool.{and_from, and_parts, leb-true, lt-ltb}
+use Rattle.std.proofs.lemmas.Bool.{and_from, and_parts, leb-true, lt-ltb, ltb-true}
 use Rattle.std.proofs.lemmas.Int.{ints}
 use Rattle.std.proofs.lemmas.List.{length-map}
 use Rattle.mt_model.specs.declared.bound.Bound.{Bound}
@@ -10,6 +10,7 @@ use Rattle.mt_model.specs.declared.tree.Interval.{Interval}
 use Rattle.mt_model.specs.Bounds.{bounds_of}
 use Rattle.mt_model.specs.Form.{Form, IsFormula, is_interval}
 use Rattle.mt_model.specs.Log.{IsLog, IsWithin, Logged}
+use Rattle.mt_model.proofs.Conflicts.{both_true}
 use Rattle.mt_model.proofs.Members.{Among}
 use Rattle.neg_cycle.specs.declared.system.Edge.{Edge}
 use Rattle.neg_cycle.specs.declared.system.TheConstants.{MAX_EDGES}
@@ -104,10 +105,10 @@ module _ (cores : CoresAreCores) (law : NodesAreSubtrees) (log : Logged) (f : Fo
       anything : AreBounds s Anything
       anything = record { zero = both (pos 0); low = λ k u is. both (neg_ℤ (pos u.interval.low)); high = λ k u b is at. both (pos b) }
 
-  -- order atoms are differences of two nodes within the limits, where the formula is within its own
-  pub orders-among : IsFormula f → All (IsOrderAmong p.nodes) p.atoms
-  orders-among valid k d low = rw fits.nodes (among-made s (slice_index_or p.atoms k d)
-      (fits-atoms (IsMadeOf s (IsNode s) (IsWithin MAX_ORDER)) s p fits (atoms-made s (IsNode s) (IsWithin MAX_ORDER) (sought-nodes cores law log f v) within) k d low))
+  -- order atoms are differences of two rows within the limits, where the formula is within its own
+  pub orders-of-rows : IsFormula f → All (IsOrderAmong (length log.rows + 1)) p.atoms
+  orders-of-rows valid k d low = among-made s (slice_index_or p.atoms k d)
+      (fits-atoms (IsMadeOf s (IsNode s) (IsWithin MAX_ORDER)) s p fits (atoms-made s (IsNode s) (IsWithin MAX_ORDER) (sought-nodes cores law log f v) within) k d low)
     where
       is : (k : ℕ) (u : Reach) → reach_in (shape_at s k) ≡ Some u → is_interval u.interval ≡ true
       is k u at = interval-at cores law log f is_interval valid.intervals v k u at
@@ -131,6 +132,22 @@ order-more m n (Gap k i m_) le order = tt
 
 pub orders-more : (m n : ℕ) (atoms : List Atom) → m ≤ n → All (IsOrderAmong m) atoms → All (IsOrderAmong n) atoms
 orders-more m n atoms le all = λ k d low. order-more m n (slice_index_or atoms k d) le (all k d low)
+
+-- what is in the range of a log and so among any nodes is so among the rows of the log
+order-in-range : (s : Sought) (m : ℕ) (a : Atom) → IsOrderAmong m a → IsTrue (is_in_range s a) → IsOrderAmong (length s.log.rows + 1) a
+order-in-range s m (Order e f c) order range =
+    let rows = both_true (nat_lt e (length s.log.rows)) (nat_lt f (length s.log.rows)) range in
+    let row = ltb-true f (length s.log.rows) rows.1 in
+    record { smaller_first = order.smaller_first; second = omega (arith, row); bound = order.bound; negated = order.negated }
+order-in-range s m (Node k e) order range = tt
+order-in-range s m (First e) order range = tt
+order-in-range s m (Same e x) order range = order
+order-in-range s m (Wit k i j) order range = tt
+order-in-range s m (Span k i j) order range = tt
+order-in-range s m (Gap k i m_) order range = tt
+
+pub orders-in-range : (s : Sought) (m : ℕ) (atoms : List Atom) → All (IsOrderAmong m) atoms → All (λ a. IsTrue (is_in_range s a)) atoms → All (IsOrderAmong (length s.log.rows + 1)) atoms
+orders-in-range s m atoms all range = λ k d low. order-in-range s m (slice_index_or atoms k d) (all k d low) (range k d low)
 
 -- a bound has one edge
 pub edge-count : (log : Logged) (bounds : List Bound) (edges : List Edge) → AreEdges log bounds edges → length edges ≡ length bounds

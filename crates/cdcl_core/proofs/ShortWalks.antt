@@ -9,15 +9,17 @@ use Rattle.std.proofs.lemmas.List.Elements.{All-cons, All-head, All-nil, All-tai
 use Rattle.std.proofs.lemmas.List.Quantifiers.{position-Some}
 use Rattle.std.proofs.lemmas.Map.Made.{IsDistinct-from_AllPairs}
 use Rattle.std.proofs.lemmas.Map.Steps.{length-le_from_distinct_below}
-use Rattle.std.proofs.lemmas.Option.{cond_some, get_or_from_slice_get, option_and_then_some, slice_get_within}
+use Rattle.std.proofs.lemmas.Option.{cond_some, option_and_then_some, slice_get_within}
 use Rattle.mt_model.proofs.Conflicts.{guarded_some, mapped_some}
+use Rattle.mt_model.proofs.Offsets.{clock-within}
 use Rattle.mt_model.proofs.PreviousRows.{is_last}
+use Rattle.mt_model.proofs.Resyncs.{at-place}
 use Rattle.mt_model.specs.declared.step.Step.{Step}
-use Rattle.mt_model.specs.declared.step.Step.TheVariants.{Low, High, Rise, Message, Late, Extra, Order}
+use Rattle.mt_model.specs.declared.step.Step.TheVariants.{Low, High, Rise, Message, Late, Under, Over, Extra, Order}
 use Rattle.mt_model.specs.Laws.{IsBound}
-use Rattle.mt_model.specs.Log.{IsLog, Logged, received_by}
-use Rattle.mt_model.specs.Timing.{is_send_of, previous_row, received_in, send_of}
-use Rattle.mt_model.specs.Walks.{Edge, HasEdges, edge_of, is_row}
+use Rattle.mt_model.specs.Log.{IsExtra, IsLog, Logged, received_by}
+use Rattle.mt_model.specs.Timing.{clock_of, is_send_of, previous_row, received_in, send_of}
+use Rattle.mt_model.specs.Walks.{Edge, HasEdges, edge_of, is_row, node_count_of}
 use Rattle.skew_bounds.specs.Consistency.{IsConflict, VisitsOnce, start_of}
 use Rattle.proof_log.specs.Spelled.{IsSpelledCycle, IsSpelledStep}
 
@@ -35,7 +37,7 @@ message_rows log r s is =
 module _ (log : Logged) (valid : IsLog log) where
   -- the edge of a bound begins at one of the log's moments, and the bound has a spelling
   record IsInside (s : Step) (x : Edge) : Type 0 where
-    from : x.from < length log.rows + 1
+    from : x.from < node_count_of log
     spelled : IsSpelledStep s
 
   bound_inside : (s : Step) (x : Edge) → IsBound s → edge_of log s ≡ Some x → IsInside s x
@@ -63,22 +65,34 @@ module _ (log : Logged) (valid : IsLog log) where
       let parts = mapped_some _ _ _ limited in
       let rows = message_rows log r s sent in
       record { from = rw (← parts.2) (omega (arith, rows.receive)); spelled = omega (arith, rows.receive, valid.few_rows) })
+  bound_inside (Under e) x bound is =
+      let guarded = guarded_some (is_row log e) (option_map _ (clock_of log e)) x is in
+      let parts = mapped_some _ _ _ guarded.1 in
+      let row = ltb-true _ _ guarded.0 in
+      let clock = clock-within log valid e parts.0 parts.1 in
+      record { from = rw (← parts.2) (omega (arith, clock)); spelled = omega (arith, row, valid.few_rows) }
+  bound_inside (Over e) x bound is =
+      let guarded = guarded_some (is_row log e) (option_map _ (clock_of log e)) x is in
+      let parts = mapped_some _ _ _ guarded.1 in
+      let row = ltb-true _ _ guarded.0 in
+      record { from = rw (← parts.2) (omega (arith, row)); spelled = omega (arith, row, valid.few_rows) }
   bound_inside (Extra k) x bound is =
-      let parts = mapped_some _ _ _ is in
-      let within = slice_get_within log.extras k parts.0 parts.1 in
-      let there = get_or_from_slice_get log.extras k parts.0 parts.0 parts.1 in
-      let extra = rw there at (valid.extras k parts.0 within) in
-      record { from = rw (← parts.2) (omega (arith, extra.e)); spelled = omega (arith, within, valid.few_extras) }
+      option_and_then_some _ (slice_get log.extras k) x is
+      (λ y found guarded.
+      let parts = cond_some _ _ _ guarded in
+      let within = slice_get_within log.extras k y found in
+      let extra = at-place (IsExtra (length log.rows)) log.extras k y valid.extras found in
+      record { from = rw (← parts.1) (omega (arith, extra.e)); spelled = omega (arith, within, valid.few_extras) })
   bound_inside (Order e f c) x bound is = absurd bound
 
-  starts_below : (steps : List Step) (edges : List Edge) → All IsBound steps → HasEdges log steps edges → All (λ n. n < length log.rows + 1) (map (λ x. x.from) edges)
-  starts_below [] [] bounds found = All-nil (λ n. n < length log.rows + 1)
+  starts_below : (steps : List Step) (edges : List Edge) → All IsBound steps → HasEdges log steps edges → All (λ n. n < node_count_of log) (map (λ x. x.from) edges)
+  starts_below [] [] bounds found = All-nil (λ n. n < node_count_of log)
   starts_below [] (x ∷ xs) bounds found = absurd (cc)
   starts_below (s ∷ ss) [] bounds found = absurd (cc)
   starts_below (s ∷ ss) (x ∷ xs) bounds found =
       let here : edge_of log s ≡ Some x = cc in
       let others : HasEdges log ss xs = cc in
-      All-cons (λ n. n < length log.rows + 1) x.from (map (λ y. y.from) xs) (bound_inside s x (All-head IsBound s ss bounds) here).from
+      All-cons (λ n. n < node_count_of log) x.from (map (λ y. y.from) xs) (bound_inside s x (All-head IsBound s ss bounds) here).from
       (starts_below ss xs (All-tail IsBound s ss bounds) others)
 
   each_spelled : (steps : List Step) (edges : List Edge) → All IsBound steps → HasEdges log steps edges → All IsSpelledStep steps
@@ -126,19 +140,19 @@ module _ (log : Logged) (valid : IsLog log) where
   ]
 
   -- as many steps as there are moments at most
-  few_steps : (steps : List Step) → IsConflict log steps → length steps ≤ length log.rows + 1
+  few_steps : (steps : List Step) → IsConflict log steps → length steps ≤ node_count_of log
   few_steps steps conflict =
       let edges = conflict.conflict.edges in
       let found = conflict.conflict.found in
       let count : length steps ≡ length edges = sym (length-map steps (edge_of log)) ∙ ap length found ∙ length-map edges Some in
       let froms = map (λ (x : Edge). x.from) edges in
       let apart = IsDistinct-from_AllPairs Decides-eqb froms (starts_apart steps edges found conflict.once) in
-      let few = length-le_from_distinct_below froms (length log.rows + 1) apart (below_each (length log.rows + 1) froms (starts_below steps edges conflict.bounds found)) in
+      let few = length-le_from_distinct_below froms (node_count_of log) apart (below_each (node_count_of log) froms (starts_below steps edges conflict.bounds found)) in
       let many : length froms ≡ length edges = length-map edges (λ x. x.from) in
       omega (arith, few, many, count)
 
   pub walk_spelled : (steps : List Step) → IsConflict log steps → IsSpelledCycle steps
   walk_spelled steps conflict = record {
-    count = omega (arith, few_steps steps conflict, valid.few_rows);
+    count = omega (arith, few_steps steps conflict, valid.few_rows, valid.clocks.few);
     each = each_spelled steps conflict.conflict.edges conflict.bounds conflict.conflict.found;
   }

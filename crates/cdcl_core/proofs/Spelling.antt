@@ -83,8 +83,10 @@ module _ (log : Logged) (valid : IsLog log) where
   step_spelled (step.Rise f) x is = row_number f (passed (is_row log f) _ x is)
   step_spelled (step.Message r) x is = let (s, sent) = mapped _ (send_of log r) x is in received_number r s sent
   step_spelled (step.Late r) x is = let (s, sent) = chained _ (send_of log r) x is in received_number r s sent
+  step_spelled (step.Under e) x is = row_number e (passed (is_row log e) _ x is)
+  step_spelled (step.Over e) x is = row_number e (passed (is_row log e) _ x is)
   step_spelled (step.Extra k) x is =
-      let (extra, there) = mapped _ (slice_get log.extras k) x is in
+      let (extra, there) = chained _ (slice_get log.extras k) x is in
       let few = valid.few_extras in
       few_number (length log.extras) k (slice_get_within log.extras k extra there) (omega (arith, few))
   step_spelled (step.Order e f c) x is = order_spelled e f c (passed (is_order log e f c) _ x is)

@@ -33,7 +33,7 @@ use Rattle.cdcl_core.specs.Recording.{AreOfLog, IsRecord, IsRuleInRange}
 use Rattle.cdcl_core.specs.Running.{IsRun}
 use Rattle.cdcl_core.specs.Searching.{IsSearch}
 use Rattle.cdcl_core.proofs.Pairs.{atom_there}
-use Rattle.cdcl_core.proofs.ProblemAtoms.{atoms-in-range, orders-among, orders-more}
+use Rattle.cdcl_core.proofs.ProblemAtoms.{atoms-in-range, orders-in-range, orders-more, orders-of-rows}
 use Rattle.cdcl_core.proofs.Records.{begun, rules_spelled}
 use Rattle.cdcl_core.proofs.Spending.{spending_begun}
 use Rattle.mtl_encode.proofs.VariableLemmas.{lits-below}
@@ -86,13 +86,15 @@ links_fit t g atoms links vars orders linked = record {
 module _ (cores : CoresAreCores) (nodes_law : NodesAreSubtrees) (p : Problem) (posed : IsPosed p) where
   -- the order atoms are differences of nodes within the limits
   pub posed_orders : All (IsOrderAmong p.nodes) p.atoms
-  posed_orders = orders-among cores nodes_law posed.log posed.form posed.value p posed.fits posed.formula
+  posed_orders =
+      orders-more (length posed.log.rows + 1) p.nodes p.atoms (omega (arith, posed.fits.nodes))
+      (orders-of-rows cores nodes_law posed.log posed.form posed.value p posed.fits posed.formula)
 
   of_log : (log : Logged) (f : Form) (v : Bool) → IsLog log → Fits (sought_of log f v) p → AreOfLog (sought_of log f v) p.atoms
   of_log log f v valid fits = record {
     valid = valid;
     in_range = atoms-in-range cores nodes_law log f v p fits;
-    orders = subst (λ n. All (IsOrderAmong n) p.atoms) fits.nodes posed_orders;
+    orders = orders-in-range (sought_of log f v) p.nodes p.atoms posed_orders (atoms-in-range cores nodes_law log f v p fits);
   }
 
   -- what is recorded before the first line

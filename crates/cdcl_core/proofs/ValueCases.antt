@@ -2,7 +2,7 @@
 use Rattle.std.proofs.Common.{◌≡◌, refl, arith, ℕ, ◌*◌, ◌<◌, ◌≤◌, Bool, List, [], ◌∷◌, length, All}
 use Rattle.std.specs.Prelude.{ℤ}
 use Rattle.mt_model.specs.declared.step.Step.{Step}
-use Rattle.mt_model.specs.declared.step.Step.TheVariants.{Low, High, Rise, Message, Late, Extra, Order}
+use Rattle.mt_model.specs.declared.step.Step.TheVariants.{Low, High, Rise, Message, Late, Under, Over, Extra, Order}
 use Rattle.mt_model.specs.Form.{Form}
 use Rattle.mt_model.specs.Laws.{IsBound}
 use Rattle.mt_model.specs.Log.{IsLog, Logged}
@@ -25,7 +25,7 @@ use Rattle.cdcl_core.specs.declared.value.Searched.TheVariants as searched
 use Rattle.cdcl_core.proofs.ShortWalks.{walk_spelled}
 
 module _ (log : Logged) (f : Form) (v : Bool) (budget : ℕ) where
-  pub model_found : (numbers t : List ℤ) → t ≡ times_of numbers → Admissible log (times_of numbers) → truth log (times_of numbers) 0 f ≡ v → IsSearched log f v budget (searched.Timing t)
+  pub model_found : (numbers t : List ℤ) → t ≡ times_of (length log.rows) numbers → Admissible log (times_of (length log.rows) numbers) → truth log (times_of (length log.rows) numbers) 0 f ≡ v → IsSearched log f v budget (searched.Timing t)
   model_found numbers t same admissible value = rw same (record { admissible = admissible; value = value })
 
   module _ (lines : List Line) where
@@ -43,6 +43,8 @@ none_negated (High e ∷ ss) bounds = none_negated ss (All-tail IsBound (High e)
 none_negated (Rise e ∷ ss) bounds = none_negated ss (All-tail IsBound (Rise e) ss bounds)
 none_negated (Message e ∷ ss) bounds = none_negated ss (All-tail IsBound (Message e) ss bounds)
 none_negated (Late e ∷ ss) bounds = none_negated ss (All-tail IsBound (Late e) ss bounds)
+none_negated (Under e ∷ ss) bounds = none_negated ss (All-tail IsBound (Under e) ss bounds)
+none_negated (Over e ∷ ss) bounds = none_negated ss (All-tail IsBound (Over e) ss bounds)
 none_negated (Extra k ∷ ss) bounds = none_negated ss (All-tail IsBound (Extra k) ss bounds)
 none_negated (Order e f c ∷ ss) bounds = absurd (All-head IsBound (Order e f c) ss bounds)
 

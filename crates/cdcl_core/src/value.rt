@@ -44,13 +44,14 @@ pub fn search_value(
     bounds_are_admissible();
     // What a log and a formula are, their parts are known with.
     log_is_valid(question.log());
+    let rows = question.log().rows().len();
     let _ = question.formula().tree();
     let problem = encode_by(alloc, question, value, tight)?;
     match search(alloc, problem, budget.get())? {
         Found::Model {
             values: _,
             potentials,
-        } => Ok(Searched::Timing(times_of(alloc, potentials.as_slice())?)),
+        } => Ok(Searched::Timing(times_of(alloc, rows, potentials.as_slice())?)),
         Found::Refuted(lines) => Ok(Searched::Refuted(lines)),
         Found::Spent(lines) => Ok(Searched::Spent(lines)),
     }

@@ -156,6 +156,13 @@ seeds-have-logs seed = record {
   hosts = made-each demo_host 6 IsHost host-valid;
   rows = rows-valid seed;
   resyncs = record { each = λ k d within. absurd (omega (arith, within)); in_order = λ i j d order within. absurd (omega (arith, within)) };
+  clocks = record { few = omega arith; named = λ k d within. absurd (omega (arith, within)); apart = λ i j d order within. absurd (omega (arith, within)) };
+  readings = record {
+    each = λ k d within. absurd (omega (arith, within));
+    in_order = λ i j d order within. absurd (omega (arith, within));
+    in_turn = λ i k d within less. absurd (omega (arith, within));
+    read = λ k within. absurd (omega (arith, within));
+  };
   extras = λ k d within. absurd (omega (arith, within));
 }
 

@@ -13,6 +13,7 @@ use Rattle.mt_model.specs.declared.log.Row.{Row}
 use Rattle.mt_model.specs.Log.{received_by, sent_by}
 use Rattle.mt_model.specs.Timing.{gap_of, host_of, is_send_of, least_delay, local_of, most_delay, previous_row, received_in, send_of, skew_of, time_of}
 use Rattle.mt_model.proofs.PreviousRows.{is_last}
+use Rattle.mt_model.proofs.Unread.{offsets-unread}
 use Rattle.demo_log.specs.DemoLog.{SeedsAreConsistent, demo_act, demo_host, demo_row, draw_for, local_times, log_of_seed}
 use Rattle.demo_log.proofs.SeedLogs.{numbered-one, received-act, sent-act}
 
@@ -108,4 +109,5 @@ seeds-consistent seed = record {
   message = arrives seed;
   late = λ s r most small sent limited. let none = unlimited seed r small in absurd (cc);
   extra = λ k x is. absurd (cc);
+  clocks = offsets-unread (log_of_seed seed) refl (local_times seed);
 }

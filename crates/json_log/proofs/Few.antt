@@ -9,14 +9,13 @@ use Rattle.serde_json.specs.Find.{as_array, get_member}
 use Rattle.serde_json.specs.Read.{read}
 use Rattle.log_read.specs.LogText.{header}
 use Rattle.log_read.specs.Records.{Record}
-use Rattle.log_read.specs.declared.version.Version.TheVariants as version
 use Rattle.json_log.specs.declared.fault.JsonFault.{JsonFault}
 use Rattle.json_log.specs.declared.fault.JsonFault.TheVariants as fault
 use Rattle.json_log.specs.declared.key.Key.{Key}
 use Rattle.json_log.specs.declared.key.Key.TheVariants as key
-use Rattle.json_log.specs.Entries.{alone, clock_record, delayed_host_keys, event_records, host_keys, host_records, in_turn, latency_record, record_of_kind}
+use Rattle.json_log.specs.Entries.{alone, span_record, delayed_host_keys, event_records, host_keys, host_records, in_turn, latency_record, record_of_kind}
 use Rattle.json_log.specs.Extends.{Stops}
-use Rattle.json_log.specs.JsonLogOf.{json_records, records_at, records_in, records_of, value_of}
+use Rattle.json_log.specs.JsonLogOf.{json_records, records_at, records_in, records_of, value_of, version_in}
 use Rattle.json_log.specs.Keys.{word_of}
 use Rattle.json_log.specs.Look.{has_exactly, items_at, text_at, value_at}
 use Rattle.json_log.proofs.Sizes.{AtMost, AtMost-and_then, AtMost-map, items_size, members_size, size, size-read}
@@ -95,9 +94,9 @@ few-host : (d : Data) → AtMost length (size d) (host_records d)
 few-host d = by (has_exactly host_keys d) (has_exactly delayed_host_keys d)
   where
     by : (plain late : Bool)
-        → AtMost length (size d) (if plain then alone (clock_record (codes "host") key.Name d) else if late then in_turn (clock_record (codes "host") key.Name d) (latency_record d) else None)
-    by true late = one-alone (clock_record (codes "host") key.Name d) (size d) (some-size d)
-    by false true = two-in_turn (clock_record (codes "host") key.Name d) (latency_record d) (size d) (two-parts d)
+        → AtMost length (size d) (if plain then alone (span_record (codes "host") key.Name d) else if late then in_turn (span_record (codes "host") key.Name d) (latency_record d) else None)
+    by true late = one-alone (span_record (codes "host") key.Name d) (size d) (some-size d)
+    by false true = two-in_turn (span_record (codes "host") key.Name d) (latency_record d) (size d) (two-parts d)
     by false false = tt
 
 few-event : (d : Data) → AtMost length (size d) (event_records d)
@@ -123,12 +122,12 @@ module _ (of : Data → Option (List Record)) (few : (d : Data) → AtMost lengt
 
 -- the records of both arrays behind the header
 abbrev both : Data → Option (List Record)
-both d = option_and_then (λ hosts. option_map (λ events. header version.Two ∷ hosts ++ events) (records_at event_records key.Events d)) (records_at host_records key.Hosts d)
+both d = option_and_then (λ hosts. option_map (λ events. header (version_in d) ∷ hosts ++ events) (records_at event_records key.Events d)) (records_at host_records key.Hosts d)
 
 few-both : (d : Data) → AtMost (λ rs. 5 + length rs) (size d + size d) (both d)
 few-both d =
     AtMost-and_then (λ rs. 3 + length rs) (λ rs. 5 + length rs) (size d) (size d + size d) _
-    (λ hosts x. AtMost-map (λ rs. 3 + length rs) (λ rs. 5 + length rs) (size d) (size d + size d) (λ events. header version.Two ∷ hosts ++ events)
+    (λ hosts x. AtMost-map (λ rs. 3 + length rs) (λ rs. 5 + length rs) (size d) (size d + size d) (λ events. header (version_in d) ∷ hosts ++ events)
     (λ events y. omega (arith, length-append hosts events, x, y))
     (records_at event_records key.Events d) (few-at event_records few-event key.Events d)) (records_at host_records key.Hosts d) (few-at host_records few-host key.Hosts d)
 

@@ -4,20 +4,20 @@ use Rattle.std.specs.Fmt.{signed_decimal}
 use Rattle.log_read.specs.Records.{Record}
 use Rattle.json_log.specs.declared.entry.Delays.{Delays}
 use Rattle.json_log.specs.declared.entry.Entry.{Entry}
-use Rattle.json_log.specs.declared.entry.Last.{Last}
-use Rattle.json_log.specs.declared.entry.Last.TheVariants as last
+use Rattle.json_log.specs.declared.entry.Part.{Part}
+use Rattle.json_log.specs.declared.entry.Part.TheVariants as part
 use Rattle.json_log.specs.declared.fault.JsonFault.{JsonFault}
 use Rattle.json_log.specs.declared.fault.JsonFault.TheVariants as fault
 
--- what stands last, as a field
-abbrev pub last_text : Last → List ℕ
-last_text (last.Word text) = text.now
-last_text (last.Number n) = signed_decimal n
-last_text last.Infinite = codes "inf"
+-- a part of a record, as a field
+abbrev pub part_text : Part → List ℕ
+part_text (part.Word text) = text.now
+part_text (part.Number n) = signed_decimal n
+part_text part.Infinite = codes "inf"
 
 -- an entry as a record
 abbrev pub record_in : Entry → Record
-record_in e = e.kind.now ∷ e.host.now ∷ signed_decimal e.number ∷ last_text e.last ∷ []
+record_in e = e.kind.now ∷ part_text e.subject ∷ signed_decimal e.number ∷ part_text e.last ∷ []
 
 -- a greatest delay, as a field
 abbrev pub most_text : Option ℤ → List ℕ

@@ -2,16 +2,16 @@
 
 ghost use Rattle.std.specs.Prelude.{◌≡◌, ◌||◌, Some, option_map};
 ghost use Rattle.serde_json.specs.View.{items_view, view};
-ghost use Rattle.json_log.specs.Entries.{clock_record, delays_of, latency_record, most_of, record_of_kind, row_record};
+ghost use Rattle.json_log.specs.Entries.{bound_record, delays_of, latency_record, most_of, reading_record, record_of_kind, row_record, span_record};
 ghost use Rattle.json_log.specs.Extends.{delays_in, most_text, record_in};
 
 use crate::key::Key;
 use crate::look::{has_exactly, items_at, text_at, whole, whole_at};
 use serde_json::Value;
 
-/// What stands last in a record.
+/// A part of a record behind its kind.
 #[derive(Clone, Copy)]
-pub enum Last<'a> {
+pub enum Part<'a> {
     /// A word.
     Word(&'a str),
     /// A number, in decimal.
@@ -20,13 +20,13 @@ pub enum Last<'a> {
     Infinite,
 }
 
-/// A record as a JSON value has it.
+/// A record as a JSON value has it: its subject is a host, or the later row of a bound.
 #[derive(Clone, Copy)]
 pub struct Entry<'a> {
     pub kind: &'a str,
-    pub host: &'a str,
+    pub subject: Part<'a>,
     pub number: i128,
-    pub last: Last<'a>,
+    pub last: Part<'a>,
 }
 
 /// The least and the greatest delay of a latency.
@@ -37,14 +37,14 @@ pub struct Delays {
 }
 
 // The entry of a word that an object gives with the name at a key, its skew and its gap.
-pub fn clock<'a>(kind: &'a str, named: Key, value: &'a Value) -> Option<Entry<'a>>
-    ensures { option_map record_in result ≡ clock_record kind.now named (view value.now) }
+pub fn span<'a>(kind: &'a str, named: Key, value: &'a Value) -> Option<Entry<'a>>
+    ensures { option_map record_in result ≡ span_record kind.now named (view value.now) }
 {
     Some(Entry {
         kind,
-        host: text_at(value, named)?,
+        subject: Part::Word(text_at(value, named)?),
         number: whole_at(value, Key::Skew)?,
-        last: Last::Number(whole_at(value, Key::Gap)?),
+        last: Part::Number(whole_at(value, Key::Gap)?),
     })
 }
 
@@ -80,11 +80,11 @@ pub fn latency(value: &Value) -> Option<Entry<'_>>
     let delays = read_delays(items_at(value, Key::Latency)?)?;
     Some(Entry {
         kind: "latency",
-        host,
+        subject: Part::Word(host),
         number: delays.least,
         last: match delays.most {
-            Some(most) => Last::Number(most),
-            None => Last::Infinite,
+            Some(most) => Part::Number(most),
+            None => Part::Infinite,
         },
     })
 }
@@ -95,9 +95,33 @@ fn row<'a>(kind: &'a str, value: &'a Value) -> Option<Entry<'a>>
 {
     Some(Entry {
         kind,
-        host: text_at(value, Key::Host)?,
+        subject: Part::Word(text_at(value, Key::Host)?),
         number: whole_at(value, Key::Time)?,
-        last: Last::Word(text_at(value, Key::Name)?),
+        last: Part::Word(text_at(value, Key::Name)?),
+    })
+}
+
+// The record of a reading of a clock.
+fn reading<'a>(kind: &'a str, value: &'a Value) -> Option<Entry<'a>>
+    ensures { option_map record_in result ≡ reading_record kind.now (view value.now) }
+{
+    Some(Entry {
+        kind,
+        subject: Part::Word(text_at(value, Key::Host)?),
+        number: whole_at(value, Key::Error)?,
+        last: Part::Word(text_at(value, Key::Clock)?),
+    })
+}
+
+// The record of a bound.
+fn bound<'a>(kind: &'a str, value: &'a Value) -> Option<Entry<'a>>
+    ensures { option_map record_in result ≡ bound_record kind.now (view value.now) }
+{
+    Some(Entry {
+        kind,
+        subject: Part::Number(whole_at(value, Key::Later)?),
+        number: whole_at(value, Key::Earlier)?,
+        last: Part::Number(whole_at(value, Key::Most)?),
     })
 }
 
@@ -107,7 +131,19 @@ pub fn event<'a>(kind: &'a str, value: &'a Value) -> Option<Entry<'a>>
 {
     if kind == "resync" {
         if has_exactly(value, &[Key::Kind, Key::Host, Key::Skew, Key::Gap]) {
-            clock(kind, Key::Host, value)
+            span(kind, Key::Host, value)
+        } else {
+            None
+        }
+    } else if kind == "clock" {
+        if has_exactly(value, &[Key::Kind, Key::Host, Key::Clock, Key::Error]) {
+            reading(kind, value)
+        } else {
+            None
+        }
+    } else if kind == "bound" {
+        if has_exactly(value, &[Key::Kind, Key::Later, Key::Earlier, Key::Most]) {
+            bound(kind, value)
         } else {
             None
         }

@@ -15,6 +15,11 @@ pub enum Key {
     Kind,
     Host,
     Time,
+    Clock,
+    Error,
+    Later,
+    Earlier,
+    Most,
 }
 
 impl Key {
@@ -32,6 +37,11 @@ impl Key {
             Key::Kind => "kind",
             Key::Host => "host",
             Key::Time => "time",
+            Key::Clock => "clock",
+            Key::Error => "error",
+            Key::Later => "later",
+            Key::Earlier => "earlier",
+            Key::Most => "most",
         }
     }
 }

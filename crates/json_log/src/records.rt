@@ -2,13 +2,12 @@
 
 ghost use Rattle.std.specs.Prelude.{◌≡◌, [], ◌∷◌, MatchResult, Some, IfOk, option_map, string_bytes};
 ghost use Rattle.log_read.specs.LogText.{header as header_of};
-ghost use Rattle.log_read.specs.declared.version.Version.TheVariants.{Two};
 ghost use Rattle.serde_json.specs.View.{items_view, view};
-ghost use Rattle.json_log.specs.Entries.{alone, event_records, host_records};
-ghost use Rattle.json_log.specs.Extends.{Extends, Stops, last_text, record_in};
-ghost use Rattle.json_log.specs.JsonLogOf.{records_in, records_of as records_due};
+ghost use Rattle.json_log.specs.Entries.{alone, event_records, host_records, is_of_three};
+ghost use Rattle.json_log.specs.Extends.{Extends, Stops, part_text, record_in};
+ghost use Rattle.json_log.specs.JsonLogOf.{any_in, records_in, records_of as records_due, version_if};
 
-use crate::entry::{Entry, Last, clock, event, latency};
+use crate::entry::{Entry, Part, event, latency, span};
 use crate::fault::JsonFault;
 use crate::key::Key;
 use crate::look::{has_exactly, items_at, text_at};
@@ -20,40 +19,41 @@ use std::alloc::{AllocError, Global};
 fn fields(
     alloc: Global,
     word: &str,
-    host: &str,
+    subject: &str,
     number: &str,
     last: &str,
 ) -> Result<Fields, AllocError>
-    ensures { IfOk result (λ r. r ≡ word.now ∷ host.now ∷ number.now ∷ last.now ∷ []) }
+    ensures { IfOk result (λ r. r ≡ word.now ∷ subject.now ∷ number.now ∷ last.now ∷ []) }
 {
     let mut fields = Fields::new(alloc);
     fields.push(word.as_bytes())?;
-    fields.push(host.as_bytes())?;
+    fields.push(subject.as_bytes())?;
     fields.push(number.as_bytes())?;
     fields.push(last.as_bytes())?;
     Ok(fields)
 }
 
-// The last field of a record.
-fn last_field(alloc: Global, last: Last<'_>) -> Result<String, AllocError>
-    ensures { IfOk result (λ s. string_bytes s ≡ last_text last.entry) }
+// A part of a record as a field.
+fn part_field(alloc: Global, part: Part<'_>) -> Result<String, AllocError>
+    ensures { IfOk result (λ s. string_bytes s ≡ part_text part.entry) }
 {
-    match last {
-        Last::Word(text) => String::from_str(alloc, text),
-        Last::Number(n) => n.to_string(alloc),
-        Last::Infinite => String::from_str(alloc, "inf"),
+    match part {
+        Part::Word(text) => String::from_str(alloc, text),
+        Part::Number(n) => n.to_string(alloc),
+        Part::Infinite => String::from_str(alloc, "inf"),
     }
 }
 
 fn record(alloc: Global, entry: Entry<'_>) -> Result<Fields, AllocError>
     ensures { IfOk result (λ r. r ≡ record_in entry.entry) }
 {
+    let subject = part_field(alloc, entry.subject)?;
     let number = entry.number.to_string(alloc)?;
-    let last = last_field(alloc, entry.last)?;
+    let last = part_field(alloc, entry.last)?;
     fields(
         alloc,
         entry.kind,
-        entry.host,
+        subject.as_str(),
         number.as_str(),
         last.as_str(),
     )
@@ -75,9 +75,9 @@ fn add_host(alloc: Global, records: &mut RecordList, host: &Value) -> Result<(),
     ensures { Extends result (host_records (view host.now)) records.old records.new }
 {
     if has_exactly(host, &[Key::Name, Key::Skew, Key::Gap]) {
-        add(alloc, records, clock("host", Key::Name, host))
+        add(alloc, records, span("host", Key::Name, host))
     } else if has_exactly(host, &[Key::Name, Key::Skew, Key::Gap, Key::Latency]) {
-        add(alloc, records, clock("host", Key::Name, host))?;
+        add(alloc, records, span("host", Key::Name, host))?;
         add(alloc, records, latency(host))
     } else {
         Err(JsonFault::Shape)
@@ -118,12 +118,44 @@ fn add_events(alloc: Global, records: &mut RecordList, events: &[Value]) -> Resu
     Ok(())
 }
 
-// The record that stands first, alone.
-fn header(alloc: Global) -> Result<RecordList, AllocError>
-    ensures { IfOk result (λ rs. rs ≡ header_of Two ∷ []) }
+// Whether an event is of a kind that only version 3 of log files has.
+fn needs_three(event: &Value) -> bool
+    ensures { result ≡ is_of_three (view event.now) }
+{
+    match text_at(event, Key::Kind) {
+        Some(kind) => kind == "clock" || kind == "bound",
+        None => false,
+    }
+}
+
+fn any_needs_three(events: &[Value]) -> bool
+    ensures { result ≡ any_in is_of_three (items_view events.now) }
+{
+    for event in events {
+        if needs_three(event) {
+            return true;
+        }
+    }
+    false
+}
+
+// The header of version 3, or else of version 2.
+fn header(alloc: Global, third: bool) -> Result<Fields, AllocError>
+    ensures { IfOk result (λ r. r ≡ header_of (version_if third)) }
+{
+    if third {
+        fields(alloc, "skewlog3", "host", "time", "name")
+    } else {
+        fields(alloc, "skewlog2", "host", "time", "name")
+    }
+}
+
+// The header alone.
+fn headed(alloc: Global, third: bool) -> Result<RecordList, AllocError>
+    ensures { IfOk result (λ rs. rs ≡ header_of (version_if third) ∷ []) }
 {
     let mut records = RecordList::new(alloc);
-    records.push(fields(alloc, "skewlog2", "host", "time", "name")?)?;
+    records.push(header(alloc, third)?)?;
     Ok(records)
 }
 
@@ -137,7 +169,7 @@ pub fn records_of(alloc: Global, value: &Value) -> Result<RecordList, JsonFault>
     }
     let hosts = items_at(value, Key::Hosts).ok_or(JsonFault::Shape)?;
     let events = items_at(value, Key::Events).ok_or(JsonFault::Shape)?;
-    let mut records = header(alloc)?;
+    let mut records = headed(alloc, any_needs_three(events))?;
     add_hosts(alloc, &mut records, hosts)?;
     add_events(alloc, &mut records, events)?;
     Ok(records)

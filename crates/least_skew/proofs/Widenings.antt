@@ -131,6 +131,7 @@ module _ (log : Logged) (y z : ℤ) (less : y ≤ℤ z) where
     message = λ s r within sent. subst (λ d. (time_of t s +ℤ d) ≤ℤ time_of t r) (least-at log y r ∙ sym (least-at log z r)) (ok.message s r within sent);
     late = λ s r most within sent limited. ok.late s r most within sent (most-at log y r ∙ sym (most-at log z r) ∙ limited);
     extra = ok.extra;
+    clocks = record { offsets = ok.clocks.offsets; are = record { count = ok.clocks.are.count; under = ok.clocks.are.under; over = ok.clocks.are.over } };
   }
 
 module _ (log : Logged) (z : ℤ) (less : pos 0 ≤ℤ z) where
@@ -146,6 +147,7 @@ module _ (log : Logged) (z : ℤ) (less : pos 0 ≤ℤ z) where
     message = λ s r within sent. subst (λ d. (time_of t s +ℤ d) ≤ℤ time_of t r) (sym (least-at log z r)) (ok.message s r within sent);
     late = λ s r most within sent limited. ok.late s r most within sent (sym (most-at log z r) ∙ limited);
     extra = ok.extra;
+    clocks = record { offsets = ok.clocks.offsets; are = record { count = ok.clocks.are.count; under = ok.clocks.are.under; over = ok.clocks.are.over } };
   }
 
 pos-le : (r s : ℕ) → r ≤ s → pos r ≤ℤ pos s

@@ -44,7 +44,8 @@ fn admits(alloc: Global, log: &Log, times: &[i128]) -> Result<bool, AllocError>
     ensures { IfOk result (λ b. IsTrue b → Admissible log.now times.now) }
 {
     let bounds = bounds(alloc, log)?;
-    Ok(first_broken(log, bounds.as_slice(), times).is_none())
+    let readings = log.readings_by_row(alloc)?;
+    Ok(first_broken(log, readings.as_slice(), bounds.as_slice(), times).is_none())
 }
 
 /// The least widening from `low` to s with which times are admissible that are with s, so far as the skews alone tell.

@@ -17,6 +17,7 @@ use Rattle.log_read.specs.Records.{Listing}
 use Rattle.log_read.specs.Reading.{with_record}
 use Rattle.log_read.specs.LogOf.{fault_of, is_declared}
 use Rattle.log_read.specs.LogText.{host_fields}
+use Rattle.log_read.proofs.Listing.{listing}
 use Rattle.log_read.proofs.Middles.{All-middle, AllPairs-middle}
 use Rattle.decimal.proofs.Printed.{number-printed}
 use Rattle.log_read.proofs.Runs.{Runs, known-host, runs-cons, runs-none}
@@ -35,7 +36,7 @@ pub record AreHosts (hosts : List Host) : Type 0 where
 
 -- what the records of hosts list
 abbrev pub hosts_listing : List Host → Listing
-hosts_listing hosts = record { hosts = map bare hosts; rows = []; resyncs = []; latencies = [] }
+hosts_listing hosts = listing (map bare hosts) [] [] [] [] [] []
 
 module _ (v : Version) (before : List Host) (h : Host) (after : List Host) (hosts : AreHosts (before ++ h ∷ after)) where
   -- its name is a new one
@@ -62,7 +63,7 @@ module _ (v : Version) (before : List Host) (h : Host) (after : List Host) (host
   host-step : with_record (hosts_listing before) (host_fields h) ≡ hosts_listing (before ++ h ∷ [])
   host-step =
       let is = All-middle IsWritable before h after hosts.each in
-      let made = λ (hs : List Host). (let l : Listing = record { hosts = hs; rows = []; resyncs = []; latencies = [] } in l) in
+      let made = λ (hs : List Host). listing hs [] [] [] [] [] [] in
       ap (λ o. made (map bare before ++ option_to_list o)) (host_in-fields h is) ∙ ap made (sym (map_push bare before h))
 
 -- the records of hosts are read as the hosts

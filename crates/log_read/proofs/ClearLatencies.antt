@@ -14,13 +14,15 @@ use Rattle.mt_model.specs.declared.limits.TheConstants.{MAX_DELAY, MIN_DELAY}
 use Rattle.mt_model.specs.Log.{HasDelays}
 use Rattle.decimal.proofs.Printed.{number-below-printed}
 use Rattle.log_read.specs.declared.latency.Latency.{Latency}
-use Rattle.log_read.specs.declared.version.Version.TheVariants as version
-use Rattle.log_read.specs.LogOf.{fault_of, is_delayed, is_empty}
+use Rattle.log_read.specs.declared.kind.Kind.TheVariants as kind
+use Rattle.log_read.specs.declared.version.Version.{Version}
+use Rattle.log_read.specs.LogOf.{fault_of, is_delayed, is_empty, known_in}
 use Rattle.log_read.specs.LogText.{has_latency, latency_fields, most_text}
 use Rattle.log_read.specs.Reading.{with_record}
 use Rattle.log_read.specs.Records.{Listing, delay_in, delayed, delayed_by, greatest_in, latency_in, latency_of, latency_with, least_in, place_of_host, with_delays}
 use Rattle.mt_model.proofs.Clocks.{find-none}
 use Rattle.log_read.proofs.ClearHosts.{AreHosts, four_clear}
+use Rattle.log_read.proofs.Listing.{listing}
 use Rattle.log_read.proofs.Middles.{All-middle, AllPairs-middle}
 use Rattle.log_read.proofs.Runs.{Runs, runs-cons, runs-none}
 use Rattle.log_read.proofs.WrittenRecords.{AreDistinct, IsWritable, bare, host_name-at, place-bare}
@@ -81,10 +83,10 @@ module _ (before : List Host) (h : Host) (after : List Host) (hosts : AreHosts (
 
   -- the hosts of a log before their latencies, with the latencies of the first ones
   abbrev pub latencies_listing : List Host → Listing
-  latencies_listing some = record { hosts = map bare (before ++ h ∷ after); rows = []; resyncs = []; latencies = stated some }
+  latencies_listing some = listing (map bare (before ++ h ∷ after)) [] [] (stated some) [] [] []
 
-  latency-clear : (place : ℕ) → fault_of version.Two place (latencies_listing before) (latency_fields h) ≡ None
-  latency-clear place =
+  latency-clear : (v : Version) → known_in v (Some kind.Latency) ≡ Some kind.Latency → (place : ℕ) → fault_of v place (latencies_listing before) (latency_fields h) ≡ None
+  latency-clear v may place =
       let is = All-middle IsWritable before h after hosts.each in
       let delays = is.valid.delays in
       let found : place_of_host (map bare (before ++ h ∷ after)) h.name ≡ Some (length before) =
@@ -96,13 +98,13 @@ module _ (before : List Host) (h : Host) (after : List Host) (hosts : AreHosts (
       let most = most-printed h.most delays.most_high in
       let numbers : (is_none (least_in (decimal h.least)) || is_none (greatest_in (most_text h.most))) ≡ false = rw (least, most) refl in
       let range : option_map_or is_empty (latency_with h.name (decimal h.least) (most_text h.most)) false ≡ false = rw (stated-read h delays) (not-empty h.least h.most delays.most_low) in
-      four_clear _ _ _ _ _ _ _ _ known new numbers range
+      rw may (four_clear _ _ _ _ _ _ _ _ known new numbers range)
 
   latency-step : has_latency h ≡ true → with_record (latencies_listing before) (latency_fields h) ≡ latencies_listing (before ++ h ∷ [])
   latency-step has =
       let is = All-middle IsWritable before h after hosts.each in
       let all = map bare (before ++ h ∷ after) in
-      let made = λ (hs : List Host) (ls : List Latency). (let l : Listing = record { hosts = hs; rows = []; resyncs = []; latencies = ls } in l) in
+      let made = λ (hs : List Host) (ls : List Latency). listing hs [] [] ls [] [] [] in
       let one : stated (h ∷ []) ≡ latency_from h ∷ [] = rw has refl in
       ap (λ hs. made hs (stated before ++ option_to_list (latency_in (latency_fields h)))) (append-nil all)
       ∙ ap (λ o. made all (stated before ++ option_to_list o)) (stated-read h is.valid.delays)
@@ -111,27 +113,27 @@ module _ (before : List Host) (h : Host) (after : List Host) (hosts : AreHosts (
   latency-skip : has_latency h ≡ false → latencies_listing before ≡ latencies_listing (before ++ h ∷ [])
   latency-skip has =
       let none : stated (h ∷ []) ≡ [] = rw has refl in
-      ap (λ ls. (let l : Listing = record { hosts = map bare (before ++ h ∷ after); rows = []; resyncs = []; latencies = ls } in l))
+      ap (λ ls. listing (map bare (before ++ h ∷ after)) [] [] ls [] [] [])
       (sym (stated-append before (h ∷ []) ∙ ap (λ ls. stated before ++ ls) none ∙ append-nil (stated before)))
 
 -- the hosts of a log before their latencies, with the latencies of some
 abbrev pub listing_of : List Host → List Host → Listing
-listing_of hosts some = record { hosts = map bare hosts; rows = []; resyncs = []; latencies = stated some }
+listing_of hosts some = listing (map bare hosts) [] [] (stated some) [] [] []
 
 -- the records of latencies are read as the latencies
-pub latencies-run : (hosts before after : List Host) → before ++ after ≡ hosts → AreHosts hosts
-    → Runs version.Two (listing_of hosts before) (map latency_fields (filter has_latency after)) (listing_of hosts hosts)
-latencies-run hosts before [] split are = let same : before ≡ hosts = sym (append-nil before) ∙ split in rw same (runs-none version.Two (listing_of hosts hosts))
-latencies-run hosts before (h ∷ hs) split are =
-    let more = latencies-run hosts (before ++ h ∷ []) hs (append_assoc before (h ∷ []) hs ∙ split) are in
+pub latencies-run : (v : Version) → known_in v (Some kind.Latency) ≡ Some kind.Latency → (hosts before after : List Host) → before ++ after ≡ hosts → AreHosts hosts
+    → Runs v (listing_of hosts before) (map latency_fields (filter has_latency after)) (listing_of hosts hosts)
+latencies-run v may hosts before [] split are = let same : before ≡ hosts = sym (append-nil before) ∙ split in rw same (runs-none v (listing_of hosts hosts))
+latencies-run v may hosts before (h ∷ hs) split are =
+    let more = latencies-run v may hosts (before ++ h ∷ []) hs (append_assoc before (h ∷ []) hs ∙ split) are in
     let parts : AreHosts (before ++ h ∷ hs) = rw split are in
     go (has_latency h) refl more parts
   where
-    go : (b : Bool) → has_latency h ≡ b → Runs version.Two (listing_of hosts (before ++ h ∷ [])) (map latency_fields (filter has_latency hs)) (listing_of hosts hosts) → AreHosts (before ++ h ∷ hs)
-        → Runs version.Two (listing_of hosts before) (map latency_fields (cond b (h ∷ filter has_latency hs) (filter has_latency hs))) (listing_of hosts hosts)
+    go : (b : Bool) → has_latency h ≡ b → Runs v (listing_of hosts (before ++ h ∷ [])) (map latency_fields (filter has_latency hs)) (listing_of hosts hosts) → AreHosts (before ++ h ∷ hs)
+        → Runs v (listing_of hosts before) (map latency_fields (cond b (h ∷ filter has_latency hs) (filter has_latency hs))) (listing_of hosts hosts)
     go true has more parts =
-        runs-cons version.Two (listing_of hosts before) (listing_of hosts (before ++ h ∷ [])) (listing_of hosts hosts) (latency_fields h) (map latency_fields (filter has_latency hs))
-        (rw split at (latency-clear before h hs parts)) (rw split at (latency-step before h hs parts has)) more
+        runs-cons v (listing_of hosts before) (listing_of hosts (before ++ h ∷ [])) (listing_of hosts hosts) (latency_fields h) (map latency_fields (filter has_latency hs))
+        (rw split at (latency-clear before h hs parts v may)) (rw split at (latency-step before h hs parts has)) more
     go false has more parts = rw (rw split at (latency-skip before h hs parts has)) more
 
 same-least : (h : Host) → has_latency h ≡ false → bare h ≡ h

@@ -1,9 +1,10 @@
 -- The first fault of records, one more record at a time, and what it means that there is none.
-use Rattle.std.proofs.Common.{Ok, Err, ◌≡◌, ◌∙◌, ◌-◌, sym, ap, refl, arith, ℕ, suc, ◌+◌, ◌<◌, ◌≤◌, Bool, true, false, List, [], ◌∷◌, ◌++◌, length, get_or, take, drop, Option, Some, None, cond, add-one}
+use Rattle.std.proofs.Common.{Ok, Err, ◌≡◌, ◌∙◌, ◌-◌, sym, ap, refl, arith, ℕ, ◌+◌, ◌<◌, ◌≤◌, Bool, true, false, List, [], ◌∷◌, ◌++◌, length, get_or, take, drop, Option, Some, None, add-one}
 use Rattle.std.specs.Prelude.{All, IfSome, nat_le, not, position, option_to_list, bytes_eq}
 use Rattle.std.specs.Option.{option_map_or}
-use Rattle.std.specs.List.{position_or_len}
+use Rattle.std.specs.List.{cons_option}
 use Rattle.std.proofs.Math.Seq.{drop-cons, take-suc}
+use Rattle.std.proofs.lemmas.Bool.{or_parts}
 use Rattle.std.proofs.lemmas.Bool.Decides.{nat_tests}
 use Rattle.std.proofs.lemmas.List.{length-take-le, take_rest}
 use Rattle.std.proofs.lemmas.List.Elements.{All-nil, All-cons, All-head, All-tail, All-append}
@@ -11,6 +12,7 @@ use Rattle.std.proofs.lemmas.List.Folds.{Any-from_list_any}
 use Rattle.std.proofs.lemmas.Slice.Eq.{bytes_eq-Decides}
 use Rattle.mt_model.specs.declared.log.Host.{Host}
 use Rattle.mt_model.specs.declared.log.Row.{Row}
+use Rattle.mt_model.specs.declared.log.Extra.{Extra}
 use Rattle.mt_model.specs.Log.{IsSent, sent_by, received_by}
 use Rattle.mt_model.specs.Timing.{is_send_of}
 use Rattle.log_read.specs.declared.version.Version.{Version}
@@ -18,11 +20,12 @@ use Rattle.log_read.specs.declared.fault.LogFault.TheVariants as fault
 use Rattle.log_read.specs.declared.kind.Kind.{Kind}
 use Rattle.log_read.specs.declared.kind.Kind.TheVariants as kind
 use Rattle.log_read.specs.declared.kind.EventKind.TheVariants as event
-use Rattle.log_read.specs.Records.{Listing, Record, kind_of, row_by, row_in, host_in, log_from, rows_after, listed}
-use Rattle.log_read.specs.LogOf.{fault_of, or_else, first_fault, is_sent, is_unmatched, is_unmatched_by, log_of_records, log_under, log_under_header, version_of}
+use Rattle.log_read.specs.Records.{Listing, Record, bound_in, bounds_in, kind_of, row_by, row_in, host_in, log_from, rows_after, listed}
+use Rattle.log_read.specs.LogOf.{fault_of, or_else, first_fault, is_sent, is_unmatched, is_unmatched_by, lacks_row, log_of_records, log_under, log_under_header, names_no_row, version_of}
 use Rattle.log_read.specs.Reading.{with_record}
 use Rattle.log_read.proofs.Listing.{listed-push}
 use Rattle.log_read.proofs.Begun.{row_read}
+use Rattle.log_read.proofs.Middles.{All-position_none}
 
 take-more : (records : List Record) (i : ℕ) (r : Record) → i < length records → r ≡ get_or records i r → take (i + 1) records ≡ take i records ++ r ∷ []
 take-more records i r within is = rw (add-one, take-suc records i r within, ← is) refl
@@ -52,19 +55,6 @@ read-more v records i r log now within is before none due = record {
       ∙ ap (λ o. or_else o (first_fault v (take (i + 1) records) (drop (i + 1) records))) (ap (λ l. fault_of v (i + 2) l r) (sym before.read) ∙ none);
 }
 
-prefix_step : {X : Type 0} (p : X → Bool) (x : X) (xs : List X) (b : Bool) → p x ≡ b → (length xs ≤ position_or_len p xs → All (λ x. p x ≡ false) xs)
-    → suc (length xs) ≤ cond (not b) (1 + position_or_len p xs) 0 → All (λ x. p x ≡ false) (x ∷ xs)
-prefix_step p x xs true is rest all = absurd (omega arith)
-prefix_step p x xs false is rest all = All-cons (λ x. p x ≡ false) x xs is (rest (omega arith))
-
-prefix_all : {X : Type 0} (p : X → Bool) (xs : List X) → length xs ≤ position_or_len p xs → All (λ x. p x ≡ false) xs
-prefix_all p [] all = All-nil (λ x. p x ≡ false)
-prefix_all p (x ∷ xs) all = prefix_step p x xs (p x) refl (prefix_all p xs) all
-
--- no element passes where none is found
-pub All-position_none : {X : Type 0} (p : X → Bool) (xs : List X) → position p xs ≡ None → All (λ x. p x ≡ false) xs
-All-position_none p xs none = prefix_all p xs (let at = position_or_len p xs in grind (arith, nat_tests))
-
 -- where the test finds a row that sends the message, there is one
 pub sent_by-is : (message : List ℕ) (o : Option (List ℕ)) → option_map_or (λ m. bytes_eq m message) o false ≡ true → o ≡ Some message
 sent_by-is message None h = cc
@@ -82,6 +72,8 @@ row-matched all hosts None host local name r matched h = cc
 row-matched all hosts (Some kind.Host) host local name r matched h = cc
 row-matched all hosts (Some kind.Resync) host local name r matched h = cc
 row-matched all hosts (Some kind.Latency) host local name r matched h = cc
+row-matched all hosts (Some kind.Clock) host local name r matched h = cc
+row-matched all hosts (Some kind.Bound) host local name r matched h = cc
 row-matched all hosts (Some (kind.Event event.Recv)) host local name r matched h =
     rw ((row_read hosts event.Recv host local name r h).act) (IsSent-from_test all name (let sent = is_sent all name in by sent matched))
   where
@@ -128,11 +120,43 @@ pub no_event-is : (v : Version) (records : List Record) → first_fault v [] rec
     → log_under_header v records ≡ Err fault.NoEvent
 no_event-is v records clear none empty = rw (clear, none, empty) refl
 
-pub log-is : (v : Version) (records : List Record) → first_fault v [] records ≡ None → position (is_unmatched (listed records).rows) records ≡ None → 1 ≤ length (listed records).rows
-    → log_under_header v records ≡ Ok (log_from (listed records))
-log-is v records clear none some =
+-- a bound of rows that there are
+abbrev pub HasRows : ℕ → Extra → Type 0
+HasRows rows x = (x.e < rows) × (x.f < rows)
+
+has-rows : (rows : ℕ) (x : Extra) → lacks_row rows x ≡ false → HasRows rows x
+has-rows rows x none =
+    let parts = or_parts (nat_le rows x.e) (nat_le rows x.f) none in
+    let first = parts.0 in
+    let second = parts.1 in
+    (grind (arith, nat_tests), grind (arith, nat_tests))
+
+one-placed : (rows : ℕ) (o : Option Extra) (xs : List Extra) → option_map_or (lacks_row rows) o false ≡ false → All (HasRows rows) xs → All (HasRows rows) (cons_option o xs)
+one-placed rows None xs none all = all
+one-placed rows (Some x) xs none all = All-cons (HasRows rows) x xs (has-rows rows x none) all
+
+bounds-placed : (rows : ℕ) (records : List Record) → All (λ q. names_no_row rows q ≡ false) records → All (HasRows rows) (bounds_in records)
+bounds-placed rows [] all = All-nil (HasRows rows)
+bounds-placed rows (q ∷ qs) all =
+    let passes = λ (p : Record). names_no_row rows p ≡ false in
+    one-placed rows (bound_in q) (bounds_in qs) (All-head passes q qs all) (bounds-placed rows qs (All-tail passes q qs all))
+
+-- where no bound names a row that there isn't, each one has its rows
+pub all-placed : (records : List Record) → position (names_no_row (length (listed records).rows)) records ≡ None → All (HasRows (length (listed records).rows)) (listed records).bounds
+all-placed records none =
+    bounds-placed (length (listed records).rows) records (All-position_none (names_no_row (length (listed records).rows)) records none)
+
+pub no_row-is : (v : Version) (records : List Record) (i : ℕ) → first_fault v [] records ≡ None → position (is_unmatched (listed records).rows) records ≡ None → 1 ≤ length (listed records).rows
+    → position (names_no_row (length (listed records).rows)) records ≡ Some i → log_under_header v records ≡ Err (fault.NoRow (i + 2))
+no_row-is v records i clear none some found =
     let test : nat_le 1 (length (listed records).rows) ≡ true = grind (arith, nat_tests) in
-    rw (clear, none, test) refl
+    rw (clear, none, test, found) refl
+
+pub log-is : (v : Version) (records : List Record) → first_fault v [] records ≡ None → position (is_unmatched (listed records).rows) records ≡ None → 1 ≤ length (listed records).rows
+    → position (names_no_row (length (listed records).rows)) records ≡ None → log_under_header v records ≡ Ok (log_from (listed records))
+log-is v records clear none some placed =
+    let test : nat_le 1 (length (listed records).rows) ≡ true = grind (arith, nat_tests) in
+    rw (clear, none, test, placed) refl
 
 -- the records under the header
 pub under-header : (records : List Record) (header : Record) → 1 ≤ length records → header ≡ get_or records 0 header

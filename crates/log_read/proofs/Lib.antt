@@ -1,7 +1,9 @@
 pub mod AllRecords
 pub mod Begun
+pub mod ClearBounds
 pub mod ClearHosts
 pub mod ClearLatencies
+pub mod ClearReadings
 pub mod ClearResyncs
 pub mod ClearRows
 pub mod Copies
@@ -10,10 +12,12 @@ pub mod Lines
 pub mod Listing
 pub mod Middles
 pub mod NoMemory
+pub mod Places
 pub mod PlainFields
 pub mod PlainLogs
 pub mod PushedLines
 pub mod ReadBack
+pub mod ReadClocks
 pub mod Runs
 pub mod ValidLogs
 pub mod WrittenLines

@@ -6,10 +6,9 @@ use Rattle.std.specs.Fmt.{decimal, signed_decimal}
 use Rattle.std.specs.List.{list_all, list_any}
 use Rattle.std.proofs.lemmas.Bool.Decides.{nat_tests}
 use Rattle.std.proofs.lemmas.Int.{ints}
-use Rattle.std.proofs.lemmas.Fmt.{digits_decimal}
 use Rattle.csv.specs.Writing.{default_writer, needs_byte}
 use Rattle.mt_model.specs.Name.{is_letter, is_name, is_name_byte}
-use Rattle.decimal.proofs.Digits.{digits_model}
+use Rattle.decimal.proofs.Printed.{digits-printed}
 use Rattle.log_read.proofs.Lines.{IsPlainField}
 use Rattle.std.proofs.lemmas.Bool.{and_parts, or_from}
 
@@ -36,10 +35,10 @@ name-plain (b ∷ bs) is =
     let bytes = and_parts (is_letter b) (list_all is_name_byte bs) parts.0 in
     or_from (needs_byte default_writer b) (list_any (needs_byte default_writer) bs) (letter-plain b bytes.0) (all-plain is_name_byte name_byte-plain bs bytes.1)
 
-pub decimal-plain : (n : ℕ) → n < 2 ^ 64 → IsPlainField (decimal n)
-decimal-plain n small = all-plain is_ascii_digit digit-plain (decimal n) (digits_decimal digits_model n small)
+pub decimal-plain : (n : ℕ) → n < 10 ^ 64 → IsPlainField (decimal n)
+decimal-plain n small = all-plain is_ascii_digit digit-plain (decimal n) (digits-printed n small)
 
 -- a number
-pub signed_decimal-plain : (z : ℤ) → pos 0 ≤ℤ (z +ℤ pos (10 ^ 19)) → z ≤ℤ pos (10 ^ 19) → IsPlainField (signed_decimal z)
+pub signed_decimal-plain : (z : ℤ) → pos 0 ≤ℤ (z +ℤ pos (10 ^ 63)) → z ≤ℤ pos (10 ^ 63) → IsPlainField (signed_decimal z)
 signed_decimal-plain (pos n) low high = decimal-plain n (omega (arith, ints))
 signed_decimal-plain (negsuc n) low high = decimal-plain (suc n) (omega (arith, ints))

@@ -1,5 +1,5 @@
 -- The log that records list can be stated by a log file again.
-use Rattle.std.proofs.Common.{◌≡◌, ap, sym, subst, refl, ℕ, ◌+◌, List, get_or, [], ◌∷◌, ◌++◌, length, Option, Some, None, Ok, ℤ, ◌≤ℤ◌}
+use Rattle.std.proofs.Common.{◌≡◌, ◌≤◌, ap, sym, subst, refl, ℕ, ◌+◌, List, get_or, [], ◌∷◌, ◌++◌, length, Option, Some, None, Ok, Err, IfOk, Result, ℤ, ◌≤ℤ◌}
 use Rattle.std.specs.Prelude.{All, map, option_map, option_and_then, option_to_list}
 use Rattle.std.specs.Option.{option_map_or}
 use Rattle.std.specs.List.{cons_option}
@@ -7,17 +7,19 @@ use Rattle.std.proofs.lemmas.List.Elements.{All-append, All-cons, All-map, All-n
 use Rattle.csv.specs.Reading.{default_config, records, strip_bom}
 use Rattle.mt_model.specs.declared.log.Host.{Host}
 use Rattle.mt_model.specs.declared.resync.Resync.{Resync}
-use Rattle.mt_model.specs.declared.limits.TheConstants.{MAX_GAP, MAX_WRITTEN_SKEW, MIN_DELAY}
+use Rattle.mt_model.specs.declared.limits.TheConstants.{MAX_GAP, MAX_WRITTEN_EXTRAS, MAX_WRITTEN_SKEW, MIN_DELAY}
 use Rattle.mt_model.specs.Log.{IsPlain, Logged}
 use Rattle.log_read.specs.declared.fault.LogFault.{LogFault}
 use Rattle.log_read.specs.declared.kind.Kind.{Kind}
 use Rattle.log_read.specs.declared.kind.Kind.TheVariants as kind
 use Rattle.log_read.specs.declared.latency.Latency.{Latency}
 use Rattle.log_read.specs.declared.version.Version.{Version}
-use Rattle.log_read.specs.LogOf.{log_of_records, log_under, unless, version_of}
-use Rattle.log_read.specs.Records.{Record, delayed, delayed_by, host_by, host_in, host_with, hosts_in, kind_of, latencies_in, latency_of, listed, log_from, place_of_host, resync_by, resync_in, resync_with, resyncs_after, row_in}
+use Rattle.log_read.specs.LogOf.{log_of_records, log_under, version_of}
+use Rattle.log_read.specs.Records.{Record, bounds_in, delayed, delayed_by, host_by, host_in, host_with, hosts_in, kind_of, latencies_in, latency_of, listed, log_from, place_of_host, resync_by, resync_in, resync_with, resyncs_after, row_in}
+use Rattle.log_read.specs.Reading.{Answers}
 use Rattle.log_read.specs.ValidLogs.{LogsArePlain}
 use Rattle.log_read.proofs.Begun.{number_in_range}
+use Rattle.log_read.proofs.ValidLogs.{under-begun}
 use Rattle.decimal.specs.Numbers.{number_up_to}
 
 abbrev Low : ℤ → Type 0
@@ -44,6 +46,8 @@ host_by-low (Some kind.Host) name skew gap h is = host_with-low name skew gap h 
 host_by-low (Some (kind.Event e)) name skew gap h is = absurd (cc)
 host_by-low (Some kind.Resync) name skew gap h is = absurd (cc)
 host_by-low (Some kind.Latency) name skew gap h is = absurd (cc)
+host_by-low (Some kind.Clock) name skew gap h is = absurd (cc)
+host_by-low (Some kind.Bound) name skew gap h is = absurd (cc)
 
 host_in-low : (r : Record) (h : Host) → host_in r ≡ Some h → Low h.skew
 host_in-low [] h is = absurd (cc)
@@ -88,6 +92,8 @@ resync_by-low hosts rows (Some kind.Host) host skew gap r is = absurd (cc)
 resync_by-low hosts rows (Some (kind.Event e)) host skew gap r is = absurd (cc)
 resync_by-low hosts rows (Some kind.Resync) host skew gap r is = resync_with-low hosts rows host skew gap r is
 resync_by-low hosts rows (Some kind.Latency) host skew gap r is = absurd (cc)
+resync_by-low hosts rows (Some kind.Clock) host skew gap r is = absurd (cc)
+resync_by-low hosts rows (Some kind.Bound) host skew gap r is = absurd (cc)
 
 resync_in-low : (hosts : List Host) (rows : ℕ) (rec : Record) (r : Resync) → resync_in hosts rows rec ≡ Some r → Low r.skew
 resync_in-low hosts rows [] r is = absurd (cc)
@@ -110,12 +116,8 @@ resyncs-low hosts rows (rec ∷ rs) =
 
 -- ---- the log
 
-listed-plain : (rs : List Record) → IsPlain (log_from (listed rs))
-listed-plain rs = record { no_extras = refl; skews = delayed-low (latencies_in rs) (hosts_in rs) (hosts-low rs); resyncs = resyncs-low [] 0 rs }
-
-unless-ok : (o : Option LogFault) (l log : Logged) → unless o l ≡ Ok log → l ≡ log
-unless-ok None l log is = cc
-unless-ok (Some f) l log is = absurd (cc)
+listed-plain : (rs : List Record) → length (bounds_in rs) ≤ MAX_WRITTEN_EXTRAS → IsPlain (log_from (listed rs))
+listed-plain rs few = record { extras = few; skews = delayed-low (latencies_in rs) (hosts_in rs) (hosts-low rs); resyncs = resyncs-low [] 0 rs }
 
 -- so is the log of any records
 pub records-plain : (rs : List Record) (log : Logged) → log_of_records rs ≡ Ok log → IsPlain log
@@ -124,7 +126,12 @@ records-plain (header ∷ rest) log is = by (version_of header) is
   where
     by : (o : Option Version) → log_under o rest ≡ Ok log → IsPlain log
     by None is = absurd (cc)
-    by (Some v) is = subst IsPlain (unless-ok _ (log_from (listed rest)) log is) (listed-plain rest)
+    by (Some v) is = let read = under-begun v rest log is in subst IsPlain read.1 (listed-plain rest read.0.few_bounds)
+
+-- so is the log that a call answered, where it is the one that is due
+pub answer-plain : (rs : List Record) (r : Result Logged LogFault) → Answers r (log_of_records rs) → IfOk r IsPlain
+answer-plain rs (Ok log) is = records-plain rs log is
+answer-plain rs (Err f) is = tt
 
 pub logs-plain : LogsArePlain
 logs-plain bytes log is = records-plain (records default_config (strip_bom bytes)) log is

@@ -46,7 +46,8 @@ runs-append v l middle l' xs ys one two = record {
   lists = λ before is. ap listed (sym (append_assoc before xs ys)) ∙ two.lists (before ++ xs) (one.lists before is);
 }
 
--- hosts are known in both versions
+-- hosts are known in each version
 pub known-host : (v : Version) → known_in v (Some kind.Host) ≡ Some kind.Host
 known-host version.One = refl
 known-host version.Two = refl
+known-host version.Three = refl

@@ -11,14 +11,17 @@ use Rattle.mt_model.specs.declared.log.Act.{Act}
 use Rattle.mt_model.specs.declared.log.Act.TheVariants as act
 use Rattle.mt_model.specs.declared.log.Host.{Host}
 use Rattle.mt_model.specs.declared.log.Row.{Row}
-use Rattle.mt_model.specs.Log.{Logged, name_in}
+use Rattle.mt_model.specs.declared.log.Extra.{Extra}
+use Rattle.mt_model.specs.declared.reading.Reading.{Reading}
+use Rattle.mt_model.specs.Log.{AreClockNames, IsExtra, IsLog, IsReading, Logged, name_in}
 use Rattle.mt_model.specs.Name.{is_name}
-use Rattle.log_read.specs.LogText.{act_word, has_latency, header, host_fields, host_name, latency_fields, line_of, log_records, log_text, most_text, resync_fields, resyncs_at, row_fields, rows_from, version_for}
+use Rattle.log_read.specs.LogText.{act_word, bound_fields, clock_name, has_latency, header, host_fields, host_name, latency_fields, line_of, log_records, log_text, marks_at, most_text, reading_fields, readings_at, resync_fields, resyncs_at, row_fields, rows_from, version_for}
 use Rattle.mt_model.specs.declared.resync.Resync.{Resync}
-use Rattle.mt_model.specs.declared.limits.TheConstants.{MAX_DELAY}
+use Rattle.mt_model.specs.declared.limits.TheConstants.{MAX_DELAY, MAX_ROWS}
 use Rattle.log_read.specs.declared.version.Version.{Version}
 use Rattle.log_read.specs.declared.version.Version.TheVariants as version
 use Rattle.log_read.specs.Records.{Record}
+use Rattle.log_read.proofs.ClearReadings.{clock_name-is_name}
 use Rattle.log_read.proofs.ClearResyncs.{IsWritableResync}
 use Rattle.log_read.proofs.Lines.{IsLine, IsPlainField, records-lines}
 use Rattle.log_read.proofs.PlainFields.{decimal-plain, name-plain, signed_decimal-plain}
@@ -78,38 +81,63 @@ resync-line hosts rows r all is =
     (let low = is.valid.skew_low in let high = is.skew in signed_decimal-plain r.skew (omega (arith, ints)) (omega (arith, ints)))
     (let low = is.valid.gap_low in let high = is.valid.gap_high in signed_decimal-plain r.gap (omega (arith, ints)) (omega (arith, ints)))
 
-module _ (hosts : List Host) (count : ℕ) (rs : List Resync) (writable : All IsWritable hosts) (each : All (IsWritableResync (length hosts) count) rs) where
-  block-lines : (place : ℕ) → All IsLine (resyncs_at hosts rs place)
-  block-lines place =
-      All-map IsLine (resync_fields hosts) (filter (λ r. r.place == place) rs)
-      (All-filter (λ r. r.place == place) (λ r. IsLine (resync_fields hosts r)) rs (λ k d within. resync-line hosts count _ writable (each k d within)))
+-- the record of a reading is a line
+reading-line : (log : Logged) (rows : ℕ) (r : Reading) → All IsWritable log.hosts → AreClockNames log.clocks → IsReading (length log.hosts) rows (length log.clocks) r → IsLine (reading_fields log.hosts log.clocks r)
+reading-line log rows r all names is =
+    four-fields _ _ _ _ refl (name-plain (host_name log.hosts r.host) (named log.hosts r.host all is.host))
+    (let low = is.error_low in let high = is.error_high in signed_decimal-plain r.error (omega (arith, ints)) (omega (arith, ints)))
+    (name-plain (clock_name log.clocks r.clock) (clock_name-is_name log.clocks names r.clock is.clock))
 
-  pub rows-lines : (place : ℕ) (rows : List Row) → All (IsOf hosts) rows → All IsLine (rows_from hosts rs place rows)
-  rows-lines place [] of = block-lines place
+-- the record of a bound is a line
+bound-line : (rows : ℕ) (x : Extra) → rows ≤ MAX_ROWS → IsExtra rows x → IsLine (bound_fields x)
+bound-line rows x few is =
+    four-fields _ _ _ _ refl (decimal-plain x.e (let low = is.e in omega (arith, low, few))) (decimal-plain x.f (let low = is.f in omega (arith, low, few)))
+    (let low = is.bound.low in let high = is.bound.high in signed_decimal-plain x.c (omega (arith, ints)) (omega (arith, ints)))
+
+module _ (log : Logged) (valid : IsLog log) (writable : All IsWritable log.hosts) (each : All (IsWritableResync (length log.hosts) (length log.rows)) log.resyncs) where
+  marks-lines : (place : ℕ) → All IsLine (marks_at log place)
+  marks-lines place =
+      All-append IsLine (resyncs_at log.hosts log.resyncs place) (readings_at log.hosts log.clocks log.readings place)
+      (All-map IsLine (resync_fields log.hosts) (filter (λ r. r.place == place) log.resyncs)
+      (All-filter (λ r. r.place == place) (λ r. IsLine (resync_fields log.hosts r)) log.resyncs (λ k d within. resync-line log.hosts (length log.rows) _ writable (each k d within))))
+      (All-map IsLine (reading_fields log.hosts log.clocks) (filter (λ r. r.place == place) log.readings)
+      (All-filter (λ r. r.place == place) (λ r. IsLine (reading_fields log.hosts log.clocks r)) log.readings
+      (λ k d within. reading-line log (length log.rows) _ writable valid.clocks (valid.readings.each k d within))))
+
+  rows-lines : (place : ℕ) (rows : List Row) → All (IsOf log.hosts) rows → All IsLine (rows_from log place rows)
+  rows-lines place [] of = marks-lines place
   rows-lines place (r ∷ more) of =
-      All-append IsLine (resyncs_at hosts rs place) (row_fields hosts r ∷ rows_from hosts rs (suc place) more) (block-lines place)
-      (All-cons IsLine (row_fields hosts r) (rows_from hosts rs (suc place) more) (row-line hosts r writable (All-head (IsOf hosts) r more of))
-      (rows-lines (suc place) more (All-tail (IsOf hosts) r more of)))
+      All-append IsLine (marks_at log place) (row_fields log.hosts r ∷ rows_from log (suc place) more) (marks-lines place)
+      (All-cons IsLine (row_fields log.hosts r) (rows_from log (suc place) more) (row-line log.hosts r writable (All-head (IsOf log.hosts) r more of))
+      (rows-lines (suc place) more (All-tail (IsOf log.hosts) r more of)))
 
 header-line : (v : Version) → IsLine (header v)
 header-line version.One = four-fields _ _ _ _ refl refl refl refl
 header-line version.Two = four-fields _ _ _ _ refl refl refl refl
+header-line version.Three = four-fields _ _ _ _ refl refl refl refl
 
 -- the text has no byte order mark
 header-first : (v : Version) (rest : List Record) → strip_bom (flat_map line_of (header v ∷ rest)) ≡ flat_map line_of (header v ∷ rest)
 unfolding strip_bom
 header-first version.One rest = refl
 header-first version.Two rest = refl
+header-first version.Three rest = refl
 
 -- the records of a log's text are those of the log
-pub records-written : (log : Logged) → All IsWritable log.hosts → All (IsWritableResync (length log.hosts) (length log.rows)) log.resyncs
+pub records-written : (log : Logged) → IsLog log → All IsWritable log.hosts → All (IsWritableResync (length log.hosts) (length log.rows)) log.resyncs
     → All (IsOf log.hosts) log.rows → records default_config (strip_bom (log_text log)) ≡ log_records log
-records-written log hosts resyncs rows =
-    let rest = map host_fields log.hosts ++ map latency_fields (filter has_latency log.hosts) ++ rows_from log.hosts log.resyncs 0 log.rows in
+records-written log valid hosts resyncs rows =
+    let declared = map host_fields log.hosts in
+    let late = map latency_fields (filter has_latency log.hosts) in
+    let given = rows_from log 0 log.rows in
+    let bounds = map bound_fields log.extras in
+    let rest = declared ++ late ++ given ++ bounds in
     ap (records default_config) (header-first (version_for log) rest)
     ∙ records-lines (log_records log) (All-cons IsLine (header (version_for log)) rest (header-line (version_for log))
-    (All-append IsLine (map host_fields log.hosts ++ map latency_fields (filter has_latency log.hosts)) (rows_from log.hosts log.resyncs 0 log.rows)
-    (All-append IsLine (map host_fields log.hosts) (map latency_fields (filter has_latency log.hosts))
+    (All-append IsLine (declared ++ late ++ given) bounds
+    (All-append IsLine (declared ++ late) given
+    (All-append IsLine declared late
     (All-map IsLine host_fields log.hosts (λ k d within. host-line _ (hosts k d within)))
     (All-map IsLine latency_fields (filter has_latency log.hosts) (All-filter has_latency (λ h. IsLine (latency_fields h)) log.hosts (λ k d within. latency-line _ (hosts k d within)))))
-    (rows-lines log.hosts (length log.rows) log.resyncs hosts resyncs 0 log.rows rows)))
+    (rows-lines log valid hosts resyncs 0 log.rows rows))
+    (All-map IsLine bound_fields log.extras (λ k d within. bound-line (length log.rows) _ valid.few_rows (valid.extras k d within)))))

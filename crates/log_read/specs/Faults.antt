@@ -21,6 +21,10 @@ number_of (fault.TooManyHosts place) = 12
 number_of (fault.TooManyEvents place) = 13
 number_of (fault.DoubleLatency place) = 15
 number_of (fault.LatencyRange place) = 16
+number_of (fault.TooManyClocks place) = 17
+number_of (fault.SameRow place) = 18
+number_of (fault.TooManyBounds place) = 19
+number_of (fault.NoRow place) = 20
 
 -- the number of the record that a fault is of, from 1; a log without a row has its fault in none
 abbrev pub record_of : LogFault → Option ℕ
@@ -40,3 +44,7 @@ record_of (fault.TooManyHosts place) = Some place
 record_of (fault.TooManyEvents place) = Some place
 record_of (fault.DoubleLatency place) = Some place
 record_of (fault.LatencyRange place) = Some place
+record_of (fault.TooManyClocks place) = Some place
+record_of (fault.SameRow place) = Some place
+record_of (fault.TooManyBounds place) = Some place
+record_of (fault.NoRow place) = Some place

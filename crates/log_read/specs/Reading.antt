@@ -1,11 +1,14 @@
 -- A log that is read record by record.
-use Rattle.std.specs.Prelude.{◌≡◌, ◌⊎◌, ◌≤◌, ◌++◌, length, All, AllPairs, IfSome, Option, Some, None, option_to_list, Result, Ok, Err, MatchResult}
-use Rattle.mt_model.specs.declared.limits.TheConstants.{MAX_DELAY, MAX_HOSTS, MAX_ROWS, MIN_DELAY}
-use Rattle.mt_model.specs.Log.{AreResyncs, IsHost, IsRow, SendSame}
+use Rattle.std.specs.Prelude.{◌≡◌, ◌≢◌, ◌⊎◌, ◌≤◌, ◌++◌, length, ℕ, List, All, AllPairs, IfSome, Option, Some, None, option_map, option_to_list, Result, Ok, Err, MatchResult}
+use Rattle.mt_model.specs.declared.limits.TheConstants.{MAX_DELAY, MAX_EXTRA, MAX_HOSTS, MAX_ROWS, MAX_WRITTEN_EXTRAS, MIN_DELAY}
+use Rattle.mt_model.specs.declared.log.Extra.{Extra}
+use Rattle.mt_model.specs.declared.log.Host.{Host}
+use Rattle.mt_model.specs.Log.{AreClockNames, AreReadings, AreResyncs, IsHost, IsRow, IsWithin, SendSame}
+use Rattle.log_read.specs.declared.clock.ClockEntry.{ClockEntry}
 use Rattle.log_read.specs.declared.latency.Latency.{Latency}
 use Rattle.log_read.specs.declared.fault.LogFault.{LogFault}
 use Rattle.log_read.specs.declared.fault.LogFault.TheVariants.{Memory}
-use Rattle.log_read.specs.Records.{Listing, Record, host_in, latency_in, resync_in, row_in}
+use Rattle.log_read.specs.Records.{Listing, Record, bound_in, clock_in, host_in, latency_in, new_clock, reading_in, reading_with, resync_in, row_in}
 
 -- delays in their range, of which the greatest is not below the least
 pub record IsLatency (l : Latency) : Type 0 where
@@ -14,7 +17,12 @@ pub record IsLatency (l : Latency) : Type 0 where
   pub most_low : IfSome l.most (λ most. l.least ≤ most)
   pub most_high : IfSome l.most (λ most. most ≤ MAX_DELAY)
 
--- what a valid log may begin with: receives may still lack their sends
+-- an extra bound whose rows may still come
+pub record IsBound (x : Extra) : Type 0 where
+  pub apart : x.e ≢ x.f
+  pub bound : IsWithin MAX_EXTRA x.c
+
+-- what a valid log may begin with: receives may still lack their sends, and bounds their rows
 pub record IsBegun (l : Listing) : Type 0 where
   pub few_hosts : length l.hosts ≤ MAX_HOSTS
   pub few_rows : length l.rows ≤ MAX_ROWS
@@ -24,6 +32,14 @@ pub record IsBegun (l : Listing) : Type 0 where
   pub sent_once : AllPairs (λ q r. SendSame q r → ⊥) l.rows
   pub resyncs : AreResyncs (length l.hosts) (length l.rows) l.resyncs
   pub latencies : All IsLatency l.latencies
+  pub clocks : AreClockNames l.clocks
+  pub readings : AreReadings (length l.hosts) (length l.rows) (length l.clocks) l.readings
+  pub few_bounds : length l.bounds ≤ MAX_WRITTEN_EXTRAS
+  pub bounds : All IsBound l.bounds
+
+-- what a clock record's fields give, after these hosts, names of clocks and so many rows: a reading, and the name of its clock where it is a new one
+abbrev pub clock_entry_with : List Host → List (List ℕ) → ℕ → List ℕ → List ℕ → List ℕ → Option ClockEntry
+clock_entry_with hosts clocks rows host error name = option_map (λ r. record { reading = r; named = new_clock clocks name }) (reading_with hosts clocks rows host error name)
 
 -- a call answered what is due, or want of memory
 abbrev pub Answers : {X : Type 0} → Result X LogFault → Result X LogFault → Type 0
@@ -40,6 +56,9 @@ with_record l r = record {
   rows = l.rows ++ option_to_list (row_in l.hosts r);
   resyncs = l.resyncs ++ option_to_list (resync_in l.hosts (length l.rows) r);
   latencies = l.latencies ++ option_to_list (latency_in r);
+  clocks = l.clocks ++ option_to_list (clock_in l.clocks r);
+  readings = l.readings ++ option_to_list (reading_in l.hosts l.clocks (length l.rows) r);
+  bounds = l.bounds ++ option_to_list (bound_in r);
 }
 
 -- a call changed what was listed so far as is due where there is no fault, and else answered the fault, or want of memory

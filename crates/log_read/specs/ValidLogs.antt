@@ -8,7 +8,7 @@ use Rattle.log_read.specs.LogOf.{log_of}
 abbrev pub LogsAreValid : Type 0
 LogsAreValid = (bytes : List ℕ) (log : Logged) → log_of bytes ≡ Ok log → IsLog log
 
--- it has no extra bounds, and no skew above the greatest that a file may state
+-- it has no more extra bounds, and no greater skew, than a file may state
 abbrev pub LogsArePlain : Type 0
 LogsArePlain = (bytes : List ℕ) (log : Logged) → log_of bytes ≡ Ok log → IsPlain log
 

@@ -29,9 +29,9 @@ fn declares(hosts: &[Host], name: &[u8]) -> bool
     hosts.iter().any(|h| h.name.bytes() == name)
 }
 
-// The place of the host of a name.
-fn place_of(hosts: &[Host], name: &[u8]) -> Option<usize>
-    ensures { result ≡ place_of_host hosts.now name.now }
+/// The place of the host of a name.
+pub fn place_of(hosts: &[Host], name: &[u8]) -> Option<usize>
+    ensures place { result ≡ place_of_host hosts.now name.now }
 {
     hosts.iter().position(|h| h.name.bytes() == name)
 }

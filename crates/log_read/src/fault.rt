@@ -26,11 +26,15 @@ pub enum LogFault {
     TooManyEvents { place: u32 },
     DoubleLatency { place: u32 },
     LatencyRange { place: u32 },
+    TooManyClocks { place: u32 },
+    SameRow { place: u32 },
+    TooManyBounds { place: u32 },
+    NoRow { place: u32 },
     Memory,
 }
 
 impl LogFault {
-    /// Its number, 1 to 13, 15 or 16, and 0 for want of memory.
+    /// Its number, 1 to 13 or 15 to 20, and 0 for want of memory.
     pub fn number(&self) -> u8
         ensures number { result ≡ number_of self.now }
     {
@@ -51,6 +55,10 @@ impl LogFault {
             LogFault::TooManyEvents { .. } => 13,
             LogFault::DoubleLatency { .. } => 15,
             LogFault::LatencyRange { .. } => 16,
+            LogFault::TooManyClocks { .. } => 17,
+            LogFault::SameRow { .. } => 18,
+            LogFault::TooManyBounds { .. } => 19,
+            LogFault::NoRow { .. } => 20,
         }
     }
 
@@ -73,7 +81,11 @@ impl LogFault {
             | LogFault::TooManyHosts { place }
             | LogFault::TooManyEvents { place }
             | LogFault::DoubleLatency { place }
-            | LogFault::LatencyRange { place } => Some(*place),
+            | LogFault::LatencyRange { place }
+            | LogFault::TooManyClocks { place }
+            | LogFault::SameRow { place }
+            | LogFault::TooManyBounds { place }
+            | LogFault::NoRow { place } => Some(*place),
             LogFault::NoEvent | LogFault::Memory => None,
         }
     }
@@ -83,7 +95,7 @@ impl fmt::Display for LogFault {
     fn fmt<W: fmt::Write>(&self, f: &mut fmt::Formatter<W>) -> fmt::Result {
         let wrong = match self {
             LogFault::Header { .. } =>
-                "is neither the header `kind,host,time,name` nor `skewlog2,host,time,name`",
+                "is none of the headers `kind,host,time,name`, `skewlog2,host,time,name` and `skewlog3,host,time,name`",
             LogFault::Width { .. } => "has not four fields",
             LogFault::Kind { .. } => "is of no kind that the file's version knows",
             LogFault::HostName { .. } => "declares a host with a word that names none",
@@ -98,6 +110,10 @@ impl fmt::Display for LogFault {
             LogFault::TooManyEvents { .. } => "is a row too many",
             LogFault::DoubleLatency { .. } => "states a latency of a host that has one",
             LogFault::LatencyRange { .. } => "states a greatest delay below the least",
+            LogFault::TooManyClocks { .. } => "names a clock too many",
+            LogFault::SameRow { .. } => "bounds a row by itself",
+            LogFault::TooManyBounds { .. } => "is a bound too many",
+            LogFault::NoRow { .. } => "bounds a row that the log does not have",
             LogFault::Memory => "out of memory",
         };
         match self.record() {

@@ -16,14 +16,16 @@ pub enum EventKind {
     Pulse,
 }
 
-/// What a record tells: it declares a host, gives an event, resynchronises a host or states the latency
-/// of what a host receives.
+/// What a record tells: it declares a host, gives an event, resynchronises a host, states the latency
+/// of what a host receives, says which clock a host reads, or bounds how much later a row is than another.
 #[derive(Clone, Copy)]
 pub enum Kind {
     Host,
     Event(EventKind),
     Resync,
     Latency,
+    Clock,
+    Bound,
 }
 
 impl Kind {
@@ -49,6 +51,10 @@ impl Kind {
             Some(Kind::Resync)
         } else if word == b"latency".as_slice() {
             Some(Kind::Latency)
+        } else if word == b"clock".as_slice() {
+            Some(Kind::Clock)
+        } else if word == b"bound".as_slice() {
+            Some(Kind::Bound)
         } else {
             None
         }

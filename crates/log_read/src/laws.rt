@@ -7,7 +7,7 @@ pub fn logs_are_valid()
     ensures { LogsAreValid }
 {}
 
-/// The log that a file's bytes are can be stated by a file again: its skews are written ones, and it has no extra bounds.
+/// The log that a file's bytes are can be stated by a file again: its skews are written ones, and it has no more extra bounds than a file may state.
 pub fn logs_are_plain()
     ensures { LogsArePlain }
 {}

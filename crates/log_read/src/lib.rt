@@ -1,6 +1,8 @@
 //! Log files: the log that a file's bytes are, or the first fault with its record, and a log's text.
 #![tactic(auto)]
 
+mod bound;
+mod clock;
 mod entry;
 mod fault;
 mod fields;

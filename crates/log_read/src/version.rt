@@ -1,4 +1,4 @@
-//! The two versions of log files, and the headers that tell them.
+//! The three versions of log files, and the headers that tell them.
 
 ghost use Rattle.std.specs.Prelude.{◌≡◌};
 ghost use Rattle.log_read.specs.LogOf.{is_header, known_in, version_of as version_told};
@@ -7,11 +7,12 @@ use crate::fields::Fields;
 use crate::kind::{EventKind, Kind};
 
 /// The version of a log file, which its header tells. The second one knows resyncs, latencies and
-/// pulses.
+/// pulses, and the third one readings of clocks and bounds too.
 #[derive(Clone, Copy)]
 pub enum Version {
     One,
     Two,
+    Three,
 }
 
 impl Version {
@@ -22,6 +23,7 @@ impl Version {
         match (self, kind) {
             (Version::One, Some(Kind::Resync | Kind::Latency)) => None,
             (Version::One, Some(Kind::Event(EventKind::Pulse))) => None,
+            (Version::One | Version::Two, Some(Kind::Clock | Kind::Bound)) => None,
             _ => kind,
         }
     }
@@ -50,6 +52,8 @@ pub fn version_of(header: &Fields) -> Option<Version>
         Some(Version::One)
     } else if names_columns(header, b"skewlog2") {
         Some(Version::Two)
+    } else if names_columns(header, b"skewlog3") {
+        Some(Version::Three)
     } else {
         None
     }

@@ -2,12 +2,12 @@
 
 ghost use Rattle.std.specs.Prelude.{◌≡◌, [], ◌∷◌, ◌++◌, ◌<◌, length, map, filter, All, IfOk, OnOk, Ok};
 ghost use Rattle.std.specs.List.{flat_map, list_any};
-ghost use Rattle.mt_model.specs.Log.{IsPlain, log_with};
+ghost use Rattle.mt_model.specs.Log.{IsLog, IsPlain};
 ghost use Rattle.log_read.specs.LogOf.{log_of};
-ghost use Rattle.log_read.specs.LogText.{TextsReadBack, act_word, has_latency, has_pulse, header, host_fields, latency_fields, line_of, log_text, resync_fields, resyncs_at, row_fields, rows_from, version_for};
+ghost use Rattle.log_read.specs.LogText.{TextsReadBack, act_word, bound_fields, has_latency, has_pulse, header, host_fields, latency_fields, line_of, log_text, marks_at, reading_fields, readings_at, resync_fields, resyncs_at, row_fields, rows_from, version_for};
 
 use crate::version::Version;
-use mt_model::{Act, Host, Log, MIN_DELAY, Resync, Row};
+use mt_model::{Act, Extra, Host, Log, MIN_DELAY, Name, Reading, Resync, Row};
 use std::alloc::{AllocError, Global};
 
 fn word_of(act: &Act) -> &'static [u8]
@@ -159,23 +159,104 @@ fn push_resyncs_at(
     Ok(())
 }
 
-// Adds the lines of rows, each after the resyncs at its place, and of the resyncs behind them.
-fn push_rows(
+fn push_reading(
     alloc: Global,
     text: &mut Vec<u8>,
     hosts: &[Host],
-    rows: &[Row],
-    resyncs: &[Resync],
+    clocks: &[Name],
+    reading: &Reading,
 ) -> Result<(), AllocError>
-    requires rows { All (λ r. r.host < length hosts.now) rows.now }
-    requires resyncs { All (λ r. r.host < length hosts.now) resyncs.now }
-    ensures { OnOk result (text.new.items ≡ text.old.items ++ flat_map line_of (rows_from hosts.now resyncs.now 0 rows.now)) }
+    requires host { reading.now.host < length hosts.now }
+    requires clock { reading.now.clock < length clocks.now }
+    ensures { OnOk result (text.new.items ≡ text.old.items ++ line_of (reading_fields hosts.now clocks.now reading.now)) }
 {
-    for (place, row) in rows.iter().enumerate() {
-        push_resyncs_at(alloc, text, hosts, resyncs, place)?;
-        push_row(alloc, text, hosts, row)?;
+    let host = &hosts[reading.host.get() as usize];
+    let clock = &clocks[reading.clock.get() as usize];
+    let error = reading.error.to_string(alloc)?;
+    push_line(
+        text,
+        b"clock",
+        host.name.bytes(),
+        error.as_bytes(),
+        clock.bytes(),
+    )
+}
+
+// Adds the lines of the readings at a place.
+fn push_readings_at(
+    alloc: Global,
+    text: &mut Vec<u8>,
+    hosts: &[Host],
+    clocks: &[Name],
+    readings: &[Reading],
+    place: usize,
+) -> Result<(), AllocError>
+    requires hosts { All (λ r. r.host < length hosts.now) readings.now }
+    requires clocks { All (λ r. r.clock < length clocks.now) readings.now }
+    ensures { OnOk result (text.new.items ≡ text.old.items ++ flat_map line_of (readings_at hosts.now clocks.now readings.now place)) }
+{
+    for reading in readings {
+        if reading.place as usize == place {
+            push_reading(alloc, text, hosts, clocks, reading)?;
+        }
     }
-    push_resyncs_at(alloc, text, hosts, resyncs, rows.len())
+    Ok(())
+}
+
+// Adds the lines of the resyncs at a place, and then of the readings there.
+fn push_marks_at(
+    alloc: Global,
+    text: &mut Vec<u8>,
+    log: &Log,
+    place: usize,
+) -> Result<(), AllocError>
+    ensures { OnOk result (text.new.items ≡ text.old.items ++ flat_map line_of (marks_at log.now place)) }
+{
+    push_resyncs_at(alloc, text, log.hosts(), log.resyncs(), place)?;
+    push_readings_at(
+        alloc,
+        text,
+        log.hosts(),
+        log.clocks(),
+        log.readings(),
+        place,
+    )
+}
+
+// Adds the lines of the rows, each after the resyncs and readings at its place, and of those behind them.
+fn push_rows(alloc: Global, text: &mut Vec<u8>, log: &Log) -> Result<(), AllocError>
+    ensures { OnOk result (text.new.items ≡ text.old.items ++ flat_map line_of (rows_from log.now 0 log.now.rows)) }
+{
+    let rows = log.rows();
+    for (place, row) in rows.iter().enumerate() {
+        push_marks_at(alloc, text, log, place)?;
+        push_row(alloc, text, log.hosts(), row)?;
+    }
+    push_marks_at(alloc, text, log, rows.len())
+}
+
+fn push_bound(alloc: Global, text: &mut Vec<u8>, bound: &Extra) -> Result<(), AllocError>
+    ensures { OnOk result (text.new.items ≡ text.old.items ++ line_of (bound_fields bound.now)) }
+{
+    let later = bound.e.get().to_string(alloc)?;
+    let earlier = bound.f.get().to_string(alloc)?;
+    let most = bound.c.to_string(alloc)?;
+    push_line(
+        text,
+        b"bound",
+        later.as_bytes(),
+        earlier.as_bytes(),
+        most.as_bytes(),
+    )
+}
+
+fn push_bounds(alloc: Global, text: &mut Vec<u8>, bounds: &[Extra]) -> Result<(), AllocError>
+    ensures { OnOk result (text.new.items ≡ text.old.items ++ flat_map line_of (map bound_fields bounds.now)) }
+{
+    for bound in bounds {
+        push_bound(alloc, text, bound)?;
+    }
+    Ok(())
 }
 
 fn any_delays(hosts: &[Host]) -> bool
@@ -196,10 +277,13 @@ fn any_pulses(rows: &[Row]) -> bool
     rows.iter().any(is_pulse)
 }
 
-fn version_of(hosts: &[Host], rows: &[Row], resyncs: &[Resync]) -> Version
-    ensures { result ≡ version_for (log_with hosts.now rows.now resyncs.now) }
+// The version that states a log.
+fn version_of(log: &Log) -> Version
+    ensures { result ≡ version_for log.now }
 {
-    if resyncs.len() == 0 && !any_delays(hosts) && !any_pulses(rows) {
+    if !log.readings().is_empty() || !log.extras().is_empty() {
+        Version::Three
+    } else if log.resyncs().is_empty() && !any_delays(log.hosts()) && !any_pulses(log.rows()) {
         Version::One
     } else {
         Version::Two
@@ -213,39 +297,38 @@ fn push_header(text: &mut Vec<u8>, version: Version) -> Result<(), AllocError>
     match version {
         Version::One => push_line(text, b"kind", b"host", b"time", b"name"),
         Version::Two => push_line(text, b"skewlog2", b"host", b"time", b"name"),
+        Version::Three => push_line(text, b"skewlog3", b"host", b"time", b"name"),
     }
 }
 
-fn text_of(
-    alloc: Global,
-    hosts: &[Host],
-    rows: &[Row],
-    resyncs: &[Resync],
-) -> Result<Vec<u8>, AllocError>
-    requires rows { All (λ r. r.host < length hosts.now) rows.now }
-    requires resyncs { All (λ r. r.host < length hosts.now) resyncs.now }
-    ensures { IfOk result (λ v. v.items ≡ log_text (log_with hosts.now rows.now resyncs.now)) }
+fn text_of(alloc: Global, log: &Log) -> Result<Vec<u8>, AllocError>
+    ensures valid { IsLog log.now }
+    ensures text { IfOk result (λ v. v.items ≡ log_text log.now) }
 {
+    let hosts = log.hosts();
     let mut text = Vec::new(alloc);
-    push_header(&mut text, version_of(hosts, rows, resyncs))?;
+    push_header(&mut text, version_of(log))?;
     push_hosts(alloc, &mut text, hosts)?;
     push_latencies(alloc, &mut text, hosts)?;
-    push_rows(alloc, &mut text, hosts, rows, resyncs)?;
+    push_rows(alloc, &mut text, log)?;
+    push_bounds(alloc, &mut text, log.extras())?;
     Ok(text)
 }
 
 /// The text of a log: the header, then a line for each host, for each latency and for each row, each
-/// resync directly before the row that its place names, or last.
+/// resync and each reading of a clock directly before the row that its place names, or last, at one place
+/// the resyncs first, and then a line for each extra bound.
 ///
-/// The header is `kind,host,time,name`, or `skewlog2,host,time,name` where there is a resync, a latency
-/// or a pulse. Fields are separated by one comma and never quoted, each line ends with one newline byte,
-/// and numbers are decimal.
+/// The header is `skewlog3,host,time,name` where there is a reading or an extra bound, else
+/// `skewlog2,host,time,name` where there is a resync, a latency or a pulse, and else
+/// `kind,host,time,name`. Fields are separated by one comma and never quoted, each line ends with one
+/// newline byte, and numbers are decimal.
 pub fn write_log(alloc: Global, log: &Log) -> Result<Vec<u8>, AllocError>
     requires { IsPlain log.now }
     ensures text { IfOk result (λ v. v.items ≡ log_text log.now) }
     ensures reads_back { IfOk result (λ v. log_of v.items ≡ Ok log.now) }
 {
-    text_of(alloc, log.hosts(), log.rows(), log.resyncs())
+    text_of(alloc, log)
 }
 
 /// The text of a valid plain log reads back as the log.

@@ -39,12 +39,17 @@ fn times_from(alloc: Global, zero: i128, numbers: &[i128]) -> Option<Times>
     Some(times)
 }
 
-// The times of the rows, where these are the numbers of the nodes: node 0 is the zero moment.
-fn times_of(alloc: Global, numbers: &[i128]) -> Option<Times>
+// The times of so many rows, where these are the numbers of the nodes: node 0 is the zero moment, and behind
+// the rows come the clocks.
+fn times_of(alloc: Global, rows: usize, numbers: &[i128]) -> Option<Times>
     ensures range { IfSome result (All (IsWithin MAX_TIME)) }
 {
     let (zero, numbers) = numbers.split_first()?;
-    times_from(alloc, *zero, numbers)
+    if numbers.len() < rows {
+        None
+    } else {
+        times_from(alloc, *zero, &numbers[..rows])
+    }
 }
 
 // What times are as a model.
@@ -81,7 +86,7 @@ fn judged_model(
 ) -> Option<Outcome>
     requires hosts { unknown_host log.now (form_of f.now) ≡ None }
 {
-    match times_of(alloc, numbers) {
+    match times_of(alloc, log.rows().len(), numbers) {
         Some(times) if times.len() == log.rows().len() => {
             replayed(alloc, log, f, value, times.as_slice())
         }

@@ -12,6 +12,7 @@ use Rattle.mt_model.specs.Log.{Logged, log_with, plain_log}
 use Rattle.mt_model.specs.Timing.{Admissible, gap_of, local_of, most_delay, previous_row, send_of, skew_of, time_of}
 use Rattle.mt_model.specs.Walks.{Conflict, edge_of}
 use Rattle.mt_model.proofs.Conflicts.{excludes_timings}
+use Rattle.mt_model.proofs.Unread.{offsets-unread}
 use Rattle.mt_model.proofs.WorkedCases.{below_two, edge, host, row}
 
 -- Two notes of a host whose clock is exact at the first, and off by up to 5 at the second.
@@ -38,6 +39,7 @@ five_late = record {
   message = λ s r low sent. absurd (cc (nothing_received r low));
   late = λ s r most low sent limited. absurd (cc (nothing_received r low));
   extra = λ k x at. absurd (cc);
+  clocks = offsets-unread resynced refl (pos 10 ∷ pos 25 ∷ []);
 }
   where
     nothing_received : (r : ℕ) → r < 2 → send_of resynced r ≡ None

@@ -86,5 +86,7 @@ module _ (s : ℤ) (low : pos 0 ≤ℤ s) where
     hosts = hosts-widened log.hosts valid.hosts room;
     rows = simp length-map valid.rows;
     resyncs = simp length-map (resyncs-widened (length log.hosts) (length log.rows) log.resyncs valid.resyncs room_after);
+    clocks = valid.clocks;
+    readings = simp length-map valid.readings;
     extras = valid.extras;
   }

@@ -1,3 +1,6 @@
+pub mod Unread
+pub mod NodeTimes
+pub mod Offsets
 pub mod BoundLists
 pub mod Pairs
 pub mod FormLemmas
@@ -7,7 +10,7 @@ pub mod FrameLemmas
 pub mod PositionLemmas
 pub mod PulseLemmas
 pub mod TruthLemmas
-mod BrokenBounds
+pub mod BrokenBounds
 pub mod Conflicts
 pub mod PreviousRows
 pub mod Resyncs
@@ -15,6 +18,9 @@ pub mod Clocks
 pub mod PlacesInOrder
 pub mod LastPassing
 mod VersionOneCases
+mod VersionTwoCases
+mod Excluding
+mod ReadingTurns
 mod HappenedBefore
 pub mod GreaterSkews
 mod WorkedCases

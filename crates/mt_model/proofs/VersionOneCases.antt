@@ -14,6 +14,7 @@ use Rattle.mt_model.specs.State.{is_pulse_at, is_pulse_of, pulses_of}
 use Rattle.mt_model.specs.Timing.{declared_gap, declared_skew, gap_of, host_of, least_delay, most_delay, resync_of, skew_of}
 use Rattle.mt_model.specs.VersionOne.{HasNoLatency, HasNoPulses, IsVersionOne, StatesOfVersionOneAreKept, VersionOneIsKept}
 use Rattle.mt_model.proofs.Resyncs.{at-place}
+use Rattle.mt_model.proofs.Unread.{offsets-unread}
 
 module _ (log : Logged) (old : IsVersionOne log) where
   no-resync : (e : ℕ) → resync_of log e ≡ None
@@ -57,6 +58,7 @@ kept log t old = (
     message = λ s r within sent. rw (least-is log old r) (ok.message s r within sent);
     late = λ s r most within sent limited. let none : None ≡ Some most = sym (most-is log old r) ∙ limited in absurd (cc);
     extra = ok.extra;
+    clocks = offsets-unread log old.no_readings t;
   },
 )
 

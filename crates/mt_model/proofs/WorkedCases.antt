@@ -16,6 +16,7 @@ use Rattle.mt_model.specs.Timing.{Admissible, time_of, local_of, skew_of, gap_of
 use Rattle.mt_model.specs.Walks.{Edge, edge_of, HasEdges, IsClosedWalk, sum_of_bounds, Conflict}
 use Rattle.mt_model.specs.Laws.{IsBound}
 use Rattle.mt_model.proofs.Conflicts.{excludes_timings}
+use Rattle.mt_model.proofs.Unread.{offsets-unread}
 
 abbrev pub host : List ℕ → ℤ → ℤ → Host
 host name skew gap = record { name = name; skew = skew; gap = gap; least = 1; most = None }
@@ -58,6 +59,7 @@ request_admits x y a b c d = record {
   message = λ s r low sent. absurd (cc (nothing_received r low));
   late = λ s r most low sent limited. absurd (cc (nothing_received r low));
   extra = λ k x at. absurd (cc);
+  clocks = offsets-unread request refl (x ∷ y ∷ []);
 }
 
 -- The local times themselves are a timing.
@@ -247,6 +249,8 @@ crowded = record {
   hosts = host (codes "a") (pos 5) (pos 3) ∷ host (codes "b") (pos 5) (pos 0) ∷ [];
   rows = row 0 (pos 10) (Send (codes "m")) ∷ row 0 (pos 10) (Note (codes "n")) ∷ row 1 (pos 10) (Recv (codes "m")) ∷ [];
   resyncs = [];
+  clocks = [];
+  readings = [];
   extras = record { e = 2; f = 1; c = negsuc 1 } ∷ [];
 }
 
@@ -297,6 +301,7 @@ just_in_time = record {
   message = λ s r low sent. rw (crowded_delay r low) (crowded_message just (omega arith) s r low sent);
   late = λ s r most low sent limited. absurd (cc (crowded_unlimited r low));
   extra = crowded_extra just (omega arith);
+  clocks = offsets-unread crowded refl just;
 }
 
 -- 9 and 11 are less than the gap apart.

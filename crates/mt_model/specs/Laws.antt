@@ -1,7 +1,7 @@
 -- Laws about logs, timings and walks.
 use Rattle.std.specs.Prelude.{◌≡◌, ◌≢◌, ℕ, ◌<◌, List, All, Some, None, ℤ}
 use Rattle.mt_model.specs.declared.step.Step.{Step}
-use Rattle.mt_model.specs.declared.step.Step.TheVariants.{Low, High, Rise, Message, Late, Extra, Order}
+use Rattle.mt_model.specs.declared.step.Step.TheVariants.{Low, High, Rise, Message, Late, Under, Over, Extra, Order}
 use Rattle.mt_model.specs.Log.{Logged}
 use Rattle.mt_model.specs.Timing.{Admissible, host_of, previous_row}
 use Rattle.mt_model.specs.Walks.{Conflict}
@@ -13,6 +13,8 @@ IsBound (High e) = Unit {0}
 IsBound (Rise f) = Unit {0}
 IsBound (Message r) = Unit {0}
 IsBound (Late r) = Unit {0}
+IsBound (Under e) = Unit {0}
+IsBound (Over e) = Unit {0}
 IsBound (Extra k) = Unit {0}
 IsBound (Order e f c) = ⊥
 

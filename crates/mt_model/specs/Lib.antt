@@ -4,6 +4,9 @@ pub mod Limits
 pub mod Timing
 pub mod Spans
 pub mod VersionOne
+pub mod VersionTwo
+pub mod Clocks
+pub mod Readings
 pub mod Walks
 pub mod Bounds
 pub mod Before

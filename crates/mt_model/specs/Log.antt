@@ -1,28 +1,31 @@
 -- Logs, and when one is valid.
-use Rattle.std.specs.Prelude.{◌≡◌, ◌≢◌, ℕ, ◌<◌, ◌≤◌, List, [], ◌∷◌, ◌++◌, length, map, All, AllPairs, Any, IfSome, Option, Some, None, Bool, true, false, ℤ, pos, ◌+ℤ◌, ◌≤ℤ◌}
+use Rattle.std.specs.Prelude.{◌≡◌, ◌≢◌, ℕ, ◌<◌, ◌≤◌, List, [], ◌∷◌, ◌++◌, length, map, take, slice_index_or, All, AllPairs, Any, IfSome, Option, Some, None, Bool, true, false, ℤ, pos, ◌+ℤ◌, ◌≤ℤ◌}
 use Rattle.mt_model.specs.declared.log.Host.{Host}
 use Rattle.mt_model.specs.declared.log.Row.{Row}
 use Rattle.mt_model.specs.declared.resync.Resync.{Resync}
+use Rattle.mt_model.specs.declared.reading.Reading.{Reading}
 use Rattle.mt_model.specs.declared.log.Extra.{Extra}
 use Rattle.mt_model.specs.declared.log.Act.{Act}
 use Rattle.mt_model.specs.declared.log.Act.TheVariants.{Set, Clear, Send, Recv, Note, Pulse}
-use Rattle.mt_model.specs.declared.limits.TheConstants.{MAX_HOSTS, MAX_ROWS, MAX_EXTRAS, MAX_LOCAL, MAX_SKEW, MAX_WRITTEN_SKEW, MAX_GAP, MIN_DELAY, MAX_DELAY, MAX_EXTRA}
+use Rattle.mt_model.specs.declared.limits.TheConstants.{MAX_HOSTS, MAX_ROWS, MAX_CLOCKS, MAX_EXTRAS, MAX_WRITTEN_EXTRAS, MAX_LOCAL, MAX_SKEW, MAX_WRITTEN_SKEW, MAX_GAP, MAX_ERROR, MIN_DELAY, MAX_DELAY, MAX_EXTRA}
 use Rattle.mt_model.specs.Name.{is_name, is_reserved}
 
--- a log: its hosts, its rows, its resyncs and its extra bounds, each in order
+-- a log: its hosts, its rows, its resyncs, the names of its clocks, the readings of them and its extra bounds, each in order
 pub record Logged : Type 0 where
   pub hosts : List Host
   pub rows : List Row
   pub resyncs : List Resync
+  pub clocks : List (List ℕ)
+  pub readings : List Reading
   pub extras : List Extra
 
--- the log of these hosts, rows and resyncs, without extra bounds
+-- the log of these hosts, rows and resyncs, without clocks and extra bounds
 abbrev pub log_with : List Host → List Row → List Resync → Logged
-log_with hosts rows resyncs = record { hosts = hosts; rows = rows; resyncs = resyncs; extras = [] }
+log_with hosts rows resyncs = record { hosts = hosts; rows = rows; resyncs = resyncs; clocks = []; readings = []; extras = [] }
 
--- the log of these hosts and rows, without resyncs and extra bounds
+-- the log of these hosts and rows, without resyncs, clocks and extra bounds
 abbrev pub plain_log : List Host → List Row → Logged
-plain_log hosts rows = record { hosts = hosts; rows = rows; resyncs = []; extras = [] }
+plain_log hosts rows = record { hosts = hosts; rows = rows; resyncs = []; clocks = []; readings = []; extras = [] }
 
 -- the name in an act: that of a proposition, of a message or of a note
 abbrev pub name_in : Act → List ℕ
@@ -102,6 +105,35 @@ pub record AreResyncs (hosts rows : ℕ) (resyncs : List Resync) : Type 0 where
   pub each : All (IsResync hosts rows) resyncs
   pub in_order : AllPairs (λ q r. q.place ≤ r.place) resyncs
 
+-- some reading is of clock k
+abbrev pub IsRead : ℕ → List Reading → Type 0
+IsRead k readings = Any (λ r. r.clock ≡ k) readings
+
+-- a reading of a log of so many hosts, rows and clocks
+pub record IsReading (hosts rows clocks : ℕ) (r : Reading) : Type 0 where
+  pub host : r.host < hosts
+  pub place : r.place ≤ rows
+  pub clock : r.clock < clocks
+  pub error_low : pos 0 ≤ℤ r.error
+  pub error_high : r.error ≤ℤ MAX_ERROR
+
+-- the clocks are in the order in which they are first read: a reading of one comes after one of each before it
+abbrev pub AreInTurn : List Reading → Type 0
+AreInTurn readings = (i k : ℕ) (d : Reading) → i < length readings → k < (slice_index_or readings i d).clock → IsRead k (take i readings)
+
+-- readings of a log of so many hosts, rows and clocks: their places do not fall, and each clock is read
+pub record AreReadings (hosts rows clocks : ℕ) (readings : List Reading) : Type 0 where
+  pub each : All (IsReading hosts rows clocks) readings
+  pub in_order : AllPairs (λ q r. q.place ≤ r.place) readings
+  pub in_turn : AreInTurn readings
+  pub read : (k : ℕ) → k < clocks → IsRead k readings
+
+-- names of clocks: not too many, and no two of them alike
+pub record AreClockNames (clocks : List (List ℕ)) : Type 0 where
+  pub few : length clocks ≤ MAX_CLOCKS
+  pub named : All (λ n. is_name n ≡ true) clocks
+  pub apart : AllPairs (λ m n. n ≡ m → ⊥) clocks
+
 -- an extra bound of a log of so many rows
 pub record IsExtra (rows : ℕ) (x : Extra) : Type 0 where
   pub e : x.e < rows
@@ -136,17 +168,19 @@ pub record IsLog (log : Logged) : Type 0 where
   pub hosts : All IsHost log.hosts
   pub rows : AreRows (length log.hosts) log.rows
   pub resyncs : AreResyncs (length log.hosts) (length log.rows) log.resyncs
+  pub clocks : AreClockNames log.clocks
+  pub readings : AreReadings (length log.hosts) (length log.rows) (length log.clocks) log.readings
   pub extras : All (IsExtra (length log.rows)) log.extras
 
--- a log that a log file can state: no extra bounds, and no skew above the greatest that a file may state
+-- a log that a log file can state: no more extra bounds, and no greater skew, than a file may state
 pub record IsPlain (log : Logged) : Type 0 where
-  pub no_extras : log.extras ≡ []
+  pub extras : length log.extras ≤ MAX_WRITTEN_EXTRAS
   pub skews : All (λ h. h.skew ≤ℤ MAX_WRITTEN_SKEW) log.hosts
   pub resyncs : All (λ r. r.skew ≤ℤ MAX_WRITTEN_SKEW) log.resyncs
 
 -- the log with one extra bound more, at the end
 abbrev pub with_extra : Logged → Extra → Logged
-with_extra log x = record { hosts = log.hosts; rows = log.rows; resyncs = log.resyncs; extras = log.extras ++ x ∷ [] }
+with_extra log x = record { hosts = log.hosts; rows = log.rows; resyncs = log.resyncs; clocks = log.clocks; readings = log.readings; extras = log.extras ++ x ∷ [] }
 
 -- the host with a skew that is greater by s
 abbrev pub widened_host : ℤ → Host → Host
@@ -158,4 +192,4 @@ widened_resync s r = record { place = r.place; host = r.host; skew = r.skew +ℤ
 
 -- the log with each skew greater by s
 abbrev pub widened : ℤ → Logged → Logged
-widened s log = record { hosts = map (widened_host s) log.hosts; rows = log.rows; resyncs = map (widened_resync s) log.resyncs; extras = log.extras }
+widened s log = record { hosts = map (widened_host s) log.hosts; rows = log.rows; resyncs = map (widened_resync s) log.resyncs; clocks = log.clocks; readings = log.readings; extras = log.extras }

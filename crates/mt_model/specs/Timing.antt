@@ -3,6 +3,7 @@ use Rattle.std.specs.Prelude.{◌≡◌, ℕ, zero, suc, ◌==◌, ◌<◌, List
 use Rattle.std.specs.Option.{option_map_or}
 use Rattle.mt_model.specs.declared.log.Row.{Row}
 use Rattle.mt_model.specs.declared.resync.Resync.{Resync}
+use Rattle.mt_model.specs.declared.reading.Reading.{Reading}
 use Rattle.mt_model.specs.declared.log.Extra.{Extra}
 use Rattle.mt_model.specs.declared.limits.TheConstants.{MIN_DELAY}
 use Rattle.mt_model.specs.Log.{Logged, sent_by, received_by}
@@ -42,6 +43,22 @@ skew_of log e = option_map_or (λ r. r.skew) (resync_of log e) (declared_skew lo
 abbrev pub gap_of : Logged → ℕ → ℤ
 gap_of log e = option_map_or (λ r. r.gap) (resync_of log e) (declared_gap log e)
 
+-- a reading is of row e's host and does not stand behind the row
+abbrev pub is_read_at : Logged → ℕ → Reading → Bool
+is_read_at log e r = r.host == host_of log e && nat_le r.place e
+
+-- the last reading of row e's host that does not stand behind the row
+abbrev pub reading_of : Logged → ℕ → Option Reading
+reading_of log e = find (is_read_at log e) (reverse log.readings)
+
+-- the clock that the stamp of row e is read from, where there is one
+abbrev pub clock_of : Logged → ℕ → Option ℕ
+clock_of log e = option_map (λ r. r.clock) (reading_of log e)
+
+-- by how much that stamp may differ from what the clock shows
+abbrev pub error_of : Logged → ℕ → ℤ
+error_of log e = option_map_or (λ r. r.error) (reading_of log e) (pos 0)
+
 -- the greatest number below n that passes the test
 abbrev pub last_below : (ℕ → Bool) → ℕ → Option ℕ
 last_below test zero = None
@@ -71,6 +88,17 @@ least_delay log r = option_map_or (λ h. pos h.least) (slice_get log.hosts (host
 abbrev pub most_delay : Logged → ℕ → Option ℤ
 most_delay log r = option_and_then (λ h. option_map pos h.most) (slice_get log.hosts (host_of log r))
 
+-- offsets, one per clock: the true time less what the clock shows. The local time of each row that reads a clock differs from what the clock shows then by at most the error of the reading
+pub record AreOffsets (log : Logged) (t offsets : List ℤ) : Type 0 where
+  pub count : length offsets ≡ length log.clocks
+  pub under : (e k : ℕ) → e < length log.rows → clock_of log e ≡ Some k → (local_of log e -ℤ error_of log e) ≤ℤ (time_of t e -ℤ time_of offsets k)
+  pub over : (e k : ℕ) → e < length log.rows → clock_of log e ≡ Some k → (time_of t e -ℤ time_of offsets k) ≤ℤ (local_of log e +ℤ error_of log e)
+
+-- there are such offsets
+pub record HasOffsets (log : Logged) (t : List ℤ) : Type 0 where
+  pub offsets : List ℤ
+  pub are : AreOffsets log t offsets
+
 -- the log admits the timing
 pub record Admissible (log : Logged) (t : List ℤ) : Type 0 where
   pub count : length t ≡ length log.rows
@@ -85,3 +113,5 @@ pub record Admissible (log : Logged) (t : List ℤ) : Type 0 where
   pub late : (s r : ℕ) (most : ℤ) → r < length log.rows → send_of log r ≡ Some s → most_delay log r ≡ Some most → time_of t r ≤ℤ (time_of t s +ℤ most)
   -- the extra bounds hold
   pub extra : (k : ℕ) (x : Extra) → slice_get log.extras k ≡ Some x → (time_of t x.e -ℤ time_of t x.f) ≤ℤ x.c
+  -- each clock keeps its offset
+  pub clocks : HasOffsets log t

@@ -13,10 +13,11 @@ pub record HasNoLatency (h : Host) : Type 0 where
   pub least : h.least ≡ MIN_DELAY
   pub most : h.most ≡ None
 
--- no host is resynchronised or has a latency
+-- no host is resynchronised or has a latency, and no row reads a clock
 pub record IsVersionOne (log : Logged) : Type 0 where
   pub no_resyncs : log.resyncs ≡ []
   pub no_latencies : All HasNoLatency log.hosts
+  pub no_readings : log.readings ≡ []
 
 -- the log admits the timing, by the skews and gaps with which its hosts were declared and the delay 1 of messages
 pub record Admissible1 (log : Logged) (t : List ℤ) : Type 0 where

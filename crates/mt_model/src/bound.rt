@@ -16,6 +16,10 @@ pub enum Bound {
     Message(EventId),
     /// A receive comes at most the greatest delay of its host after its send.
     Late(EventId),
+    /// What a row's clock shows is at least the row's local time less the error of the reading.
+    Under(EventId),
+    /// What a row's clock shows is at most the row's local time and the error of the reading.
+    Over(EventId),
     /// An extra bound, by its place from 0.
     Extra(u32),
 }

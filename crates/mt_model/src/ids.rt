@@ -1,4 +1,4 @@
-//! Hosts, events, propositions and nodes by their numbers.
+//! Hosts, clocks, events, propositions and nodes by their numbers.
 
 ghost use Rattle.std.specs.Prelude.{◌≡◌};
 
@@ -24,6 +24,36 @@ impl HostId {
         ensures number { result ≡ n }
     {
         HostId(n)
+    }
+
+    /// Its place.
+    pub fn get(&self) -> u32
+        ensures number { result ≡ self.now }
+    {
+        self.0
+    }
+}
+
+/// A clock that the stamps of rows are read from, by its place among the clocks from 0.
+#[derive(Clone, Copy, PartialEq, Eq)]
+pub struct ClockId(u32);
+
+impl Model for ClockId {
+    ghost use Rattle.std.specs.Prelude.{ℕ};
+
+    ghost Value = { ℕ };
+
+    ghost view = { λ k. k.0 };
+
+    ghost inverse = { λ n. record { 0 = n } };
+}
+
+impl ClockId {
+    /// The clock at this place.
+    pub fn new(n: u32) -> ClockId
+        ensures number { result ≡ n }
+    {
+        ClockId(n)
     }
 
     /// Its place.

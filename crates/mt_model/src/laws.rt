@@ -2,10 +2,12 @@
 
 ghost use Rattle.mt_model.specs.Before.{BeforeIsNotLater, CyclesExcludeTimings};
 ghost use Rattle.mt_model.specs.Bounds.{BoundsAreAdmissible, UnbrokenIsAdmissible};
+ghost use Rattle.mt_model.specs.Clocks.{BoundsOnlyExclude, ClocksOnlyExclude, FinerClocksExcludeMore, OffsetsByPairs};
 ghost use Rattle.mt_model.specs.Laws.{ConflictExcludesTimings, PreviousRowIsLast};
 ghost use Rattle.mt_model.specs.Limits.{FormulaLimits, LogLimits};
 ghost use Rattle.mt_model.specs.TruthLaws.{PositionsAreTimes, TruthByRows, TruthIsTheTable, ValuesHaveTimings};
 ghost use Rattle.mt_model.specs.VersionOne.{StatesOfVersionOneAreKept, VersionOneIsKept};
+ghost use Rattle.mt_model.specs.VersionTwo.{VersionTwoIsKept};
 
 /// Where bounds of a log form a closed walk of negative sum, the log admits no timing.
 pub fn conflict_excludes_timings()
@@ -18,22 +20,50 @@ pub fn previous_row_is_last()
     ensures { PreviousRowIsLast }
 {}
 
-/// The log admits the lists of a time per row that meet each of its bounds, and no others.
+/// A valid log admits the lists of a time per row that, with offsets of its clocks, meet each of its
+/// bounds, and no others.
 pub fn bounds_are_admissible()
     ensures { BoundsAreAdmissible }
 {}
 
-/// A time per row breaks none of the log's bounds exactly where the log admits the timing.
+/// A time per row breaks none of a valid log's bounds exactly where the log admits the timing.
 pub fn unbroken_is_admissible()
     ensures { UnbrokenIsAdmissible }
 {}
 
-/// A log without resyncs and latencies admits the timings that each host's one skew and gap and the
+/// A log without resyncs, latencies and clocks admits the timings that each host's one skew and gap and the
 /// delay 1 of each message allow, and no others. Without pulses a proposition is true where the last
 /// row that sets or clears it sets it.
 pub fn version_one_is_kept()
     ensures timings { VersionOneIsKept }
     ensures states { StatesOfVersionOneAreKept }
+{}
+
+/// A log without readings of clocks admits the timings that skews, gaps, delays and extra bounds allow,
+/// and no others.
+pub fn version_two_is_kept()
+    ensures { VersionTwoIsKept }
+{}
+
+/// A timing has offsets of the clocks exactly where each two rows of one clock are ahead of their local
+/// times by amounts that are apart by at most the errors of both.
+pub fn offsets_by_pairs()
+    ensures { OffsetsByPairs }
+{}
+
+/// A timing that a log admits is admitted without its clocks.
+pub fn clocks_only_exclude()
+    ensures { ClocksOnlyExclude }
+{}
+
+/// A timing that a log admits is admitted with any errors of readings made greater.
+pub fn finer_clocks_exclude_more()
+    ensures { FinerClocksExcludeMore }
+{}
+
+/// A timing that a log admits is admitted without its extra bounds.
+pub fn bounds_only_exclude()
+    ensures { BoundsOnlyExclude }
 {}
 
 /// The positions of a timing are the true times of the rows, each once, rising.

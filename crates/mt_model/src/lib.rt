@@ -9,6 +9,7 @@ mod laws;
 mod limits;
 mod log;
 mod name;
+mod reading;
 mod resync;
 mod spans;
 mod step;
@@ -20,19 +21,22 @@ mod widening;
 pub use bound::{Bound, BoundList};
 pub use causes::sends;
 pub use formula::Formula;
-pub use ids::{EventId, HostId, NodeId, PropId};
+pub use ids::{ClockId, EventId, HostId, NodeId, PropId};
 pub use laws::{
-    before_is_not_later, bounds_are_admissible, conflict_excludes_timings, cycles_exclude_timings,
-    limits_are_numbers, positions_are_times, previous_row_is_last, truth_by_rows,
+    before_is_not_later, bounds_are_admissible, bounds_only_exclude, clocks_only_exclude,
+    conflict_excludes_timings, cycles_exclude_timings, finer_clocks_exclude_more,
+    limits_are_numbers, offsets_by_pairs, positions_are_times, previous_row_is_last, truth_by_rows,
     truth_is_the_table, unbroken_is_admissible, values_have_timings, version_one_is_kept,
+    version_two_is_kept,
 };
 pub use limits::{
-    MAX_DELAY, MAX_DISTANCE, MAX_EXTRA, MAX_EXTRAS, MAX_GAP, MAX_HEIGHT, MAX_HOSTS, MAX_LOCAL,
-    MAX_NAME_LENGTH, MAX_ORDER, MAX_PROPOSITIONS, MAX_ROWS, MAX_SKEW, MAX_TIME, MAX_WRITTEN_SKEW,
-    MIN_DELAY,
+    MAX_CLOCKS, MAX_DELAY, MAX_DISTANCE, MAX_ERROR, MAX_EXTRA, MAX_EXTRAS, MAX_GAP, MAX_HEIGHT,
+    MAX_HOSTS, MAX_LOCAL, MAX_NAME_LENGTH, MAX_ORDER, MAX_PROPOSITIONS, MAX_ROWS, MAX_SKEW,
+    MAX_TIME, MAX_WRITTEN_EXTRAS, MAX_WRITTEN_SKEW, MIN_DELAY,
 };
 pub use log::{Act, Extra, ExtraList, Host, HostList, Log, Row, RowList, log_is_valid};
 pub use name::Name;
+pub use reading::{NameList, Reading, ReadingList, RowReadings};
 pub use resync::{Resync, ResyncList};
 pub use spans::{Span, SpanList};
 pub use step::{Step, Steps};

@@ -9,8 +9,14 @@ pub const MAX_HOSTS: usize = 64;
 /// The most rows of a log.
 pub const MAX_ROWS: usize = 1024;
 
+/// The most clocks of a log.
+pub const MAX_CLOCKS: usize = 1024;
+
 /// The most extra bounds of a log.
 pub const MAX_EXTRAS: usize = 1_048_576;
+
+/// The most extra bounds that a log file may state, which leaves room for one more.
+pub const MAX_WRITTEN_EXTRAS: usize = 1_048_575;
 
 /// The greatest magnitude of a local time.
 pub const MAX_LOCAL: i128 = 4_000_000_000_000_000_000;
@@ -23,6 +29,9 @@ pub const MAX_SKEW: i128 = 2_000_000_000_000_000_000;
 
 /// The greatest gap of a host.
 pub const MAX_GAP: i128 = 1_000_000_000_000_000_000;
+
+/// The greatest error of a reading.
+pub const MAX_ERROR: i128 = 1_000_000_000_000_000_000;
 
 /// The least delay that a message may have, which is that of a host without a latency of its own.
 pub const MIN_DELAY: u64 = 1;

@@ -1,4 +1,4 @@
-//! Logs: hosts, rows, resyncs and extra bounds that fit together, and how a log is copied, bounded further or widened.
+//! Logs: hosts, rows, resyncs, clocks and extra bounds that fit together, and how a log is copied, bounded further or widened.
 
 ghost use Rattle.std.specs.Prelude.{◌≡◌, ◌↔◌, IsTrue, IsSome, IfSome, IfOk, IfErr, option_copied, Some, All, pos, ◌+ℤ◌, ◌≤ℤ◌};
 ghost use Rattle.mt_model.specs.Log.{Logged, IsLog, log_with, plain_log, IsPlain, name_in, sent_by, received_by, with_extra, widened};
@@ -6,7 +6,10 @@ ghost use Rattle.mt_model.specs.State.{host_named};
 
 use crate::validity::{is_extra, is_valid};
 use crate::widening::{may_widen_all, widened_hosts, widened_resyncs};
-use crate::{EventId, HostId, MAX_EXTRAS, MAX_SKEW, MAX_WRITTEN_SKEW, Name, Resync, ResyncList};
+use crate::{
+    EventId, HostId, MAX_EXTRAS, MAX_SKEW, MAX_WRITTEN_EXTRAS, MAX_WRITTEN_SKEW, Name, NameList,
+    Reading, ReadingList, Resync, ResyncList,
+};
 use mt_list::ListOf;
 use std::alloc::{AllocError, Global};
 use std::marker::Model;
@@ -65,17 +68,20 @@ pub type RowList = ListOf<Row>;
 /// Extra bounds in order.
 pub type ExtraList = ListOf<Extra>;
 
-/// A valid log, which contracts see as its hosts, rows, resyncs and extra bounds.
+/// A valid log, which contracts see as its hosts, rows, resyncs, clocks, readings and extra bounds.
 ///
 /// It has 1 to 64 hosts of distinct names, none of them `true`, `false` or `inf`, and 1 to 1,024 rows
 /// of them. No message is sent twice, and each one that is received is sent. The places of resyncs do
-/// not fall. Skews, gaps, delays, local times and extra bounds are in the ranges that this crate's
+/// not fall, and those of readings neither. It has at most 1,024 clocks of distinct names, each of which
+/// is read, in the order in which they are first read. Skews, errors, gaps, delays, local times and extra bounds are in the ranges that this crate's
 /// constants state.
 #[derive(Drop)]
 pub struct Log {
     hosts: HostList,
     rows: RowList,
     resyncs: ResyncList,
+    clocks: NameList,
+    readings: ReadingList,
     extras: ExtraList,
 }
 
@@ -84,9 +90,9 @@ impl Model for Log {
 
     ghost Value = { Logged };
 
-    ghost view = { λ l. record { hosts = l.hosts; rows = l.rows; resyncs = l.resyncs; extras = l.extras } };
+    ghost view = { λ l. record { hosts = l.hosts; rows = l.rows; resyncs = l.resyncs; clocks = l.clocks; readings = l.readings; extras = l.extras } };
 
-    ghost invariant = { λ l. IsLog (record { hosts = l.hosts; rows = l.rows; resyncs = l.resyncs; extras = l.extras }) };
+    ghost invariant = { λ l. IsLog (record { hosts = l.hosts; rows = l.rows; resyncs = l.resyncs; clocks = l.clocks; readings = l.readings; extras = l.extras }) };
 }
 
 impl Act {
@@ -202,6 +208,22 @@ fn copy_resyncs(alloc: Global, resyncs: &[Resync]) -> Result<ResyncList, AllocEr
     Ok(ResyncList::from_vec(resyncs.to_vec(alloc)?))
 }
 
+fn copy_clocks(alloc: Global, clocks: &[Name]) -> Result<NameList, AllocError>
+    ensures { IfOk result (λ list. list ≡ clocks.now) }
+{
+    let mut list = NameList::new(alloc);
+    for clock in clocks {
+        list.push(clock.copy(alloc)?)?;
+    }
+    Ok(list)
+}
+
+fn copy_readings(alloc: Global, readings: &[Reading]) -> Result<ReadingList, AllocError>
+    ensures { IfOk result (λ list. list ≡ readings.now) }
+{
+    Ok(ReadingList::from_vec(readings.to_vec(alloc)?))
+}
+
 fn copy_extras(alloc: Global, extras: &[Extra]) -> Result<ExtraList, AllocError>
     ensures { IfOk result (λ list. list ≡ extras.now) }
 {
@@ -209,8 +231,8 @@ fn copy_extras(alloc: Global, extras: &[Extra]) -> Result<ExtraList, AllocError>
 }
 
 impl Log {
-    /// The log of these hosts and rows, without resyncs and extra bounds, and None exactly where they
-    /// make no valid log. Takes no memory.
+    /// The log of these hosts and rows, without resyncs, clocks and extra bounds, and None exactly where
+    /// they make no valid log. Takes no memory.
     pub fn build(hosts: HostList, rows: RowList) -> Option<Log>
         ensures valid { IsSome result ↔ IsLog (plain_log hosts rows) }
         ensures log { IfSome result (λ l. l ≡ plain_log hosts rows) }
@@ -219,18 +241,50 @@ impl Log {
         Log::build_with(hosts, rows, resyncs)
     }
 
-    /// The log of these hosts, rows and resyncs, without extra bounds, and None exactly where they make
-    /// no valid log. Takes no memory.
+    /// The log of these hosts, rows and resyncs, without clocks and extra bounds, and None exactly where
+    /// they make no valid log. Takes no memory.
     pub fn build_with(hosts: HostList, rows: RowList, resyncs: ResyncList) -> Option<Log>
         ensures valid { IsSome result ↔ IsLog (log_with hosts rows resyncs) }
         ensures log { IfSome result (λ l. l ≡ log_with hosts rows resyncs) }
     {
-        if is_valid(hosts.as_slice(), rows.as_slice(), resyncs.as_slice()) {
-            let extras = ListOf::new(hosts.allocator());
+        let alloc = hosts.allocator();
+        Log::build_read(
+            hosts,
+            rows,
+            resyncs,
+            ListOf::new(alloc),
+            ListOf::new(alloc),
+            ListOf::new(alloc),
+        )
+    }
+
+    /// The log of these hosts, rows, resyncs, clocks by their names, readings of them and extra bounds,
+    /// and None exactly where they make no valid log. Takes no memory.
+    pub fn build_read(
+        hosts: HostList,
+        rows: RowList,
+        resyncs: ResyncList,
+        clocks: NameList,
+        readings: ReadingList,
+        extras: ExtraList,
+    ) -> Option<Log>
+        ensures valid { IsSome result ↔ IsLog (record { hosts = hosts; rows = rows; resyncs = resyncs; clocks = clocks; readings = readings; extras = extras }) }
+        ensures log { IfSome result (λ l. l ≡ record { hosts = hosts; rows = rows; resyncs = resyncs; clocks = clocks; readings = readings; extras = extras }) }
+    {
+        if is_valid(
+            hosts.as_slice(),
+            rows.as_slice(),
+            resyncs.as_slice(),
+            clocks.as_slice(),
+            readings.as_slice(),
+            extras.as_slice(),
+        ) {
             Some(Log {
                 hosts,
                 rows,
                 resyncs,
+                clocks,
+                readings,
                 extras,
             })
         } else {
@@ -262,6 +316,22 @@ impl Log {
         self.resyncs.as_slice()
     }
 
+    /// The names of the clocks, in the order in which they are first read. Takes no memory.
+    pub fn clocks(&self) -> &[Name]
+        ensures valid { IsLog self.now }
+        ensures same { result.now ≡ self.now.clocks }
+    {
+        self.clocks.as_slice()
+    }
+
+    /// The readings in order. Takes no memory.
+    pub fn readings(&self) -> &[Reading]
+        ensures valid { IsLog self.now }
+        ensures same { result.now ≡ self.now.readings }
+    {
+        self.readings.as_slice()
+    }
+
     /// The extra bounds in order.
     pub fn extras(&self) -> &[Extra]
         ensures valid { IsLog self.now }
@@ -287,11 +357,15 @@ impl Log {
         let hosts = copy_hosts(alloc, self.hosts.as_slice())?;
         let rows = copy_rows(alloc, self.rows.as_slice())?;
         let resyncs = copy_resyncs(alloc, self.resyncs.as_slice())?;
+        let clocks = copy_clocks(alloc, self.clocks.as_slice())?;
+        let readings = copy_readings(alloc, self.readings.as_slice())?;
         let extras = copy_extras(alloc, self.extras.as_slice())?;
         Ok(Log {
             hosts,
             rows,
             resyncs,
+            clocks,
+            readings,
             extras,
         })
     }
@@ -315,6 +389,8 @@ impl Log {
             hosts,
             rows,
             resyncs,
+            clocks,
+            readings,
             mut extras,
         } = self;
         match extras.push(extra) {
@@ -322,12 +398,16 @@ impl Log {
                 hosts,
                 rows,
                 resyncs,
+                clocks,
+                readings,
                 extras,
             }),
             Err(_) => Err(Log {
                 hosts,
                 rows,
                 resyncs,
+                clocks,
+                readings,
                 extras,
             }),
         }
@@ -352,26 +432,31 @@ impl Log {
             hosts,
             rows,
             resyncs,
+            clocks,
+            readings,
             extras,
         } = self;
         Log {
             hosts: widened_hosts(hosts, s),
             rows,
             resyncs: widened_resyncs(resyncs, s),
+            clocks,
+            readings,
             extras,
         }
     }
 
-    /// Whether a log file can state it: it has no extra bounds, and no skew above the greatest that a
-    /// file may state.
+    /// Whether a log file can state it: it has no more extra bounds than a file may state, and no skew
+    /// above the greatest that one may state.
     pub fn plain(&self) -> bool
         ensures plain { IsTrue result ↔ IsPlain self.now }
     {
-        self.extras.len() == 0 && are_written(self.hosts.as_slice(), self.resyncs.as_slice())
+        self.extras.len() <= MAX_WRITTEN_EXTRAS
+            && are_written(self.hosts.as_slice(), self.resyncs.as_slice())
     }
 }
 
-/// A log's hosts, rows, resyncs and extra bounds are within their ranges and fit together.
+/// A log's hosts, rows, resyncs, clocks, readings and extra bounds are within their ranges and fit together.
 pub fn log_is_valid(log: &Log)
     ensures valid { IsLog log.now }
 {

@@ -16,6 +16,10 @@ pub enum Step {
     Message(u32),
     /// A receive comes at most the greatest delay of its host after its send.
     Late(u32),
+    /// What a row's clock shows is at least the row's local time less the error of the reading.
+    Under(u32),
+    /// What a row's clock shows is at most the row's local time and the error of the reading.
+    Over(u32),
     /// An extra bound of the log.
     Extra(u32),
     /// `t_e - t_f <= c`, which is no bound of the log.
@@ -38,6 +42,8 @@ impl fmt::Display for Step {
             Step::Rise(e) => write!(f, "rise {e}"),
             Step::Message(e) => write!(f, "message {e}"),
             Step::Late(e) => write!(f, "late {e}"),
+            Step::Under(e) => write!(f, "under {e}"),
+            Step::Over(e) => write!(f, "over {e}"),
             Step::Extra(k) => write!(f, "extra {k}"),
             Step::Order { e, f: other, c } => write!(f, "order {e} {other} {c}"),
         }

@@ -1,14 +1,15 @@
-//! When hosts, rows, resyncs and extra bounds make a valid log.
+//! When hosts, rows, resyncs, clocks, readings and extra bounds make a valid log.
 
 ghost use Rattle.std.specs.Prelude.{◌≡◌, ◌↔◌, ◌≤◌, length, IsTrue, IfSome, Any, Some, All, AllPairs};
-ghost use Rattle.mt_model.specs.Log.{IsLog, IsHost, HasDelays, IsRow, IsExtra, AreRows, SendSame, IsSent, log_with, sent_by, received_by};
+ghost use Rattle.mt_model.specs.Log.{IsLog, IsHost, HasDelays, IsRow, IsExtra, AreRows, SendSame, IsSent, sent_by, received_by};
 
 use crate::causes::sends;
 use crate::name::is_reserved_name;
+use crate::reading::{are_clock_names, are_readings};
 use crate::resync::are_resyncs;
 use crate::{
-    Extra, Host, MAX_DELAY, MAX_EXTRA, MAX_GAP, MAX_HOSTS, MAX_LOCAL, MAX_ROWS, MAX_SKEW,
-    MIN_DELAY, Resync, Row,
+    Extra, Host, MAX_DELAY, MAX_EXTRA, MAX_EXTRAS, MAX_GAP, MAX_HOSTS, MAX_LOCAL, MAX_ROWS,
+    MAX_SKEW, MIN_DELAY, Name, Reading, Resync, Row,
 };
 
 // Whether the delays of what a host receives are in their range, the greatest not below the least.
@@ -118,17 +119,6 @@ fn are_hosts(hosts: &[Host]) -> bool
     each && names_differ(hosts)
 }
 
-/// Whether these make a valid log.
-pub fn is_valid(hosts: &[Host], rows: &[Row], resyncs: &[Resync]) -> bool
-    ensures { IsTrue result ↔ IsLog (log_with hosts.now rows.now resyncs.now) }
-{
-    let are_few = are_few(hosts, rows);
-    let are_hosts = are_hosts(hosts);
-    let are_rows = are_rows(hosts.len(), rows);
-    let are_resyncs = are_resyncs(hosts.len(), rows.len(), resyncs);
-    are_few && are_hosts && are_rows && are_resyncs
-}
-
 /// Whether this can be an extra bound of a log of so many rows.
 pub fn is_extra(extra: &Extra, rows: usize) -> bool
     ensures { IsTrue result ↔ IsExtra rows extra.now }
@@ -138,4 +128,32 @@ pub fn is_extra(extra: &Extra, rows: usize) -> bool
         && extra.e != extra.f
         && -MAX_EXTRA <= extra.c
         && extra.c <= MAX_EXTRA
+}
+
+fn are_extras(extras: &[Extra], rows: usize) -> bool
+    ensures { IsTrue result ↔ ((length extras.now ≤ MAX_EXTRAS) × All (IsExtra rows) extras.now) }
+{
+    let each = extras.iter().all(|extra| is_extra(extra, rows));
+    extras.len() <= MAX_EXTRAS && each
+}
+
+/// Whether these make a valid log.
+pub fn is_valid(
+    hosts: &[Host],
+    rows: &[Row],
+    resyncs: &[Resync],
+    clocks: &[Name],
+    readings: &[Reading],
+    extras: &[Extra],
+) -> bool
+    ensures { IsTrue result ↔ IsLog (record { hosts = hosts.now; rows = rows.now; resyncs = resyncs.now; clocks = clocks.now; readings = readings.now; extras = extras.now }) }
+{
+    let are_few = are_few(hosts, rows);
+    let are_hosts = are_hosts(hosts);
+    let are_rows = are_rows(hosts.len(), rows);
+    let are_resyncs = are_resyncs(hosts.len(), rows.len(), resyncs);
+    let are_clock_names = are_clock_names(clocks);
+    let are_readings = are_readings(hosts.len(), rows.len(), clocks.len(), readings);
+    let are_extras = are_extras(extras, rows.len());
+    are_few && are_hosts && are_rows && are_resyncs && are_clock_names && are_readings && are_extras
 }

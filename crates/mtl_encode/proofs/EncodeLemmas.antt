@@ -7,6 +7,7 @@ use Rattle.mt_model.specs.Form.{Form}
 use Rattle.mt_model.specs.Log.{IsLog, Logged}
 use Rattle.mt_model.specs.Timing.{Admissible}
 use Rattle.mt_model.specs.Truth.{truth}
+use Rattle.mt_model.specs.Walks.{node_count_of}
 use Rattle.neg_cycle.specs.declared.system.Edge.{Edge}
 use Rattle.neg_cycle.specs.Systems.{IsEdge}
 use Rattle.skew_bounds.proofs.Settled.{system-of}
@@ -62,7 +63,7 @@ lists-of s left rules all = rw all (instances-listed s (left s))
 -- the clauses with the bounds and their edges fit what is sought
 pub fits-of : (s : Sought) (out : Rule → Bool) (held : Clauses) (bounds : List Bound) (edges : List Edge) (nodes : ℕ) → AreClauses s held
     → held.rules ≡ instances s out → HasRoom s (instances s out)
-    → IsLog s.log → bounds ≡ bounds_of s.log → AreEdges s.log bounds edges → All (IsEdge (length s.log.rows + 1)) edges → nodes ≡ length s.log.rows + 1
+    → IsLog s.log → bounds ≡ bounds_of s.log → AreEdges s.log bounds edges → All (IsEdge (node_count_of s.log)) edges → nodes ≡ node_count_of s.log
     → Fits s (record { db = held.db; rules = held.rules; atoms = held.atoms; bounds = bounds; edges = edges; nodes = nodes })
 fits-of s out held bounds edges nodes clauses all room valid listed are within count =
     let literals : most_literals_of s held.rules ≡ most_literals_of s (instances s out) = ap (most_literals_of s) all in
@@ -84,5 +85,5 @@ module _ (log : Logged) (f : Form) (v : Bool) (d : Differences) (p : Problem) (v
   kept-of = inl (record { consistent = tight-consistent log d tight valid.some_rows; extremes = extremes_of d; are = tight-extremes log d tight; lists = lists })
 
   pub exact-of : RulesAreExact → BoundsAreAdmissible → Fits (sought_of log f v) p → AreOnce p.atoms → (values : List Bool) (numbers : List ℤ) → IsModel p values numbers
-      → Admissible log (times_of numbers) × (truth log (times_of numbers) 0 f ≡ v)
+      → Admissible log (times_of (length log.rows) numbers) × (truth log (times_of (length log.rows) numbers) 0 f ≡ v)
   exact-of exact law fits once values numbers model = model-exact exact law log f v (extremes_of d) p values numbers valid (tight-extremes log d tight) fits lists once model

@@ -13,7 +13,7 @@ use Rattle.mt_model.specs.Log.{IsLog, Logged}
 use Rattle.mt_model.specs.Timing.{Admissible, time_of}
 use Rattle.mt_model.specs.Truth.{truth}
 use Rattle.neg_cycle.specs.Systems.{IsEdge, number_of}
-use Rattle.skew_bounds.proofs.Settled.{timing-of}
+use Rattle.skew_bounds.proofs.Settled.{node-times, timing-of}
 use Rattle.skew_bounds.specs.RowTimes.{times_of}
 use Rattle.clause_db.specs.declared.lit.Lit.{Lit}
 use Rattle.clause_db.specs.Clauses.{clause_at}
@@ -76,11 +76,10 @@ clause-same atoms values once (l ∷ lits) (c ∷ clause) is =
     rw (literal-same atoms values l c once both.0, clause-same atoms values once lits clause both.1) refl
 
 -- the time of a row by the numbers of its node and of the zero moment
-time-of-node : (numbers : List ℤ) (e : ℕ) → e + 1 < length numbers → time_of (times_of numbers) e ≡ number_of numbers (e + 1) -ℤ number_of numbers 0
-time-of-node [] e low = absurd (omega arith)
-time-of-node (x ∷ xs) e low =
+time-of-node : (rows : ℕ) (numbers : List ℤ) (e : ℕ) → e < rows → rows < length numbers → time_of (times_of rows numbers) e ≡ number_of numbers (e + 1) -ℤ number_of numbers 0
+time-of-node rows numbers e low some =
     let next : e + 1 ≡ suc e = omega arith in
-    rw next (get_or-map (λ y. y -ℤ x) xs e (pos 0) (pos 0) (omega arith))
+    rw next (node-times rows numbers (suc e) some (omega (arith, low)))
 
 same-difference : (a b x : ℤ) → (a -ℤ x) -ℤ (b -ℤ x) ≡ a -ℤ b
 same-difference a b x = omega (arith, ints)
@@ -107,7 +106,7 @@ module _ (s : Sought) (out : Rule → Bool) (p : Problem) (values : List Bool) (
       sym (clause-same p.atoms values once (clause_at p.db h.place) c h.read) ∙ model.clauses h.place [] h.low
 
   -- an order atom that occurs has the value that the times of its rows give it
-  agrees : AgreesWith s out (value_in p.atoms values) (times_of numbers)
+  agrees : AgreesWith s out (value_in p.atoms values) (times_of (length s.log.rows) numbers)
   agrees e f c occurs =
       let h = held occurs.rule occurs.clause occurs.is_clause occurs.kept in
       let (j, l, low, at, is) = occurs.stands in
@@ -117,24 +116,25 @@ module _ (s : Sought) (out : Rule → Bool) (p : Problem) (values : List Bool) (
       let var : IsVar p.atoms lit.var (Order e f c) = (read-atom p.atoms lit (slice_index_or occurs.clause j l) read).0 ∙ ap (λ (x : Literal). Some x.atom) at ∙ ap (λ (x : Atom). Some x) is in
       let in_ : Among occurs.clause l = subst (Among occurs.clause) at (among-at occurs.clause j l low) in
       let range : IsOfRows s (Order e f c) = subst (IsOfRows s) is (orders-of-rows s occurs.rule occurs.clause l occurs.is_clause in_) in
-      let time-e = time-of-node numbers e (omega (arith, range.0, range.1, model.numbers_count, fits.nodes)) in
-      let time-f = time-of-node numbers f (omega (arith, range.1, model.numbers_count, fits.nodes)) in
-      let difference : time_of (times_of numbers) e -ℤ time_of (times_of numbers) f ≡ number_of numbers (e + 1) -ℤ number_of numbers (f + 1) =
+      let some : length s.log.rows < length numbers = omega (arith, model.numbers_count, fits.nodes) in
+      let time-e = time-of-node (length s.log.rows) numbers e (omega (arith, range.0, range.1)) some in
+      let time-f = time-of-node (length s.log.rows) numbers f (omega (arith, range.1)) some in
+      let difference : time_of (times_of (length s.log.rows) numbers) e -ℤ time_of (times_of (length s.log.rows) numbers) f ≡ number_of numbers (e + 1) -ℤ number_of numbers (f + 1) =
       rw (time-e, time-f) (same-difference (number_of numbers (e + 1)) (number_of numbers (f + 1)) (number_of numbers 0)) in
       value-of-var p.atoms values lit.var (Order e f c) once var ∙ model.orders lit.var e f c var ∙ ap (λ x. int_le x c) (sym difference)
 
-  admissible : BoundsAreAdmissible → Admissible s.log (times_of numbers)
-  admissible law = timing-of law s.log p.bounds p.edges numbers fits.bounds fits.edges (subst (λ n. All (IsEdge n) p.edges) fits.nodes fits.system.each)
+  admissible : BoundsAreAdmissible → IsLog s.log → Admissible s.log (times_of (length s.log.rows) numbers)
+  admissible law valid = timing-of law s.log valid p.bounds p.edges numbers fits.bounds fits.edges (subst (λ n. All (IsEdge n) p.edges) fits.nodes fits.system.each)
       (record { count = model.numbers_count ∙ fits.nodes; meets = model.edges })
 
 -- what satisfies the problem gives an admissible timing in which the formula has the value sought
 pub model-exact : RulesAreExact → BoundsAreAdmissible → (log : Logged) (f : Form) (value : Bool) (x : Extremes) (p : Problem) (values : List Bool) (numbers : List ℤ) → IsLog log → AreExtremes log x
     → Fits (sought_of log f value) p → ListsRules (sought_of log f value) (is_needless x (sought_of log f value)) p.rules → AreOnce p.atoms → IsModel p values numbers
-    → Admissible log (times_of numbers) × (truth log (times_of numbers) 0 f ≡ value)
+    → Admissible log (times_of (length log.rows) numbers) × (truth log (times_of (length log.rows) numbers) 0 f ≡ value)
 model-exact exact law log f value x p values numbers valid are fits lists once model =
     let s = sought_of log f value in
     let out : Rule → Bool = is_needless x s in
-    let ok = admissible s out p values numbers fits lists once model law in (
+    let ok = admissible s out p values numbers fits lists once model law valid in (
       ok,
-      exact log f value x (value_in p.atoms values) (times_of numbers) valid are ok (satisfies s out p values numbers fits lists once model) (agrees s out p values numbers fits lists once model),
+      exact log f value x (value_in p.atoms values) (times_of (length log.rows) numbers) valid are ok (satisfies s out p values numbers fits lists once model) (agrees s out p values numbers fits lists once model),
     )

@@ -1,6 +1,7 @@
 -- When a problem fits what is sought.
-use Rattle.std.specs.Prelude.{◌≡◌, ℕ, ◌+◌, ◌^◌, ◌≤◌, List, length, map, All, Any, Option, Some, option_map, Ok, slice_get}
+use Rattle.std.specs.Prelude.{◌≡◌, ℕ, ◌^◌, ◌≤◌, List, length, map, All, Any, Option, Some, option_map, Ok, slice_get}
 use Rattle.mt_model.specs.Bounds.{bounds_of}
+use Rattle.mt_model.specs.Walks.{node_count_of}
 use Rattle.neg_cycle.specs.Systems.{IsSystem}
 use Rattle.skew_bounds.specs.Edges.{AreEdges}
 use Rattle.clause_db.specs.declared.lit.Lit.{Lit}
@@ -39,10 +40,10 @@ pub record Fits (s : Sought) (p : Problem) : Type 0 where
   pub clauses : (n : ℕ) (rule : Rule) → slice_get p.rules n ≡ Some rule → IsClauseOf s p.atoms rule (clause_at p.db n)
   -- each atom stands in some clause
   pub atoms : All (λ a. Any (StandsIn s a) p.rules) p.atoms
-  -- the bounds of the log with their edges, between the zero moment and the rows
+  -- the bounds of the log with their edges, between the zero moment, the rows and the clocks
   pub bounds : p.bounds ≡ bounds_of s.log
   pub edges : AreEdges s.log p.bounds p.edges
-  pub nodes : p.nodes ≡ length s.log.rows + 1
+  pub nodes : p.nodes ≡ node_count_of s.log
   pub system : IsSystem p.nodes p.edges
   pub few_clauses : length p.db ≤ 2 ^ 29
   pub few_atoms : length p.atoms ≤ 2 ^ 29

@@ -22,7 +22,7 @@ use axiom_rules::Rules;
 use formula_arena::{Arena, cores_are_cores};
 use mt_model::{Log, NodeId, bounds_are_admissible, conflict_excludes_timings, log_is_valid};
 use question::Question;
-use skew_bounds::{BoundSystem, Consistency, Tight, settle_by, system_of, tight_by};
+use skew_bounds::{BoundSystem, Consistency, Tight, node_count, settle_by, system_of, tight_by};
 use std::alloc::{AllocError, Global};
 
 // The problem for what is sought, of which the number of nodes is told, with the bounds of its log and their edges.
@@ -42,8 +42,7 @@ fn problem_of(
     ensures lists { IfOk result (λ p. ListsRules sought.now (out_by tight.now sought.now) p.rules) }
 {
     cores_are_cores();
-    // What a log is, its rows are known with.
-    let rows = sought.log().rows().len() as u32;
+    log_is_valid(sought.log());
     let mut clauses = Clauses::new(alloc);
     clauses.add_all(alloc, sought, tight, nodes)?;
     let ordered = clauses.in_order(alloc, sought)?;
@@ -54,7 +53,7 @@ fn problem_of(
         atoms,
         bounds: system.bounds,
         edges: system.edges,
-        nodes: rows + 1,
+        nodes: node_count(sought.log()),
     })
 }
 
@@ -74,7 +73,7 @@ pub fn encode_by(
 
     // What satisfies the problem gives an admissible timing in which the formula has the value.
     ensures exact { IfOk result (λ p. (values : List Bool) (numbers : List ℤ) → IsModel p values numbers
-        → Admissible question.entry.log (times_of numbers) × (truth question.entry.log (times_of numbers) 0 question.entry.form ≡ value)) }
+        → Admissible question.entry.log (times_of (length question.entry.log.rows) numbers) × (truth question.entry.log (times_of (length question.entry.log.rows) numbers) 0 question.entry.form ≡ value)) }
 {
     rules_are_exact();
     bounds_are_admissible();
@@ -106,7 +105,7 @@ pub fn encode(
 
     // What satisfies the problem gives an admissible timing in which the formula has the value.
     ensures exact { IfOk result (λ p. (f : Form) → arena.now ≡ nodes_of f → root + 1 ≡ length arena.now → (values : List Bool) (numbers : List ℤ) → IsModel p values numbers
-        → Admissible log.now (times_of numbers) × (truth log.now (times_of numbers) 0 f ≡ value)) }
+        → Admissible log.now (times_of (length log.now.rows) numbers) × (truth log.now (times_of (length log.now.rows) numbers) 0 f ≡ value)) }
 {
     rules_are_exact();
     bounds_are_admissible();

@@ -111,8 +111,9 @@ impl Clauses {
                 continue;
             }
             let seconds = source.events.seconds(source.rules, number, counts, a);
+            let thirds = third_count(source.rules, number, counts, a);
             for b in seconds {
-                for c in 0..third_count(source.rules, number, counts, a) {
+                for c in 0..thirds {
                     if source.passes_over_span(number, a, *b, c) {
                         continue;
                     }

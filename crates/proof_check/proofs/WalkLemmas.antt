@@ -6,7 +6,7 @@ use Rattle.std.proofs.lemmas.List.Elements.{All-nil, All-cons, All-head, All-tai
 use Rattle.std.proofs.Math.Seq.{take-length}
 use Rattle.std.proofs.lemmas.List.{take-append-le, map_push}
 use Rattle.mt_model.specs.declared.step.Step.{Step}
-use Rattle.mt_model.specs.declared.step.Step.TheVariants.{Low, High, Rise, Message, Late, Extra, Order}
+use Rattle.mt_model.specs.declared.step.Step.TheVariants.{Low, High, Rise, Message, Late, Under, Over, Extra, Order}
 use Rattle.mt_model.specs.Laws.{IsBound}
 use Rattle.mt_model.specs.Log.{Logged}
 use Rattle.mt_model.specs.Walks.{Conflict, Edge, HasEdges, IsClosedWalk, LeadsTo, edge_of, sum_of_bounds}
@@ -269,6 +269,8 @@ module _ (log : Logged) where
   bound_has (Rise f) x is = (tt, is)
   bound_has (Message r) x is = (tt, is)
   bound_has (Late r) x is = (tt, is)
+  bound_has (Under r) x is = (tt, is)
+  bound_has (Over r) x is = (tt, is)
   bound_has (Extra k) x is = (tt, is)
   bound_has (Order e f c) x is = absurd (cc)
 
@@ -278,6 +280,8 @@ module _ (log : Logged) where
   bound_same (Rise f) is = refl
   bound_same (Message r) is = refl
   bound_same (Late r) is = refl
+  bound_same (Under r) is = refl
+  bound_same (Over r) is = refl
   bound_same (Extra k) is = refl
   bound_same (Order e f c) is = absurd is
 
@@ -287,6 +291,8 @@ module _ (log : Logged) where
   unbound_none (Rise f) not = absurd (not tt)
   unbound_none (Message r) not = absurd (not tt)
   unbound_none (Late r) not = absurd (not tt)
+  unbound_none (Under r) not = absurd (not tt)
+  unbound_none (Over r) not = absurd (not tt)
   unbound_none (Extra k) not = absurd (not tt)
   unbound_none (Order e f c) not = refl
 

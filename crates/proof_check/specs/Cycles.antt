@@ -1,7 +1,7 @@
 -- Which steps are accepted as a cycle, and the place that is named where they aren't. Steps count from 1.
 use Rattle.std.specs.Prelude.{◌≡◌, ◌⊎◌, ◌≤◌, ◌-◌, ℕ, List, [], ◌∷◌, length, map, take, All, Option, Some, None}
 use Rattle.mt_model.specs.declared.step.Step.{Step}
-use Rattle.mt_model.specs.declared.step.Step.TheVariants.{Low, High, Rise, Message, Late, Extra, Order}
+use Rattle.mt_model.specs.declared.step.Step.TheVariants.{Low, High, Rise, Message, Late, Under, Over, Extra, Order}
 use Rattle.mt_model.specs.Laws.{IsBound}
 use Rattle.mt_model.specs.Log.{Logged}
 use Rattle.mt_model.specs.Walks.{Conflict, Edge, LeadsTo, edge_of}
@@ -13,6 +13,8 @@ bound_edge_of log (High e) = edge_of log (High e)
 bound_edge_of log (Rise f) = edge_of log (Rise f)
 bound_edge_of log (Message r) = edge_of log (Message r)
 bound_edge_of log (Late r) = edge_of log (Late r)
+bound_edge_of log (Under r) = edge_of log (Under r)
+bound_edge_of log (Over r) = edge_of log (Over r)
 bound_edge_of log (Extra k) = edge_of log (Extra k)
 bound_edge_of log (Order e f c) = None
 

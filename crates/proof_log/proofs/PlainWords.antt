@@ -67,6 +67,8 @@ plain-step (step.High e) is = (refl, (plain-number e is, tt))
 plain-step (step.Rise e) is = (refl, (plain-number e is, tt))
 plain-step (step.Message e) is = (refl, (plain-number e is, tt))
 plain-step (step.Late e) is = (refl, (plain-number e is, tt))
+plain-step (step.Under e) is = (refl, (plain-number e is, tt))
+plain-step (step.Over e) is = (refl, (plain-number e is, tt))
 plain-step (step.Extra k) is = (refl, (plain-number k is, tt))
 plain-step (step.Order e f c) is = plain-order e f c is.first is.second is.bound
 

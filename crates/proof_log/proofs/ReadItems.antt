@@ -124,9 +124,11 @@ step-read (w ∷ ws) =
     (gives-named w (codes "rise") _ _ (IsRead step_words IsSpelledStep (w ∷ ws)) (single (codes "rise") step.Rise (λ n. refl) (λ n v. v))
     (gives-named w (codes "message") _ _ (IsRead step_words IsSpelledStep (w ∷ ws)) (single (codes "message") step.Message (λ n. refl) (λ n v. v))
     (gives-named w (codes "late") _ _ (IsRead step_words IsSpelledStep (w ∷ ws)) (single (codes "late") step.Late (λ n. refl) (λ n v. v))
+    (gives-named w (codes "under") _ _ (IsRead step_words IsSpelledStep (w ∷ ws)) (single (codes "under") step.Under (λ n. refl) (λ n v. v))
+    (gives-named w (codes "over") _ _ (IsRead step_words IsSpelledStep (w ∷ ws)) (single (codes "over") step.Over (λ n. refl) (λ n v. v))
     (gives-named w (codes "extra") _ _ (IsRead step_words IsSpelledStep (w ∷ ws)) (single (codes "extra") step.Extra (λ n. refl) (λ n v. v))
     (gives-named w (codes "order") _ _ (IsRead step_words IsSpelledStep (w ∷ ws))
-    (λ is. gives-after (codes "order") step_of constraint_words IsConstraint step_words IsSpelledStep (constraint_in ws) w ws (λ x. refl) (λ x v. v) is (constraint-read ws)) tt))))))
+    (λ is. gives-after (codes "order") step_of constraint_words IsConstraint step_words IsSpelledStep (constraint_in ws) w ws (λ x. refl) (λ x v. v) is (constraint-read ws)) tt))))))))
   where
     single : (name : Word) (make : ℕ → Step) → ((n : ℕ) → step_words (make n) ≡ name ∷ one_word n) → ((n : ℕ) → IsNumber n → IsSpelledStep (make n)) → w ≡ name
         → IfSome (made make (number_in ws)) (IsRead step_words IsSpelledStep (w ∷ ws))

@@ -24,5 +24,7 @@ read-alike (step.High e) = refl
 read-alike (step.Rise e) = refl
 read-alike (step.Message e) = refl
 read-alike (step.Late e) = refl
+read-alike (step.Under e) = refl
+read-alike (step.Over e) = refl
 read-alike (step.Extra k) = refl
 read-alike (step.Order e f c) = simp append_assoc

@@ -74,6 +74,8 @@ step-written (step.High e) rest is = made-back step.High (number_in (decimal e �
 step-written (step.Rise e) rest is = made-back step.Rise (number_in (decimal e ∷ rest)) e rest (number-written e rest is)
 step-written (step.Message e) rest is = made-back step.Message (number_in (decimal e ∷ rest)) e rest (number-written e rest is)
 step-written (step.Late e) rest is = made-back step.Late (number_in (decimal e ∷ rest)) e rest (number-written e rest is)
+step-written (step.Under e) rest is = made-back step.Under (number_in (decimal e ∷ rest)) e rest (number-written e rest is)
+step-written (step.Over e) rest is = made-back step.Over (number_in (decimal e ∷ rest)) e rest (number-written e rest is)
 step-written (step.Extra k) rest is = made-back step.Extra (number_in (decimal k ∷ rest)) k rest (number-written k rest is)
 step-written (step.Order e f c) rest is = made-back step_of (constraint_in (decimal e ∷ decimal f ∷ signed_decimal c ∷ rest)) (constraint_of e f c) rest (constraint-written e f c rest is)
 

@@ -30,6 +30,8 @@ negated_step (step.High e) = None
 negated_step (step.Rise e) = None
 negated_step (step.Message e) = None
 negated_step (step.Late e) = None
+negated_step (step.Under e) = None
+negated_step (step.Over e) = None
 negated_step (step.Extra k) = None
 
 -- the clause of a line: the negations of its order steps, each once, or its literals

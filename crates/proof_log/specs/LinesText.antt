@@ -43,6 +43,8 @@ step_words (step.High e) = codes "high" ∷ decimal e ∷ []
 step_words (step.Rise e) = codes "rise" ∷ decimal e ∷ []
 step_words (step.Message e) = codes "message" ∷ decimal e ∷ []
 step_words (step.Late e) = codes "late" ∷ decimal e ∷ []
+step_words (step.Under e) = codes "under" ∷ decimal e ∷ []
+step_words (step.Over e) = codes "over" ∷ decimal e ∷ []
 step_words (step.Extra k) = codes "extra" ∷ decimal k ∷ []
 step_words (step.Order e f c) = order_words e f c
 

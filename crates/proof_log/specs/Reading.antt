@@ -79,6 +79,8 @@ step_in (w ∷ ws) =
     else if bytes_eq w (codes "rise") then made step.Rise (number_in ws)
     else if bytes_eq w (codes "message") then made step.Message (number_in ws)
     else if bytes_eq w (codes "late") then made step.Late (number_in ws)
+    else if bytes_eq w (codes "under") then made step.Under (number_in ws)
+    else if bytes_eq w (codes "over") then made step.Over (number_in ws)
     else if bytes_eq w (codes "extra") then made step.Extra (number_in ws)
     else if bytes_eq w (codes "order") then made step_of (constraint_in ws)
     else None

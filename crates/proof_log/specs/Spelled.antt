@@ -32,6 +32,8 @@ IsSpelledStep (step.High e) = IsNumber e
 IsSpelledStep (step.Rise e) = IsNumber e
 IsSpelledStep (step.Message e) = IsNumber e
 IsSpelledStep (step.Late e) = IsNumber e
+IsSpelledStep (step.Under e) = IsNumber e
+IsSpelledStep (step.Over e) = IsNumber e
 IsSpelledStep (step.Extra k) = IsNumber k
 IsSpelledStep (step.Order e f c) = IsOrder e f c
 

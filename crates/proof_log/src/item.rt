@@ -111,6 +111,12 @@ pub fn next_step(words: &[u8]) -> Option<(Step, &[u8])>
     } else if word == b"late".as_slice() {
         let (e, rest) = next_number(rest)?;
         Some((Step::Late(e), rest))
+    } else if word == b"under".as_slice() {
+        let (e, rest) = next_number(rest)?;
+        Some((Step::Under(e), rest))
+    } else if word == b"over".as_slice() {
+        let (e, rest) = next_number(rest)?;
+        Some((Step::Over(e), rest))
     } else if word == b"extra".as_slice() {
         let (k, rest) = next_number(rest)?;
         Some((Step::Extra(k), rest))

@@ -82,6 +82,8 @@ fn push_step(alloc: Global, text: &mut Vec<u8>, step: Step) -> Result<(), AllocE
         Step::Rise(e) => push_named(alloc, text, b"rise", &[e]),
         Step::Message(e) => push_named(alloc, text, b"message", &[e]),
         Step::Late(e) => push_named(alloc, text, b"late", &[e]),
+        Step::Under(e) => push_named(alloc, text, b"under", &[e]),
+        Step::Over(e) => push_named(alloc, text, b"over", &[e]),
         Step::Extra(k) => push_named(alloc, text, b"extra", &[k]),
         Step::Order { e, f, c } => push_order(alloc, text, e, f, c),
     }

@@ -80,14 +80,16 @@ module _ (line : List ℕ) where
   pub is-bound : (s : Step) (words : List ℕ) (n : ℕ) → IsNumbered words line n → (IsNumber n → IsSpelledBound s) → step_text s ≡ words ++ decimal n → IsLineOf IsSpelledBound step_text line s
   is-bound s words n is spelled text = record { is = spelled is.number; text = text ∙ is.text }
 
-  pub no-step : Lacking (codes "low ") → Lacking (codes "high ") → Lacking (codes "rise ") → Lacking (codes "message ") → Lacking (codes "late ") → Lacking (codes "extra ") → (s : Step) → IsLineOf IsSpelledBound step_text line s → ⊥
-  no-step low high rise message late extra (step.Low e) is = low e (record { number = is.is; text = is.text })
-  no-step low high rise message late extra (step.High e) is = high e (record { number = is.is; text = is.text })
-  no-step low high rise message late extra (step.Rise e) is = rise e (record { number = is.is; text = is.text })
-  no-step low high rise message late extra (step.Message e) is = message e (record { number = is.is; text = is.text })
-  no-step low high rise message late extra (step.Late e) is = late e (record { number = is.is; text = is.text })
-  no-step low high rise message late extra (step.Extra k) is = extra k (record { number = is.is; text = is.text })
-  no-step low high rise message late extra (step.Order e f c) is = is.is
+  pub no-step : Lacking (codes "low ") → Lacking (codes "high ") → Lacking (codes "rise ") → Lacking (codes "message ") → Lacking (codes "late ") → Lacking (codes "under ") → Lacking (codes "over ") → Lacking (codes "extra ") → (s : Step) → IsLineOf IsSpelledBound step_text line s → ⊥
+  no-step low high rise message late under over extra (step.Low e) is = low e (record { number = is.is; text = is.text })
+  no-step low high rise message late under over extra (step.High e) is = high e (record { number = is.is; text = is.text })
+  no-step low high rise message late under over extra (step.Rise e) is = rise e (record { number = is.is; text = is.text })
+  no-step low high rise message late under over extra (step.Message e) is = message e (record { number = is.is; text = is.text })
+  no-step low high rise message late under over extra (step.Late e) is = late e (record { number = is.is; text = is.text })
+  no-step low high rise message late under over extra (step.Under e) is = under e (record { number = is.is; text = is.text })
+  no-step low high rise message late under over extra (step.Over e) is = over e (record { number = is.is; text = is.text })
+  no-step low high rise message late under over extra (step.Extra k) is = extra k (record { number = is.is; text = is.text })
+  no-step low high rise message late under over extra (step.Order e f c) is = is.is
 
   -- the first line of a section
 

@@ -94,6 +94,8 @@ bound-step (step.High e) is = is
 bound-step (step.Rise e) is = is
 bound-step (step.Message e) is = is
 bound-step (step.Late e) is = is
+bound-step (step.Under e) is = is
+bound-step (step.Over e) is = is
 bound-step (step.Extra k) is = is
 bound-step (step.Order e f c) is = absurd is
 
@@ -109,6 +111,8 @@ step-split s is = ap (slice_split (is_byte space)) (sym (read-alike s)) ∙ by s
     by (step.Rise e) is = split-joined _ _ (plain-step (step.Rise e) is)
     by (step.Message e) is = split-joined _ _ (plain-step (step.Message e) is)
     by (step.Late e) is = split-joined _ _ (plain-step (step.Late e) is)
+    by (step.Under e) is = split-joined _ _ (plain-step (step.Under e) is)
+    by (step.Over e) is = split-joined _ _ (plain-step (step.Over e) is)
     by (step.Extra k) is = split-joined _ _ (plain-step (step.Extra k) is)
     by (step.Order e f c) is = split-joined _ _ (plain-step (step.Order e f c) is)
 

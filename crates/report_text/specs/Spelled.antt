@@ -18,6 +18,8 @@ IsSpelledBound (step.High e) = IsNumber e
 IsSpelledBound (step.Rise e) = IsNumber e
 IsSpelledBound (step.Message e) = IsNumber e
 IsSpelledBound (step.Late e) = IsNumber e
+IsSpelledBound (step.Under e) = IsNumber e
+IsSpelledBound (step.Over e) = IsNumber e
 IsSpelledBound (step.Extra k) = IsNumber k
 IsSpelledBound (step.Order e f c) = ⊥
 

@@ -68,6 +68,10 @@ fn bound_of(line: &[u8]) -> Option<Step>
         Some(Step::Message(e))
     } else if let Some(e) = number_after(b"late ", line) {
         Some(Step::Late(e))
+    } else if let Some(e) = number_after(b"under ", line) {
+        Some(Step::Under(e))
+    } else if let Some(e) = number_after(b"over ", line) {
+        Some(Step::Over(e))
     } else {
         let k = number_after(b"extra ", line)?;
         Some(Step::Extra(k))

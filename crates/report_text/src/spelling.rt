@@ -17,7 +17,8 @@ fn is_bound(step: Step) -> bool
 {
     match step {
         Step::Low(_) | Step::High(_) | Step::Rise(_) => true,
-        Step::Message(_) | Step::Late(_) | Step::Extra(_) => true,
+        Step::Message(_) | Step::Late(_) | Step::Under(_) => true,
+        Step::Over(_) | Step::Extra(_) => true,
         Step::Order { .. } => false,
     }
 }

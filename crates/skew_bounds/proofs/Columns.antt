@@ -1,5 +1,6 @@
 -- A table of differences that gets its columns one by one, each entry by entry.
-use Rattle.std.proofs.Common.{◌≡◌, ◌≢◌, ◌∙◌, ℕ, ◌+◌, ◌<◌, arith, below_more, List, length, ℤ}
+use Rattle.std.proofs.Common.{◌≡◌, ◌≢◌, ◌∙◌, ℕ, ◌+◌, ◌<◌, arith, below_more, List, take, ℤ, pos}
+use Rattle.std.proofs.lemmas.List.{get_or-take}
 use Rattle.neg_cycle.specs.declared.system.Edge.{Edge}
 use Rattle.neg_cycle.specs.Systems.{number_of}
 use Rattle.skew_bounds.specs.Differences.{Differences, IsColumnSet, IsSet, entry}
@@ -24,14 +25,14 @@ column-more old node numbers i now new in-node in-i up set = record {
 }
 
 -- the first columns are those of their nodes
-pub record IsTableUpTo (incoming : List (List Edge)) (count : ℕ) (d : Differences) : Type 0 where
-  pub nodes : d.nodes ≡ length incoming
+pub record IsTableUpTo (size : ℕ) (incoming : List (List Edge)) (count : ℕ) (d : Differences) : Type 0 where
+  pub nodes : d.nodes ≡ size
   pub columns : (node : ℕ) → node < count → IsColumnOf incoming d node
 
-pub table-more : (incoming : List (List Edge)) (node : ℕ) (numbers : List ℤ) (now new : Differences) → node < length incoming
-    → IsTableUpTo incoming node now → IsLatest incoming node numbers → IsColumnSet now node numbers new
-    → IsTableUpTo incoming (node + 1) new
-table-more incoming node numbers now new within up latest set = record {
+pub table-more : (size : ℕ) (incoming : List (List Edge)) (node : ℕ) (numbers : List ℤ) (now new : Differences) → node < size
+    → IsTableUpTo size incoming node now → IsLatest incoming node numbers → IsColumnSet now node (take size numbers) new
+    → IsTableUpTo size incoming (node + 1) new
+table-more size incoming node numbers now new within up latest set = record {
   nodes = set.nodes ∙ up.nodes;
   columns = below_more (IsColumnOf incoming new) node
       (λ c below.
@@ -41,7 +42,11 @@ table-more incoming node numbers now new within up latest set = record {
         latest = column.latest;
         entries = λ i in-i. set.others i c (rw set.nodes at in-i) (rw up.nodes (omega arith)) (λ same. omega arith) ∙ column.entries i (rw set.nodes at in-i);
       })
-      (record { numbers = numbers; latest = latest; entries = λ i in-i. set.column i (rw set.nodes at in-i) });
+      (record {
+        numbers = numbers;
+        latest = latest;
+        entries = λ i in-i. let low = rw (set.nodes, up.nodes) at in-i in set.column i (rw set.nodes at in-i) ∙ get_or-take size numbers i (pos 0) low;
+      });
 }
 
 -- the first columns are the rows of another table

@@ -11,3 +11,4 @@ pub mod Settled
 pub mod Tightest
 pub mod Falls
 mod FirstBroken
+mod RowReadings

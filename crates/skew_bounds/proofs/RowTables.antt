@@ -38,7 +38,7 @@ lacks : (b : Bool) (x : Option Edge) → b ≡ false → None ≡ (if b then x e
 lacks true x is = absurd (cc)
 lacks false x is = refl
 
-pub past : (log : Logged) (e : ℕ) → length log.rows ≤ e → AreRowEdges log e (record { low = None; high = None; rise = None; message = None; late = None })
+pub past : (log : Logged) (e : ℕ) → length log.rows ≤ e → AreRowEdges log e (record { low = None; high = None; rise = None; message = None; late = None; under = None; over = None })
 past log e over =
     let out : is_row log e ≡ false = grind (arith, nat_tests) in
     let gone : slice_get log.rows e ≡ None = slice_get_past log.rows e over in
@@ -48,6 +48,8 @@ past log e over =
       rise = record { same = lacks (is_row log e) _ out; within = search };
       message = record { same = rw gone refl; within = search };
       late = record { same = rw gone refl; within = search };
+      under = record { same = lacks (is_row log e) _ out; within = search };
+      over = record { same = lacks (is_row log e) _ out; within = search };
     }
 
 -- the edges of a row at its place in a table

@@ -1,8 +1,8 @@
 -- What a solution of the edges of a log's bounds means for the log, and what a negative cycle of them means.
-use Rattle.std.proofs.Common.{◌≡◌, sym, ap, refl, arith, ℕ, zero, suc, ◌+◌, ◌<◌, List, [], ◌∷◌, length, map, Some, All, ℤ, pos, ◌+ℤ◌, ◌-ℤ◌}
+use Rattle.std.proofs.Common.{◌≡◌, ◌∙◌, sym, ap, refl, arith, ℕ, zero, suc, ◌+◌, ◌<◌, List, [], ◌∷◌, length, map, take, drop, Some, All, ℤ, pos, ◌+ℤ◌, ◌-ℤ◌}
 use Rattle.std.specs.Prelude.{IfSome, option_map, slice_index_or}
 use Rattle.std.proofs.lemmas.Int.{ints}
-use Rattle.std.proofs.lemmas.List.{get_or-map, length-map}
+use Rattle.std.proofs.lemmas.List.{get_or-map, get_or-take, length-drop, length-map, length-take-le, take-append-drop, take-map}
 use Rattle.std.proofs.lemmas.List.Elements.{All-nil, All-cons, All-head, All-tail}
 use Rattle.neg_cycle.specs.declared.system.Edge.{Edge as SystemEdge}
 use Rattle.neg_cycle.specs.Systems as system
@@ -13,7 +13,7 @@ use Rattle.mt_model.specs.Bounds.{BoundsAreAdmissible, bounds_of, step_of}
 use Rattle.mt_model.specs.Laws.{IsBound}
 use Rattle.mt_model.specs.Log.{IsLog, Logged}
 use Rattle.mt_model.specs.Timing.{Admissible}
-use Rattle.mt_model.specs.Walks.{Edge, HasEdges, IsClosedWalk, LeadsTo, Meets, edge_of, node_time, sum_of_bounds}
+use Rattle.mt_model.specs.Walks.{Edge, HasEdges, IsClosedWalk, LeadsTo, Meets, edge_of, node_time, node_count_of, sum_of_bounds}
 use Rattle.skew_bounds.proofs.BoundCounts.{few-bounds}
 use Rattle.skew_bounds.specs.Edges.{AreEdges, bound_at, edge_in}
 use Rattle.skew_bounds.specs.RowTimes.{times_of}
@@ -42,9 +42,12 @@ node-relative x xs zero within = omega (arith, ints)
 node-relative x xs (suc e) within = index-relative x xs e (omega arith)
 
 -- so are the times by the numbers of nodes
-pub node-times : (numbers : List ℤ) (n : ℕ) → n < length numbers → node_time (times_of numbers) n ≡ system.number_of numbers n -ℤ system.number_of numbers 0
-node-times [] n within = absurd (omega arith)
-node-times (x ∷ xs) n within = node-relative x xs n within
+pub node-times : (rows : ℕ) (numbers : List ℤ) (n : ℕ) → rows < length numbers → n < rows + 1 → node_time (times_of rows numbers) n ≡ system.number_of numbers n -ℤ system.number_of numbers 0
+node-times rows [] n some within = absurd (omega arith)
+node-times rows (x ∷ xs) zero some within = node-relative x xs zero (omega arith)
+node-times rows (x ∷ xs) (suc e) some within =
+    ap (λ ts. slice_index_or ts e (pos 0)) (sym (take-map (λ y. y -ℤ x) rows xs))
+    ∙ get_or-take rows (map (λ y. y -ℤ x) xs) e (pos 0) (omega (arith, within)) ∙ node-relative x xs (suc e) (omega (arith, within, some))
 
 -- numbers that meet an edge of the system give times that meet it as an edge between moments
 meets-relative : (nodes : ℕ) (x : ℤ) (xs : List ℤ) (e : SystemEdge) → length (x ∷ xs) ≡ nodes → system.IsEdge nodes e → system.Meets (x ∷ xs) e → Meets (map (λ y. y -ℤ x) xs) (edge_in e)
@@ -138,23 +141,34 @@ conflict-of log bounds edges places are cycle once = record {
   once = once-same log bounds edges places are (places-of-cycle edges places cycle.closed) once;
 }
 
--- a potential gives an admissible timing
-pub timing-of : BoundsAreAdmissible → (log : Logged) (bounds : List Bound) (edges : List SystemEdge) (numbers : List ℤ) → bounds ≡ bounds_of log → AreEdges log bounds edges
-    → All (system.IsEdge (length log.rows + 1)) edges → system.IsPotential (length log.rows + 1) edges numbers → Admissible log (times_of numbers)
-timing-of law log bounds edges [] listed are within potential = absurd (let count = potential.count in omega arith)
-timing-of law log bounds edges (x ∷ xs) listed are within potential =
-    let met = bounds-met log (length log.rows + 1) bounds edges x xs are potential.count within potential.meets in
-    let size : length (map (λ y. y -ℤ x) xs) ≡ length log.rows = let count = potential.count in simp length-map (omega arith) in
-    (law log (map (λ y. y -ℤ x) xs)).1 (size, rw listed at met)
+-- a potential gives an admissible timing, and behind it offsets
+pub timing-of : BoundsAreAdmissible → (log : Logged) → IsLog log → (bounds : List Bound) (edges : List SystemEdge) (numbers : List ℤ) → bounds ≡ bounds_of log → AreEdges log bounds edges
+    → All (system.IsEdge (node_count_of log)) edges → system.IsPotential (node_count_of log) edges numbers → Admissible log (times_of (length log.rows) numbers)
+timing-of law log valid bounds edges [] listed are within potential = absurd (let count = potential.count in omega (arith, count))
+timing-of law log valid bounds edges (x ∷ xs) listed are within potential =
+    let met = bounds-met log (node_count_of log) bounds edges x xs are potential.count within potential.meets in
+    let all = map (λ y. y -ℤ x) xs in
+    let size : length all ≡ length log.rows + length log.clocks = let count = potential.count in simp length-map (omega (arith, count)) in
+    let rows = length-take-le (length log.rows) all (omega (arith, size)) in
+    let split = take-append-drop (length log.rows) all in
+    rw (← take-map (λ y. y -ℤ x) (length log.rows) xs)
+    ((law log (take (length log.rows) all) valid).1 (
+      rows,
+      record {
+        offsets = drop (length log.rows) all;
+        count = let rest = length-drop (length log.rows) all in omega (arith, rest, size);
+        each = rw (split, ← listed) met;
+      },
+    ))
 
 pub count-edges : (log : Logged) (bounds : List Bound) (edges : List SystemEdge) → AreEdges log bounds edges → length edges ≡ length bounds
 count-edges log bounds edges are = sym (simp length-map at (ap length are))
 
 -- the edges of a log's bounds are a system within the limits
-pub system-of : (log : Logged) (bounds : List Bound) (edges : List SystemEdge) → IsLog log → bounds ≡ bounds_of log → AreEdges log bounds edges → All (system.IsEdge (length log.rows + 1)) edges
-    → system.IsSystem (length log.rows + 1) edges
+pub system-of : (log : Logged) (bounds : List Bound) (edges : List SystemEdge) → IsLog log → bounds ≡ bounds_of log → AreEdges log bounds edges → All (system.IsEdge (node_count_of log)) edges
+    → system.IsSystem (node_count_of log) edges
 system-of log bounds edges valid listed are within = record {
-  few_nodes = omega (arith, valid.few_rows);
+  few_nodes = omega (arith, valid.few_rows, valid.clocks.few);
   few_edges = let few = rw (← listed) at (few-bounds log) in omega (arith, few, count-edges log bounds edges are, valid.few_rows, valid.few_extras);
   each = within;
 }

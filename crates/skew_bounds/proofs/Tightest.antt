@@ -1,14 +1,19 @@
 -- The table of the greatest numbers that meet the edges of a log's bounds is exact for the rows of the log.
-use Rattle.std.proofs.Common.{◌≡◌, ◌∙◌, refl, arith, ℕ, zero, suc, ◌+◌, ◌<◌, add-one, List, [], ◌∷◌, length, Some, All, ℤ, pos, ◌-ℤ◌}
+use Rattle.std.proofs.Common.{◌≡◌, ◌∙◌, refl, arith, ℕ, zero, suc, ◌+◌, ◌<◌, add-one, List, [], ◌∷◌, ◌++◌, length, get_or, Some, All, ℤ, pos, ◌-ℤ◌}
 use Rattle.std.specs.Prelude.{IfSome}
 use Rattle.std.proofs.lemmas.Int.{ints}
-use Rattle.std.proofs.lemmas.List.Elements.{All-nil, All-cons, All-head, All-tail}
+use Rattle.std.proofs.lemmas.List.{length-append}
+use Rattle.std.proofs.lemmas.List.Elements.{All-append, All-nil, All-cons, All-head, All-tail}
 use Rattle.mt_model.specs.declared.bound.Bound.{Bound}
 use Rattle.mt_model.specs.declared.limits.TheConstants.{MAX_TIME}
-use Rattle.mt_model.specs.Bounds.{BoundsAreAdmissible, bounds_of, step_of}
+use Rattle.mt_model.specs.Bounds.{BoundsAreAdmissible, MeetsEach, bounds_of, step_of}
+use Rattle.mt_model.specs.Clocks.{offsets_of}
 use Rattle.mt_model.specs.Log.{IsLog, IsWithin, Logged}
-use Rattle.mt_model.specs.Timing.{Admissible}
-use Rattle.mt_model.specs.Walks.{Meets, edge_of, node_time}
+use Rattle.mt_model.specs.Timing.{Admissible, AreOffsets}
+use Rattle.mt_model.specs.Walks.{Meets, edge_of, node_time, node_count_of}
+use Rattle.mt_model.proofs.BoundLists.{met}
+use Rattle.mt_model.proofs.NodeTimes.{row-time}
+use Rattle.mt_model.proofs.Offsets.{agree-from, offsets-from, offsets-near}
 use Rattle.neg_cycle.specs.declared.system.Edge.{Edge as SystemEdge}
 use Rattle.neg_cycle.specs.Systems as system
 use Rattle.skew_bounds.specs.Differences.{AreSmall, Differences, IsOfRows, entry}
@@ -40,22 +45,43 @@ edges-met log (b ∷ bs) (e ∷ es) t are met =
     All-cons (system.Meets (pos 0 ∷ t)) e es (omega (arith, ints, here, from, to)) (edges-met log bs es t same.1 (All-tail (λ b. IfSome (edge_of log (step_of b)) (Meets t)) b bs met))
 
 module _ (law : BoundsAreAdmissible) (log : Logged) (valid : IsLog log) (edges : List SystemEdge) (incoming : List (List SystemEdge)) (are : AreEdges log (bounds_of log) edges)
-    (within : All (system.IsEdge (length log.rows + 1)) edges) (lists : AreIncoming (length log.rows + 1) edges incoming) where
-  -- an admissible timing is a solution of the edges
-  pub near-of : (t : List ℤ) → Admissible log t → IsNear incoming (pos 0 ∷ t)
-  near-of t admissible = record {
-    solution = record {
-      count = let size = admissible.count in let nodes = lists.count in omega (arith, size, nodes);
-      meets =
-          λ v below. all-incoming (length log.rows + 1) edges incoming lists within (system.Meets (pos 0 ∷ t))
-          (edges-met log (bounds_of log) edges t are ((law log t).0 admissible).1) v (rw lists.count at below);
-    };
-    near = All-cons (IsWithin MAX_TIME) (pos 0) t (record { low = omega (arith, ints); high = omega (arith, ints) }) (times-near log valid t admissible);
-  }
+    (within : All (system.IsEdge (node_count_of log)) edges) (lists : AreIncoming (node_count_of log) edges incoming) where
+  -- an admissible timing, with the least offsets that its rows allow, is a solution of the edges
+  module _ (t : List ℤ) (ok : Admissible log t) where
+    offsets : AreOffsets log t (offsets_of log t)
+    offsets = offsets-from log valid t (agree-from log valid t ok.clocks.offsets ok.clocks.are)
 
-  module _ (d : Differences) (table : IsTableOf incoming d) where
+    abbrev with-least : Admissible log t
+    with-least = record {
+      count = ok.count;
+      low = ok.low;
+      high = ok.high;
+      rise = ok.rise;
+      message = ok.message;
+      late = ok.late;
+      extra = ok.extra;
+      clocks = record { offsets = offsets_of log t; are = offsets };
+    }
+
+    bounds-met : MeetsEach log (t ++ offsets_of log t)
+    bounds-met k d below = met log t with-least (get_or (bounds_of log) k d)
+
+    pub near-of : IsNear incoming (pos 0 ∷ t ++ offsets_of log t)
+    near-of = record {
+      solution = record {
+        count = let size = ok.count in let nodes = lists.count in let clocks = offsets.count in omega (arith, size, nodes, clocks, length-append t (offsets_of log t));
+        meets =
+            λ v below. all-incoming (node_count_of log) edges incoming lists within (system.Meets (pos 0 ∷ t ++ offsets_of log t))
+            (edges-met log (bounds_of log) edges (t ++ offsets_of log t) are bounds-met) v (rw lists.count at below);
+      };
+      near =
+          All-cons (IsWithin MAX_TIME) (pos 0) (t ++ offsets_of log t) (record { low = omega (arith, ints); high = omega (arith, ints) })
+          (All-append (IsWithin MAX_TIME) t (offsets_of log t) (times-near log valid t ok) (offsets-near log valid t ok));
+    }
+
+  module _ (d : Differences) (table : IsTableOf (length log.rows + 1) incoming d) where
     size : d.nodes ≡ length log.rows + 1
-    size = table.nodes ∙ lists.count
+    size = table.nodes
 
     -- a column gives an admissible timing
     module _ (node : ℕ) (in-node : node < length log.rows + 1) where
@@ -63,22 +89,22 @@ module _ (law : BoundsAreAdmissible) (log : Logged) (valid : IsLog log) (edges :
       column = table.columns node (rw size in-node)
 
       timing : List ℤ
-      timing = times_of column.numbers
+      timing = times_of (length log.rows) column.numbers
 
-      column-count : length column.numbers ≡ length log.rows + 1
+      column-count : length column.numbers ≡ node_count_of log
       column-count = column.latest.solution.count ∙ lists.count
 
       column-admissible : Admissible log timing
       unfolding timing
-      column-admissible = timing-of law log (bounds_of log) edges column.numbers refl are within (record {
+      column-admissible = timing-of law log valid (bounds_of log) edges column.numbers refl are within (record {
         count = column-count;
-        meets = all-edges (length log.rows + 1) edges incoming lists within (system.Meets column.numbers) (λ v below. column.latest.solution.meets v (rw lists.count below));
+        meets = all-edges (node_count_of log) edges incoming lists within (system.Meets column.numbers) (λ v below. column.latest.solution.meets v (rw lists.count below));
       })
 
       -- in which the times are as far apart as the column says
       column-times : (i : ℕ) → i < length log.rows + 1 → node_time timing i ≡ entry d i node -ℤ system.number_of column.numbers 0
       unfolding timing
-      column-times i in-i = rw (column.entries i (rw size in-i)) (node-times column.numbers i (rw column-count in-i))
+      column-times i in-i = rw (column.entries i (rw size in-i)) (node-times (length log.rows) column.numbers i (rw column-count (omega arith)) in-i)
 
       column-own : entry d node node ≡ pos 0
       column-own = column.entries node (rw size in-node) ∙ column.latest.own
@@ -116,9 +142,12 @@ module _ (law : BoundsAreAdmissible) (log : Logged) (valid : IsLog log) (edges :
             same = omega (arith, ints, time-e, time-f, own);
           };
           bound = λ t admissible.
-              let most = (column (suc e) in-first).latest.greatest (pos 0 ∷ t) (near-of t admissible) (suc f) (rw lists.count in-second) in
+              let least = near-of t admissible in
+              let most = (column (suc e) in-first).latest.greatest (pos 0 ∷ t ++ offsets_of log t) least (suc f) (rw lists.count (omega (arith, in-second))) in
               let read = (column (suc e) in-first).entries (suc f) (rw size in-second) in
-              omega (arith, ints, most, read);
+              let first = row-time log t (offsets_of log t) admissible.count e in-e in
+              let second = row-time log t (offsets_of log t) admissible.count f in-f in
+              omega (arith, ints, most, read, first, second);
         })
 
     least-exact : (e f : ℕ) → e < length log.rows → f < length log.rows → IsLeastDifference log e f (least_of d e f)

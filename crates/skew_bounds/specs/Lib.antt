@@ -8,6 +8,7 @@ pub mod Beginning
 pub mod Incoming
 pub mod Lowering
 pub mod Table
+pub mod Readings
 pub mod Tight
 pub use Rattle.mt_model.specs.Log
 pub use Rattle.mt_model.specs.Timing

@@ -1,5 +1,5 @@
 -- The table whose columns are the greatest solutions of edges.
-use Rattle.std.specs.Prelude.{◌≡◌, ℕ, ◌<◌, List, length, ℤ}
+use Rattle.std.specs.Prelude.{◌≡◌, ℕ, ◌<◌, ◌≤◌, List, length, ℤ}
 use Rattle.neg_cycle.specs.declared.system.Edge.{Edge}
 use Rattle.neg_cycle.specs.Systems.{number_of}
 use Rattle.skew_bounds.specs.Differences.{Differences, entry}
@@ -11,7 +11,8 @@ pub record IsColumnOf (incoming : List (List Edge)) (d : Differences) (node : �
   pub latest : IsLatest incoming node numbers
   pub entries : (i : ℕ) → i < d.nodes → entry d i node ≡ number_of numbers i
 
--- each column is that of its node
-pub record IsTableOf (incoming : List (List Edge)) (d : Differences) : Type 0 where
-  pub nodes : d.nodes ≡ length incoming
+-- a table of the first so many nodes: each column is that of its node
+pub record IsTableOf (size : ℕ) (incoming : List (List Edge)) (d : Differences) : Type 0 where
+  pub nodes : d.nodes ≡ size
+  pub within : size ≤ length incoming
   pub columns : (node : ℕ) → node < d.nodes → IsColumnOf incoming d node

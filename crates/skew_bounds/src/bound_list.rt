@@ -25,6 +25,10 @@ fn add_row(log: &Log, row: EventId, list: &mut BoundList) -> Result<(), AllocErr
             list.push(Bound::Late(row))?;
         }
     }
+    if log.reading_at(e).is_some() {
+        list.push(Bound::Under(row))?;
+        list.push(Bound::Over(row))?;
+    }
     Ok(())
 }
 
@@ -40,8 +44,9 @@ fn row_bounds(alloc: Global, log: &Log) -> Result<BoundList, AllocError>
 }
 
 /// The bounds of a log: for each row in order Low, High, Rise where it is not the first row of its
-/// host, Message where it receives, and Late where it does and its host has a greatest delay; then the
-/// extra bounds in order. That is at most five bounds a row, and one an extra.
+/// host, Message where it receives, Late where it does and its host has a greatest delay, and Under and
+/// Over where it reads a clock; then the extra bounds in order. That is at most seven bounds a row, and
+/// one an extra.
 pub fn bounds(alloc: Global, log: &Log) -> Result<BoundList, AllocError>
     ensures list { IfOk result (λ list. list ≡ bounds_of log.now) }
 {

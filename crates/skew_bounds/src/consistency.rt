@@ -1,18 +1,18 @@
 //! Whether the bounds of a log can be met: a timing, or a closed walk of bounds in conflict.
 
-ghost use Rattle.std.specs.Prelude.{◌≡◌, ◌+◌, ◌<◌, length, map, All, IsSome, IfOk};
+ghost use Rattle.std.specs.Prelude.{◌≡◌, ◌<◌, length, map, All, IsSome, IfOk};
 ghost use Rattle.mt_model.specs.Bounds.{step_of as step_of_bound};
-ghost use Rattle.mt_model.specs.Walks.{edge_of};
+ghost use Rattle.mt_model.specs.Walks.{edge_of, node_count_of};
 ghost use Rattle.neg_cycle.specs.Systems.{IsEdge};
 ghost use Rattle.skew_bounds.specs.Consistency.{Settles};
 ghost use Rattle.skew_bounds.specs.Edges.{AreEdges, bound_at};
 ghost use Rattle.skew_bounds.specs.System.{IsSystemOf};
 
-use crate::edges::edge_by;
+use crate::edges::{edge_by, node_count};
 use crate::steps::step_of;
 use crate::system::{BoundSystem, system_of};
 use crate::times::times_of;
-use mt_model::{Bound, Log, Step, Steps, Times, bounds_are_admissible};
+use mt_model::{Bound, Log, Step, Steps, Times, bounds_are_admissible, log_is_valid};
 use neg_cycle::{EdgeList, Outcome, solve};
 use std::alloc::{AllocError, Global};
 
@@ -30,7 +30,7 @@ pub enum Consistency {
 pub fn edges_of(alloc: Global, log: &Log, bounds: &[Bound]) -> Result<EdgeList, AllocError>
     requires { All (λ b. IsSome (edge_of log.now (step_of_bound b))) bounds.now }
     ensures edges { IfOk result (AreEdges log.now bounds.now) }
-    ensures within { IfOk result (λ edges. All (IsEdge (length log.now.rows + 1)) edges) }
+    ensures within { IfOk result (λ edges. All (IsEdge (node_count_of log.now)) edges) }
 {
     let spans = log.spans(alloc)?;
     let mut edges = EdgeList::new(alloc);
@@ -69,10 +69,11 @@ pub fn settle_by(alloc: Global, log: &Log, system: &BoundSystem) -> Result<Consi
     ensures answer { IfOk result (Settles log.now) }
 {
     bounds_are_admissible();
-    let outcome = solve(alloc, log.rows().len() as u32 + 1, system.edges.as_slice())?;
+    log_is_valid(log);
+    let outcome = solve(alloc, node_count(log), system.edges.as_slice())?;
     match outcome {
         Outcome::Potential(numbers) => {
-            let times = times_of(alloc, numbers.as_slice())?;
+            let times = times_of(alloc, log.rows().len(), numbers.as_slice())?;
             Ok(Consistency::Timing(times))
         }
         Outcome::Cycle(places) => {

@@ -1,18 +1,23 @@
 //! The table of how far the moments of a log can be apart.
 
-ghost use Rattle.std.specs.Prelude.{◌≡◌, ◌*◌, ◌<◌, ◌^◌, ◌∷◌, length, pos, IfOk};
+ghost use Rattle.std.specs.Prelude.{◌≡◌, ◌<◌, ◌≤◌, ◌^◌, ◌∷◌, ◌++◌, length, pos, All, IfOk};
+ghost use Rattle.mt_model.specs.Clocks.{offsets_of};
+ghost use Rattle.mt_model.specs.Log.{IsWithin};
 ghost use Rattle.mt_model.specs.Timing.{Admissible};
+ghost use Rattle.mt_model.specs.declared.limits.TheConstants.{MAX_TIME};
 ghost use Rattle.skew_bounds.specs.Differences.{AreTurned, IsColumnSet, IsOfRows};
 ghost use Rattle.skew_bounds.specs.Incoming.{IsNear, IsNetwork, lists_of};
 ghost use Rattle.skew_bounds.specs.System.{IsSystemOf};
 ghost use Rattle.skew_bounds.specs.Table.{IsTableOf};
 ghost use Rattle.skew_bounds.specs.Tight.{IsTight};
 
+use crate::edges::node_count;
 use crate::incoming::incoming_of;
 use crate::latest::latest;
 use crate::matrix::Matrix;
+use crate::offsets::offsets;
 use crate::system::BoundSystem;
-use mt_model::{Log, bounds_are_admissible};
+use mt_model::{Log, bounds_are_admissible, log_is_valid};
 use neg_cycle::Edge;
 use std::alloc::{AllocError, Global};
 
@@ -27,17 +32,23 @@ fn set_column(table: &mut Matrix, node: usize, numbers: &[i128])
     }
 }
 
-// The table of nodes at which these edges end, where these numbers meet the edges.
-fn table_by(alloc: Global, incoming: &[Vec<Edge>], potential: &[i128]) -> Result<Matrix, AllocError>
-    requires square { length incoming.now * length incoming.now < 2 ^ 64 }
+// The table of the first so many of the nodes at which these edges end, where these numbers meet the edges.
+fn table_by(
+    alloc: Global,
+    nodes: usize,
+    incoming: &[Vec<Edge>],
+    potential: &[i128],
+) -> Result<Matrix, AllocError>
+    requires nodes { nodes ≤ length incoming.now }
+    requires few { length incoming.now < 2 ^ 32 }
     requires network { IsNetwork (lists_of incoming.now) }
     requires potential { IsNear (lists_of incoming.now) potential.now }
-    ensures { IfOk result (IsTableOf (lists_of incoming.now)) }
+    ensures { IfOk result (IsTableOf nodes (lists_of incoming.now)) }
 {
-    let mut table = Matrix::new(alloc, incoming.len())?;
-    for node in 0..incoming.len() {
+    let mut table = Matrix::new(alloc, nodes)?;
+    for node in 0..nodes {
         let numbers = latest(alloc, incoming, potential, node as u32)?;
-        set_column(&mut table, node, &numbers);
+        set_column(&mut table, node, &numbers[..nodes]);
     }
     Ok(table)
 }
@@ -54,13 +65,17 @@ pub fn turned(alloc: Global, table: &Matrix) -> Result<Matrix, AllocError>
     Ok(turned)
 }
 
-// The time of the zero moment, and these.
-fn node_times(alloc: Global, times: &[i128]) -> Result<Vec<i128>, AllocError>
-    ensures { IfOk result (λ numbers. numbers.items ≡ pos 0 ∷ times.now) }
+// The time of the zero moment, these of the rows, and an offset of each clock.
+fn node_times(alloc: Global, log: &Log, times: &[i128]) -> Result<Vec<i128>, AllocError>
+    requires range { All (IsWithin MAX_TIME) times.now }
+    requires count { length times.now ≡ length log.now.rows }
+    ensures { IfOk result (λ numbers. numbers.items ≡ pos 0 ∷ times.now ++ offsets_of log.now times.now) }
 {
     let mut numbers = Vec::new(alloc);
     numbers.push(0)?;
     numbers.extend_from_slice(times)?;
+    let offsets = offsets(alloc, log, times)?;
+    numbers.extend_from_slice(&offsets)?;
     Ok(numbers)
 }
 
@@ -78,7 +93,8 @@ pub fn table_of(
     ensures rows { IfOk result IsOfRows }
 {
     bounds_are_admissible();
-    let incoming = incoming_of(alloc, log.rows().len() + 1, system.edges.as_slice())?;
-    let potential = node_times(alloc, times)?;
-    table_by(alloc, &incoming, &potential)
+    log_is_valid(log);
+    let incoming = incoming_of(alloc, node_count(log) as usize, system.edges.as_slice())?;
+    let potential = node_times(alloc, log, times)?;
+    table_by(alloc, log.rows().len() + 1, &incoming, &potential)
 }

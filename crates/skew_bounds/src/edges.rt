@@ -1,15 +1,15 @@
-//! The edges of bounds, between the zero moment and the rows.
+//! The edges of bounds, between the zero moment, the rows and the clocks.
 
 ghost use Rattle.std.specs.Prelude.{◌≡◌, ◌+◌, ◌<◌, length, option_map, IfSome, Some};
 ghost use Rattle.mt_model.specs.Bounds.{step_of};
 ghost use Rattle.mt_model.specs.Spans.{spans_of};
-ghost use Rattle.mt_model.specs.Walks.{edge_of};
-ghost use Rattle.mt_model.specs.declared.step.Step.TheVariants.{Low, High, Rise, Message, Late, Extra};
+ghost use Rattle.mt_model.specs.Walks.{clock_node, edge_of, node_count_of};
+ghost use Rattle.mt_model.specs.declared.step.Step.TheVariants.{Low, High, Rise, Message, Late, Under, Over, Extra};
 ghost use Rattle.neg_cycle.specs.Systems.{IsEdge};
 ghost use Rattle.skew_bounds.specs.Edges.{IsSpanAt, edge_in};
 
 use crate::rows::{known_span, local_at, span_at};
-use mt_model::{Bound, EventId, Log, Span, log_is_valid};
+use mt_model::{Bound, ClockId, EventId, Log, Span, log_is_valid};
 use neg_cycle::Edge;
 
 fn node_of(log: &Log, e: usize) -> u32
@@ -21,10 +21,29 @@ fn node_of(log: &Log, e: usize) -> u32
     e as u32 + 1
 }
 
+// The clocks' nodes stand behind those of the rows.
+fn node_of_clock(log: &Log, clock: ClockId) -> u32
+    requires { clock < length log.now.clocks }
+    ensures { result ≡ clock_node log.now clock }
+{
+    // How many rows and clocks a log has at most is known with them.
+    log_is_valid(log);
+    log.rows().len() as u32 + 1 + clock.get()
+}
+
+/// How many nodes the edges of a log's bounds are between: the zero moment, which is node 0, the rows and
+/// the clocks.
+pub fn node_count(log: &Log) -> u32
+    ensures count { result ≡ node_count_of log.now }
+{
+    log_is_valid(log);
+    log.rows().len() as u32 + 1 + log.clocks().len() as u32
+}
+
 fn low(log: &Log, e: EventId, span: Span) -> Edge
     requires { IsSpanAt log.now e span }
     ensures edge { Some (edge_in result) ≡ edge_of log.now (Low e) }
-    ensures within { IsEdge (length log.now.rows + 1) result }
+    ensures within { IsEdge (node_count_of log.now) result }
 {
     let e = e.get() as usize;
     Edge {
@@ -37,7 +56,7 @@ fn low(log: &Log, e: EventId, span: Span) -> Edge
 fn high(log: &Log, e: EventId, span: Span) -> Edge
     requires { IsSpanAt log.now e span }
     ensures edge { Some (edge_in result) ≡ edge_of log.now (High e) }
-    ensures within { IsEdge (length log.now.rows + 1) result }
+    ensures within { IsEdge (node_count_of log.now) result }
 {
     let e = e.get() as usize;
     Edge {
@@ -50,7 +69,7 @@ fn high(log: &Log, e: EventId, span: Span) -> Edge
 fn rise(log: &Log, f: EventId, span: Span) -> Option<Edge>
     requires { IsSpanAt log.now f span }
     ensures edge { option_map edge_in result ≡ edge_of log.now (Rise f) }
-    ensures within { IfSome result (IsEdge (length log.now.rows + 1)) }
+    ensures within { IfSome result (IsEdge (node_count_of log.now)) }
 {
     let f = f.get() as usize;
     let e = log.row_before(f)?;
@@ -63,7 +82,7 @@ fn rise(log: &Log, f: EventId, span: Span) -> Option<Edge>
 
 fn message(log: &Log, r: EventId) -> Option<Edge>
     ensures edge { option_map edge_in result ≡ edge_of log.now (Message r) }
-    ensures within { IfSome result (IsEdge (length log.now.rows + 1)) }
+    ensures within { IfSome result (IsEdge (node_count_of log.now)) }
 {
     let r = r.get() as usize;
     if r < log.rows().len() {
@@ -80,7 +99,7 @@ fn message(log: &Log, r: EventId) -> Option<Edge>
 
 fn late(log: &Log, r: EventId) -> Option<Edge>
     ensures edge { option_map edge_in result ≡ edge_of log.now (Late r) }
-    ensures within { IfSome result (IsEdge (length log.now.rows + 1)) }
+    ensures within { IfSome result (IsEdge (node_count_of log.now)) }
 {
     let r = r.get() as usize;
     if r < log.rows().len() {
@@ -96,9 +115,43 @@ fn late(log: &Log, r: EventId) -> Option<Edge>
     }
 }
 
+fn under(log: &Log, e: EventId) -> Option<Edge>
+    ensures edge { option_map edge_in result ≡ edge_of log.now (Under e) }
+    ensures within { IfSome result (IsEdge (node_count_of log.now)) }
+{
+    let e = e.get() as usize;
+    if e < log.rows().len() {
+        let reading = log.reading_at(e)?;
+        Some(Edge {
+            from: node_of_clock(log, reading.clock),
+            to: node_of(log, e),
+            bound: reading.error - local_at(log, e),
+        })
+    } else {
+        None
+    }
+}
+
+fn over(log: &Log, e: EventId) -> Option<Edge>
+    ensures edge { option_map edge_in result ≡ edge_of log.now (Over e) }
+    ensures within { IfSome result (IsEdge (node_count_of log.now)) }
+{
+    let e = e.get() as usize;
+    if e < log.rows().len() {
+        let reading = log.reading_at(e)?;
+        Some(Edge {
+            from: node_of(log, e),
+            to: node_of_clock(log, reading.clock),
+            bound: local_at(log, e) + reading.error,
+        })
+    } else {
+        None
+    }
+}
+
 fn extra(log: &Log, k: usize) -> Option<Edge>
     ensures edge { option_map edge_in result ≡ edge_of log.now (Extra k) }
-    ensures within { IfSome result (IsEdge (length log.now.rows + 1)) }
+    ensures within { IfSome result (IsEdge (node_count_of log.now)) }
 {
     match log.extras().get(k) {
         Some(extra) => Some(Edge {
@@ -111,17 +164,20 @@ fn extra(log: &Log, k: usize) -> Option<Edge>
 }
 
 /// The edge `x_from - x_to <= bound` of a bound, in the log's unit of time, and None exactly where the
-/// log has no such bound. Node 0 is the zero moment, and node e + 1 is row e. Takes no memory.
+/// log has no such bound. Node 0 is the zero moment, and node e + 1 is row e; behind the rows come the
+/// clocks. Takes no memory.
 ///
 /// - Low e: from 0 to e + 1, the row's skew less its local time.
 /// - High e: from e + 1 to 0, the row's local time and its skew.
 /// - Rise f: from e + 1 to f + 1, where e is the row before f on its host, the negated gap of row f.
 /// - Message r: from s + 1 to r + 1, where s is the send of what r receives, the negated least delay of r.
 /// - Late r: from r + 1 to s + 1, the greatest delay of r, where there is one.
+/// - Under e: from the clock of row e to e + 1, the error of its reading less its local time.
+/// - Over e: from e + 1 to the clock of row e, its local time and the error of its reading.
 /// - Extra k, which says `t_e - t_f <= c`: from e + 1 to f + 1, c.
 pub fn edge_of(log: &Log, bound: Bound) -> Option<Edge>
     ensures edge { option_map edge_in result ≡ edge_of log.now (step_of bound) }
-    ensures within { IfSome result (IsEdge (length log.now.rows + 1)) }
+    ensures within { IfSome result (IsEdge (node_count_of log.now)) }
 {
     match bound {
         Bound::Low(e) => Some(low(log, e, span_at(log, e)?)),
@@ -129,6 +185,8 @@ pub fn edge_of(log: &Log, bound: Bound) -> Option<Edge>
         Bound::Rise(f) => rise(log, f, span_at(log, f)?),
         Bound::Message(r) => message(log, r),
         Bound::Late(r) => late(log, r),
+        Bound::Under(e) => under(log, e),
+        Bound::Over(e) => over(log, e),
         Bound::Extra(k) => extra(log, k as usize),
     }
 }
@@ -137,12 +195,13 @@ pub fn edge_of(log: &Log, bound: Bound) -> Option<Edge>
 pub fn edge_by(log: &Log, spans: &[Span], bound: Bound) -> Option<Edge>
     requires { spans.now ≡ spans_of log.now }
     ensures edge { option_map edge_in result ≡ edge_of log.now (step_of bound) }
-    ensures within { IfSome result (IsEdge (length log.now.rows + 1)) }
+    ensures within { IfSome result (IsEdge (node_count_of log.now)) }
 {
     match bound {
         Bound::Low(e) => Some(low(log, e, known_span(log, spans, e)?)),
         Bound::High(e) => Some(high(log, e, known_span(log, spans, e)?)),
         Bound::Rise(f) => rise(log, f, known_span(log, spans, f)?),
-        Bound::Message(_) | Bound::Late(_) | Bound::Extra(_) => edge_of(log, bound),
+        Bound::Message(_) | Bound::Late(_) | Bound::Under(_) | Bound::Over(_) | Bound::Extra(_) =>
+            edge_of(log, bound),
     }
 }

@@ -1,5 +1,5 @@
-//! The bounds of a log as difference constraints between the zero moment, which is node 0, and its
-//! rows, of which row e is node e + 1; whether some true times of the rows meet them all; and how far
+//! The bounds of a log as difference constraints between the zero moment, which is node 0, its rows, of
+//! which row e is node e + 1, and behind them its clocks, whose numbers are their offsets; whether some true times of the rows meet them all; and how far
 //! apart two rows then are at least and at most.
 //!
 //! Such constraints are the edges of a graph, and they can be met exactly where no closed walk has a
@@ -16,6 +16,7 @@ mod incoming;
 mod latest;
 mod lowering;
 mod matrix;
+mod offsets;
 mod row_edges;
 mod rows;
 mod steps;
@@ -27,7 +28,7 @@ pub use bound_list::bounds;
 pub use broken::first_broken;
 pub use consistency::{Consistency, edges_of, settle, settle_by};
 pub use differences::Tight;
-pub use edges::edge_of;
+pub use edges::{edge_of, node_count};
 pub use row_edges::EdgeTable;
 pub use steps::{bound_of, step_of};
 pub use system::{BoundSystem, system_of};

@@ -1,9 +1,9 @@
 //! The edges of a log's bounds, looked up by row.
 
-ghost use Rattle.std.specs.Prelude.{◌≡◌, ◌+◌, length, option_map, IfOk, IfSome};
+ghost use Rattle.std.specs.Prelude.{◌≡◌, option_map, IfOk, IfSome};
 ghost use Rattle.mt_model.specs.Bounds.{step_of};
 ghost use Rattle.mt_model.specs.Spans.{spans_of};
-ghost use Rattle.mt_model.specs.Walks.{edge_of as edge_of_step};
+ghost use Rattle.mt_model.specs.Walks.{edge_of as edge_of_step, node_count_of};
 ghost use Rattle.neg_cycle.specs.Systems.{IsEdge};
 ghost use Rattle.skew_bounds.specs.Edges.{edge_in};
 ghost use Rattle.skew_bounds.specs.RowEdges.{AreRowEdges, IsEdgeTableOf};
@@ -22,10 +22,12 @@ pub struct RowEdges {
     pub rise: Option<Edge>,
     pub message: Option<Edge>,
     pub late: Option<Edge>,
+    pub under: Option<Edge>,
+    pub over: Option<Edge>,
 }
 
 /// The edges of the bounds of all rows of a log. To look one up takes no search for the row before, for a send or for a
-/// resync, of which a log may have many.
+/// resync or a reading, of which a log may have many.
 #[derive(Drop)]
 pub struct EdgeTable {
     rows: Vec<RowEdges>,
@@ -51,6 +53,8 @@ fn edges_at(log: &Log, spans: &[Span], e: EventId) -> RowEdges
         rise: edge_by(log, spans, Bound::Rise(e)),
         message: edge_by(log, spans, Bound::Message(e)),
         late: edge_by(log, spans, Bound::Late(e)),
+        under: edge_by(log, spans, Bound::Under(e)),
+        over: edge_by(log, spans, Bound::Over(e)),
     }
 }
 
@@ -61,6 +65,8 @@ const NO_EDGES: RowEdges = RowEdges {
     rise: None,
     message: None,
     late: None,
+    under: None,
+    over: None,
 };
 
 // The edges of the bounds of a row, which the log may lack.
@@ -89,7 +95,7 @@ impl EdgeTable {
     pub fn edge(&self, log: &Log, bound: Bound) -> Option<Edge>
         requires table { IsEdgeTableOf log.now self.now }
         ensures edge { option_map edge_in result ≡ edge_of_step log.now (step_of bound) }
-        ensures within { IfSome result (IsEdge (length log.now.rows + 1)) }
+        ensures within { IfSome result (IsEdge (node_count_of log.now)) }
     {
         match bound {
             Bound::Low(e) => row_at(log, &self.rows, e).low,
@@ -97,6 +103,8 @@ impl EdgeTable {
             Bound::Rise(f) => row_at(log, &self.rows, f).rise,
             Bound::Message(r) => row_at(log, &self.rows, r).message,
             Bound::Late(r) => row_at(log, &self.rows, r).late,
+            Bound::Under(e) => row_at(log, &self.rows, e).under,
+            Bound::Over(e) => row_at(log, &self.rows, e).over,
             Bound::Extra(_) => edge_of(log, bound),
         }
     }

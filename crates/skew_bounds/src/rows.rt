@@ -1,13 +1,15 @@
-//! What rows say of their clocks: local times, skews and gaps.
+//! What rows say of their clocks: local times, skews, gaps and readings.
 
-ghost use Rattle.std.specs.Prelude.{◌≡◌, ◌<◌, ◌≤◌, length, MatchOption};
+ghost use Rattle.std.specs.Prelude.{◌≡◌, ◌<◌, ◌≤◌, length, IfSome, MatchOption};
 ghost use Rattle.mt_model.specs.Log.{IsWithin};
 ghost use Rattle.mt_model.specs.Spans.{spans_of};
-ghost use Rattle.mt_model.specs.Timing.{local_of};
+ghost use Rattle.mt_model.specs.Clocks.{readings_of};
+ghost use Rattle.mt_model.specs.Timing.{local_of, reading_of};
 ghost use Rattle.mt_model.specs.declared.limits.TheConstants.{MAX_LOCAL};
 ghost use Rattle.skew_bounds.specs.Edges.{IsSpanAt};
+ghost use Rattle.skew_bounds.specs.Readings.{HasError};
 
-use mt_model::{EventId, Log, Span};
+use mt_model::{EventId, Log, Reading, Span, log_is_valid};
 
 /// The local time of a row.
 pub fn local_at(log: &Log, e: usize) -> i128
@@ -44,4 +46,15 @@ pub fn known_span(log: &Log, spans: &[Span], e: EventId) -> Option<Span>
     } else {
         None
     }
+}
+
+/// The reading of a row, where those of all rows are known.
+pub fn row_reading(log: &Log, readings: &[Option<Reading>], e: usize) -> Option<Reading>
+    requires row { e < length log.now.rows }
+    requires readings { readings.now ≡ readings_of log.now }
+    ensures reading { result ≡ reading_of log.now e }
+    ensures error { IfSome result HasError }
+{
+    log_is_valid(log);
+    readings[e]
 }

@@ -16,6 +16,8 @@ pub fn step_of(bound: Bound) -> Step
         Bound::Rise(f) => Step::Rise(f.get()),
         Bound::Message(r) => Step::Message(r.get()),
         Bound::Late(r) => Step::Late(r.get()),
+        Bound::Under(e) => Step::Under(e.get()),
+        Bound::Over(e) => Step::Over(e.get()),
         Bound::Extra(k) => Step::Extra(k),
     }
 }
@@ -30,6 +32,8 @@ pub fn bound_of(step: Step) -> Option<Bound>
         Step::Rise(f) => Some(Bound::Rise(EventId::new(f))),
         Step::Message(r) => Some(Bound::Message(EventId::new(r))),
         Step::Late(r) => Some(Bound::Late(EventId::new(r))),
+        Step::Under(e) => Some(Bound::Under(EventId::new(e))),
+        Step::Over(e) => Some(Bound::Over(EventId::new(e))),
         Step::Extra(k) => Some(Bound::Extra(k)),
         Step::Order { .. } => None,
     }

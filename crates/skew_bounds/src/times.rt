@@ -27,13 +27,13 @@ fn relative(alloc: Global, zero: i128, numbers: &[i128]) -> Result<Times, AllocE
     Ok(times)
 }
 
-/// The true times of the rows, where these are the numbers of the nodes: the zero moment's first, and then one a
-/// row. Only differences of numbers are times, so each is relative to that of the zero moment. Numbers and times
-/// are in the log's unit of time. An error is want of memory.
-pub fn times_of(alloc: Global, numbers: &[i128]) -> Result<Times, AllocError>
-    requires some { 0 < length numbers.now }
-    requires near { All (IsWithin MAX_TIME) (times_of numbers.now) }
-    ensures times { IfOk result (λ t. t ≡ times_of numbers.now) }
+/// The true times of so many rows, where these are the numbers of the nodes: the zero moment's first, then
+/// one a row, and then one a clock. Only differences of numbers are times, so each is relative to that of the
+/// zero moment. Numbers and times are in the log's unit of time. An error is want of memory.
+pub fn times_of(alloc: Global, rows: usize, numbers: &[i128]) -> Result<Times, AllocError>
+    requires some { rows < length numbers.now }
+    requires near { All (IsWithin MAX_TIME) (times_of rows numbers.now) }
+    ensures times { IfOk result (λ t. t ≡ times_of rows numbers.now) }
 {
-    relative(alloc, numbers[0], &numbers[1..])
+    relative(alloc, numbers[0], &numbers[1..rows + 1])
 }

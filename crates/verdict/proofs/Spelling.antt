@@ -1,7 +1,7 @@
 -- What is found has a spelling.
 use Rattle.std.proofs.Common.{◌≡◌, ◌∙◌, sym, ℕ, List, length, ℤ}
 use Rattle.mt_model.specs.declared.step.Step.{Step}
-use Rattle.mt_model.specs.declared.step.Step.TheVariants.{Low, High, Rise, Message, Late, Extra, Order}
+use Rattle.mt_model.specs.declared.step.Step.TheVariants.{Low, High, Rise, Message, Late, Under, Over, Extra, Order}
 use Rattle.mt_model.specs.Laws.{IsBound}
 use Rattle.mt_model.specs.Log.{IsLog, Logged}
 use Rattle.mt_model.specs.Timing.{Admissible}
@@ -21,6 +21,8 @@ bound_spelled (High e) bound spelled = spelled
 bound_spelled (Rise e) bound spelled = spelled
 bound_spelled (Message e) bound spelled = spelled
 bound_spelled (Late e) bound spelled = spelled
+bound_spelled (Under e) bound spelled = spelled
+bound_spelled (Over e) bound spelled = spelled
 bound_spelled (Extra k) bound spelled = spelled
 bound_spelled (Order e f c) bound spelled = absurd bound
 

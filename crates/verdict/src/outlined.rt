@@ -39,7 +39,13 @@ fn admits(log: &Log, system: &BoundSystem, times: &[i128]) -> bool
     requires spelled { IsSpelledWitness (length log.now.rows) times.now }
     ensures { IsTrue result ↔ Admissible log.now times.now }
 {
-    first_broken(log, system.bounds.as_slice(), times).is_none()
+    first_broken(
+        log,
+        system.readings.as_slice(),
+        system.bounds.as_slice(),
+        times,
+    )
+    .is_none()
 }
 
 // Whether the log admits times and the formula has the value in them.

@@ -32,6 +32,7 @@ module _ (log : Logged) (x : Extra) (t : List ℤ) where
     message = ok.message;
     late = ok.late;
     extra = λ k y got. ok.extra k y (got-kept log.extras x y k got);
+    clocks = record { offsets = ok.clocks.offsets; are = record { count = ok.clocks.are.count; under = ok.clocks.are.under; over = ok.clocks.are.over } };
   }
 
   met : Admissible (with_extra log x) t → (time_of t x.e -ℤ time_of t x.f) ≤ℤ x.c
@@ -49,6 +50,7 @@ module _ (log : Logged) (x : Extra) (t : List ℤ) where
       | inl old ↦ ok.extra k y old
       | inr new ↦ subst (λ (z : Extra). (time_of t z.e -ℤ time_of t z.f) ≤ℤ z.c) new.1 holds
     ];
+    clocks = record { offsets = ok.clocks.offsets; are = record { count = ok.clocks.are.count; under = ok.clocks.are.under; over = ok.clocks.are.over } };
   }
 
 turned : (a b c : ℤ) → (a -ℤ b) ≤ℤ neg_ℤ c → c ≤ℤ (b -ℤ a)
@@ -94,6 +96,8 @@ spaced-valid log e to c valid pair within = record {
   hosts = valid.hosts;
   rows = valid.rows;
   resyncs = valid.resyncs;
+  clocks = valid.clocks;
+  readings = valid.readings;
   extras = All-append (IsExtra (length log.rows)) log.extras (the-extra log e to c [] ∷ []) valid.extras
       (All-cons (IsExtra (length log.rows)) (the-extra log e to c []) []
       (record { e = pair.row; f = pair.other; apart = pair.apart; bound = neg-within c within }) (All-nil (IsExtra (length log.rows))));

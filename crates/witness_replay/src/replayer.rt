@@ -15,7 +15,7 @@ ghost use Rattle.formula_arena.specs.declared.arena.TheConstants.{MAX_NODES};
 use crate::evaluator::truth_at_first;
 use crate::timeline::Moment;
 use formula_arena::{Arena, ArenaFault, nodes_are_subtrees, truth_of_core};
-use mt_model::{Bound, BoundList, Formula, Log, NodeId};
+use mt_model::{Bound, BoundList, Formula, Log, NodeId, RowReadings};
 use question::{Question, question_is_asked};
 use skew_bounds::{bounds, first_broken};
 use std::alloc::{AllocError, Global};
@@ -32,6 +32,7 @@ pub struct Replayer {
     arena: Arena,
     root: NodeId,
     bounds: BoundList,
+    readings: RowReadings,
     moments: Vec<Moment>,
     table: Vec<bool>,
 }
@@ -48,7 +49,7 @@ impl Model for Replayer {
 
     ghost view = { λ r. record { log = r.log; core = tree_at r.arena r.root } };
 
-    ghost invariant = { λ r. IsReady r.log r.arena r.root r.bounds r.moments.items r.table.items };
+    ghost invariant = { λ r. IsReady r.log r.arena r.root r.bounds r.readings r.moments.items r.table.items };
 }
 
 // A truth value for each of so many nodes at each of so many rows.
@@ -91,11 +92,13 @@ impl Replayer {
         let moments = make_moments(alloc, log.rows().len())?;
         let table = make_table(alloc, arena.len(), log.rows().len())?;
         let (log, bounds) = copy_with_bounds(alloc, log)?;
+        let readings = log.readings_by_row(alloc)?;
         Ok(Replayer {
             log,
             arena,
             root,
             bounds,
+            readings,
             moments,
             table,
         })
@@ -109,7 +112,12 @@ impl Replayer {
         ensures bound { result ≡ first_broken_of self.now.log times.now }
         ensures admissible { (result ≡ None) ↔ Admissible self.now.log times.now }
     {
-        first_broken(&self.log, self.bounds.as_slice(), times)
+        first_broken(
+            &self.log,
+            self.readings.as_slice(),
+            self.bounds.as_slice(),
+            times,
+        )
     }
 
     /// Whether the log admits times. There is a time for each row. Takes no memory.

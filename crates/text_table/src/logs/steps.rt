@@ -29,6 +29,8 @@ pub fn step_of(text: &str) -> Option<Step> {
         "rise" => Some(Step::Rise(number)),
         "message" => Some(Step::Message(number)),
         "late" => Some(Step::Late(number)),
+        "under" => Some(Step::Under(number)),
+        "over" => Some(Step::Over(number)),
         "extra" => Some(Step::Extra(number)),
         _ => None,
     }

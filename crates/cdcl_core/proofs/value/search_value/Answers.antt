@@ -1,5 +1,5 @@
 -- What searching and reading times ask for, and what is found.
-use Rattle.std.proofs.Common.{arith}
+use Rattle.std.proofs.Common.{arith, length}
 use Rattle.question.proofs.TightExtremes.{tight-consistent}
 use Rattle.skew_bounds.specs.RowTimes.{times_of}
 use Rattle.skew_bounds.proofs.Near.{times-near}
@@ -23,9 +23,9 @@ times_of-requires c =
     let fits = c.in_ok-problem.ensures.fits in
     let model = rw c.in-Model.is at (c.in_ok-potentials.ensures.found log f c.args.value valid fits) in
     let exact = c.in_ok-problem.ensures.exact c.in-Model.values c.in-Model.potentials model in
-    rw c.as_slice.ensures.items (record {
+    rw (rw c.log-2.ensures.log at c.rows-rows.ensures.same, c.as_slice.ensures.items) (record {
       some = let count = model.numbers_count in let nodes = fits.nodes in omega (arith, count, nodes);
-      near = times-near log valid (times_of c.in-Model.potentials) exact.0;
+      near = times-near log valid (times_of (length log.rows) c.in-Model.potentials) exact.0;
     })
 
 pub returns-in-Model : goal.returns-in-Model
@@ -35,7 +35,7 @@ returns-in-Model c =
     let valid = rw c.log.ensures.log at c.log_is_valid.ensures.valid in
     let model = rw c.in-Model.is at (c.in_ok-potentials.ensures.found log f c.args.value valid c.in_ok-problem.ensures.fits) in
     let exact = c.in_ok-problem.ensures.exact c.in-Model.values c.in-Model.potentials model in
-    let same = rw c.as_slice.ensures.items at c.in_ok-times_of-in-Model.ensures.times in
+    let same = rw (rw c.log-2.ensures.log at c.rows-rows.ensures.same, c.as_slice.ensures.items) at c.in_ok-times_of-in-Model.ensures.times in
     record { found = model_found log f c.args.value c.args.budget c.in-Model.potentials c.in_ok-times_of-in-Model.field-0 same exact.0 exact.1 }
 
 pub returns-in-Refuted : goal.returns-in-Refuted

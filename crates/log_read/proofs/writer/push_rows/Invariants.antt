@@ -3,4 +3,4 @@ use Rattle.log_read.proofs.PushedLines.{IsPushedUpTo}
 use Rattle.log_read.proofs.writer.push_rows.Given as goal
 
 abbrev pub invariant-loop-place : goal.invariant-loop-place
-invariant-loop-place l = IsPushedUpTo (rows_from l.hosts l.resyncs) l.rows l.fn.text.items l.text.items l.place
+invariant-loop-place l = IsPushedUpTo (rows_from l.log) l.rows l.fn.text.items l.text.items l.place

@@ -8,5 +8,4 @@ use Rattle.log_read.proofs.writer.write_log.Goals as goal
 pub returns-clause-reads_back : goal.returns-clause-reads_back
 returns-clause-reads_back c =
     let log = c.args.log.now in
-    let text = rw (c.hosts.ensures.same, c.rows.ensures.same, c.resyncs.ensures.same) at c.text_of.ensures in
-    IfOk-weaker c.text_of.result (λ v. v.items ≡ log_text log) (λ v. log_of v.items ≡ Ok log) (λ v same. ap log_of same ∙ texts-read-back log c.hosts.ensures.valid c.requires) text
+    IfOk-weaker c.text_of.result (λ v. v.items ≡ log_text log) (λ v. log_of v.items ≡ Ok log) (λ v same. ap log_of same ∙ texts-read-back log c.text_of.ensures.valid c.requires) c.text_of.ensures.text

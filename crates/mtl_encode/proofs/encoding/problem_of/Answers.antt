@@ -1,4 +1,3 @@
-use Rattle.std.proofs.Common.{◌+◌, ap, arith, length}
 use Rattle.std.proofs.lemmas.Result.{IfOk-from_err}
 use Rattle.question.proofs.TightExtremes.{tight-consistent}
 use Rattle.mtl_encode.proofs.EncodeLemmas.{all-listed, few-atoms, fits-of, lists-of, room-first, room-of}
@@ -10,26 +9,26 @@ use Rattle.mtl_encode.proofs.encoding.problem_of.Goals as goal
 pub add_all-requires-clause-room : goal.add_all-requires-clause-room
 add_all-requires-clause-room c =
     let s = c.args.sought.now in
-    let valid = rw c.log.ensures.log at c.rows.ensures.valid in
+    let valid = rw c.log.ensures.log at c.log_is_valid.ensures.valid in
     room-first s c.new-clauses.result.rules (instances s (out_by c.args.tight.now s)) c.new-clauses.ensures.rules
     (room-of c.cores_are_cores.ensures.equality s c.args.tight.now valid c.requires.arena c.requires.tight c.requires.small)
 
 pub in_order-requires-clause-few : goal.in_order-requires-clause-few
 in_order-requires-clause-few c =
     let s = c.args.sought.now in
-    let valid = rw c.log.ensures.log at c.rows.ensures.valid in
+    let valid = rw c.log.ensures.log at c.log_is_valid.ensures.valid in
     few-atoms s (out_by c.args.tight.now s) c.new-clauses.result c.add_all.new.self c.new-clauses.ensures.rules c.in_ok-add_all.ensures
     (room-of c.cores_are_cores.ensures.equality s c.args.tight.now valid c.requires.arena c.requires.tight c.requires.small)
 
 pub returns-clause-fits : goal.returns-clause-fits
 returns-clause-fits c =
     let s = c.args.sought.now in
-    let valid = rw c.log.ensures.log at c.rows.ensures.valid in
+    let valid = rw c.log.ensures.log at c.log_is_valid.ensures.valid in
     fits-of s (out_by c.args.tight.now s) c.in_ok-ordered.ordered c.args.system.bounds c.args.system.edges _ c.in_ok-ordered.ensures.clauses
     (all-listed s (out_by c.args.tight.now s) c.new-clauses.result c.add_all.new.self c.in_ok-ordered.ordered.rules c.new-clauses.ensures.rules c.in_ok-add_all.ensures c.in_ok-ordered.ensures.rules)
     (room-of c.cores_are_cores.ensures.equality s c.args.tight.now valid c.requires.arena c.requires.tight c.requires.small)
     valid c.requires.system.bounds c.requires.system.edges c.requires.system.within
-    (ap (λ rows. length rows + 1) (rw c.log.ensures.log at c.rows.ensures.same))
+    (rw c.log-2.ensures.log at c.node_count.ensures.count)
 
 pub returns-clause-lists : goal.returns-clause-lists
 returns-clause-lists c =
@@ -42,6 +41,3 @@ returns-in_err-ordered-clause-fits c = IfOk-from_err _ _ c.from_residual-in_err-
 
 pub returns-in_err-ordered-clause-lists : goal.returns-in_err-ordered-clause-lists
 returns-in_err-ordered-clause-lists c = IfOk-from_err _ _ c.from_residual-in_err-ordered.ensures.0
-
-pub overflow_add-result : goal.overflow_add-result
-overflow_add-result c = let valid = rw c.log.ensures.log at c.rows.ensures.valid in let same = rw c.log.ensures.log at c.rows.ensures.same in let few = rw (← same) at valid.few_rows in omega (arith, few)

@@ -5,7 +5,7 @@ use Rattle.skew_best.proofs.Spelling.{widest-spelled}
 use Rattle.skew_best.proofs.spanning.greatest_distance.Goals as goal
 
 pub widest-requires-clause-room : goal.widest-requires-clause-room
-widest-requires-clause-room c = rw c.requires.plain.no_extras (omega arith)
+widest-requires-clause-room c = let few = c.requires.plain.extras in omega (arith, few)
 
 pub returns-in-Ok-clause-spelled : goal.returns-in-Ok-clause-spelled
 returns-in-Ok-clause-spelled c =

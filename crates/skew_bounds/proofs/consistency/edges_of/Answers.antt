@@ -4,7 +4,7 @@ use Rattle.std.proofs.lemmas.List.Elements.{All-nil, All-push}
 use Rattle.mt_model.specs.declared.bound.Bound.{Bound}
 use Rattle.mt_model.specs.Bounds.{step_of}
 use Rattle.mt_model.specs.Log.{Logged}
-use Rattle.mt_model.specs.Walks.{edge_of}
+use Rattle.mt_model.specs.Walks.{edge_of, node_count_of}
 use Rattle.neg_cycle.specs.declared.system.Edge.{Edge}
 use Rattle.neg_cycle.specs.Systems.{IsEdge}
 use Rattle.skew_bounds.specs.Edges.{AreEdges, edge_in}
@@ -25,7 +25,7 @@ loop-bound-init c =
     let none = sym c.new-edges.ensures.items in
     record {
       edges = ap (map (λ d. Some (edge_in d))) none;
-      within = subst (All (IsEdge (length (c.args.log.now).rows + 1))) none (All-nil (IsEdge (length (c.args.log.now).rows + 1)));
+      within = subst (All (IsEdge (node_count_of c.args.log.now))) none (All-nil (IsEdge (node_count_of c.args.log.now)));
     }
 
 pub loop-bound-preserved : goal.loop-bound-preserved
@@ -36,8 +36,8 @@ loop-bound-preserved c =
           edges-more c.args.log.now c.args.bounds.now c.loop-bound.edges c.push.new.self c.loop-bound.bound-index c.bound-item.result c.in-Some.edge c.loop-bound-test.true c.bound-item.is
           c.in-Some.ensures.edge c.loop-bound.invariant.edges pushed;
       within =
-          subst (All (IsEdge (length (c.args.log.now).rows + 1))) (sym pushed)
-          (All-push (IsEdge (length (c.args.log.now).rows + 1)) c.loop-bound.edges c.in-Some.edge c.loop-bound.invariant.within c.in-Some.ensures.within);
+          subst (All (IsEdge (node_count_of c.args.log.now))) (sym pushed)
+          (All-push (IsEdge (node_count_of c.args.log.now)) c.loop-bound.edges c.in-Some.edge c.loop-bound.invariant.within c.in-Some.ensures.within);
     }
 
 pub returns : goal.returns

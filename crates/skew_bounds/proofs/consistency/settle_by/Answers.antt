@@ -1,4 +1,4 @@
-use Rattle.std.proofs.Common.{arith}
+use Rattle.std.proofs.Common.{arith, length}
 use Rattle.skew_bounds.specs.RowTimes.{times_of}
 use Rattle.skew_bounds.proofs.Near.{times-near}
 use Rattle.skew_bounds.proofs.Settled.{conflict-of, places-within, system-of, timing-of}
@@ -6,27 +6,27 @@ use Rattle.skew_bounds.proofs.consistency.settle_by.Goals as goal
 
 pub solve-requires : goal.solve-requires
 solve-requires c =
-    let system = system-of c.args.log.now c.args.system.now.bounds c.args.system.now.edges c.rows.ensures.valid c.requires.system.bounds c.requires.system.edges c.requires.system.within in
-    rw (c.rows.ensures.same, c.as_slice.ensures.items) system
+    let system = system-of c.args.log.now c.args.system.now.bounds c.args.system.now.edges c.log_is_valid.ensures.valid c.requires.system.bounds c.requires.system.edges c.requires.system.within in
+    rw (c.node_count.ensures.count, c.as_slice.ensures.items) system
 
 pub times_of-requires : goal.times_of-requires
 times_of-requires c =
-    let found = rw (c.rows.ensures.same, c.as_slice.ensures.items, c.in-Potential.is) at c.in_ok-outcome.ensures.found in
+    let found = rw (c.node_count.ensures.count, c.as_slice.ensures.items, c.in-Potential.is) at c.in_ok-outcome.ensures.found in
     let admissible =
-    timing-of c.bounds_are_admissible.ensures c.args.log.now c.args.system.now.bounds c.args.system.now.edges c.in-Potential.numbers
+    timing-of c.bounds_are_admissible.ensures c.args.log.now c.log_is_valid.ensures.valid c.args.system.now.bounds c.args.system.now.edges c.in-Potential.numbers
     c.requires.system.bounds c.requires.system.edges c.requires.system.within found in
-    rw c.as_slice-in-Potential.ensures.items (record {
+    rw (c.rows.ensures.same, c.as_slice-in-Potential.ensures.items) (record {
       some = let count = found.count in omega (arith, count);
-      near = times-near c.args.log.now c.rows.ensures.valid (times_of c.in-Potential.numbers) admissible;
+      near = times-near c.args.log.now c.log_is_valid.ensures.valid (times_of (length c.args.log.now.rows) c.in-Potential.numbers) admissible;
     })
 
 pub returns-in_ok-times-in-Potential : goal.returns-in_ok-times-in-Potential
 returns-in_ok-times-in-Potential c =
-    let found = rw (c.rows.ensures.same, c.as_slice.ensures.items, c.in-Potential.is) at c.in_ok-outcome.ensures.found in
+    let found = rw (c.node_count.ensures.count, c.as_slice.ensures.items, c.in-Potential.is) at c.in_ok-outcome.ensures.found in
     let admissible =
-    timing-of c.bounds_are_admissible.ensures c.args.log.now c.args.system.now.bounds c.args.system.now.edges c.in-Potential.numbers
+    timing-of c.bounds_are_admissible.ensures c.args.log.now c.log_is_valid.ensures.valid c.args.system.now.bounds c.args.system.now.edges c.in-Potential.numbers
     c.requires.system.bounds c.requires.system.edges c.requires.system.within found in
-    let times = rw (c.as_slice-in-Potential.ensures.items) at c.in_ok-times-in-Potential.ensures.times in
+    let times = rw (c.rows.ensures.same, c.as_slice-in-Potential.ensures.items) at c.in_ok-times-in-Potential.ensures.times in
     record { answer = rw times admissible }
 
 pub steps_of-requires : goal.steps_of-requires

@@ -3,4 +3,4 @@ use Rattle.skew_bounds.proofs.Columns.{IsTableUpTo}
 use Rattle.skew_bounds.proofs.difference_table.table_by.Given as goal
 
 abbrev pub invariant-loop-node : goal.invariant-loop-node
-invariant-loop-node l = IsTableUpTo (lists_of l.incoming) l.node l.table
+invariant-loop-node l = IsTableUpTo l.nodes (lists_of l.incoming) l.node l.table

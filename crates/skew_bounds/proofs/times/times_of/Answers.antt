@@ -1,5 +1,4 @@
-use Rattle.std.proofs.Common.{All, drop, length, rules, ◌-ℤ◌, ◌-◌, arith}
-use Rattle.std.proofs.lemmas.List.{length-drop, take_all}
+use Rattle.std.proofs.Common.{◌≡◌, All, drop, take, rules, ◌+◌, ◌-◌, ◌-ℤ◌, arith}
 use Rattle.mt_model.specs.Log.{IsWithin}
 use Rattle.mt_model.specs.declared.limits.TheConstants.{MAX_TIME}
 use Rattle.neg_cycle.specs.Systems.{number_of}
@@ -9,5 +8,7 @@ use Rattle.skew_bounds.proofs.times.times_of.Goals as goal
 pub relative-requires : goal.relative-requires
 relative-requires c =
     let numbers = c.args.numbers.now in
-    let near : All (λ x. IsWithin MAX_TIME (x -ℤ number_of numbers 0)) (drop 1 numbers) = all-of-mapped (IsWithin MAX_TIME) (λ x. x -ℤ number_of numbers 0) (drop 1 numbers) c.requires.near in
-    rw (take_all (length numbers - 1) (drop 1 numbers) (omega (arith, length-drop 1 numbers))) (search (rules, near))
+    let near : All (λ x. IsWithin MAX_TIME (x -ℤ number_of numbers 0)) (take c.args.rows (drop 1 numbers)) =
+    all-of-mapped (IsWithin MAX_TIME) (λ x. x -ℤ number_of numbers 0) (take c.args.rows (drop 1 numbers)) c.requires.near in
+    let count : c.args.rows + 1 - 1 ≡ c.args.rows = omega arith in
+    rw count (search (rules, near))

@@ -4,6 +4,7 @@ use Rattle.skew_commands.specs.declared.limits.TheConstants.{TIMES_LIMIT}
 use Rattle.skew_commands.specs.declared.refusal.Named.TheVariants as named
 use Rattle.skew_commands.specs.ReplayOutcome.{ReplayOfTimes}
 use Rattle.skew_commands.specs.Tests.{OnTimes}
+use Rattle.skew_commands.proofs.Opening.{one-opened}
 use Rattle.skew_commands.proofs.Possible.{third-unread, third-uncounted}
 use Rattle.skew_commands.proofs.Steps.{third-answered}
 use Rattle.skew_commands.proofs.replaying.replay_of_question.Goals as goal
@@ -15,6 +16,9 @@ returns-clause-outcome g c = λ tells.
     third-answered (g.S.Shelf.files c.args.shelf.now) c.args.times.now TIMES_LIMIT named.Times q.text.items f q.log
     (λ file. OnTimes file q.log (ReplayOfTimes q.log f)) c.in_ok-known_hosts.ensures.known c.in_ok-replayer.ensures.few
     c.replay_of_file.result (c.replay_of_file.ensures.outcome tells f (rw c.in_ok-replayer.ensures.core))
+
+pub returns-clause-openings : goal.returns-clause-openings
+returns-clause-openings g c = one-opened (g.S.Shelf.openings c.args.shelf.now) (g.S.Shelf.openings c.replay_of_file.new.shelf) c.replay_of_file.ensures.once
 
 pub returns-clause-never : goal.returns-clause-never
 returns-clause-never g c = λ steady tells holds failed. c.replay_of_file.ensures.never steady tells (holds c.in_ok-known_hosts.ensures.known c.in_ok-replayer.ensures.few) failed

@@ -2,7 +2,7 @@ use Rattle.std.proofs.Common.{◌≡◌, ◌∙◌, sym, ap, Some, arith}
 use Rattle.log_read.specs.LogOf.{known_in}
 use Rattle.log_read.specs.Records.{kind_of}
 use Rattle.log_read.specs.declared.kind.Kind.TheVariants as kind
-use Rattle.log_read.proofs.Listing.{adds_event, adds_host, adds_latency, adds_resync, four_items}
+use Rattle.log_read.proofs.Listing.{adds_bound, adds_clock, adds_event, adds_host, adds_latency, adds_resync, four_items}
 use Rattle.log_read.proofs.reading.Reading.add.Goals as goal
 
 pub returns-in-Some-Host : goal.returns-in-Some-Host
@@ -48,3 +48,25 @@ returns-in-Some-Latency c =
     ap (known_in c.args.version) (sym kinds) ∙ sym c.known.ensures ∙ c.in-Some-Latency.is ∙ ap Some c.in-Some-Latency.field-0-is in
     let added = rw (c.bytes-in-Some-Latency.ensures.bytes, c.bytes-in-Some-Latency-2.ensures.bytes, c.bytes-in-Some-Latency-3.ensures.bytes) at c.add_latency.ensures in
     adds_latency c.args.version c.args.place c.args.self.now c.add_latency.new.self c.args.fields.now _ _ _ _ c.add_latency.result (sym c.as_slice.ensures.fields ∙ four) named added
+
+pub returns-in-Some-Clock : goal.returns-in-Some-Clock
+returns-in-Some-Clock c =
+    let four =
+    four_items c.as_slice.result.now c.word-item.result c.host-item.result c.time-item.result c.name-item.result (omega (arith, c.in-len4.len_at_least))
+    (omega (arith, c.in-len4.len_below)) c.word-item.is c.host-item.is c.time-item.is c.name-item.is in
+    let kinds = rw c.bytes.ensures.bytes at c.named.ensures.kind in
+    let named : known_in c.args.version (kind_of c.word-item.result) ≡ Some kind.Clock =
+    ap (known_in c.args.version) (sym kinds) ∙ sym c.known.ensures ∙ c.in-Some-Clock.is ∙ ap Some c.in-Some-Clock.field-0-is in
+    let added = rw (c.bytes-in-Some-Clock.ensures.bytes, c.bytes-in-Some-Clock-2.ensures.bytes, c.bytes-in-Some-Clock-3.ensures.bytes) at c.add_clock.ensures in
+    adds_clock c.args.version c.args.place c.args.self.now c.add_clock.new.self c.args.fields.now _ _ _ _ c.add_clock.result (sym c.as_slice.ensures.fields ∙ four) named added
+
+pub returns-in-Some-Bound : goal.returns-in-Some-Bound
+returns-in-Some-Bound c =
+    let four =
+    four_items c.as_slice.result.now c.word-item.result c.host-item.result c.time-item.result c.name-item.result (omega (arith, c.in-len4.len_at_least))
+    (omega (arith, c.in-len4.len_below)) c.word-item.is c.host-item.is c.time-item.is c.name-item.is in
+    let kinds = rw c.bytes.ensures.bytes at c.named.ensures.kind in
+    let named : known_in c.args.version (kind_of c.word-item.result) ≡ Some kind.Bound =
+    ap (known_in c.args.version) (sym kinds) ∙ sym c.known.ensures ∙ c.in-Some-Bound.is ∙ ap Some c.in-Some-Bound.field-0-is in
+    let added = rw (c.bytes-in-Some-Bound.ensures.bytes, c.bytes-in-Some-Bound-2.ensures.bytes, c.bytes-in-Some-Bound-3.ensures.bytes) at c.add_bound.ensures in
+    adds_bound c.args.version c.args.place c.args.self.now c.add_bound.new.self c.args.fields.now _ _ _ _ c.add_bound.result (sym c.as_slice.ensures.fields ∙ four) named added

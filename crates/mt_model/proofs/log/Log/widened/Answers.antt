@@ -26,5 +26,7 @@ invariant_of-result c =
       hosts = c.self.inside.hosts;
       rows = c.self.inside.rows;
       resyncs = c.self.inside.resyncs;
+      clocks = c.self.inside.clocks;
+      readings = c.self.inside.readings;
       extras = c.self.inside.extras;
     }) c.self.invariant room later)

@@ -19,7 +19,7 @@ add-requires-clause-room c =
     let all = subst (λ rules. HasRoom s (c.loop-a.self.rules ++ rules)) (sym (c.seconds-seconds.ensures.enough out)) one in
     let two = room-taken s (with_two s out n counts c.loop-a.a) c.seconds-seconds.result.now c.loop-a.self c.loop-b.self c.loop-b.b-index _ c.loop-b-test.true c.loop-b.invariant all in
     let three = room-next s (with_three s out n counts c.loop-a.a _) c.loop-b.self c.loop-c.self c.loop-c.c c.loop-c.invariant (slice_index counts 2)
-    (omega (arith, c.loop-c-test.true, c.third_count-c-end.ensures.at_most)) two in
+    (omega (arith, c.loop-c-test.true, c.third_count-thirds.ensures.at_most)) two in
     room-next s (λ d. kept s out (rule_at n c.loop-a.a _ c.loop-c.c d)) c.loop-c.self c.loop-d.self c.loop-d.d c.loop-d.invariant (slice_index counts 3) c.loop-d-test.true three
 
 pub loop-d-preserved : goal.loop-d-preserved
@@ -53,9 +53,9 @@ loop-b-preserved c =
     let number = c.args.number in
     let counts = c.args.counts in
     let b = slice_index_or c.seconds-seconds.result.now c.loop-b.b-index 0 in
-    let end : c.loop-c.c ≡ c.third_count-c-end.result = omega (arith, c.loop-c-test.false, c.loop-c.auto.c-end) in
+    let end : c.loop-c.c ≡ c.third_count-thirds.result = omega (arith, c.loop-c-test.false, c.loop-c.auto.c-end) in
     let gained = subst (λ (n : ℕ). Gains s c.loop-b.self c.loop-c.self (flat_map (with_three s out number counts c.loop-a.a b) (range_with_len 0 n))) end c.loop-c.invariant in
-    let all = first-thirds s out number counts c.third_count-c-end.result c.loop-a.a b c.third_count-c-end.ensures.at_most (λ k d low high. c.third_count-c-end.ensures.no_clause b k d low high) in
+    let all = first-thirds s out number counts c.third_count-thirds.result c.loop-a.a b c.third_count-thirds.ensures.at_most (λ k d low high. c.third_count-thirds.ensures.no_clause b k d low high) in
     gains-taken s (with_two s out number counts c.loop-a.a) c.seconds-seconds.result.now c.loop-a.self c.loop-b.self c.loop-b.b-index _ c.loop-b-test.true c.loop-b.invariant c.loop-c.self
     (subst (Gains s c.loop-b.self c.loop-c.self) (sym all) gained)
 

@@ -1,0 +1,10 @@
+use Rattle.log_read.proofs.Begun.{begun_bound}
+use Rattle.log_read.proofs.reading.Reading.add_bound.Goals as goal
+
+pub invariant_of-self-2 : goal.invariant_of-self-2
+invariant_of-self-2 c =
+    let entry = rw c.as_slice.ensures.items at c.in_ok-bound.ensures.entry in
+    rw c.in_ok-push.ensures.ok
+    (begun_bound c.args.place
+    (record { hosts = c.self.inside.hosts; rows = c.self.inside.rows; resyncs = c.self.inside.resyncs; latencies = c.self.inside.latencies; clocks = c.self.inside.clocks.items; readings = c.self.inside.readings; bounds = c.self.inside.bounds })
+    c.in_ok-bound.bound c.args.later.now c.args.earlier.now c.args.most.now c.self.invariant entry.0 entry.1)
