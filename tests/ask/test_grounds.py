@@ -12,6 +12,7 @@ from ask.grounds import bounds_used
 from ask.logs import Log, read_log
 from ask.program import find_program
 from ask.reports import Section, line_of, read_report
+from ask.walks import name_of_ground
 
 EXAMPLES = ROOT / "examples"
 LOG = b"kind,host,time,name\nhost,a,2,1\nhost,b,2,1\nset,a,10,req\nset,b,15,ack\nclear,b,30,ack\n"
@@ -20,7 +21,7 @@ LOG = b"kind,host,time,name\nhost,a,2,1\nhost,b,2,1\nset,a,10,req\nset,b,15,ack\
 def used(*lines):
     """The bounds of a derivation with such lines, in words."""
     section = Section("refuted", [], [line_of(line.split(" ")) for line in lines])
-    return [f"{step.kind} {step.numbers[0]} {uses}x" for step, uses in bounds_used(read_log(LOG), section)]
+    return [f"{name_of_ground(ground)} {uses}x" for ground, uses in bounds_used(read_log(LOG), section)]
 
 
 class Order(unittest.TestCase):

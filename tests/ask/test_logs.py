@@ -4,6 +4,7 @@ import random
 import unittest
 
 import common  # sets the path
+import clock_logs
 import generate
 import logs as reference_logs
 import reference
@@ -48,14 +49,13 @@ class AgainstReference(unittest.TestCase):
                 self.assertEqual(answer(data), reference_answer(data))
 
     def test_bounds(self):
-        kinds = ("low", "high", "rise", "message", "late")
         for _, _, data in generated():
             read, other = logs.read_log(data), reference_logs.read_log(data)
             if isinstance(read, logs.Fault) or len(read.rows) > 20:
                 continue
-            found = {(kind, event): logs.bound_of(read, kind, event) for event in range(len(read.rows)) for kind in kinds}
+            found = {(kind, number): bound for kind, number, bound in clock_logs.all_bounds(read)}
             expected = {(bound.kind.decode(), bound.event): (bound.start, bound.end, bound.most) for bound in reference.bounds(other)}
-            self.assertEqual({key: tuple(bound) for key, bound in found.items() if bound}, expected)
+            self.assertEqual({key: tuple(bound) for key, bound in found.items()}, expected)
 
     def test_states(self):
         for draw, _, data in generated():

@@ -101,7 +101,7 @@ class Times(unittest.TestCase):
             if isinstance(log, logs.Fault) or len(log.rows) > 12:
                 continue
             count += 1
-            right = self.extremes(reference.bounds(other), len(log.rows))
+            right = self.extremes(reference.bounds(other), len(log.rows), len(other.clocks))
             with self.subTest(data=data):
                 try:
                     times = Bounds(log).times()
@@ -111,20 +111,21 @@ class Times(unittest.TestCase):
                     continue
                 self.assertEqual((list(times.least), list(times.greatest)), right)
 
-    def extremes(self, bounds, rows):
+    def extremes(self, bounds, rows, clocks):
         """The least and the greatest time of each row by all walks of bounds, None where no timing is admissible."""
-        far = 10**30
-        walks = [[0 if one == other else far for other in range(rows + 1)] for one in range(rows + 1)]
+        far, zero = 10**30, rows + clocks
+        nodes = range(zero + 1)
+        walks = [[0 if one == other else far for other in nodes] for one in nodes]
         for bound in bounds:
-            start, end = (rows if node is None else node for node in (bound.start, bound.end))
+            start, end = (zero if node is None else node for node in (bound.start, bound.end))
             walks[start][end] = min(walks[start][end], bound.most)
-        for middle in range(rows + 1):
-            for one in range(rows + 1):
-                for other in range(rows + 1):
+        for middle in nodes:
+            for one in nodes:
+                for other in nodes:
                     walks[one][other] = min(walks[one][other], walks[one][middle] + walks[middle][other])
-        if any(walks[node][node] < 0 for node in range(rows + 1)):
+        if any(walks[node][node] < 0 for node in nodes):
             return None
-        return [-walks[rows][event] for event in range(rows)], [walks[event][rows] for event in range(rows)]
+        return [-walks[zero][event] for event in range(rows)], [walks[event][zero] for event in range(rows)]
 
     def check_walk(self, log, walk):
         """Asserts that steps are a closed walk of negative sum."""

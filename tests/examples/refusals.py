@@ -4,8 +4,8 @@ import re
 from pathlib import Path
 
 DOCS = Path(__file__).resolve().parent.parent.parent / "docs"
-HEADERS = {1: "kind,host,time,name", 2: "skewlog2,host,time,name"}
-SECOND = ("resync", "latency", "pulse")  # kinds of records of version 2 alone
+HEADERS = {1: "kind,host,time,name", 2: "skewlog2,host,time,name", 3: "skewlog3,host,time,name"}
+SINCE = {"resync": 2, "latency": 2, "pulse": 2, "clock": 3, "bound": 3}  # kinds of records, by the version that began them
 
 
 def faults():
@@ -26,7 +26,7 @@ def logs_of(cell):
         records = re.findall(r"`([^`]*,[^`]*)`", part)
         if records:
             kinds = [record.split(",")[0] for record in records]
-            known = version or (2 if any(kind in SECOND for kind in kinds) else 1)
+            known = version or max(SINCE.get(kind, 1) for kind in kinds)
             yield "\n".join([HEADERS[known], "host,a,2,1", *reversed(records)]) + "\n"
 
 

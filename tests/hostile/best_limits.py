@@ -10,6 +10,8 @@ from log_limits import LENGTH as LOG_LENGTH
 from log_limits import LOCAL, MOST, ROWS, rows_of_rounds
 from second_limits import log_of as second_log_of
 from sizes import at_once, many, quiet, turns
+from third_limits import APART
+from third_limits import log_of as third_log_of
 
 BOTH = b"a.p & b.p"
 # True whatever its propositions are, which takes a conflict to see where it is open which of two rows is the first.
@@ -225,7 +227,37 @@ def many_rows():
     yield long("span false 0 1023", "1,024 quiet rows, U[0,2]", b"a.p U[0,2] a.q", quick, (FOUND,), b"span 1023")
 
 
+def readings():
+    """Rows that read one clock, at both ends, whose distance the errors leave open; a widening leaves it as it is."""
+    hosts = [b"host,%s,%d,0" % (host, MOST) for host in (b"a", b"b")]
+    for error in (0, 1, MOST // 2, MOST - 1, MOST):
+        read = [b"clock,%s,%d,m" % (host, error) for host in (b"a", b"b")]
+        log = third_log_of(*hosts, *read, b"set,a,%d,p" % -LOCAL, b"set,b,%d,p" % LOCAL)
+        title = f"rows at both ends by one clock, error {error}"
+        yield case("span true 0 1", title, TRUE, log, FOUND, b"span %d" % (2 * LOCAL + 2 * error))
+        yield case("span true 1 0", title, TRUE, log, FOUND, b"span %d" % (2 * error - 2 * LOCAL))
+        yield case(f"tolerance true {MOST}", title, TRUE, log, FOUND, b"tolerance 0")
+        yield case(f"tolerance true {MOST}", f"{title}, at once", BOTH, log, NONE, b"tolerance none")
+
+
+def bounds_between_rows():
+    """Rows at both ends with a bound between them, up to the greatest."""
+    hosts = [b"host,%s,%d,0" % (host, MOST) for host in (b"a", b"b")]
+    for most, line in ((APART, 10 * MOST), (10 * MOST + 1, 10 * MOST), (10 * MOST, 10 * MOST), (10 * MOST - 1, 10 * MOST - 1),
+                       (6 * MOST, 6 * MOST)):
+        log = third_log_of(*hosts, b"set,a,%d,p" % -LOCAL, b"set,b,%d,p" % LOCAL, b"bound,1,0,%d" % most)
+        yield case("span true 0 1", f"rows at both ends, at most {most} apart", TRUE, log, FOUND, b"span %d" % line)
+        yield case("span true 1 0", f"rows at both ends, at most {most} apart", TRUE, log, FOUND, b"span %d" % (-6 * MOST))
+    for most, found in ((6 * MOST, 0), (6 * MOST - 1, 1), (6 * MOST - 2, 1), (4 * MOST, MOST), (4 * MOST - 1, None)):
+        log = third_log_of(*hosts, b"set,a,%d,p" % -LOCAL, b"set,b,%d,p" % LOCAL, b"bound,1,0,%d" % most)
+        status, line = (SHUT, b"inconsistent 3") if found is None else (FOUND, b"tolerance %d" % found)
+        yield case(f"tolerance true {MOST}", f"rows at both ends, at most {most} apart", TRUE, log, status, line)
+    log = third_log_of(*hosts, b"set,a,0,p", b"set,b,0,p", b"bound,0,1,-%d" % APART)
+    yield case(f"tolerance true {MOST}", "the least bound", TRUE, log, SHUT, b"inconsistent 3")
+    yield case("span true 0 1", "the least bound", TRUE, log, SHUT, b"inconsistent 3")
+
+
 def cases():
     """All cases of `tolerance` and `span`."""
-    for some in (far_widenings, far_bounds, far_distances, resyncs, few_rows, greatest_sizes, many_rows):
+    for some in (far_widenings, far_bounds, far_distances, resyncs, readings, bounds_between_rows, few_rows, greatest_sizes, many_rows):
         yield from some()

@@ -10,6 +10,9 @@ from pathlib import Path
 
 import program
 from case import Case, audit, log_of
+from json_texts import BOUND, CLOCK, HOST, NOTE
+from json_texts import log_of as json_of
+from third_limits import log_of as third_log_of
 
 EXAMPLES = Path(__file__).resolve().parent.parent.parent / "examples"
 REPORTS = (
@@ -17,6 +20,9 @@ REPORTS = (
     ("handover.report", "lease.formula", "handover.csv"),
     ("message_both.report", "both.formula", "message.csv"),
 )
+# A log of version 3, and one in JSON.
+READ = third_log_of(b"host,a,9,0", b"clock,a,10,m", b"set,a,10,p", b"bound,1,0,-5", b"resync,a,3,0", b"note,a,15,n")
+READ_IN_JSON = json_of([HOST], [CLOCK, NOTE, NOTE, BOUND])
 SIGNS = b"G[0,inf] (a.req -> !(true U[1,20] (b.ack | false)) & O (H[0,3] !a.req) S F a.req)"
 
 
@@ -64,15 +70,17 @@ def broken_copies(text, others=(b"\0", b"\xff", b"\r", b'"', b" ", b"0")):
 
 def of_logs():
     """Broken copies of logs."""
-    for name in ("relay.csv", "checkout.csv", "timeout.csv"):
-        for title, log in broken_copies(example(name)):
+    files = [(name, example(name)) for name in ("relay.csv", "checkout.csv", "timeout.csv")]
+    for name, data in (*files, ("a log of version 3", READ)):
+        for title, log in broken_copies(data):
             yield by_reference("log", f"{name} {title}", ["order", "l"], {"l": log})
 
 
 def of_json():
     """Broken copies of logs in JSON."""
-    for name in ("answered.json", "delayed.json"):
-        for title, log in broken_copies(example(name), (b"\0", b"\xff", b'"', b"{", b"]", b"7", b" ")):
+    files = [(name, example(name)) for name in ("answered.json", "delayed.json")]
+    for name, data in (*files, ("a log of version 3 in JSON", READ_IN_JSON)):
+        for title, log in broken_copies(data, (b"\0", b"\xff", b'"', b"{", b"]", b"7", b" ")):
             yield by_reference("json", f"{name} {title}", ["json", "j"], {"j": log})
 
 

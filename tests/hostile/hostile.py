@@ -42,6 +42,7 @@ import script_cases
 import script_runs
 import second_limits
 import sizes
+import third_limits
 import word_limits
 from case import Blank
 
@@ -164,9 +165,8 @@ def print_row(row):
 
 def all_cases(with_longest):
     """All cases, kind by kind."""
-    modules = (word_limits, cuts, log_limits, second_limits, json_limits, json_shapes, json_strings, formula_limits,
-               report_limits,
-               best_limits, sizes)
+    modules = (word_limits, cuts, log_limits, second_limits, third_limits, json_limits, json_shapes, json_strings,
+               formula_limits, report_limits, best_limits, sizes)
     for some in modules:
         yield from some.cases()
     if with_longest:

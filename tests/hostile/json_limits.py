@@ -4,8 +4,8 @@ from typing import NamedTuple
 
 from case import HEADER, Case
 from json_texts import (
-    HOST, LENGTH, NOTE, RESYNC, RIGHT, SHAPE, SYNTAX, TEXT, changed, log_of, nested, object_of, refused, with_entry,
-    written,
+    BOUND, CLOCK, HOST, LENGTH, NOTE, RESYNC, RIGHT, SHAPE, SYNTAX, TEXT, THIRD_TEXT, changed, log_of, nested, object_of, refused,
+    text_of, with_entry, written,
 )
 from log_limits import LENGTH as LOG_LENGTH
 from log_limits import LOCAL, MOST, ROWS, fault
@@ -33,7 +33,7 @@ class Place(NamedTuple):
 
     def log_text(self, number):
         """What is written of it."""
-        return TEXT.replace(self.own, self.text % number)
+        return text_of(self.members).replace(self.own, self.text % number)
 
 
 PLACES = (
@@ -44,6 +44,9 @@ PLACES = (
     Place("skew of a resync", RESYNC, b"skew", b"%s", 4, b"resync,a,3,4", b"resync,a,%s,4", 0, MOST),
     Place("gap of a resync", RESYNC, b"gap", b"%s", 4, b"resync,a,3,4", b"resync,a,3,%s", 0, MOST),
     Place("local time", NOTE, b"time", b"%s", 5, b"note,a,10,n", b"note,a,%s,n", -LOCAL, LOCAL),
+    Place("error", CLOCK, b"error", b"%s", 5, b"clock,a,1,m", b"clock,a,%s,m", 0, MOST),
+    # What a bound says may be greater than any whole number of 64 bits.
+    Place("number of a bound", BOUND, b"most", b"%s", 8, b"bound,1,0,5", b"bound,1,0,%s", -(2**63), 2**64 - 1),
 )
 # Whole numbers of 64 bits, with their sign or without.
 WHOLE = (-(2**63), -LOCAL - 1, -1, 0, 1, MOST, MOST + 1, LOCAL, LOCAL + 1, 2**63 - 1, 2**63, 2**64 - 1)
@@ -79,6 +82,21 @@ def numbers():
             yield written("greatest latency null", place.log(b"null"), TEXT.replace(b"latency,a,5,60\n", b""))
         else:
             yield refused(f"{place.title} null", place.log(b"null"), SHAPE)
+
+
+def rows_of_bounds():
+    """Numbers of rows that bounds name: those of two rows, and others."""
+    for key, same in ((b"later", 0), (b"earlier", 1)):
+        for number in (*WHOLE, 2, 2**32 - 1, 2**32):
+            log = with_entry(BOUND, changed(BOUND, key, b"%d" % number))
+            title = f"{key.decode()} row {number}"
+            if number in (0, 1) and number != same:
+                yield written(title, log, THIRD_TEXT)
+            else:
+                is_row_number = 0 <= number < 2**32
+                yield refused(title, log, fault(18 if number == same else 20 if is_row_number else 7, 8))
+        for text in (*FLOATS, *OTHERS, b"null"):
+            yield refused(f"{key.decode()} row, no whole number", with_entry(BOUND, changed(BOUND, key, text)), SHAPE)
 
 
 def latencies():
@@ -149,6 +167,23 @@ def counts():
     yield refused("1,025 rows, the last without its shape", log_of([HOST], [NOTE] * ROWS + [()]), SHAPE)
     yield refused("110,000 times one host", log_of([changed(HOST, b"latency", None)] * 110_000, [NOTE]), fault(5, 3))
     yield refused("a message sent twice", log_of([HOST], [changed(NOTE, b"kind", b'"send"')] * 2), fault(9, 5))
+    yield from counts_of_third()
+
+
+def counts_of_third():
+    """Numbers of clocks and of bounds between rows."""
+    clocks = [changed(CLOCK, b"clock", b'"c%d"' % clock) for clock in range(1025)]
+    head, row = THIRD_TEXT.partition(b"resync")[0], b"note,a,10,n\n"
+    read = b"".join(b"clock,a,1,c%d\n" % clock for clock in range(1024))
+    yield written("1,024 clocks", log_of([HOST], [*clocks[:1024], NOTE]), head + read + row)
+    yield refused("1,025 clocks", log_of([HOST], [*clocks, NOTE]), fault(17, 1028))
+    yield refused("1,025 clocks, the last faulty too", log_of([HOST], [*clocks[:1024], changed(clocks[1024], b"host", b'"b"')]),
+                  fault(6, 1028))
+    own = object_of(BOUND) + b","
+    whole = log_of([HOST], [BOUND, NOTE, NOTE])
+    count = (LENGTH - len(whole)) // len(own)
+    text = head + row * 2 + b"bound,1,0,5\n" * (count + 1)
+    yield written(f"{count + 1:,} bounds", whole.replace(own, own * (count + 1)), text)
 
 
 def lengths():
@@ -204,5 +239,5 @@ def wide_values():
 
 def cases():
     """All cases of numbers, depths, counts and lengths of logs in JSON."""
-    for some in (numbers, latencies, nesting, counts, lengths, wide_values):
+    for some in (numbers, rows_of_bounds, latencies, nesting, counts, lengths, wide_values):
         yield from some()

@@ -1,8 +1,8 @@
 """Logs in JSON whose objects have other keys or kinds than they should, with what has to be answered."""
 
 from json_texts import (
-    ENTRIES, HOST, LENGTH, NOTE, RESYNC, RIGHT, SHAPE, SYNTAX, TEXT, array_of, changed, log_of, object_of, refused, with_entry,
-    written,
+    BOUND, CLOCK, ENTRIES, HOST, LENGTH, NOTE, RESYNC, RIGHT, SHAPE, SYNTAX, TEXT, array_of, changed, log_of, object_of, refused,
+    text_of, with_entry, written,
 )
 from log_limits import LOCAL, MOST, fault
 
@@ -14,6 +14,8 @@ FAULTS = {
     (RESYNC, b"host"): (b'"b"', fault(6, 4)), (RESYNC, b"skew"): (b"-1", fault(7, 4)), (RESYNC, b"gap"): (b"-1", fault(7, 4)),
     (NOTE, b"kind"): (b'"put"', fault(3, 5)), (NOTE, b"host"): (b'"b"', fault(6, 5)),
     (NOTE, b"time"): (b"%d" % (LOCAL + 1), fault(7, 5)), (NOTE, b"name"): (b'"N"', fault(8, 5)),
+    (CLOCK, b"host"): (b'"b"', fault(6, 5)), (CLOCK, b"error"): (b"-1", fault(7, 5)), (CLOCK, b"clock"): (b'"M"', fault(8, 5)),
+    (BOUND, b"later"): (b"0", fault(18, 8)), (BOUND, b"earlier"): (b"2", fault(20, 8)),
 }
 
 
@@ -27,8 +29,8 @@ def keys():
                 renamed = tuple((other if own == key else own, text) for own, text in members)
                 yield refused(f"{title} with a key that is written otherwise", with_entry(members, renamed), SHAPE)
         escaped = tuple((b"".join(b"\\u%04x" % byte for byte in own), text) for own, text in members)
-        yield written(f"{title} with its keys in escapes", with_entry(members, escaped), TEXT)
-        yield written(f"{title} with its keys from behind", with_entry(members, members[::-1]), TEXT)
+        yield written(f"{title} with its keys in escapes", with_entry(members, escaped), text_of(members))
+        yield written(f"{title} with its keys from behind", with_entry(members, members[::-1]), text_of(members))
         for key in (b"zone", b"", b"hosts", b"names", b"\\ud83d\\ude00", b"a" * 1_000_000):
             more = (key, b"null")
             yield refused(f"{title} with a key more", with_entry(members, (*members, more)), SHAPE)
@@ -52,7 +54,7 @@ def keys_twice():
                 if line == SYNTAX:
                     yield refused(f"{name}, the first no JSON", first, line)
                 else:
-                    yield written(f"{name}, the first faulty", first, TEXT)
+                    yield written(f"{name}, the first faulty", first, text_of(members))
                 yield refused(f"{name}, the last faulty", last, line)
 
 
@@ -68,18 +70,20 @@ def kinds():
         yield written(f"an event of the kind {kind.decode()}", log, TEXT.replace(b"note,", kind + b","))
     for kind, line in (
         (b"recv", fault(10, 5)), (b"put", fault(3, 5)), (b"", fault(3, 5)), (b"Note", fault(3, 5)), (b"note ", fault(3, 5)),
-        (b"note\\u0000", fault(3, 5)), (b"kind", fault(3, 5)), (b"skewlog2", fault(3, 5)), (b"a" * 1_000_000, fault(3, 5)),
-        (b"host", SHAPE), (b"latency", SHAPE), (b"resync", SHAPE),
+        (b"note\\u0000", fault(3, 5)), (b"kind", fault(3, 5)), (b"skewlog3", fault(3, 5)), (b"a" * 1_000_000, fault(3, 5)),
+        (b"host", SHAPE), (b"latency", SHAPE), (b"resync", SHAPE), (b"clock", SHAPE), (b"bound", SHAPE),
     ):
         title = "a million letters" if len(kind) > 100 else repr(kind.decode())
         yield refused(f"an event of the kind {title}", with_entry(NOTE, changed(NOTE, b"kind", b'"%s"' % kind)), line)
-    for kind in (b"note", b"set", b"host", b"latency", b"put", b"", b"Resync"):
-        log = with_entry(RESYNC, changed(RESYNC, b"kind", b'"%s"' % kind))
-        yield refused("a resync of another kind", log, SHAPE)
+    for title, members, own in (("a resync", RESYNC, b"resync"), ("a clock", CLOCK, b"clock"), ("a bound", BOUND, b"bound")):
+        for kind in {b"note", b"set", b"host", b"latency", b"resync", b"clock", b"bound", b"put", b"", own.title()} - {own}:
+            log = with_entry(members, changed(members, b"kind", b'"%s"' % kind))
+            yield refused(f"{title} of another kind", log, SHAPE)
     for more in ((b"skew", b"1"), (b"gap", b"1"), (b"latency", b"[5,60]")):
         yield refused("a row with a key of others", with_entry(NOTE, (*NOTE, more)), SHAPE)
     for more in ((b"time", b"1"), (b"name", b'"n"'), (b"latency", b"[5,60]")):
-        yield refused("a resync with a key of others", with_entry(RESYNC, (*RESYNC, more)), SHAPE)
+        for title, members in (("a resync", RESYNC), ("a clock", CLOCK), ("a bound", BOUND)):
+            yield refused(f"{title} with a key of others", with_entry(members, (*members, more)), SHAPE)
 
 
 def keys_of_logs():

@@ -2,6 +2,7 @@
 
 from case import Case
 from second_limits import HEADER
+from third_limits import HEADER as THIRD_HEADER
 
 LENGTH = 4_194_304
 SYNTAX = b"refused json 1"
@@ -12,8 +13,15 @@ HOST = ((b"name", b'"a"'), (b"skew", b"2"), (b"gap", b"1"), (b"latency", b"[5,60
 RESYNC = ((b"kind", b'"resync"'), (b"host", b'"a"'), (b"skew", b"3"), (b"gap", b"4"))
 NOTE = ((b"kind", b'"note"'), (b"host", b'"a"'), (b"time", b"10"), (b"name", b'"n"'))
 TEXT = HEADER + b"host,a,2,1\nlatency,a,5,60\nresync,a,3,4\nnote,a,10,n\n"
+# The same of a log of version 3, which has a clock before two rows and a bound between them.
+CLOCK = ((b"kind", b'"clock"'), (b"host", b'"a"'), (b"error", b"1"), (b"clock", b'"m"'))
+BOUND = ((b"kind", b'"bound"'), (b"later", b"1"), (b"earlier", b"0"), (b"most", b"5"))
+THIRD_TEXT = THIRD_HEADER + (
+    b"host,a,2,1\nlatency,a,5,60\nresync,a,3,4\nclock,a,1,m\nnote,a,10,n\nnote,a,10,n\nbound,1,0,5\n"
+)
+SECOND_EVENTS, THIRD_EVENTS = (RESYNC, NOTE), (RESYNC, CLOCK, NOTE, NOTE, BOUND)
 # Each with a name and the record that it is; a host's latency is one more.
-ENTRIES = (("a host", HOST, 2), ("a resync", RESYNC, 4), ("a row", NOTE, 5))
+ENTRIES = (("a host", HOST, 2), ("a resync", RESYNC, 4), ("a row", NOTE, 5), ("a clock", CLOCK, 5), ("a bound", BOUND, 8))
 
 
 def object_of(members):
@@ -41,9 +49,15 @@ def changed(members, key, value):
 
 
 def with_entry(members, entry):
-    """The log with an entry in place of one of its own."""
+    """The log with an entry in place of one of its own, which is of version 3 where no other log has such an entry."""
     hosts = [entry if members is HOST else HOST]
-    return log_of(hosts, [entry if members is event else event for event in (RESYNC, NOTE)])
+    events = SECOND_EVENTS if members in (HOST, *SECOND_EVENTS) else THIRD_EVENTS
+    return log_of(hosts, [entry if members is event else event for event in events])
+
+
+def text_of(members):
+    """What is written of the log that has an entry."""
+    return TEXT if members in (HOST, *SECOND_EVENTS) else THIRD_TEXT
 
 
 def nested(front, back, depth, inside=b""):

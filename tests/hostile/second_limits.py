@@ -49,7 +49,7 @@ def odd_records():
         yield order(f"{name} before its host", log_of(kind, HOST, NOTE), 66, fault(6, 2))
         yield order(f"{name} with three fields", log_of(HOST, kind.rpartition(b",")[0], NOTE), 66, fault(2, 3))
         yield order(f"{name} in capitals", log_of(HOST, kind.upper(), NOTE), 66, fault(3, 3))
-    for header in (b"skewlog3,host,time,name", b"skewlog2,host,time", b"skewlog2,host,time,name,", b"Skewlog2,host,time,name"):
+    for header in (b"skewlog4,host,time,name", b"skewlog2,host,time", b"skewlog2,host,time,name,", b"Skewlog2,host,time,name"):
         yield order(f"header {header.decode()}", header + b"\n" + HOST + b"\n" + NOTE + b"\n", 66, fault(1, 1))
     yield order("a name of a pulse that is none", log_of(HOST, b"pulse,a,0,P"), 66, fault(8, 3))
     yield order("a latency after its rows", log_of(HOST, NOTE, b"latency,a,1,2"), 0, b"0: 1")

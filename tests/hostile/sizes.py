@@ -35,6 +35,14 @@ def many(count, form=b"F[%d,%d]a.p"):
     return joined([form % (number, number) for number in range(count)])
 
 
+def read(log, error=0):
+    """The log with all of its hosts reading one clock."""
+    head, hosts, rows = log.partition(b"host,a")
+    first = min(rows.find(b"\n%s," % kind) for kind in (b"set", b"note") if b"\n%s," % kind in rows) + 1
+    readings = b"".join(b"clock,%s,%d,m\n" % (host, error) for host in HOSTS if b"host,%s," % host in log)
+    return b"skewlog3,host,time,name\n" + hosts + rows[:first] + readings + rows[first:]
+
+
 def case(title, formula, log, statuses=ANSWERED, line=b"skewcheck 1"):
     """A formula and a log that `check` is asked about, with one conflict for each value."""
     words = ["check", "--conflicts", "1", "f", "l"]
@@ -45,6 +53,7 @@ def cases():
     """All cases of great sizes."""
     yield from one_of_64_rows()
     yield from most_rows()
+    yield from by_one_clock()
     yield from fewer_rows()
 
 
@@ -74,6 +83,18 @@ def most_rows():
     yield case("1,024 rows in turns, skew 5, F[0,40]", b"F[0,40] a.p", turns(1024, 5))
     close = log_of(b"host,a,511,1", *[b"note,a,0,n"] * 1024)
     yield case("1,024 rows that don't fit, of any size", many(250), close, (3,))
+
+
+def by_one_clock():
+    """Rows that read one clock, so that their distances are known, or nearly so."""
+    wide = turns(1024, 1000)
+    yield case("1,024 rows in turns by one clock, skew 1000, 4 untils", many(4), read(wide))
+    yield case("1,024 rows in turns by one clock, skew 1000, S[0,40]", b"!a.p S[0,40] b.p", read(wide))  # 3,069 pairs
+    yield case("1,024 rows in turns by one clock, error 9, S[0,20]", b"!a.p S[0,20] b.p", read(wide, 9))  # 2,047 pairs
+    line = b"refused size %d" % (1024**2 + 1024 * 4_090)
+    yield case("1,024 rows in turns by one clock, S[0,60]", b"!a.p S[0,60] b.p", read(wide), (67,), line)
+    yield case("160 rows in turns by one clock, error 10000, U", b"!a.p U b.p", read(turns(160, 10_000, 0), 10_000))
+    yield case("64 rows in turns by one clock, error 5, U", b"!a.p U b.p", read(turns(64, 1000), 5))
 
 
 def fewer_rows():

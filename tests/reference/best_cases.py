@@ -24,6 +24,7 @@ from cases import (
 from check_cases import ANSWERED, APART, DONE, EITHER, OVERFULL_HOST, REFUTED, UNKNOWN, section_pattern
 from pulse_cases import pulse_log
 from second_cases import LATE, resynced
+from third_cases import CROSSED, NEAR, STEADY, TIED, TORN, deadline, third_log
 
 GREATEST = 10**18
 
@@ -47,6 +48,10 @@ def widest_log():
 AT_ONCE = b"a.p & b.q"
 TURNED_OVER = pulse_log("pulse,a,10,p").replace(b"host,a,0,0\n", b"host,a,0,0\nhost,b,0,0\n") + b"note,b,13,n\n"
 LATER_CLOCK = resynced("set,a,10,x", "resync,a,5,0", "set,a,20,y")
+# A request and its answer 5 later, by skews of 0 that a widening makes greater.
+READ = third_log("host,a,0,0", "clock,a,0,a", "set,a,10,req", "set,a,15,ack")
+READ_NEAR = READ.replace(b"clock,a,0", b"clock,a,1")
+BOUND = third_log("host,a,0,0", "set,a,10,req", "set,a,15,ack", "bound,1,0,6")
 SPARSE = sparse(200)
 # Of 210 rows each has itself and those after it in reach of an until, 22,155 pairs in all.
 CROWD = sparse(210)
@@ -155,6 +160,22 @@ def second_tolerances():
     yield never("tolerance true 3", b"F[4,inf] a.p", TURNED_OVER)
 
 
+def third_tolerances():
+    """Least widenings of logs of version 3: skews alone grow, and neither errors nor bounds between rows do."""
+    yield best("tolerance true 9", deadline(5), READ, 0, (10, 15))
+    yield never("tolerance false 9", deadline(5), READ)
+    yield never(f"tolerance false {GREATEST}", deadline(5), READ)
+    yield best("tolerance false 9", deadline(5), READ_NEAR, 1)
+    yield best("tolerance false 9", deadline(6), READ_NEAR, 1, (9, 16))
+    yield never("tolerance false 9", deadline(7), READ_NEAR)
+    yield best("tolerance false 9", deadline(5), BOUND, 1)
+    yield never("tolerance false 9", deadline(6), BOUND)
+    yield best("tolerance true 9", b"true", BOUND.replace(b"0,6", b"0,4"), 1)
+    yield shut("tolerance true 0", b"true", BOUND.replace(b"0,6", b"0,4"), "extra 0", "high 0", "low 1")
+    yield shut(f"tolerance true {GREATEST}", b"true", TORN, "extra 0", "extra 1")
+    yield shut("tolerance true 0", b"true", CROSSED, "over 1", "under 0", "message 1")
+
+
 def spans():
     """Greatest distances."""
     yield best("span true 0 1", ANSWERED, REQUEST, 5)
@@ -183,6 +204,22 @@ def second_spans():
     yield best("span true 0 1", b"true", LATE.replace(b"latency,b,1,3", b"latency,b,1,11"), 11)
     yield best("span true 1 0", b"true", LATE.replace(b"latency,b,1,3", b"latency,b,1,11"), -10, (15, 25))
     yield shut("span true 0 1", b"true", LATE, "low 1", "late 1", "high 0")
+
+
+def third_spans():
+    """Greatest distances in logs of version 3."""
+    yield best("span true 0 1", b"true", STEADY, 5)
+    yield best("span true 1 0", b"true", STEADY, -5)
+    yield best("span true 0 1", b"true", NEAR, 7)
+    yield best("span true 1 0", b"true", NEAR, -3)
+    yield best("span false 0 1", deadline(6), NEAR, 7)
+    yield never("span false 0 1", deadline(7), NEAR)
+    yield best("span true 0 1", b"true", TIED, 6)
+    yield best("span true 1 0", b"true", TIED, -4)
+    yield best("span true 0 1", deadline(5), TIED, 5)
+    yield best("span true 0 1", b"true", READ, 5, (10, 15))
+    yield shut("span true 0 1", b"true", TORN, "extra 0", "extra 1")
+    yield shut("span true 1 0", b"true", CROSSED, "over 1", "under 0", "message 1")
 
 
 def left_unknown():
@@ -299,5 +336,6 @@ def refusal(words, files, status, output):
 
 def fixed_cases():
     """All cases of this module."""
-    groups = (tolerances, wide_tolerances, second_tolerances, spans, second_spans, left_unknown, words, orders_of_tests)
+    groups = (tolerances, wide_tolerances, second_tolerances, third_tolerances, spans, second_spans, third_spans,
+              left_unknown, words, orders_of_tests)
     return [case for group in groups for case in group()]

@@ -138,7 +138,7 @@ def main():
     parser.add_argument("--cases", type=int, default=1000, help="number of searches that spend")
     parser.add_argument("--seed", type=int, default=1)
     arguments = parser.parse_args()
-    generate_logs.second_share = 0.4
+    generate_logs.second_share = generate_logs.third_share = 0.4
     check_by_hand()
     check_searches(random.Random(arguments.seed), arguments.cases)
     print("all checks hold")

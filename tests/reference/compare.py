@@ -1,6 +1,6 @@
 """Compares a built program with the reference, on fixed and on random cases.
 
-Run as: python3 compare.py PROGRAM [--cases N] [--seed S] [--only KIND]
+Run as: python3 compare.py PROGRAM [--cases N] [--seed S] [--only KIND] [--second SHARE] [--third SHARE]
 
 Each report that check writes is audited and trimmed by the program too, as it
 is and broken, what is trimmed is audited and trimmed again, and each of its
@@ -29,7 +29,8 @@ import invent_reports
 import judge
 import pulse_cases
 import second_cases
-from tables import add_second
+import third_cases
+from tables import read_with_versions
 
 PATIENCE = 60  # seconds that one run of the program may take
 
@@ -146,10 +147,12 @@ def is_kind(case, only):
 
 
 def fixed_cases():
-    """The fixed cases, those on logs of version 2 among them where there may be such logs."""
+    """The fixed cases, those on logs of versions 2 and 3 among them where there may be such logs."""
     modules = [cases, check_cases]
     if generate_logs.second_share:
         modules += [second_cases, pulse_cases]
+    if generate_logs.third_share:
+        modules.append(third_cases)
     return [case for module in modules for case in module.fixed_cases()]
 
 
@@ -185,14 +188,12 @@ def read_arguments():
     parser.add_argument("--cases", type=int, default=3000, help="number of random cases")
     parser.add_argument("--seed", type=int, default=1)
     parser.add_argument("--only", choices=list(KINDS), help="take cases of one kind alone")
-    add_second(parser)
-    return parser.parse_args()
+    return read_with_versions(parser)
 
 
 def main():
     """Compares, and ends with 0 where there is no difference and with 1 where there is one."""
     arguments = read_arguments()
-    generate_logs.second_share = arguments.second
     program = os.path.abspath(arguments.program)
     if not compare_all(program, arguments.cases, arguments.seed, arguments.only):
         sys.exit(1)

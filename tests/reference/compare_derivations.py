@@ -23,6 +23,7 @@ import generate_logs
 import invent
 import pulse_cases
 import second_cases
+import third_cases
 from tables import answer_lines, print_table, read_log_arguments, table_of
 
 SECTION = "derivations"  # of the tables
@@ -54,6 +55,8 @@ def fixed_questions():
     known = [*derivation_cases.fixed_cases()]
     if generate_logs.second_share:
         known += [*second_cases.fixed_derivations(), *pulse_cases.fixed_derivations()]
+    if generate_logs.third_share:
+        known += third_cases.fixed_derivations()
     for place, case in enumerate(known):
         head = head_of(case.log, case.formula, case.value)
         yield Question(f"fixed case {place}", head, case.lines, case.answer)

@@ -1,6 +1,6 @@
 """Compares the built program with the reading of logs in JSON.
 
-Run as: python3 compare_json.py PROGRAM [--cases N] [--seed S] [--second SHARE]
+Run as: python3 compare_json.py PROGRAM [--cases N] [--seed S] [--second SHARE] [--third SHARE]
 
 The program is given fixed files, and logs made by chance as JSON, many of them
 with one change: of a value in it, of a key, or of the text. What it writes is
@@ -50,17 +50,20 @@ def host_value(host):
 
 
 def event_value(record):
-    """The record of a row or a resync as an object."""
-    kind, host, third, fourth = (field.decode() for field in record)
-    if kind == "resync":
-        return {"kind": kind, "host": host, "skew": int(third), "gap": int(fourth)}
-    return {"kind": kind, "host": host, "time": int(third), "name": fourth}
+    """The record of an event as an object."""
+    kind, *fields = record
+    value = {"kind": kind.decode()}
+    for key, field in zip(json_logs.EVENTS.get(kind, json_logs.ROW), fields):
+        value[key] = field.decode() if key in json_logs.TEXTS else int(field)
+    return value
 
 
-def value_of(log):
-    """A log as an object."""
-    events = [event_value(record) for record in logs.rows_and_resyncs(log)]
-    return {"hosts": list(map(host_value, log.hosts)), "events": events}
+def value_of(draw, log):
+    """A log as an object; the bounds between rows stand behind the rows, or anywhere."""
+    records = list(logs.event_records(log))
+    if chance(draw, 0.5):
+        records = generate_logs.with_bounds_anywhere(draw, records)
+    return {"hosts": list(map(host_value, log.hosts)), "events": list(map(event_value, records))}
 
 
 def spelled(draw, value):
@@ -73,10 +76,13 @@ def spelled(draw, value):
 
 ODD_NUMBERS = [0, -1, 1, 10**18, 10**18 + 1, 4 * 10**18, -4 * 10**18 - 1, 2**63 - 1, 2**63, 2**64 - 1, 2**64, -(2**63),
                -(2**63) - 1, 10**400, 1.0, 1.5, 1e3, -0.0]
-ODD_TEXTS = ["", "a", "b", "p", "host", "latency", "resync", "set", "pulse", "Set", "inf", "true", "h" * 33, "\u00e9",
-             "a,b", 'a"', "a\nb", "\0", "zz", "m0"]
+ODD_TEXTS = ["", "a", "b", "p", "host", "latency", "resync", "clock", "bound", "set", "pulse", "Set", "inf", "true",
+             "h" * 33, "\u00e9", "a,b", 'a"', "a\nb", "\0", "zz", "m0"]
 ODD_VALUES = [*ODD_NUMBERS, *ODD_TEXTS, None, True, False, [], {}, [1], [1, 2], [1, None], [None, 1], [0, None], [1, 2, 3],
               ["1", None], {"name": "a"}]
+
+
+ODD_KEYS = ("zone", "latency", "name", "time", "skew", "clock", "error", "most", "")
 
 
 def containers_in(value):
@@ -96,7 +102,7 @@ def change_value(draw, value):
     if how == 0:
         del container[place]
     elif how == 1 and isinstance(container, dict):
-        container[draw.choice(("zone", "latency", "name", "time", "skew", ""))] = draw.choice(ODD_VALUES)
+        container[draw.choice(ODD_KEYS)] = draw.choice(ODD_VALUES)
     elif how == 1:
         container.insert(place, copy.deepcopy(draw.choice([container[place], draw.choice(ODD_VALUES)])))
     else:
@@ -115,18 +121,22 @@ def change_text(draw, data):
     return data[:place] + draw.choice(ODD_BYTES) + data[end:]
 
 
+KEYS = ("hosts", "events", "name", "skew", "gap", "kind", "time", "host", "latency", "clock", "error", "later", "earlier",
+        "most")
+
+
 def repeat_key(draw, data):
     """Has a member of some object stand again before it, with a value of its own."""
     places = [place for place in range(len(data)) if data[place : place + 1] == b"{"]
     place = draw.choice(places) + 1
-    key = draw.choice(("hosts", "events", "name", "skew", "gap", "kind", "time", "host", "latency"))
+    key = draw.choice(KEYS)
     again = json.dumps({key: draw.choice(ODD_VALUES)}).encode()[1:-1]
     return data[:place] + again + b"," + data[place:]
 
 
 def broken(draw, log):
     """A log as JSON after one change."""
-    value = value_of(log)
+    value = value_of(draw, log)
     how = draw.randrange(10)
     if how < 5:
         change_value(draw, value)
@@ -154,9 +164,45 @@ def fixed_cases():
         yield Case("levels", b"[" * levels + b"]" * levels)
         yield Case("levels of a member", right.replace(b'"n"', b"[" * (levels - 3) + b"]" * (levels - 3)))
         yield Case("levels that another value hides", b'{"hosts":' + b"[" * levels + b"]" * levels + b"," + right[1:])
+    yield from fixed_third() if generate_logs.third_share else ()
     for data in (b"", b"{", b"[]", b"{}", b"null", b"1", b'"a"', b'{"hosts":[],"events":[]}', b'{"hosts":[],"events":[],"more":0}',
                  b'{"hosts":[]}', b'{"hosts":{},"events":[]}', b'{"hosts":[[]],"events":[]}', b'{"Hosts":[],"events":[]}'):
         yield Case("a whole file", data)
+
+
+CLOCK = b'{"kind":"clock","host":"a","error":1,"clock":"m"}'
+BOUND = b'{"kind":"bound","later":0,"earlier":1,"most":5}'
+
+
+def fixed_third():
+    """Files by hand with clocks and bounds between rows."""
+    row = b'{"kind":"note","host":"a","time":1,"name":"n"}'
+    whole = b'{"hosts":[{"name":"a","skew":9,"gap":0}],"events":[%s]}'
+    for title, entries in (
+        ("a clock", [CLOCK, row]), ("a clock behind the rows", [row, CLOCK]), ("a bound", [BOUND, row, row]),
+        ("a bound behind the rows", [row, row, BOUND]), ("a bound between the rows", [row, BOUND, CLOCK, row]),
+        ("a bound without its row", [row, BOUND]), ("a clock and no row", [CLOCK]), ("a bound and no row", [BOUND]),
+        ("entries are no rows", [CLOCK, row, BOUND.replace(b"1", b"2"), row]),
+    ):
+        yield Case(title, whole % b",".join(entries))
+    for before, after in (
+        (b'"m"', b"1"), (b'"m"', b"null"), (b'"m"', b'"M"'), (b'"m"', b'""'), (b'"a"', b'"b"'), (b'"a"', b"1"), (b"1", b"-1"),
+        (b"1", b'"1"'), (b"1", b"1.0"), (b"1", b"null"), (b"1", b"1000000000000000001"), (b'"clock":', b'"name":'),
+        (b'"error":', b'"time":'), (b'"kind":"clock"', b'"kind":"note"'), (b'"kind":"clock"', b'"kind":"bound"'),
+        (b'"kind":"clock"', b'"kind":"host"'), (b"}", b',"time":1}'), (b"}", b',"skew":1}'),
+    ):
+        yield Case("an odd clock", whole % b",".join([CLOCK.replace(before, after), row]))
+    for before, after in (
+        (b"5", b"-5"), (b"5", b"-0"), (b"5", b"5.0"), (b"5", b"5e0"), (b"5", b'"5"'), (b"5", b"null"), (b"5", b"9223372036854775808"),
+        (b"5", b"18446744073709551615"), (b"5", b"18446744073709551616"), (b"5", b"-9223372036854775808"),
+        (b"5", b"-9223372036854775809"), (b"5", b"100000000000000000000"), (b"1", b"0"), (b"1", b"2"), (b"1", b"-1"),
+        (b"1", b"4294967295"), (b"1", b"4294967296"), (b"1", b'"1"'), (b"0", b"1"), (b"0", b"1.0"), (b'"later"', b'"Later"'),
+        (b'"most":5', b'"least":5'), (b',"most":5', b""), (b"}", b',"host":"a"}'), (b'"kind":"bound"', b'"kind":"clock"'),
+        (b'"kind":"bound"', b'"kind":"resync"'), (b'"kind":"bound"', b'"kind":"note"'),
+    ):
+        yield Case("an odd bound", whole % b",".join([row, row, BOUND.replace(before, after)]))
+    for kind in (b"clock", b"bound", b"resync", b"latency"):
+        yield Case("a row of another kind", whole % row.replace(b"note", kind))
 
 
 def random_case(seed, number):
@@ -166,7 +212,7 @@ def random_case(seed, number):
     title = f"case {number} of seed {seed}"
     if chance(draw, SHARE_BROKEN):
         return Case(title, broken(draw, log))
-    return Case(title, spelled(draw, value_of(log)), log)
+    return Case(title, spelled(draw, value_of(draw, log)), log)
 
 
 # Comparisons

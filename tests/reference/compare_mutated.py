@@ -1,6 +1,6 @@
 """Has the built program audit mutated reports, and looks whether what it accepts is true.
 
-Run as: python3 compare_mutated.py PROGRAM [--cases N] [--seed S] [--second SHARE]
+Run as: python3 compare_mutated.py PROGRAM [--cases N] [--seed S] [--second SHARE] [--third SHARE]
 
 Each of N reports (2000 by default) is one that `check` or the search of invent.py
 made of a small question, mutated: its parts and lines by invent_reports.py, its
@@ -47,9 +47,13 @@ def some_question(draw):
 
 
 def neighbour(draw, question):
-    """The question with another skew, gap, time, order of rows or formula, on as many events."""
+    """The question with another skew, gap, error, bound between rows, time or formula, on as many events."""
     log = question.log
-    choice = draw.randrange(5)
+    choice = draw.randrange(6)
+    if choice == 5 and (log.readings or log.extras):
+        readings = [move_one(draw, reading, "error") for reading in log.readings]
+        extras = [extra._replace(most=extra.most + draw.choice((-1, 0, 1))) for extra in log.extras]
+        return question._replace(log=log._replace(readings=readings, extras=extras))
     if choice == 0:
         hosts = [move_one(draw, host, "skew") for host in log.hosts]
         return question._replace(log=log._replace(hosts=hosts))
@@ -66,7 +70,7 @@ def neighbour(draw, question):
 
 
 def move_one(draw, host, name):
-    """The host with one of its numbers moved by one or not at all."""
+    """The host or the reading with one of its numbers moved by one or not at all."""
     return host._replace(**{name: max(0, getattr(host, name) + draw.choice((-1, 0, 1)))})
 
 

@@ -229,10 +229,11 @@ def rank(log, atom):
 
 
 def edges_difference(question, printed):
-    """Whether the edges are those of the log's bounds, and the nodes the zero moment and rows."""
+    """Whether the edges are those of the log's bounds, and the nodes the zero moment, rows and clocks."""
     log = question.problem.log
-    if printed.nodes != [len(log.rows) + 1]:
-        return f"there are {words(printed.nodes)} nodes, not {len(log.rows) + 1}"
+    nodes = 1 + len(log.rows) + len(log.clocks)
+    if printed.nodes != [nodes]:
+        return f"there are {words(printed.nodes)} nodes, not {nodes}"
     wanted = [
         (node_of(bound.start), node_of(bound.end), bound.most) for bound in reference.bounds(log)
     ]
@@ -242,9 +243,9 @@ def edges_difference(question, printed):
     return None
 
 
-def node_of(event):
-    """The node of an event, or of the zero moment."""
-    return 0 if event is None else event + 1
+def node_of(end):
+    """The node of an end of a bound: of an event or a clock, or of the zero moment."""
+    return 0 if end is None else end + 1
 
 
 def truths_difference(question, printed):

@@ -1,6 +1,6 @@
 """Compares the built program's greatest distances with the reference.
 
-Run as: python3 compare_span.py PROGRAM [--cases N] [--seed S] [--second SHARE]
+Run as: python3 compare_span.py PROGRAM [--cases N] [--seed S] [--second SHARE] [--third SHARE]
 
 `span` tells the greatest time from one row to another over the timings that give
 a formula a value. Each answer is judged by best_answers.py: its timing, its lines

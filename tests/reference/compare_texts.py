@@ -1,6 +1,6 @@
 """Compares the built program text_table with the reading of logs, and with the one text of a log.
 
-Run as: python3 compare_texts.py PROGRAM [--cases N] [--seed S] [--second SHARE]
+Run as: python3 compare_texts.py PROGRAM [--cases N] [--seed S] [--second SHARE] [--third SHARE]
 
 The program reads files of logs made by chance, many of them broken, and writes
 the text of each log that it read. The first difference is printed as a table of

@@ -1,6 +1,6 @@
 """Compares the built program's least widenings with the reference.
 
-Run as: python3 compare_tolerance.py PROGRAM [--cases N] [--seed S] [--second SHARE]
+Run as: python3 compare_tolerance.py PROGRAM [--cases N] [--seed S] [--second SHARE] [--third SHARE]
 
 `tolerance` tells the least number by which all skews of a log have to be greater
 for a formula to have a value. Each answer is judged by best_answers.py: its

@@ -156,7 +156,7 @@ RULE_ARGUMENTS = {
 
 # The literals that are written with a sign, each with the count of its numbers.
 SIGNED_ATOMS = {b"node": 2, b"first": 1, b"same": 2, b"wit": 3, b"span": 3, b"gap": 3}
-LOG_STEPS = (b"low", b"high", b"rise", b"message", b"late", b"extra")
+LOG_STEPS = (b"low", b"high", b"rise", b"message", b"late", b"under", b"over", b"extra")
 
 
 class NotInGrammar(Exception):
@@ -585,7 +585,9 @@ def is_conflict(problem, steps):
 def ends_and_bound(problem, step):
     """Where a step starts, where it ends, and its bound; None for a step that there isn't.
 
-    The zero moment, at which some bounds of the log start or end, is None too.
+    The zero moment, at which some bounds of the log start or end, is None too,
+    and a clock is a number above those of the rows. An order step is one between
+    two rows.
     """
     if step.kind == b"order":
         e, f, c = step.numbers

@@ -1,9 +1,9 @@
 """How far apart two rows of a log may be, over all its admissible timings.
 
 The differences of two rows' times range from a least to a greatest number. Rises, messages, the greatest latencies and
-extras tie a row to another one, and else both are tied to the zero moment. So the most that one row may be above another
-is told by the ways from the one to the other along these bounds, and by the latest time of the one and the earliest of
-the other.
+extras tie a row to another one, what rows read of a clock ties them to its offset, and else both are tied to the zero
+moment. So the most that one row may be above another is told by the ways from the one to the other along these bounds,
+which may go through clocks, and by the latest time of the one and the earliest of the other.
 """
 
 import sys
@@ -51,12 +51,12 @@ def differences_of(log):
 def ways_between(log):
     """For two rows the least sum of a way of steps from the first to the second; None where a circle's is negative.
 
-    The steps are the bounds between rows. They are taken from the last one on, since most of them go to later rows,
-    and again until no way gets shorter.
+    The steps are the bounds between rows and clocks. They are taken from the last one on, since most of them go to
+    later rows, and again until no way gets shorter. Of the ways to and from clocks nothing is told.
     """
     steps = [bound for bound in reference.bounds(log) if None not in (bound.start, bound.end)]
-    rows = range(len(log.rows))
-    ways = [[0 if start == end else NO_WAY for end in rows] for start in rows]
+    nodes = range(len(log.rows) + len(log.clocks))
+    ways = [[0 if start == end else NO_WAY for end in nodes] for start in nodes]
     is_settled = False
     while not is_settled:
         is_settled = True
@@ -67,4 +67,5 @@ def ways_between(log):
                 return None
             if shorter != known:
                 ways[step.start], is_settled = shorter, False
-    return ways
+    rows = len(log.rows)
+    return [ways_on[:rows] for ways_on in ways[:rows]]

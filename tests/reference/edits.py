@@ -95,8 +95,13 @@ def some_hint(draw, problem, count):
 
 
 def log_steps():
-    """The kinds of steps that are bounds of a log, without late where no log is of version 2."""
-    return [kind for kind in derivations.LOG_STEPS if kind != b"late" or generate_logs.second_share]
+    """The kinds of steps that are bounds of a log, without those of a version of which no log is."""
+    versions = generate_logs.versions()
+    return [kind for kind in derivations.LOG_STEPS if STEP_VERSIONS.get(kind, 1) in versions]
+
+
+# The versions of steps that not all logs have.
+STEP_VERSIONS = {b"late": 2, b"under": 3, b"over": 3}
 
 
 def some_step(draw, problem):
@@ -390,10 +395,9 @@ def change_count(draw, words):
 
 def change_word(draw, words):
     """Puts another word in the place of one."""
-    others = b"cycle learn low high rise message extra order line rule node first same wit span gap"
-    others += b" late" if generate_logs.second_share else b""
+    others = b"cycle learn order line rule node first same wit span gap"
     signed = b"+node -node +first -first +same -same +wit -wit +span -span +gap -gap +order Learn CYCLE"
-    words[draw.randrange(len(words))] = draw.choice((others + b" " + signed).split())
+    words[draw.randrange(len(words))] = draw.choice([*others.split(), *log_steps(), *signed.split()])
 
 
 def change_blank(draw, words):

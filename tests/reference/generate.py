@@ -324,7 +324,7 @@ def relaxed_times(draw, log):
     if any(row.act == b"recv" and row.name not in logs.sent_names(log) for row in log.rows):
         return near_times(draw, log)
     edges = reference.bounds(log)
-    times = dict(enumerate(near_times(draw, log)))
+    times = dict(enumerate([*near_times(draw, log), *[0] * len(log.clocks)]))  # clocks stand behind the rows
     times[None] = 0
     lowering = chance(draw, 0.5)
     for _ in range(len(times) + 1):

@@ -1,21 +1,26 @@
 """Random logs and their files, many of them broken.
 
 Every function takes a source of chance, random.Random, first. A log may have
-what only version 2 can say in the share of cases that is set below.
+what only version 2 can say, and what only version 3 can, in the shares of cases
+that are set below.
 """
 
+from typing import NamedTuple
+
 import logs
-from logs import Host, Log, Resync, Row
+from logs import Extra, Host, Reading, Resync, Row
 
 HOST_NAMES = [b"a", b"b", b"c", b"web", b"h_1", b"u2", b"truer", b"inf0", b"h" * 32]
 EVENT_NAMES = [b"p", b"p", b"p", b"q", b"q", b"r", b"true", b"inf", b"x_1", b"n" * 32]
+CLOCK_NAMES = [b"m", b"m", b"m", b"m", b"a", b"p", b"true", b"inf", b"k_1", b"c" * 32]
 BASES = [0, 0, 3, 10, 10, -5, 100, 1_700_000_000_000_000, 4 * 10**18 - 60, 60 - 4 * 10**18]
 EVENT_KINDS = [b"set", b"set", b"set", b"clear", b"clear", b"note", b"send", b"recv"]
 GREATEST = 10**18
 HUGE_NUMBER = b"9" * 5000
 
-# The share of logs that may be of version 2, which the words of a comparison may set.
+# The shares of logs that may be of version 2, and of version 3, which the words of a comparison may set.
 second_share = 0.4
+third_share = 0.4
 
 
 def chance(draw, share):
@@ -26,6 +31,22 @@ def chance(draw, share):
 def is_second(draw):
     """Whether something is of version 2."""
     return second_share > 0 and chance(draw, second_share)
+
+
+def is_third(draw):
+    """Whether something is of version 3."""
+    return third_share > 0 and chance(draw, third_share)
+
+
+def versions():
+    """The versions of which logs may be."""
+    return [1, *[2] * (second_share > 0), *[3] * (third_share > 0)]
+
+
+def may_be(text):
+    """Whether there may be logs of the version of a log's text, which may be none."""
+    header = text.partition(b"\n")[0].split(b",")
+    return header not in logs.HEADERS or logs.HEADERS.index(header) + 1 in versions()
 
 
 # Logs
@@ -43,34 +64,104 @@ def some_log(draw):
 
 
 def steady_log(draw):
-    """A log whose local times and latencies come from a timing that keeps its bounds."""
+    """A log whose local times, latencies and bounds come from a timing that keeps its bounds."""
     hosts = some_hosts(draw)
     names = some_names(draw)
-    second = is_second(draw)
+    second, clocks = is_second(draw), Clocks(draw)
     kinds = EVENT_KINDS + [b"send", b"recv", b"recv", b"recv"] * 2 if second and chance(draw, 0.6) else EVENT_KINDS
     moment = draw.choice(BASES)
-    clocks = list(hosts)  # what tells the skew and the gap of each host from here on
-    last, sent, delays, items = {}, [], {}, []
+    settings = list(hosts)  # what tells the skew and the gap of each host from here on
+    moments, sent, delays, items = {}, [], {}, []
     for _ in range(draw.choice((1, 2, 3, 4, 4, 5, 5, 6, 6, 7, 7))):
         for resync in some_resyncs(draw, hosts) if second else ():
-            clocks[resync.host] = resync
+            settings[resync.host] = resync
             items.append(resync)
+        items += clocks.some_readings(hosts)
         host = draw.randrange(len(hosts))
         moment += draw.randint(0, 3)
-        if host in last:
-            moment = max(moment, last[host] + clocks[host].gap)
-        last[host] = moment
+        if host in moments:
+            moment = max(moment, moments[host][-1] + settings[host].gap)
+        moments.setdefault(host, []).append(moment)
         act, name = steady_act(draw, kinds, names, sent, moment)
         if act == b"recv":
             delays.setdefault(host, []).append(moment - dict(sent)[name])
         if second and act in (b"set", b"clear") and chance(draw, 0.4):
             act = b"pulse"
-        skew = clocks[host].skew
-        items.append(Row(host, moment + draw.randint(-skew, skew), act, name))
+        items.append(Row(host, clocks.local(host, moment, settings[host].skew), act, name))
+    items += clocks.some_readings(hosts)
     if second:
         hosts = [with_latency(draw, host, delays.get(place, [])) for place, host in enumerate(hosts)]
         items += [some_resync(draw, hosts) for _ in range(draw.choice((0, 0, 1)))]
-    return log_of(hosts, merged(draw, items) if chance(draw, 0.6) else items)
+    log = log_of(hosts, merged(draw, items) if chance(draw, 0.6) else items)
+    return with_extras(draw, log, [moments[row.host].pop(0) for row in log.rows]) if clocks.is_third else log
+
+
+class Named(NamedTuple):
+    """A reading of which the clock's name is told, and its place and the clock's number aren't yet."""
+
+    host: int
+    error: int
+    name: bytes
+
+
+class Clocks:
+    """The clocks that the rows of a log read, if it may be of version 3, with their offsets.
+
+    Several hosts may read one clock, and a host may turn to another one, or
+    tell another error. A reading may have no row behind it.
+    """
+
+    def __init__(self, draw):
+        self.draw = draw
+        self.is_third = is_third(draw)
+        self.names = draw.sample(CLOCK_NAMES, 2)
+        self.offsets = {name: draw.randint(-3, 3) for name in self.names}
+        self.read = {}  # what the next row of each host reads
+        self.share = draw.choice((0, 0.2, 0.5, 0.8)) if self.is_third else 0
+
+    def some_readings(self, hosts):
+        """Readings of some hosts, mostly of such as read no clock yet."""
+        found = []
+        for host in range(len(hosts)):
+            if chance(self.draw, self.share / 4 if host in self.read else self.share):
+                self.read[host] = Named(host, some_error(self.draw), self.draw.choice(self.names))
+                found.append(self.read[host])
+        return found
+
+    def local(self, host, moment, skew):
+        """The stamp of a row of a host at a moment, which keeps the skew, and what it reads where both can be."""
+        least, most = moment - skew, moment + skew
+        if host in self.read:
+            reading = self.read[host]
+            shown = moment - self.offsets[reading.name]
+            least = min(max(least, shown - reading.error), most)
+            most = max(min(most, shown + reading.error), least)
+        return self.draw.randint(least, most)
+
+
+def some_error(draw):
+    """The error of a reading, mostly small."""
+    return draw.choice((0, 0, 0, 1, 1, 2, 3, 10, GREATEST))
+
+
+def with_extras(draw, log, times):
+    """The log with some bounds between rows, most of which the times keep."""
+    log.extras.extend(some_extras(draw, times))
+    return log
+
+
+def some_extras(draw, times):
+    """Bounds between rows, most of which the times keep, and often one both ways."""
+    found = []
+    for _ in range(draw.choice((0, 0, 1, 1, 2, 3)) if len(times) > 1 else 0):
+        first, second = draw.sample(range(len(times)), 2)
+        apart = times[first] - times[second]
+        found.append(Extra(first, second, apart + draw.choice((0, 0, 0, 1, 2, 5, -1))))
+        if chance(draw, 0.4):
+            found.append(Extra(second, first, draw.choice((0, 0, 1, 3, -1)) - apart))
+        if chance(draw, 0.1):
+            found.append(Extra(first, second, draw.choice((0, -1, 10**18, logs.APART_GREATEST, -logs.APART_GREATEST))))
+    return found
 
 
 def some_resyncs(draw, hosts):
@@ -95,11 +186,14 @@ def with_latency(draw, host, delays):
 
 
 def log_of(hosts, items):
-    """The log of hosts, and of rows and resyncs in their order."""
-    log = Log(hosts, [], [])
+    """The log of hosts, and of rows, resyncs and readings in their order."""
+    log = logs.log_of_rows(hosts, [])
     for item in items:
         if isinstance(item, Row):
             log.rows.append(item)
+        elif isinstance(item, Named):
+            clock = logs.clock_number(log.clocks, item.name)
+            log.readings.append(Reading(len(log.rows), item.host, item.error, clock))
         else:
             log.resyncs.append(item._replace(place=len(log.rows)))
     return log
@@ -123,7 +217,7 @@ def steady_act(draw, kinds, names, sent, moment):
 
 
 def merged(draw, items):
-    """The rows and resyncs in another order that keeps the order of each host's."""
+    """The rows, resyncs and readings in another order that keeps the order of each host's."""
     queues = {}
     for item in items:
         queues.setdefault(item.host, []).append(item)
@@ -150,17 +244,28 @@ def wild_log(draw, share_of_messages=0.5):
         local = base + draw.randint(-3, 3)
         kind, name = wild_act(draw, kind, names, sent, unsent)
         rows.append(Row(host, local, kind, name))
-    return wild_second(draw, hosts, rows) if is_second(draw) else Log(hosts, rows, [])
+    second, third = is_second(draw), is_third(draw)
+    items = [wild_pulse(draw, row) for row in rows] if second else list(rows)
+    if second:
+        put_in(draw, items, lambda: some_resync(draw, hosts))
+        delays = [draw.randint(1, 6) for _ in range(draw.randint(0, 2))]
+        hosts = [with_latency(draw, host, delays) for host in hosts]
+    if third:
+        put_in(draw, items, lambda: wild_reading(draw, hosts))
+    log = log_of(hosts, items)
+    return with_extras(draw, log, [row.local for row in rows]) if third else log
 
 
-def wild_second(draw, hosts, rows):
-    """The log of hosts and rows with any latencies and resyncs, and with pulses."""
-    items = [wild_pulse(draw, row) for row in rows]
+def put_in(draw, items, some):
+    """Puts some new items, one or two on end, anywhere among the others."""
     for _ in range(draw.choice((0, 1, 1, 2, 3))):
         place = draw.randint(0, len(items))
-        items[place:place] = [some_resync(draw, hosts) for _ in range(draw.choice((1, 1, 2)))]
-    delays = [draw.randint(1, 6) for _ in range(draw.randint(0, 2))]
-    return log_of([with_latency(draw, host, delays) for host in hosts], items)
+        items[place:place] = [some() for _ in range(draw.choice((1, 1, 2)))]
+
+
+def wild_reading(draw, hosts):
+    """A reading of some host."""
+    return Named(draw.randrange(len(hosts)), some_error(draw), draw.choice(CLOCK_NAMES))
 
 
 def wild_pulse(draw, row):
@@ -188,33 +293,59 @@ def crowded_log(draw):
         Row(draw.randrange(len(hosts)), place, b"note", b"n")
         for place in range(draw.choice((1, 5, 63, 64, 65, 1023, 1024, 1025)))
     ]
-    if not is_second(draw):
-        return Log(hosts, rows, [])
-    places = sorted(draw.randint(0, len(rows)) for _ in range(draw.choice((1, 100, 1025))))
-    resyncs = [some_resync(draw, hosts)._replace(place=place) for place in places]
-    return Log([with_latency(draw, host, []) for host in hosts], rows, resyncs)
+    second, third = is_second(draw), is_third(draw)
+    if second:
+        hosts = [with_latency(draw, host, []) for host in hosts]
+    items = [*rows, *[some_resync(draw, hosts) for _ in range(draw.choice((1, 100, 1025)) if second else 0)]]
+    clocks = draw.choice((1, 5, 1023, 1024, 1025)) if third else 0
+    items += [Named(draw.randrange(len(hosts)), some_error(draw), b"c%d" % clock) for clock in range(clocks)]
+    log = log_of(hosts, draw.sample(items, len(items)))
+    if third and len(rows) > 1:
+        ends = [draw.sample(range(len(rows)), 2) for _ in range(draw.choice((1, 100, 5000)))]
+        log.extras.extend(Extra(first, second, draw.randint(-1, 2000)) for first, second in ends)
+    return log
 
 
 def records_of(draw, log):
-    """The records of a log; a host may stand as late as before its first use, and its latency anywhere behind it."""
+    """The records of a log; a host may stand as late as before its first use, its latency anywhere behind it, a reading
+    before resyncs of its place, and a bound between rows anywhere."""
     header, *records = logs.records_of(log)
     if chance(draw, 0.8):
         return [list(some_header(draw, header)), *records]
-    records = list(logs.rows_and_resyncs(log))
+    records = list(logs.event_records(log))
+    exchange_settings(draw, records)
     for host in reversed(log.hosts):
         uses = [at for at, record in enumerate(records) if record[1] == host.name]
         place = draw.randint(0, uses[0] if uses else len(records))
-        if logs.has_latency(host) or header == logs.SECOND_HEADER and chance(draw, 0.2):
+        if logs.has_latency(host) or header != logs.HEADER and chance(draw, 0.2):
             records.insert(draw.randint(place, len(records)), logs.latency_record(host))
         records.insert(place, logs.host_record(host))
-    return [list(some_header(draw, header)), *records]
+    return [list(some_header(draw, header)), *with_bounds_anywhere(draw, records)]
+
+
+def exchange_settings(draw, records):
+    """Puts some readings before the resyncs that stand directly before them, which says the same."""
+    for place in range(1, len(records)):
+        pair = records[place - 1 : place + 1]
+        if [record[0] for record in pair] == [b"resync", b"clock"] and chance(draw, 0.6):
+            records[place - 1 : place + 1] = reversed(pair)
+
+
+def with_bounds_anywhere(draw, records):
+    """The records with those of bounds between rows, in their order, anywhere."""
+    others = [record for record in records if record[0] != b"bound"]
+    bounds = [record for record in records if record[0] == b"bound"]
+    places = sorted(draw.randint(0, len(others)) for _ in bounds)
+    for place, record in reversed(list(zip(places, bounds))):
+        others.insert(place, record)
+    return others
 
 
 def some_header(draw, header):
-    """The header, and seldom the other one."""
-    if not is_second(draw) or chance(draw, 0.8):
+    """The header, and seldom another one."""
+    if len(versions()) == 1 or chance(draw, 0.9):
         return header
-    return logs.HEADER if header == logs.SECOND_HEADER else logs.SECOND_HEADER
+    return logs.HEADERS[draw.choice(versions()) - 1]
 
 
 def log_text(draw, records):
@@ -246,6 +377,8 @@ def broken_records(draw, records):
     edits = [change_width, change_header, repeat_record, move_record]
     if any(record[0] in (b"latency", b"resync") for record in records):
         edits += [break_second] * 10
+    if any(record[0] in (b"clock", b"bound") for record in records):
+        edits += [break_third] * 10
     edit = draw.choice([change_field] * 5 + [change_quotes] * 2 + edits)
     edit(draw, records)
     return records
@@ -261,7 +394,7 @@ def change_field(draw, records):
 def odd_fields(draw, record, place):
     """What may be put into a field of a record."""
     kinds = [b"put", b"Set", b"", b"host", b"set", b"recv", b"send", b"kind", b" set",
-             b"resync", b"latency", b"pulse", b"inf"]
+             b"resync", b"latency", b"pulse", b"inf", b"clock", b"bound"]
     names = [b"", b"P", b"_p", b"1p", b"p-q", b"p ", b"true", b"false", b"inf", b"zz", b"m0",
              b"h" * 32, b"h" * 33, b"\xc3\xa9", b"a", b"b"]
     is_of_host = record[0] in (b"host", b"resync", b"latency")  # and has two numbers
@@ -319,7 +452,7 @@ def change_header(draw, records):
     elif choice == 1:
         records.insert(0, list(records[0]))
     elif choice == 2:
-        words = (b"", b"Kind", b"name", b"time ", b"host", b"Skewlog2", b"skewlog1", b"skewlog3")
+        words = (b"", b"Kind", b"name", b"time ", b"host", b"Skewlog2", b"skewlog1", b"skewlog4")
         records[0][draw.randrange(4)] = draw.choice(words)
     else:
         del records[draw.randint(0, 2) :]
@@ -346,6 +479,38 @@ def break_second(draw, records):
         record[0] = draw.choice((b"latency", b"resync", b"host", b"set", b"pulse"))
     else:
         records.insert(draw.randint(1, place), records.pop(place))
+
+
+def break_third(draw, records):
+    """Breaks a clock or a bound: its host, its rows, its numbers or its name, or it is another kind or stands too early."""
+    place = draw.choice([place for place, record in enumerate(records) if record[0] in (b"clock", b"bound")])
+    record = records[place]
+    choice = draw.randrange(6)
+    if choice < 2:
+        field = draw.choice((1, 2, 3))
+        record[field] = draw.choice(odd_fields_of_third(draw, records, record, field))
+    elif choice == 2:
+        first, second = draw.sample((1, 2, 3), 2)
+        record[first], record[second] = record[second], record[first]
+    elif choice == 3:
+        record[2] = record[1]
+    elif choice == 4:
+        record[0] = draw.choice((b"clock", b"bound", b"resync", b"latency", b"set", b"Clock", b"bounds"))
+    else:
+        records.insert(draw.randint(1, place), records.pop(place))
+
+
+def odd_fields_of_third(draw, records, record, place):
+    """What may be put into a field of a clock or a bound."""
+    names = [b"zz", b"", b"A", b"true", b"h" * 32, b"h" * 33, b"m ", b"_m", b"a"]
+    if record[0] == b"clock" and place != 2:
+        return names
+    rows = sum(other[0] in logs.EVENT_KINDS for other in records if other)
+    if record[0] == b"bound" and place < 3 and chance(draw, 0.6):
+        return [b"%d" % max(0, rows + more) for more in (-2, -1, 0, 0, 1)]
+    limits = [logs.ERROR_GREATEST, logs.ROW_GREATEST, logs.APART_GREATEST]
+    numbers = [b"%d" % (limit + more) for limit in limits for more in (-1, 0, 0, 1)]
+    return numbers + [b"-%d" % (logs.APART_GREATEST + more) for more in (0, 1)] + odd_numbers()
 
 
 def change_bound(draw, record):

@@ -36,21 +36,26 @@ class Case(NamedTuple):
 def small_log(draw):
     """A log of one to five rows with small bounds, seldom without an admissible timing."""
     log = generate_logs.some_log(draw)
-    hosts = [small_clock(draw, host) for host in log.hosts]
+    hosts = [small_setting(draw, host) for host in log.hosts]
     count = draw.choice((1, 2, 2, 3, 3, 3, 4, 4, ROWS_MOST))
     rows = [without_message(draw, row) for row in log.rows[:count]]
-    if len(rows) > 1 and chance(draw, 0.8 if logs.is_of_version_2(log) else 0.4):
+    if len(rows) > 1 and chance(draw, 0.8 if generate_logs.second_share and logs.version_of(log) > 1 else 0.4):
         send, receive = draw.sample(range(len(rows)), 2)
         rows[send] = Row(rows[send].host, rows[send].local, b"send", b"m")
         rows[receive] = Row(rows[receive].host, rows[receive].local, b"recv", b"m")
-    resyncs = [small_clock(draw, resync) for resync in log.resyncs]
-    resyncs = [resync._replace(place=min(resync.place, len(rows))) for resync in resyncs]
-    return Log(hosts, drawn_near(draw, rows), resyncs)
+    rows = drawn_near(draw, rows)
+    resyncs, readings = [
+        [item._replace(place=min(item.place, len(rows))) for item in items] for items in (log.resyncs, log.readings)
+    ]
+    resyncs = [small_setting(draw, resync) for resync in resyncs]
+    readings = [reading._replace(error=draw.choice((0, 0, 0, 1, 2))) for reading in readings]
+    extras = generate_logs.some_extras(draw, [row.local for row in rows]) if log.extras else []
+    return Log(hosts, rows, resyncs, extras, log.clocks, readings)
 
 
-def small_clock(draw, clock):
+def small_setting(draw, setting):
     """The host or the resync, with a small skew and gap."""
-    return clock._replace(skew=draw.choice((0, 0, 1, 1, 2)), gap=clock.gap % 3)
+    return setting._replace(skew=draw.choice((0, 0, 1, 1, 2)), gap=setting.gap % 3)
 
 
 def without_message(draw, row):
@@ -93,7 +98,7 @@ def some_problem(draw):
 
 
 class Edge(NamedTuple):
-    """A step with where it starts and ends, the zero moment being None, and with its bound."""
+    """A step with where it starts and ends, the zero moment being None and a clock behind the rows, and with its bound."""
 
     start: Optional[int]
     end: Optional[int]
@@ -315,15 +320,19 @@ class Search:
             walk.append(self.draw.choice(onward))
         start, end = walk[-1].end, walk[0].start
         missing = -1 - sum(edge.bound for edge in walk)
-        if start != end and None not in (start, end) and is_spelled_both_ways(missing):
+        if start != end and self.are_rows(start, end) and is_spelled_both_ways(missing):
             walk.append(order_edge(start, end, missing))
         elif start != end or missing < 0:
             return
         self.add_line(Cycle([edge.step for edge in walk]))
 
+    def are_rows(self, *ends):
+        """Whether ends of edges are rows: neither the zero moment nor clocks."""
+        return all(end is not None and end < len(self.problem.log.rows) for end in ends)
+
     def free_edges(self, start):
         """The edges of some order steps of any bound from an event."""
-        if start is None:
+        if not self.are_rows(start):
             return []
         least, greatest = -derivations.BOUND_GREATEST, derivations.BOUND_GREATEST - 1
         bounds = [self.draw.randint(-3, 3), greatest, least, self.draw.randint(least, greatest)]

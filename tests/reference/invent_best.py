@@ -43,16 +43,19 @@ def some_asked(draw, command, log):
 
 def steadied(log):
     """The log whose clocks are never off."""
-    hosts, resyncs = ([clock._replace(skew=0) for clock in clocks] for clocks in (log.hosts, log.resyncs))
+    hosts, resyncs = ([each._replace(skew=0) for each in given] for given in (log.hosts, log.resyncs))
     return log._replace(hosts=hosts, resyncs=resyncs)
 
 
 def spread(log, factor):
-    """The log whose rows are further apart by a factor, from its first row on, as far as a file can tell."""
+    """The log whose rows are further apart by a factor, from its first row on, as far as a file can tell; and the bounds
+    between them are wider by it."""
     base = log.rows[0].local
     rows = [row._replace(local=base + (row.local - base) * factor) for row in log.rows]
     near = [row if abs(row.local) <= logs.LOCAL_GREATEST else row._replace(local=base) for row in rows]
-    return log._replace(rows=near)
+    wide = [extra._replace(most=extra.most * factor) for extra in log.extras]
+    extras = [extra for extra in wide if abs(extra.most) <= logs.APART_GREATEST]
+    return log._replace(rows=near, extras=extras)
 
 
 # Cases

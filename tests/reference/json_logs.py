@@ -130,8 +130,14 @@ def items(value):
 
 
 HOST = ("name", "skew", "gap")
-EVENT = ("kind", "host", "time", "name")
-RESYNC = ("kind", "host", "skew", "gap")
+ROW = ("host", "time", "name")
+# The keys of entries of events that aren't rows, by their kinds: each in the order of the fields of its record.
+EVENTS = {
+    b"resync": ("host", "skew", "gap"),
+    b"clock": ("host", "error", "clock"),
+    b"bound": ("later", "earlier", "most"),
+}
+TEXTS = ("host", "name", "clock")  # the keys of strings; the others have whole numbers
 
 
 def host_records(entry):
@@ -149,20 +155,21 @@ def host_records(entry):
 
 def event_record(entry):
     """The record of an entry of events."""
-    event = members_of(entry, EVENT, RESYNC)
+    event = members_of(entry, *(("kind", *keys) for keys in (ROW, *EVENTS.values())))
     kind = text(event["kind"])
-    if kind in (b"host", b"latency") or (kind == b"resync") != ("skew" in event):
+    keys = EVENTS.get(kind, ROW)
+    if kind in (b"host", b"latency") or set(event) != {"kind", *keys}:
         raise Refused(SHAPE)
-    if kind == b"resync":
-        return [kind, text(event["host"]), whole(event["skew"]), whole(event["gap"])]
-    return [kind, text(event["host"]), whole(event["time"]), text(event["name"])]
+    return [kind, *(text(event[key]) if key in TEXTS else whole(event[key]) for key in keys)]
 
 
 def records_of(value):
-    """The records that a value stands for."""
+    """The records that a value stands for, with the header of version 3 where that has to be."""
     log = members_of(value, ("hosts", "events"))
     hosts = [record for entry in items(log["hosts"]) for record in host_records(entry)]
-    return [logs.SECOND_HEADER, *hosts, *map(event_record, items(log["events"]))]
+    events = list(map(event_record, items(log["events"])))
+    is_third = any(event[0] in (b"clock", b"bound") for event in events)
+    return [logs.THIRD_HEADER if is_third else logs.SECOND_HEADER, *hosts, *events]
 
 
 # The log

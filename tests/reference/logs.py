@@ -1,9 +1,12 @@
-"""A slow, plain reading of log files of both versions, and the one text of a log.
+"""A slow, plain reading of log files of all three versions, and the one text of a log.
 
-A file of version 2 has a header of its own and may hold further kinds of
-records: a resync, which gives a host another skew and gap from there on, a
-latency, which says how long the messages to a host take, and a pulse. The log
-that is read doesn't tell which version its file was of.
+Each version has a header of its own, and may hold what the one before may hold.
+Version 2 adds a resync, which gives a host another skew and gap from there on, a
+latency, which says how long the messages to a host take, and a pulse. Version 3
+adds a clock, which says that the stamps of a host are from there on readings of
+a clock with one offset, and a bound, which says by how much at most one row is
+later than another. The log that is read doesn't tell which version its file was
+of.
 """
 
 from typing import NamedTuple, Optional
@@ -13,10 +16,15 @@ from formats import is_name, number, signed_number
 LOG_LIMIT = 1_048_576
 HOST_LIMIT = 64
 ROW_LIMIT = 1_024
+CLOCK_LIMIT = 1_024
+BOUND_LIMIT = 1_048_575
 
 SKEW_GREATEST = 10**18
 LATENCY_GREATEST = 10**18
 LOCAL_GREATEST = 4 * 10**18
+ERROR_GREATEST = 10**18
+APART_GREATEST = 10**20  # of what a bound says of two rows, whatever its sign
+ROW_GREATEST = 2**32 - 1  # that a bound may name; whether the log has it is another question
 
 
 # Logs
@@ -47,23 +55,39 @@ class Resync(NamedTuple):
 
 
 class Extra(NamedTuple):
-    """A bound beside those that a file tells: the time of one row less that of another is at most a number."""
+    """A bound between rows: the time of one row less that of another is at most a number."""
 
     first: int
     second: int
     most: int
 
 
+class Reading(NamedTuple):
+    """From here on the stamps of a host are readings of a clock, each off by at most an error from what it shows."""
+
+    place: int  # the number of rows before it
+    host: int
+    error: int
+    clock: int  # the number of its clock
+
+
 class Log(NamedTuple):
     hosts: list
     rows: list
-    resyncs: list = ()
-    extras: list = ()  # none in the log of a file
+    resyncs: list
+    extras: list  # the bounds between rows
+    clocks: list  # the names of clocks, in the order in which they are first read
+    readings: list
 
 
 class LogFault(NamedTuple):
     number: int
     record: Optional[int]  # None where the fault lies in no record
+
+
+def log_of_rows(hosts, rows):
+    """The log of hosts and rows, without anything more."""
+    return Log(hosts, rows, [], [], [], [])
 
 
 def host_number(log, name):
@@ -81,7 +105,7 @@ def sent_names(log):
 
 def widened(log, more):
     """The log with all skews, of hosts and of resyncs, greater by a number."""
-    hosts, resyncs = ([clock._replace(skew=clock.skew + more) for clock in clocks] for clocks in (log.hosts, log.resyncs))
+    hosts, resyncs = ([each._replace(skew=each.skew + more) for each in given] for given in (log.hosts, log.resyncs))
     return log._replace(hosts=hosts, resyncs=resyncs)
 
 
@@ -92,12 +116,15 @@ def with_extra(log, extra):
 
 # Records
 
-HEADER = [b"kind", b"host", b"time", b"name"]
-SECOND_HEADER = [b"skewlog2", b"host", b"time", b"name"]
+# The headers of versions 1, 2 and 3, which differ in their first field.
+HEADERS = [[word, b"host", b"time", b"name"] for word in (b"kind", b"skewlog2", b"skewlog3")]
+HEADER, SECOND_HEADER, THIRD_HEADER = HEADERS
 
 EVENT_KINDS = (b"set", b"clear", b"send", b"recv", b"note", b"pulse")
 FIRST_KINDS = (b"host", b"set", b"clear", b"send", b"recv", b"note")
 SECOND_KINDS = (b"host", b"resync", b"latency", *EVENT_KINDS)
+THIRD_KINDS = (*SECOND_KINDS, b"clock", b"bound")
+KINDS = (FIRST_KINDS, SECOND_KINDS, THIRD_KINDS)
 KEPT_WORDS = (b"true", b"false", b"inf")
 LINE_ENDS = b"\r\n"
 
@@ -158,21 +185,33 @@ def read_log(data):
 
 def log_of_records(records):
     """The log that records list, or its LogFault."""
-    if not records or records[0] not in (HEADER, SECOND_HEADER):
+    if not records or records[0] not in HEADERS:
         return LogFault(1, 1)
-    log = Log([], [], [])
-    record_of_row = []
+    log = log_of_rows([], [])
     for place, record in enumerate(records[1:], start=2):
         fault = record_fault(log, records, place)
         if fault:
             return LogFault(fault, place)
         add_record(log, record)
-        if record[0] in EVENT_KINDS:
-            record_of_row.append(place)
-    for row, place in zip(log.rows, record_of_row):
-        if row.act == b"recv" and row.name not in sent_names(log):
+    return fault_of_whole(log, records) or log
+
+
+def fault_of_whole(log, records):
+    """The LogFault of records of which none is faulty by itself, or None; the log is what they say.
+
+    First each received message has to be sent, then there has to be a row, and
+    then each bound has to name rows that there are.
+    """
+    sent = set(sent_names(log))
+    for place, record in enumerate(records, start=1):
+        if record[0] == b"recv" and record[3] not in sent:
             return LogFault(10, place)
-    return log if log.rows else LogFault(11, None)
+    if not log.rows:
+        return LogFault(11, None)
+    for place, record in enumerate(records, start=1):
+        if record[0] == b"bound" and max(int(record[1]), int(record[2])) >= len(log.rows):
+            return LogFault(20, place)
+    return None
 
 
 def record_fault(log, records, place):
@@ -180,15 +219,12 @@ def record_fault(log, records, place):
     record = records[place - 1]
     if len(record) != 4:
         return 2
-    if record[0] not in (FIRST_KINDS if records[0] == HEADER else SECOND_KINDS):
+    kind = record[0]
+    if kind not in KINDS[HEADERS.index(records[0])]:
         return 3
-    if record[0] == b"host":
-        return host_fault(log, record)
-    if record[0] == b"resync":
-        return resync_fault(log, record)
-    if record[0] == b"latency":
+    if kind == b"latency":
         return latency_fault(log, records[1 : place - 1], record)
-    return event_fault(log, record)
+    return FAULTS_BY_KIND.get(kind, event_fault)(log, record)
 
 
 def host_fault(log, record):
@@ -231,6 +267,32 @@ def latency_fault(log, before, record):
     return 16 if int(most) < int(least) else 0
 
 
+def clock_fault(log, record):
+    """The number of the first test that a clock record fails, or 0."""
+    _, host, error, name = record
+    if host_number(log, host) is None:
+        return 6
+    if number(error, ERROR_GREATEST) is None:
+        return 7
+    if not is_name(name):
+        return 8
+    if name not in log.clocks and len(log.clocks) >= CLOCK_LIMIT:
+        return 17
+    return 0
+
+
+def bound_fault(log, record):
+    """The number of the first test that a bound record fails, or 0. Whether the log has its rows is known at the end."""
+    _, later, earlier, most = record
+    if number(later, ROW_GREATEST) is None or number(earlier, ROW_GREATEST) is None:
+        return 7
+    if signed_number(most, APART_GREATEST) is None:
+        return 7
+    if later == earlier:
+        return 18
+    return 19 if len(log.extras) >= BOUND_LIMIT else 0
+
+
 def event_fault(log, record):
     """The number of the first test that an event record fails, or 0."""
     kind, host, local, name = record
@@ -247,6 +309,9 @@ def event_fault(log, record):
     return 0
 
 
+FAULTS_BY_KIND = {b"host": host_fault, b"resync": resync_fault, b"clock": clock_fault, b"bound": bound_fault}
+
+
 def add_record(log, record):
     """Adds what a record without fault says to the log of the records before it."""
     kind, second, third, fourth = record
@@ -258,15 +323,26 @@ def add_record(log, record):
     elif kind == b"latency":
         most = None if fourth == b"inf" else int(fourth)
         log.hosts[host] = log.hosts[host]._replace(least=int(third), most=most)
+    elif kind == b"clock":
+        log.readings.append(Reading(len(log.rows), host, int(third), clock_number(log.clocks, fourth)))
+    elif kind == b"bound":
+        log.extras.append(Extra(int(second), int(third), int(fourth)))
     else:
         log.rows.append(Row(host, int(third), kind, fourth))
+
+
+def clock_number(clocks, name):
+    """The number of the clock with that name, which is added where it is new."""
+    if name not in clocks:
+        clocks.append(name)
+    return clocks.index(name)
 
 
 # The text of a log
 
 
 def log_text(log):
-    """The one text of a log: that of version 1 where it can say all, and else that of version 2."""
+    """The one text of a log: that of the first version that can say all."""
     return b"".join(b",".join(record) + b"\n" for record in records_of(log))
 
 
@@ -274,14 +350,15 @@ def records_of(log):
     """The records of the text of a log, the header among them."""
     hosts = [host_record(host) for host in log.hosts]
     latencies = [latency_record(host) for host in log.hosts if has_latency(host)]
-    header = SECOND_HEADER if is_of_version_2(log) else HEADER
-    return [header, *hosts, *latencies, *rows_and_resyncs(log)]
+    return [HEADERS[version_of(log) - 1], *hosts, *latencies, *event_records(log)]
 
 
-def is_of_version_2(log):
-    """Whether a log has what version 1 can't say."""
+def version_of(log):
+    """The first version that can say all of a log."""
+    if log.readings or log.extras:
+        return 3
     has_pulse = any(row.act == b"pulse" for row in log.rows)
-    return has_pulse or bool(log.resyncs) or any(map(has_latency, log.hosts))
+    return 2 if has_pulse or log.resyncs or any(map(has_latency, log.hosts)) else 1
 
 
 def has_latency(host):
@@ -300,12 +377,20 @@ def latency_record(host):
     return [b"latency", host.name, b"%d" % host.least, most]
 
 
-def rows_and_resyncs(log):
-    """The records of the rows, each resync directly before the row that its place names, or last."""
+def event_records(log):
+    """The records behind those of hosts: rows, with each resync and reading directly before the row that its place
+    names, or last, and then the bounds between rows. At one place the resyncs come first."""
     for place in range(len(log.rows) + 1):
-        for resync in log.resyncs:
-            if resync.place == place:
-                name = log.hosts[resync.host].name
-                yield [b"resync", name, b"%d" % resync.skew, b"%d" % resync.gap]
+        for resync in placed(log.resyncs, place):
+            yield [b"resync", log.hosts[resync.host].name, b"%d" % resync.skew, b"%d" % resync.gap]
+        for reading in placed(log.readings, place):
+            yield [b"clock", log.hosts[reading.host].name, b"%d" % reading.error, log.clocks[reading.clock]]
         for row in log.rows[place : place + 1]:
             yield [row.act, log.hosts[row.host].name, b"%d" % row.local, row.name]
+    for extra in log.extras:
+        yield [b"bound", *(b"%d" % number for number in extra)]
+
+
+def placed(items, place):
+    """Those of the resyncs or the readings that have a place."""
+    return [item for item in items if item.place == place]

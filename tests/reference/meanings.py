@@ -30,7 +30,10 @@ def values_where_few(log, formula):
 
 def admissible_timings(log):
     """All admissible timings of a log."""
-    bounds = reference.bounds(log)
+    readings = reference.readings_of(log)
+    bounds = [[] for _ in log.rows]  # by the last row of each
+    for bound in reference.bounds(log):
+        bounds[last_row(bound)].append(bound)
 
     def longer(times):
         """The admissible timings that begin with these times of the first rows."""
@@ -41,15 +44,17 @@ def admissible_timings(log):
         skew = reference.skew_of(log, len(times))
         for time in range(row.local - skew, row.local + skew + 1):
             following = [*times, time]
-            ready = [
-                bound
-                for bound in bounds
-                if max(bound.start or 0, bound.end or 0) < len(following)
-            ]
-            if all(reference.holds(bound, following) for bound in ready):
+            if not any(reference.is_broken(log, readings, bound, following) for bound in bounds[len(times)]):
                 yield from longer(following)
 
     yield from longer([])
+
+
+def last_row(bound):
+    """The last row of those that a bound is of. What a row reads of a clock is compared with the rows before it."""
+    if bound.kind in (b"under", b"over"):
+        return bound.event
+    return max(bound.start or 0, bound.end or 0)
 
 
 class World:

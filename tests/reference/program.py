@@ -248,7 +248,7 @@ def replay_answer(files, formula_name, log_name, times_name):
 
 def order_answer(log):
     """The clocks of a log, or the demand for a cycle."""
-    found = reference.clocks(log)
+    found = reference.vector_clocks(log)
     if found is None:
         return Judged("order", log)
     lines = [

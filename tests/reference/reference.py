@@ -4,13 +4,18 @@ Truth is found by recursion over positions, and happened-before is a
 transitive closure. The texts are read by logs.py and formats.py.
 """
 
+import itertools
 from typing import NamedTuple, Optional
 
 # Bounds
 
 
 class Bound(NamedTuple):
-    """The bound t_start - t_end <= most; an end that is None is the zero moment."""
+    """The bound t_start - t_end <= most.
+
+    An end that is None is the zero moment, and one from the number of rows on
+    is a clock, whose time is its offset: clock k stands k behind the rows.
+    """
 
     kind: bytes
     event: int  # of an extra its number
@@ -22,6 +27,7 @@ class Bound(NamedTuple):
 def bounds(log):
     """The bounds of a log in their order."""
     found = []
+    readings = readings_of(log)
     for event, row in enumerate(log.rows):
         skew, gap = skew_of(log, event), gap_of(log, event)
         found.append(Bound(b"low", event, None, event, skew - row.local))
@@ -34,6 +40,11 @@ def bounds(log):
             found.append(Bound(b"message", event, send, event, -host.least))
             if host.most is not None:
                 found.append(Bound(b"late", event, event, send, host.most))
+        reading = readings[event]
+        if reading is not None:
+            clock = len(log.rows) + reading.clock
+            found.append(Bound(b"under", event, clock, event, reading.error - row.local))
+            found.append(Bound(b"over", event, event, clock, row.local + reading.error))
     for number, extra in enumerate(log.extras):
         found.append(Bound(b"extra", number, *extra))
     return found
@@ -41,22 +52,28 @@ def bounds(log):
 
 def skew_of(log, event):
     """By how much the local time of a row may be off."""
-    return clock_of(log, event).skew
+    return setting_of(log, event).skew
 
 
 def gap_of(log, event):
     """How long after the row before it on its host a row comes at least."""
-    return clock_of(log, event).gap
+    return setting_of(log, event).gap
 
 
-def clock_of(log, event):
+def setting_of(log, event):
     """What tells the skew and the gap of a row: the last resync of its host before it, or the host."""
-    number = log.rows[event].host
-    found = log.hosts[number]
-    for resync in log.resyncs:
-        if resync.host == number and resync.place <= event:
-            found = resync
-    return found
+    return last_before(log, log.resyncs, event) or log.hosts[log.rows[event].host]
+
+
+def readings_of(log):
+    """For each row what tells the clock that it reads, and its error: the last reading of its host before it, or None."""
+    return [last_before(log, log.readings, event) for event in range(len(log.rows))]
+
+
+def last_before(log, items, event):
+    """The last of the resyncs or the readings that is of a row's host and stands before the row, or None."""
+    host = log.rows[event].host
+    return next((item for item in reversed(items) if item.host == host and item.place <= event), None)
 
 
 def row_before(log, event):
@@ -74,22 +91,49 @@ def send_of(log, event):
 
 
 def holds(bound, times):
-    """Whether times keep a bound."""
+    """Whether times of the rows, and behind them offsets of the clocks if the bound is of a clock, keep a bound."""
     start = 0 if bound.start is None else times[bound.start]
     end = 0 if bound.end is None else times[bound.end]
     return start - end <= bound.most
 
 
 def first_broken(log, times):
-    """The first bound that the times break, or None."""
-    for bound in bounds(log):
-        if not holds(bound, times):
-            return bound
-    return None
+    """The first bound that the times of the rows break, or None."""
+    readings = readings_of(log)
+    return next((bound for bound in bounds(log) if is_broken(log, readings, bound, times)), None)
+
+
+def is_broken(log, readings, bound, times):
+    """Whether the times of the rows break a bound; the readings are those of the rows.
+
+    What a row reads of a clock is broken where a row before it reads the same
+    clock and no offset is right for both: of `under` where the earlier row is
+    too far ahead of its stamp beside this one, and of `over` where this one is.
+    """
+    if bound.kind not in (b"under", b"over"):
+        return not holds(bound, times)
+    row = bound.event
+    sign = 1 if bound.kind == b"under" else -1
+    return any(
+        sign * (ahead(log, times, other) - ahead(log, times, row)) > readings[other].error + readings[row].error
+        for other in range(row)
+        if is_of_one_clock(readings, other, row)
+    )
+
+
+def ahead(log, times, event):
+    """By how much a row's time is ahead of its stamp."""
+    return times[event] - log.rows[event].local
+
+
+def is_of_one_clock(readings, first, second):
+    """Whether two rows read one clock."""
+    pair = readings[first], readings[second]
+    return None not in pair and pair[0].clock == pair[1].clock
 
 
 def admissible(log, times):
-    """Whether the times keep skews, gaps and latencies, row by row, and the extras."""
+    """Whether the times keep skews, gaps and latencies, row by row, the extras, and what rows read of clocks."""
     for event, row in enumerate(log.rows):
         if abs(times[event] - row.local) > skew_of(log, event):
             return False
@@ -98,7 +142,23 @@ def admissible(log, times):
             return False
         if row.act == b"recv" and not keeps_latency(log, times, event):
             return False
-    return all(times[first] - times[second] <= most for first, second, most in log.extras)
+    if not all(times[first] - times[second] <= most for first, second, most in log.extras):
+        return False
+    return keeps_clocks(log, times)
+
+
+def keeps_clocks(log, times):
+    """Whether any two rows that read one clock are ahead of their stamps alike, but for what both readings may be off.
+
+    Then there is an offset for each clock that is right for all that rows read of it: how far a row may be ahead of its
+    stamp by its own reading is an interval, and intervals that meet by pairs have a number in common.
+    """
+    readings = readings_of(log)
+    return all(
+        ahead(log, times, first) - ahead(log, times, second) <= readings[first].error + readings[second].error
+        for first, second in itertools.permutations(range(len(log.rows)), 2)
+        if is_of_one_clock(readings, first, second)
+    )
 
 
 def keeps_latency(log, times, event):
@@ -208,7 +268,7 @@ def earlier(log):
     return found
 
 
-def clocks(log):
+def vector_clocks(log):
     """Per row the number of each host's rows that are it or happen before it.
 
     None where some row happens before itself.

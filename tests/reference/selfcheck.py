@@ -30,6 +30,7 @@ import meanings
 import pulse_cases
 import reference
 import second_cases
+import third_cases
 from instances import instances
 
 
@@ -42,13 +43,15 @@ def check(right, *what):
 
 def check_fixed_cases():
     """The answers written out by hand are right by the judge, and no others of a few."""
-    for case in [*cases.fixed_cases(), *second_cases.fixed_cases()]:
+    for case in [*cases.fixed_cases(), *second_cases.fixed_cases(), *third_cases.fixed_cases()]:
         for output in case.outputs:
             found = judge.complaint(case.words, case.files, output, case.status)
             check(not found, case, output, found)
             for status, other in ((case.status ^ 1, output), (case.status, output + b"\n")):
                 check(judge.complaint(case.words, case.files, other, status), case, other)
 
+
+TRIED_MOST = 100  # the greatest error of a reading of which all offsets that it leaves are gone through
 
 # The grammar as productions; what isn't a key is a token.
 GRAMMAR = {
@@ -324,8 +327,8 @@ def check_records(draw):
 
 
 def check_log_texts(draw):
-    """The text of a log reads back as the log, is of version 1 where it can be, and no spelling changes it."""
-    seconds = 0
+    """The text of a log reads back as the log, is of the first version that it can be of, and no spelling changes it."""
+    versions = collections.Counter()
     for _ in range(3000):
         log = generate_logs.some_log(draw)
         if not messages_fit(log):
@@ -334,14 +337,30 @@ def check_log_texts(draw):
         check(logs.read_log(text) == log, log, text)
         records = generate_logs.records_of(draw, log)
         found = logs.read_log(generate_logs.log_text(draw, records))
-        if records[0] == logs.HEADER and text[:8] == b"skewlog2":
+        version = logs.HEADERS.index(text.partition(b"\n")[0].split(b",")) + 1
+        if logs.HEADERS.index(records[0]) + 1 < version:
             check(found.number == 3, records)
         else:
             check(same_by_names(found, log), log, records)
-        first = b"kind" + text.removeprefix(b"skewlog2").removeprefix(b"kind")
-        check((logs.read_log(first) == log) == (first == text), text)
-        seconds += first != text
-    print(f"{seconds} logs of version 2")
+        for number, header in enumerate(logs.HEADERS, start=1):
+            other = b",".join(header) + text[text.index(b"\n") :]
+            check((logs.read_log(other) == log) == (number >= version), text, header)
+        versions[version] += 1
+    print("texts: " + ", ".join(f"{versions[version]} of version {version}" for version in sorted(versions)))
+
+
+def check_many_bounds():
+    """As many bounds between rows as a log may have, which no file of a log has room for, and one more."""
+    head = [logs.THIRD_HEADER, [b"host", b"a", b"1", b"0"]]
+    bounds = [[b"bound", b"1", b"0", b"5"]] * (logs.BOUND_LIMIT + 1)
+    check(logs.log_of_records([*head, *bounds]) == logs.LogFault(19, len(head) + len(bounds)))
+    log = logs.log_of_records([*head, *[[b"note", b"a", b"1", b"n"]] * 2, bounds[0]])
+    log.extras.extend(log.extras * (logs.BOUND_LIMIT - 1))
+    for odd, fault in (
+        ("bound,0,1,5", 19), ("bound,0,x,5", 7), ("bound,0,0,5", 18), ("bound,7,7,5", 18), ("bound,0,7,5", 19), ("note,a,5,n", 0),
+    ):
+        found = logs.record_fault(log, [logs.THIRD_HEADER, odd.encode().split(b",")], 2)
+        check(found == fault, odd, found)
 
 
 def same_by_names(first, second):
@@ -350,12 +369,12 @@ def same_by_names(first, second):
 
 
 def by_names(log):
-    """The hosts of a log by name, and its rows and resyncs with the names of their hosts."""
-    rows, resyncs = [
+    """The hosts of a log by name, its rows, resyncs and readings with the names of their hosts, and all else as it is."""
+    rows, resyncs, readings = [
         [item._replace(host=log.hosts[item.host].name) for item in items]
-        for items in (log.rows, log.resyncs)
+        for items in (log.rows, log.resyncs, log.readings)
     ]
-    return sorted(log.hosts), rows, resyncs
+    return sorted(log.hosts), rows, resyncs, log.extras, log.clocks, readings
 
 
 def cycle_of_bounds(log):
@@ -398,9 +417,9 @@ def check_times(draw):
         if not messages_fit(log):
             continue
         near = generate.near_times(draw, log)
-        unbroken = reference.first_broken(log, near) is None
-        check(reference.admissible(log, near) == unbroken, log, near)
         times = generate.relaxed_times(draw, log)
+        for given in (near, times, generate.nudged_times(draw, log)):
+            check_timing(draw, log, given)
         steps = cycle_of_bounds(log)
         check(reference.admissible(log, times) == (steps is None), log, times, steps)
         written = b"".join(b"%d\n" % time for time in times)
@@ -409,6 +428,53 @@ def check_times(draw):
             shut += 1
             check_steps(log, [b"%s %d\n" % (step.kind, step.event) for step in steps])
     print(f"{shut} logs without a timing")
+
+
+def check_timing(draw, log, times):
+    """A timing is admissible exactly where it breaks no bound, and exactly where it keeps them with some offsets of the
+    clocks; and whatever is left out of a log, or made less exact, excludes no timing."""
+    is_admissible = reference.admissible(log, times)
+    check((reference.first_broken(log, times) is None) == is_admissible, log, times)
+    offsets = offsets_of(log, times)
+    check((offsets is not None) == reference.keeps_clocks(log, times), log, times, offsets)
+    if offsets is not None:
+        kept = all(reference.holds(bound, [*times, *offsets]) for bound in reference.bounds(log))
+        check(kept == is_admissible, log, times, offsets)
+    readings = list(log.readings)
+    if readings:
+        place = draw.randrange(len(readings))
+        readings[place] = readings[place]._replace(error=readings[place].error + draw.choice((1, 5)))
+    for other in (
+        log._replace(clocks=[], readings=[]), log._replace(extras=[]), log._replace(readings=readings),
+        log._replace(clocks=[], readings=[], extras=[]), logs.widened(log, 1),
+    ):
+        check(reference.admissible(other, times) or not is_admissible, log, other, times)
+
+
+def offsets_of(log, times):
+    """An offset for each clock that is right for all that rows read of it, found by going through whole numbers; or None."""
+    found = []
+    for clock in range(len(log.clocks)):
+        read = [
+            (reference.ahead(log, times, event), reading.error)
+            for event, reading in enumerate(reference.readings_of(log))
+            if reading is not None and reading.clock == clock
+        ]
+        right = (offset for offset in tried(read) if all(abs(ahead - offset) <= error for ahead, error in read))
+        offset = next(right, None)
+        if offset is None:
+            return None
+        found.append(offset)
+    return found
+
+
+def tried(read):
+    """The offsets that are tried for a clock: all whole numbers that are right for the most exact of what rows read, or
+    where these are many, the least ones that each reading leaves."""
+    ahead, error = min(read, key=lambda pair: pair[1], default=(0, 0))
+    if error <= TRIED_MOST:
+        return range(ahead - error, ahead + error + 1)
+    return [ahead - error for ahead, error in read]
 
 
 def check_steps(log, lines):
@@ -447,7 +513,7 @@ def check_order(draw):
         for event, before in enumerate(reference.earlier(log)):
             wanted = {other for other in range(len(log.rows)) if before >> other & 1}
             check(reached(log, event) == wanted, log, event)
-        cyclic += reference.clocks(log) is None
+        cyclic += reference.vector_clocks(log) is None
     print(f"{cyclic} logs with a cycle")
 
 
@@ -469,7 +535,8 @@ def check_fixed_derivations():
     """The second checker gives the answers and clauses that are written out by hand."""
     count = 0
     for case in itertools.chain(
-        derivation_cases.fixed_cases(), second_cases.fixed_derivations(), pulse_cases.fixed_derivations()
+        derivation_cases.fixed_cases(), second_cases.fixed_derivations(), pulse_cases.fixed_derivations(),
+        third_cases.fixed_derivations(),
     ):
         found = derivations.answer(problem_of(case), case.lines)
         check(found == case.answer, case, found)
@@ -495,6 +562,7 @@ def check_worlds(problem, tree, worlds):
     """The worlds are admissible timings with the truth values of the reference."""
     for world in worlds:
         check(reference.admissible(problem.log, world.times), problem.log, world.times)
+        check(offsets_of(problem.log, world.times) is not None, problem.log, world.times)
         wanted = reference.truth(problem.log, world.times, tree) == problem.value
         check(world.gives_value() == wanted, problem, world.times)
 
@@ -562,8 +630,9 @@ def main():
     parser = argparse.ArgumentParser(description="check the reference against other ways")
     parser.add_argument("--seed", type=int, default=1)
     draw = random.Random(parser.parse_args().seed)
-    generate_logs.second_share = 0.5
+    generate_logs.second_share = generate_logs.third_share = 0.5
     check_fixed_cases()
+    check_many_bounds()
     check_fixed_derivations()
     check_derivations(draw)
     check_trees(draw, check_places())

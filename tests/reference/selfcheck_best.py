@@ -145,7 +145,7 @@ def main():
     parser.add_argument("--seed", type=int, default=1)
     parser.add_argument("--cases", type=int, default=300, help="number of answers of each command")
     arguments = parser.parse_args()
-    generate_logs.second_share = 0.5
+    generate_logs.second_share = generate_logs.third_share = 0.5
     draw = random.Random(arguments.seed)
     check_fixed_cases(draw)
     for command in COMMANDS:

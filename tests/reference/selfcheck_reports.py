@@ -27,6 +27,7 @@ import pulse_cases
 import reference
 import reports
 import second_cases
+import third_cases
 from derivations import Step
 from invent_reports import Question
 from reports import Inconsistent, Refuted, SyntaxFault, Unknown, Verdicts, Witness
@@ -45,7 +46,8 @@ def check_fixed_cases(draw):
     """
     count = 0
     for case in itertools.chain(
-        check_cases.fixed_cases(), second_cases.checks(), second_cases.audits(), pulse_cases.fixed_cases()
+        check_cases.fixed_cases(), second_cases.checks(), second_cases.audits(), pulse_cases.fixed_cases(),
+        third_cases.checks(), third_cases.audits(),
     ):
         outputs = case.outputs if case.pattern is None else own_outputs(draw, case)
         for output in outputs:
@@ -283,7 +285,7 @@ def check_walks(draw):
     while sum(places.values()) < 6000:
         log = invent_reports.some_question(draw).log
         known = [edge.step for edge in invent.bound_edges(log)]
-        loose = [*known, Step(b"rise", (0,)), Step(b"extra", (0,)), Step(b"low", (len(log.rows),))]
+        loose = [*known, *(Step(kind, (0,)) for kind in (b"rise", b"under", b"over", b"extra")), Step(b"low", (len(log.rows),))]
         right = invent.find_negative_walk(invent.bound_edges(log))
         for length in (0, 1, 2, 2, 3, 4):
             steps = draw.choices(loose, k=length)
@@ -391,7 +393,7 @@ def main():
     parser = argparse.ArgumentParser(description="check the reference's reading of reports")
     parser.add_argument("--seed", type=int, default=1)
     draw = random.Random(parser.parse_args().seed)
-    generate_logs.second_share = 0.4
+    generate_logs.second_share = generate_logs.third_share = 0.4
     check_fixed_cases(draw)
     check_faults()
     check_words()

@@ -45,15 +45,15 @@ def read_arguments(description, cases, what):
 
 
 def read_log_arguments(description, cases, what):
-    """The same of a comparison over logs, which has an option more: the share of logs that may be of version 2."""
-    parser = arguments_of(description, cases, what)
-    add_second(parser)
+    """The same of a comparison over logs, which has two options more: the shares of logs that may be of a version."""
+    return read_with_versions(arguments_of(description, cases, what))
+
+
+def read_with_versions(parser):
+    """What a parser reads of the command line, with the shares of logs that may be of version 2 and 3, which are set."""
+    for option, share, version in (("second", generate_logs.second_share, 2), ("third", generate_logs.third_share, 3)):
+        what = f"share of logs that may be of version {version}"
+        parser.add_argument(f"--{option}", type=float, metavar="SHARE", default=share, help=what)
     arguments = parser.parse_args()
-    generate_logs.second_share = arguments.second
+    generate_logs.second_share, generate_logs.third_share = arguments.second, arguments.third
     return arguments
-
-
-def add_second(parser):
-    """Adds the option on logs of version 2."""
-    share = generate_logs.second_share
-    parser.add_argument("--second", type=float, default=share, help="share of logs that may be of version 2")

@@ -1,0 +1,191 @@
+"""Windows of long logs with clocks and bounds between rows: their bounds, what a window keeps, and what all of them tell."""
+
+import os
+import random
+import unittest
+
+import common  # sets the path
+import clock_logs
+
+from ask.formulas import read_formula
+from ask.logs import bound_of, read_log
+from ask.program import Program, find_program
+from ask.reports import Step
+from ask.texts import Source
+from ask.windows.asking import Setting, View, Whole
+from ask.windows.bounds import Bounds, Contradiction
+from ask.windows.cuts import Slice
+from ask.windows.longlog import read_long_log
+from ask.windows.shape import shape_of
+from ask.windows.timings import keeps, room
+from ask.windows.verdict import verdict_of_slices
+
+CASES = 400
+HEAD = "skewlog3,host,time,name\n"
+
+
+def generated(is_right=True, most_rows=12):
+    """Logs by chance, each with its text and the times of the run that it is of."""
+    for seed in range(CASES):
+        draw = random.Random(f"{is_right} {seed}")
+        text, times = clock_logs.some_log(draw, most_rows, is_right)
+        yield draw, text, times
+
+
+class Passes(unittest.TestCase):
+    def test_the_least_and_the_greatest_times(self):
+        for _, text, times in generated():
+            with self.subTest(log=text):
+                log, long = read_log(text.encode()), read_long_log(text.encode())
+                self.assertTrue(clock_logs.is_timing(log, times))
+                sums, found = clock_logs.least_sums(log), Bounds(long).times()
+                events = range(len(log.rows))
+                self.assertEqual(list(found.least), [-sums[None, event] for event in events])
+                self.assertEqual(list(found.greatest), [sums[event, None] for event in events])
+
+    def test_contradictions(self):
+        counts = [0, 0]
+        for _, text, _ in generated(is_right=False):
+            with self.subTest(log=text):
+                log, bounds = read_log(text.encode()), None
+                try:
+                    bounds = Bounds(read_long_log(text.encode()))
+                    bounds.times()
+                    self.assertIsNotNone(clock_logs.least_sums(log))
+                    counts[0] += 1
+                except Contradiction as contradiction:
+                    self.assertIsNone(clock_logs.least_sums(log))
+                    walk = [bound_of(log, step.kind, step.numbers[0]) for step in contradiction.walk]
+                    self.assertEqual([bound.end for bound in walk], [bound.start for bound in walk[1:] + walk[:1]])
+                    self.assertLess(sum(bound.most for bound in walk), 0)
+                    counts[1] += 1
+        self.assertGreater(min(counts), CASES // 10)
+
+    def test_broken_bounds(self):
+        for draw, text, times in generated():
+            log, bounds = read_log(text.encode()), Bounds(read_long_log(text.encode()))
+            for _ in range(4):
+                moved = [time + draw.choice((0, 0, -1, 1, 2)) for time in times]
+                with self.subTest(log=text, times=moved):
+                    self.assertEqual(bounds.broken(moved) is None, clock_logs.is_timing(log, moved))
+
+    def test_the_first_broken_reading(self):
+        text = HEAD + "host,a,5,0\nclock,a,0,one\nnote,a,10,x\nclock,a,0,one\nnote,a,20,y\n"
+        bounds = Bounds(read_long_log(text.encode()))
+        for times, step in (((10, 25), Step("over", (1,))), ((13, 20), Step("under", (1,))), ((13, 23), None)):
+            self.assertEqual(bounds.broken(times), step)
+
+    def test_rows_that_move(self):
+        for draw, text, times in generated():
+            log, bounds = read_log(text.encode()), Bounds(read_long_log(text.encode()))
+            moved = draw.sample(range(len(times)), draw.randint(1, len(times)))
+            least, greatest = room(bounds, times, moved)
+            pinned = [*times]
+            with self.subTest(log=text, moved=moved):
+                for ends in (least, greatest):
+                    tried = [ends.get(event, time) for event, time in enumerate(pinned)]
+                    self.assertTrue(clock_logs.is_timing(log, tried))
+                for _ in range(4):
+                    tried = {event: times[event] + draw.choice((0, 0, -1, 1, 2)) for event in moved}
+                    whole = [tried.get(event, time) for event, time in enumerate(times)]
+                    self.assertEqual(keeps(bounds, times, tried), clock_logs.is_timing(log, whole))
+                    if clock_logs.is_timing(log, whole):
+                        self.assertTrue(all(least[event] <= tried[event] <= greatest[event] for event in moved))
+
+    def test_a_chain_of_clocks(self):
+        hosts = 40
+        text = HEAD + "".join(f"host,h{number},1000,0\n" for number in range(hosts))
+        text += "".join(f"clock,h{number},0,k{number // 2}\nnote,h{number},0,x\n" for number in range(hosts))
+        text += "".join(f"bound,{number + 1},{number},0\nbound,{number},{number + 1},0\n" for number in range(1, hosts - 1, 2))
+        log = read_long_log(text.replace("host,h0,1000,0", "host,h0,0,0").encode())
+        self.assertEqual([list(found) for found in Bounds(log).times()], [[0] * hosts] * 2)
+
+
+class Windows(unittest.TestCase):
+    def whole(self, text, formula="G (h0.p -> F[0,3] h0.q)"):
+        return Whole(read_long_log(text.encode()), shape_of(read_formula(formula)))
+
+    def test_each_timing_of_the_whole_is_one_of_a_window(self):
+        for draw, text, times in generated():
+            whole = self.whole(text)
+            first = draw.randint(min(whole.times.least), max(whole.times.greatest))
+            window = whole.window(Slice(first, first + draw.randint(0, 8)))
+            log = read_log(window.log)
+            with self.subTest(log=text, window=window.log):
+                for timing in (times, whole.times.least, whole.times.greatest, whole.near()):
+                    before = [window.base, *(moment for _, moment in window.carried)]
+                    self.assertTrue(clock_logs.is_timing(log, [*before, *(timing[event] for event in window.events)]))
+
+    def test_a_window_of_all_rows_has_no_other_timings(self):
+        for draw, text, times in generated(most_rows=6):
+            whole, log = self.whole(text), read_log(text.encode())
+            window = whole.window(Slice(min(whole.times.least), max(whole.times.greatest)))
+            bounded = read_log(window.log)
+            self.assertEqual(window.events, list(range(len(times))))
+            for _ in range(6):
+                moved = [time + draw.choice((0, 0, -1, 1, 2)) for time in times]
+                with self.subTest(log=text, times=moved):
+                    is_there = clock_logs.is_timing(bounded, [window.base, *moved])
+                    is_exact = all(row.clock is not None for row in log.rows)
+                    if is_exact or not is_there:
+                        self.assertEqual(clock_logs.is_timing(log, moved), is_there)
+
+    def test_what_a_window_keeps(self):
+        rows = "host,a,9,0\nhost,b,9,0\nnote,a,0,x\nclock,a,1,m\nclock,b,2,m\nset,a,1000,p\nset,b,1003,q\nclock,b,0,n\nnote,b,2000,x\n"
+        text = HEAD + rows + "bound,2,1,5\nbound,1,2,4\nbound,3,0,3000\n"
+        whole = self.whole(text, "G (a.p -> F[0,3] b.q)")
+        window = whole.window(Slice(995, 1010))
+        self.assertEqual(window.log.decode(), HEAD + (
+            "host,anchor,0,0\nhost,a,0,0\nhost,b,0,0\nnote,anchor,991,anchor\nresync,a,9,0\nclock,a,1,m\nset,a,1000,p\n"
+            "resync,b,9,0\nclock,b,2,m\nset,b,1003,q\nbound,2,1,5\nbound,1,2,4\n"
+        ))
+
+    def test_logs_without_clocks_have_windows_of_version_2(self):
+        text = "kind,host,time,name\nhost,h0,2,0\nset,h0,10,p\nset,h0,15,q\n"
+        self.assertTrue(self.whole(text).window(Slice(0, 20)).log.startswith(b"skewlog2,"))
+        text = HEAD + "host,h0,2,0\nset,h0,10,p\nset,h0,15,q\nset,h0,95,q\nbound,2,0,100\n"
+        self.assertTrue(self.whole(text).window(Slice(0, 20)).log.startswith(b"skewlog2,"))
+
+    def test_views_of_some_rows(self):
+        for _, text, times in generated():
+            whole = self.whole(text, "G (h0.p -> F[0,3] h0.p)")
+            view = whole.pulses()
+            if view is None:
+                continue
+            self.assertIsInstance(view, View)
+            window = view.window(Slice(min(times), max(times)))
+            timing = [window.base, *(times[event] for event in window.events)]
+            self.assertTrue(clock_logs.is_timing(read_log(window.log), timing))
+
+
+class Verdicts(unittest.TestCase):
+    """What windows of a log tell, against what the program tells of the whole; of as many cases as CASES says, else 40."""
+
+    def test_windows_and_the_whole(self):
+        for seed in range(int(os.environ.get("CASES", "40"))):
+            draw = random.Random(f"verdict {seed}")
+            text, _ = clock_logs.some_log(draw, 6, draw.random() < 0.9)
+            formula = clock_logs.some_formula(draw, read_log(text.encode()))
+            with self.subTest(log=text, formula=formula):
+                self.assertEqual(self.by_windows(draw, text, formula), self.of_whole(text, formula))
+
+    def of_whole(self, text, formula):
+        """Whether the formula can be true and false, None where no timing is admissible."""
+        sources = [Source("f", formula.encode()), Source("l", text.encode())]
+        return {0: (True, False), 1: (False, True), 2: (True, True), 3: None}[Program(find_program(None)).run("check", sources).status]
+
+    def by_windows(self, draw, text, formula):
+        """The same by windows of few rows, whose timings are timings of the log."""
+        try:
+            whole = Whole(read_long_log(text.encode()), shape_of(read_formula(formula)))
+        except Contradiction:
+            return None
+        setting = Setting(Program(find_program(None)), most=draw.choice((3, 6)), size=draw.choice((1, 2)))
+        verdict = verdict_of_slices(whole, setting)
+        for times in verdict.timings.values():
+            self.assertTrue(clock_logs.is_timing(read_log(text.encode()), times))
+        return verdict.can_be[True], verdict.can_be[False]
+
+
+if __name__ == "__main__":
+    unittest.main()
