@@ -138,12 +138,14 @@ class Request(NamedTuple):
     known: Tuple[str, ...]
     fields: Fields
     where: str
+    read_at: Optional[Stamp] = None  # the moment of the line
+    lasted: str = ""  # in seconds, where --duration names the field
 
 
-def requests_of(source: Source, form: Format, time: Optional[str]) -> Iterator[Request]:
+def requests_of(source: Source, form: Format, words: AccessWords) -> Iterator[Request]:
     """The requests of a file, one a line."""
-    moment = moment_key(form, time)
-    took = next((key for key in DURATIONS if key in form.keys), None)
+    moment = moment_key(form, words.time)
+    took = words.duration or next((key for key in DURATIONS if key in form.keys), None)
     read, is_end = MOMENTS[moment]
     data = source.data[3:] if source.data.startswith(BYTE_ORDER_MARK) else source.data
     for number, line in enumerate(data.decode("utf-8", "backslashreplace").split("\n"), start=1):
@@ -157,11 +159,16 @@ def requests_of(source: Source, form: Format, time: Optional[str]) -> Iterator[R
         fields = dict(zip(form.keys, match.groups()))
         at = read_by(read, fields, moment, where)
         if took is None:
-            yield Request(at, at, ("end",) if is_end else ("begin",), fields, where)
+            yield Request(at, at, ("end",) if is_end else ("begin",), fields, where, at)
             continue
-        lasted = read_by(DURATIONS[took], fields, took, where)
+        lasted = read_by(DURATIONS.get(took, seconds), fields, took, where, "duration")
         began, ended = (later(at, lasted, -1), at) if is_end else (at, later(at, lasted, 1))
-        yield Request(began, ended, ("begin", "end"), fields, where)
+        yield Request(began, ended, ("begin", "end"), fields, where, at, seconds_text(lasted) if words.duration else "")
+
+
+def seconds_text(duration: Stamp) -> str:
+    """A duration as a number of seconds."""
+    return f"{duration.seconds}.{duration.digits}s" if duration.digits else f"{duration.seconds}s"
 
 
 def mismatch_words(form: Format, line: str) -> str:
@@ -183,11 +190,11 @@ def moment_key(form: Format, wanted: Optional[str]) -> str:
     return wanted or found[0]
 
 
-def read_by(reading: Reading, fields: Fields, key: str, where: str) -> Stamp:
+def read_by(reading: Reading, fields: Fields, key: str, where: str, what: str = "time") -> Stamp:
     """The moment or the duration under a key."""
     found = reading(fields[key])
     if found is None:
-        raise Trouble(WRONG, f"{where}: {key} is {shortened(fields[key])!r}, which is no time")
+        raise Trouble(WRONG, f"{where}: {key} is {shortened(fields[key])!r}, which is no {what}")
     return found
 
 
@@ -200,28 +207,37 @@ class AccessWords(NamedTuple):
     rows: Rows
     host: str
     without_kind: str
+    duration: str = ""
 
 
 def access_events(sources: Sequence[Source], form: Format, words: AccessWords) -> List[Event]:
     """The events of the requests of files, on hosts on which no two requests are at once."""
+    if words.duration and words.duration not in form.keys:
+        raise Trouble(USAGE, f"--duration: the format has no {words.duration}. It has: {listed(form.keys)}")
     if words.only and words.id not in form.keys:
         known = listed(form.keys)
         raise Trouble(USAGE, f"--only: the format has no {words.id}; say by --id which field is the id: {known}")
-    requests = [request for source in sources for request in requests_of(source, form, words.time)]
+    requests = [request for source in sources for request in requests_of(source, form, words)]
     only = set(words.only)
     kept = [request for request in requests if not only or request.fields[words.id] in only]
-    return [event for host, request in on_hosts(kept, words.host) for event in events_of(host, request, words)]
+    on_their_hosts = enumerate(on_hosts(kept, words.host))
+    return [event for number, (host, request) in on_their_hosts for event in events_of(number, host, request, words)]
 
 
-def events_of(host: str, request: Request, words: AccessWords) -> Iterator[Event]:
+def events_of(number: int, host: str, request: Request, words: AccessWords) -> Iterator[Event]:
     """The events of a request: it begins and ends, or is one moment where it isn't known how long it took."""
-    id_ = request.fields.get(words.id, "")
-    for name, stamp in (("begin", request.began), ("end", request.ended)):
+    id_, begin = request.fields.get(words.id, ""), 2 * number
+    for name, stamp, place in (("begin", request.began, begin), ("end", request.ended, begin + 1)):
         if name in request.known:
             default = BOTH[name] if len(request.known) == 2 else [(words.without_kind, "asked")]
             for kind, pattern in words.rows.get(name, default):
                 shown = filled(pattern, request.fields, request.where)
-                yield Event(host, stamp, f"of the {name}", kind, shown, id_, request.where, None, name)
+                event = Event(host, stamp, f"of the {name}", kind, shown, id_, request.where, None, name, place, words.host)
+                if request.read_at is not None and stamp != request.read_at:
+                    event = event._replace(read_at=request.read_at)
+                if name == "end" and request.lasted:
+                    event = event._replace(duration=request.lasted, begun=begin)
+                yield event
 
 
 def on_hosts(requests: Sequence[Request], name: str) -> Iterator[Tuple[str, Request]]:

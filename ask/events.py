@@ -7,7 +7,7 @@ import re
 from dataclasses import dataclass, field
 from typing import Any, Dict, Iterator, List, NamedTuple, Optional, Sequence, Set, Tuple
 
-from ask.logs import NAME, ROW_KINDS, is_log_in_json, records_in
+from ask.logs import FIRST_FIELDS, MOST_ROW_NUMBER, NAME, OF_THIRD, ROW_KINDS, is_log_in_json, number as number_of, records_in
 from ask.refusals import log_in_json_words
 from ask.stamps import Stamp, stamp_fault, stamp_of
 from ask.texts import BYTE_ORDER_MARK, Source, Trouble
@@ -31,6 +31,12 @@ class Keys:
     kind: str
     id: str
     without_kind: str = "note"
+    machine: Tuple[str, ...] = ()  # of the clock that hosts share, where that is told
+    duration: str = ""  # of how long ago the request of a row began
+
+    def keys_of_machine(self) -> Tuple[str, ...]:
+        """The keys of the machine: those that are told, else those of the host without the last of several."""
+        return self.machine or self.host[:-1] or self.host
 
 
 @dataclass
@@ -51,8 +57,30 @@ class Latency:
     where: str
 
 
+@dataclass
+class FileClock:
+    """The clock that a host reads from a place on and how far a reading may be off, as a file has it."""
+
+    name: str
+    error: str
+    where: str
+
+
+class FileBound(NamedTuple):
+    """That the event of one number is at most so much after that of another, as a file has it."""
+
+    later: int
+    earlier: int
+    most: str
+    where: str
+
+
 class Event(NamedTuple):
-    """A row to be: names and the stamp as the file has them, where it stands, and what the file says of its clock."""
+    """A row to be: names and the stamp as the file has them, where it stands, and what the file says of its clock.
+
+    Rows of one number are of one event. An event with a duration ends a request, which began at the one whose number
+    is `begun`, where that is known. A stamp that is computed tells of which moment the clock was read.
+    """
 
     host: str
     stamp: Stamp
@@ -63,6 +91,12 @@ class Event(NamedTuple):
     where: str
     limits: Optional[Limits] = None
     event: str = ""  # the name of what it is a row of
+    number: int = -1
+    machine: str = ""
+    duration: str = ""
+    begun: Optional[int] = None
+    read_at: Optional[Stamp] = None
+    clock: Optional[FileClock] = None
 
 
 @dataclass
@@ -75,6 +109,8 @@ class Found:
     events: List[Event] = field(default_factory=list)
     hosts: Dict[str, Limits] = field(default_factory=dict)
     latencies: Dict[str, Latency] = field(default_factory=dict)
+    bounds: List[FileBound] = field(default_factory=list)
+    count: int = 0  # of events, each of which may be several rows
     seen: Set[str] = field(default_factory=set)  # hosts with rows in the files before
 
 
@@ -154,7 +190,7 @@ def fields_of_table(source: Source, keys: Keys) -> Iterator[Tuple[Fields, str]]:
     if first is None:
         raise Trouble(WRONG, f"{source.name} is empty: there is no line with the names of columns")
     heads = [head.strip() for head in first.fields]
-    if heads[:1] == ["skewlog2"]:
+    if heads[:1] in ([FIRST_FIELDS[2]], [FIRST_FIELDS[3]]):
         heads[0] = keys.kind
     for record in records:
         where = f"{source.name}, line {record.line}"
@@ -170,11 +206,21 @@ def read_events(source: Source, keys: Keys, rows: Rows, found: Found) -> None:
     """Adds the events of a file, in its order, and what it says of hosts."""
     limits: Dict[str, Limits] = {}
     declared: Dict[str, Limits] = {}
-    start = len(found.events)
+    clocks: Dict[str, FileClock] = {}
+    bounds: List[FileBound] = []
+    start, first_number = len(found.events), found.count
     for fields, where in fields_of_file(source, keys):
         kind = fields.get(keys.kind, "")
-        if kind in ("host", "resync", "latency"):
+        if kind in OF_THIRD:
             name, first, second = (part(fields, key, where) for key in (keys.host[0], keys.time, keys.name))
+            if kind == "bound":
+                bounds.append(FileBound(row_number(name, where), row_number(first, where), second, where))
+                continue
+            if kind == "clock":
+                if name not in limits:
+                    raise Trouble(WRONG, f"{where}: no host {name!r} is declared before this clock")
+                clocks[name] = FileClock(second, first, where)
+                continue
             if kind == "latency":
                 declare(found.latencies, name, Latency(first, second, where), "latency")
                 continue
@@ -192,10 +238,34 @@ def read_events(source: Source, keys: Keys, rows: Rows, found: Found) -> None:
             declare(found.hosts, host, declared[host], "skew or gap")
         elif host in declared:
             found.hosts[host] = declared[host]
+        machine = "_".join([part(fields, key, where) for key in keys.keys_of_machine()])
+        duration = fields.get(keys.duration, "").strip() if keys.duration else ""
         for kind, pattern in rows_of(fields, name, keys, rows, where):
             shown = filled(pattern, fields, where)
-            found.events.append(Event(host, stamp, text, kind, shown, id_, where, limits.get(host), name))
+            found.events.append(Event(
+                host, stamp, text, kind, shown, id_, where, limits.get(host), name, found.count, machine, duration,
+                clock=clocks.get(host),
+            ))
+        found.count += 1
     found.seen.update(event.host for event in found.events[start:])
+    found.bounds += [of_numbers(bound, first_number, found.count) for bound in bounds]
+
+
+def row_number(text: str, where: str) -> int:
+    """The number of a row of its file that a bound record has."""
+    found = number_of(text, MOST_ROW_NUMBER)
+    if found is None:
+        raise Trouble(WRONG, f"{where}: {shortened(text)!r} is no number of a row, which is a whole number from 0")
+    return found
+
+
+def of_numbers(bound: FileBound, first: int, end: int) -> FileBound:
+    """A bound between rows of a file, by the numbers that they have among all events."""
+    later, earlier = first + bound.later, first + bound.earlier
+    if max(later, earlier) >= end or later == earlier:
+        said = f"the rows {bound.later} and {bound.earlier}, which aren't two rows of its file: it has {end - first}"
+        raise Trouble(WRONG, f"{bound.where}: this bound is between {said}, numbered from 0")
+    return bound._replace(later=later, earlier=earlier)
 
 
 def declare(known: Dict[str, Any], name: str, said: Any, what: str) -> None:
@@ -230,7 +300,7 @@ def rows_of(fields: Fields, name: str, keys: Keys, rows: Rows, where: str) -> Li
         return rows[name]
     kind = fields.get(keys.kind, keys.without_kind)
     if kind not in ROW_KINDS:
-        known = ", ".join(("host", "resync", "latency") + ROW_KINDS)
+        known = ", ".join(OF_THIRD + ROW_KINDS)
         hint = f"--kind says under which key it stands, else {keys.kind}"
         raise Trouble(WRONG, f"{where}: there is no kind {shortened(kind)!r}. The kinds: {known}. {hint}")
     return [(kind, name.replace("{", "{{}"))]

@@ -2,6 +2,7 @@
 
 from __future__ import annotations
 
+import argparse
 from dataclasses import dataclass
 from typing import Dict, Iterator, List, NamedTuple, Optional, Sequence, Tuple
 
@@ -27,6 +28,15 @@ class LimitWords(NamedTuple):
     step: Sequence[str]
     clock: Sequence[str]
     tracking: Sequence[str]
+    clock_error: Sequence[str] = ()
+
+
+def limit_words_of(arguments: argparse.Namespace) -> LimitWords:
+    """What the words say of clocks and messages."""
+    return LimitWords(
+        arguments.skew, arguments.gap, arguments.latency, arguments.step, arguments.clock, arguments.tracking,
+        arguments.clock_error,
+    )
 
 
 @dataclass
@@ -37,13 +47,17 @@ class LogHost:
     latency: Optional[Span] = None
 
 
-def by_host(words: Sequence[str], option: str, making: Making) -> Iterator[Tuple[Optional[str], str]]:
-    """The host of each word, None where it is for all, and what is said of it."""
+def by_host(
+    words: Sequence[str], option: str, making: Making, others: Sequence[str] = ()
+) -> Iterator[Tuple[Optional[str], str]]:
+    """The host of each word, or another name that it may have, None where it is for all, and what is said of it."""
     for word in words:
         spelled, equals, text = word.rpartition("=")
         host = making.host_named(spelled) if equals else None
+        if host is None and spelled in others:
+            host = spelled
         if equals and host is None:
-            known = listed([shortened(name) for name in making.hosts()])
+            known = listed([shortened(name) for name in dict.fromkeys([*making.hosts(), *others])])
             raise Trouble(USAGE, f"{option} {word}: there is no host {spelled}. The hosts: {known}")
         yield host, text
 
@@ -54,7 +68,7 @@ Told = Dict[Optional[str], int]  # what an option says of hosts, and of all othe
 # Skews and gaps
 
 
-def settle_limits(making: Making, words: LimitWords) -> Dict[str, Tuple[int, int]]:
+def settle_limits(making: Making, words: LimitWords, clocks: Dict[str, Clock]) -> Dict[str, Tuple[int, int]]:
     """Gives each row its skew and its gap, and tells those of the hosts without rows."""
     skews = durations(words.skew, "--skew", making)
     gaps = durations(words.gap, "--gap", making, is_down=True)
@@ -62,7 +76,7 @@ def settle_limits(making: Making, words: LimitWords) -> Dict[str, Tuple[int, int
         line.skew, line.gap = limits_of(line.host, line.limits, making, skews, gaps)
     idle = {host: limits_of(host, limits, making, skews, gaps) for host, limits in making.idle.items()}
     warn_of_narrowed(making, skews, gaps)
-    for host, clock in clocks_of(making, words).items():
+    for host, clock in clocks.items():
         lines = [line for line in making.lines if line.host == host and not line.is_carried]
         for line, error in zip(lines, clock.errors(lines)):
             line.skew += error
@@ -131,10 +145,12 @@ def note_stamps_that_go_back(making: Making) -> None:
             latest[line.host] = line
 
 
-def durations(words: Sequence[str], option: str, making: Making, is_down: bool = False) -> Told:
+def durations(
+    words: Sequence[str], option: str, making: Making, is_down: bool = False, others: Sequence[str] = ()
+) -> Told:
     """The durations that an option gives to hosts, and to all others under None, rounded up or down."""
     found: Told = {}
-    for host, text in by_host(words, option, making):
+    for host, text in by_host(words, option, making, others):
         duration = duration_in_units(text, making.unit, is_down)
         if duration is None or duration > MOST_SKEW:
             raise Trouble(USAGE, f"{option} {text}: it is {duration_rule(making.unit)}")

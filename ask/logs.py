@@ -1,6 +1,6 @@
 """Reads logs: records with their places, hosts and rows, and the bounds that a log sets on a timing.
 
-Versions 1 and 2 are read. Whether a log is accepted is for the program to say: what is wrong with one is told
+Versions 1 to 3 are read. Whether a log is accepted is for the program to say: what is wrong with one is told
 here only with what the words of a refusal need.
 """
 
@@ -17,12 +17,20 @@ MOST_HOSTS = 64
 MOST_ROWS = 1024
 MOST_SKEW = 10**18
 MOST_STAMP = 4 * 10**18
+MOST_CLOCKS = 1024
+MOST_EXTRAS = 1_048_575
+MOST_EXTRA = 10**20  # the magnitude of the number of a bound record
+MOST_ROW_NUMBER = 2**32 - 1
 NAME = re.compile(r"[a-z][a-z0-9_]{0,31}")
 NO_HOST_NAMES = ("true", "false", "inf")
 COLUMNS = ("host", "time", "name")
-HEADERS: Dict[Tuple[str, ...], int] = {("kind",) + COLUMNS: 1, ("skewlog2",) + COLUMNS: 2}
+BEGINS_AS_LOG = re.compile(rb"\W*(kind|skewlog[23]),host,")
+FIRST_FIELDS = {1: "kind", 2: "skewlog2", 3: "skewlog3"}  # of the header of each version
+HEADERS: Dict[Tuple[str, ...], int] = {(first,) + COLUMNS: version for version, first in FIRST_FIELDS.items()}
 ROW_KINDS = ("set", "clear", "send", "recv", "note", "pulse")
-KINDS = {1: ("host",) + ROW_KINDS[:-1], 2: ("host", "resync", "latency") + ROW_KINDS}
+OF_SECOND = ("host", "resync", "latency")
+OF_THIRD = OF_SECOND + ("clock", "bound")
+KINDS = {1: ("host",) + ROW_KINDS[:-1], 2: OF_SECOND + ROW_KINDS, 3: OF_THIRD + ROW_KINDS}
 
 
 class Record(NamedTuple):
@@ -51,8 +59,17 @@ class Host:
     most: Optional[int] = None
 
 
+class Terms(NamedTuple):
+    """What holds of a row: its skew and gap, and the clock that it reads, if any, with the error of the reading."""
+
+    skew: int
+    gap: int
+    clock: Optional[int] = None
+    error: int = 0
+
+
 class Row(NamedTuple):
-    """A row, with the skew and the gap that hold of it and the line of the file at which it stands."""
+    """A row, with what holds of it (see Terms) and the line of the file at which it stands."""
 
     host: int
     stamp: int
@@ -61,15 +78,28 @@ class Row(NamedTuple):
     skew: int
     gap: int
     line: int
+    clock: Optional[int] = None
+    error: int = 0
+
+
+class Extra(NamedTuple):
+    """A bound record: the true time of one row is at most so much after that of another; and its line of the file."""
+
+    later: int
+    earlier: int
+    most: int
+    line: int
 
 
 @dataclass
 class Log:
-    """The hosts and rows of a file."""
+    """The hosts, rows, clocks and bounds between rows of a file."""
 
     version: int = 1
     hosts: List[Host] = field(default_factory=list)
     rows: List[Row] = field(default_factory=list)
+    clocks: List[str] = field(default_factory=list)
+    extras: List[Extra] = field(default_factory=list)
     before: List[Optional[int]] = field(default_factory=list, repr=False, compare=False)  # what rows_before found
     sent_by: Dict[int, Dict[str, int]] = field(default_factory=dict, repr=False, compare=False)  # what sends found
 
@@ -88,6 +118,14 @@ class Log:
     def stamps(self) -> List[int]:
         """The stamps of all rows."""
         return [row.stamp for row in self.rows]
+
+    def clock_rows(self) -> List[List[int]]:
+        """For each clock the rows that read it."""
+        found: List[List[int]] = [[] for _ in self.clocks]
+        for event, row in enumerate(self.rows if self.clocks else ()):
+            if row.clock is not None:
+                found[row.clock].append(event)
+        return found
 
     def sends(self) -> Dict[str, int]:
         """The row that sends each message."""
@@ -261,8 +299,9 @@ class Reader:
         self.log = Log(version)
         self.numbers: Dict[str, int] = {}
         self.sent: Dict[str, int] = {}
-        self.limits: List[Tuple[int, int]] = []  # the skew and gap of each host from here on
+        self.terms: List[Terms] = []  # what holds of the rows of each host from here on
         self.told_latency: List[bool] = []
+        self.clocks: Dict[str, int] = {}
 
     def take(self, record: Record) -> int:
         """Takes a record, or gives the number of its fault, 0 where there is none."""
@@ -277,6 +316,10 @@ class Reader:
             return self.take_resync(record)
         if kind == "latency":
             return self.take_latency(record)
+        if kind == "clock":
+            return self.take_clock(record)
+        if kind == "bound":
+            return self.take_bound(record)
         return self.take_row(record)
 
     def take_host(self, record: Record) -> int:
@@ -292,7 +335,7 @@ class Reader:
             return 7
         self.numbers[name] = len(self.log.hosts)
         self.log.hosts.append(Host(name, skew, gap))
-        self.limits.append((skew, gap))
+        self.terms.append(Terms(skew, gap))
         self.told_latency.append(False)
         return 0
 
@@ -303,7 +346,8 @@ class Reader:
         skew, gap = number(skew_text, MOST_SKEW), number(gap_text, MOST_SKEW)
         if skew is None or gap is None:
             return 7
-        self.limits[self.numbers[name]] = (skew, gap)
+        host = self.numbers[name]
+        self.terms[host] = self.terms[host]._replace(skew=skew, gap=gap)
         return 0
 
     def take_latency(self, record: Record) -> int:
@@ -323,6 +367,37 @@ class Reader:
         self.told_latency[host] = True
         return 0
 
+    def take_clock(self, record: Record) -> int:
+        _, name, error_text, clock = record.fields
+        if name not in self.numbers:
+            return 6
+        error = number(error_text, MOST_SKEW)
+        if error is None:
+            return 7
+        if not is_name(clock):
+            return 8
+        if clock not in self.clocks:
+            if len(self.clocks) >= MOST_CLOCKS:
+                return 17
+            self.clocks[clock] = len(self.clocks)
+            self.log.clocks.append(clock)
+        host = self.numbers[name]
+        self.terms[host] = self.terms[host]._replace(clock=self.clocks[clock], error=error)
+        return 0
+
+    def take_bound(self, record: Record) -> int:
+        _, later_text, earlier_text, most_text = record.fields
+        later, earlier = number(later_text, MOST_ROW_NUMBER), number(earlier_text, MOST_ROW_NUMBER)
+        most = signed_number(most_text, MOST_EXTRA)
+        if later is None or earlier is None or most is None:
+            return 7
+        if later == earlier:
+            return 18
+        if len(self.log.extras) >= MOST_EXTRAS:
+            return 19
+        self.log.extras.append(Extra(later, earlier, most, record.line))
+        return 0
+
     def take_row(self, record: Record) -> int:
         kind, host_name, stamp_text, name = record.fields
         if host_name not in self.numbers:
@@ -339,7 +414,8 @@ class Reader:
         if kind == "send":
             self.sent[name] = len(self.log.rows)
         host = self.numbers[host_name]
-        self.log.rows.append(Row(host, stamp, kind, name, *self.limits[host], record.line))
+        skew, gap, *reading = self.terms[host]
+        self.log.rows.append(Row(host, stamp, kind, name, skew, gap, record.line, *reading))
         return 0
 
 
@@ -361,7 +437,32 @@ def read_log(data: bytes) -> Union[Log, Fault]:
     for place, row in zip(places, reader.log.rows):
         if row.kind == "recv" and row.name not in reader.sent:
             return Fault(10, place)
-    return reader.log if reader.log.rows else Fault(11, None)
+    return fault_of_whole(reader.log, data) or reader.log
+
+
+def fault_of_whole(log: Log, data: bytes) -> Optional[Fault]:
+    """The fault that only the whole file tells: it has no row, or not the one that a bound record names."""
+    count = len(log.rows)
+    if not count:
+        return Fault(11, None)
+    is_beyond = (max(extra.later, extra.earlier) >= count for extra in log.extras)
+    wrong = next((number for number, is_wrong in enumerate(is_beyond) if is_wrong), None)
+    return None if wrong is None else Fault(20, record_numbered(data, ("bound",), wrong))
+
+
+def record_numbered(data: bytes, kinds: Sequence[str], wanted: int) -> int:
+    """The number of the record of a file that is the one of some kinds with a number, from 0."""
+    count = -1
+    for place, record in enumerate(records_in(data), start=1):
+        count += record.fields[0] in kinds
+        if count == wanted:
+            return place
+    raise IndexError(wanted)
+
+
+def rows_in(data: bytes) -> int:
+    """How many records of a file are rows, whatever else is wrong with it."""
+    return sum(record.fields[0] in ROW_KINDS for record in records_in(data))
 
 
 def declared_hosts(records: Iterable[Record]) -> List[str]:
@@ -373,7 +474,11 @@ def declared_hosts(records: Iterable[Record]) -> List[str]:
 
 
 class Bound(NamedTuple):
-    """The bound `t_start - t_end <= most`; an end that is None is the zero moment, whose time is 0."""
+    """The bound `t_start - t_end <= most`.
+
+    An end that is None is the zero moment, whose time is 0. From the number of rows on ends are the clocks, in their
+    order, whose times are their offsets.
+    """
 
     start: Optional[int]
     end: Optional[int]
@@ -381,10 +486,14 @@ class Bound(NamedTuple):
 
 
 def bound_of(log: Log, kind: str, event: int) -> Optional[Bound]:
-    """The bound that a report names by kind and row, or None where the log has none such."""
+    """The bound that a report names by kind and row, or number, or None where the log has none such."""
+    if kind == "extra":
+        return Bound(*log.extras[event][:3]) if 0 <= event < len(log.extras) else None
     if not 0 <= event < len(log.rows):
         return None
     row = log.rows[event]
+    if kind in ("under", "over"):
+        return reading_bound(row, kind, event, len(log.rows))
     if kind == "low":
         return Bound(None, event, row.skew - row.stamp)
     if kind == "high":
@@ -399,6 +508,15 @@ def bound_of(log: Log, kind: str, event: int) -> Optional[Bound]:
     if kind == "late" and send is not None and host.most is not None:
         return Bound(event, send, host.most)
     return None
+
+
+def reading_bound(row: Row, kind: str, event: int, count: int) -> Optional[Bound]:
+    """The bound of a row and the clock that it reads: it isn't before, or not after, what the reading allows."""
+    if row.clock is None:
+        return None
+    if kind == "under":
+        return Bound(count + row.clock, event, row.error - row.stamp)
+    return Bound(event, count + row.clock, row.stamp + row.error)
 
 
 # States

@@ -5,9 +5,9 @@ from __future__ import annotations
 import argparse
 from collections import Counter
 from dataclasses import dataclass, field
-from typing import Dict, List, Optional, Sequence, Tuple
+from typing import Dict, List, NamedTuple, Optional, Sequence, Tuple
 
-from ask.events import WRONG, Event, Limits, read_stamp
+from ask.events import WRONG, Event, FileClock, Limits, read_stamp
 from ask.logs import MOST_STAMP
 from ask.stamps import UNIT_WORDS, Stamp, finest_unit, in_units, loses_digits
 from ask.texts import Trouble
@@ -16,7 +16,11 @@ from ask.words import USAGE, counted, listed
 
 @dataclass
 class Line:
-    """A row of the log to be, with what its file says of its clock, and then its skew and gap in units."""
+    """A row of the log to be, with what its file says of its clock, and then its skew and gap in units.
+
+    Rows of one number are of one event, and a row that is carried in is of none. What is read of a clock is the name of
+    that clock and the error of the reading; the clock of a machine was read at a moment, which may be another row's.
+    """
 
     host: str
     stamp: int
@@ -28,6 +32,22 @@ class Line:
     is_carried: bool = False
     skew: int = 0
     gap: int = 0
+    number: int = -1
+    machine: str = ""
+    duration: str = ""
+    begun: Optional[int] = None
+    read_at: Optional[int] = None  # None where the stamp itself was read
+    file_clock: Optional[FileClock] = None
+    clock: str = ""
+    error: int = 0
+
+
+class Tie(NamedTuple):
+    """That all rows of one event are at most so much after those of another, by the numbers of the events."""
+
+    later: int
+    earlier: int
+    most: int
 
 
 @dataclass
@@ -42,6 +62,8 @@ class Making:
     cut: Dict[str, int] = field(default_factory=dict)  # how many stamps of each host lost digits below a unit
     idle: Dict[str, Limits] = field(default_factory=dict)  # hosts without rows that stay, with what their file says
     spellings: Dict[str, str] = field(default_factory=dict)  # hosts that were taken as another one
+    ties: List[Tie] = field(default_factory=list)  # in their order
+    places_of_ties: Dict[int, List[int]] = field(default_factory=dict)  # what ties_by_later found
 
     def hosts(self) -> List[str]:
         """The hosts in the order of their first rows, by their names in the files, and those without rows."""
@@ -51,6 +73,20 @@ class Making:
         """The host that a word names, or None."""
         host = self.spellings.get(word, word)
         return host if host in self.hosts() else None
+
+    def ties_by_later(self) -> Dict[int, List[int]]:
+        """The places of ties by the number of their later event."""
+        if len(self.places_of_ties) == 0:
+            for place, tie in enumerate(self.ties):
+                self.places_of_ties.setdefault(tie.later, []).append(place)
+        return self.places_of_ties
+
+    def machines(self) -> Dict[str, List[str]]:
+        """The hosts of each machine."""
+        found: Dict[str, List[str]] = {}
+        for machine, host in dict.fromkeys((line.machine, line.host) for line in self.lines if not line.is_carried):
+            found.setdefault(machine, []).append(host)
+        return found
 
 
 def making_of(events: Sequence[Event], wanted: Optional[str]) -> Making:
@@ -67,7 +103,11 @@ def making_of(events: Sequence[Event], wanted: Optional[str]) -> Making:
                 f"{event.where}: the stamp {event.text} is {moment} in units, and at most 4*10^18: choose a "
                 "coarser --unit",
             )
-        making.lines.append(Line(event.host, moment, event.kind, event.name, event.id, event.where, event.limits))
+        read_at = None if event.read_at is None else in_units(event.read_at, unit or "s")
+        making.lines.append(Line(
+            event.host, moment, event.kind, event.name, event.id, event.where, event.limits, number=event.number,
+            machine=event.machine, duration=event.duration, begun=event.begun, read_at=read_at, file_clock=event.clock,
+        ))
     if is_whole:
         making.notes.append(
             f"unit: {UNIT_WORDS[unit]}, as --unit says" if unit else "unit: that of the stamps, which are whole numbers"

@@ -7,17 +7,19 @@ from __future__ import annotations
 
 from typing import Dict, List, NamedTuple, Optional, Sequence, Tuple
 
-from ask.logs import Log, bound_of, is_set_at, proposition_names
+from ask.logs import Log, is_set_at, proposition_names
 from ask.plot import (
     AXIS, BEYOND, COLOURS, HEAD, LABEL_LEVELS, LANE, LEFT, LETTER, MOST_CLEAR_POSITIONS, MOST_STRIPS, PLOT, RIGHT,
     STRIP, STYLE, Canvas, Scale, curve, data, draw_axis, mark,
 )
+from ask.offsets import Offset, offsets_of
 from ask.reports import Step
 from ask.texts import markup
-from ask.words import signed, step_words
-
+from ask.walks import bound_between, grounds_of
+from ask.words import error_words, ground_words, shortened, signed
 
 EDGE = 12  # within which figures begin at their row
+READING = ' stroke="#7a5195" stroke-width="3" stroke-opacity=".6"'
 DIAMOND = "M0 -6 L5 0 L0 6 L-5 0 z"  # the mark of a pulse
 
 
@@ -84,8 +86,9 @@ def draw_panel(canvas: Canvas, log: Log, panel: Panel, scale: Scale, number: int
     canvas.text(12, canvas.height + 24, panel.title, "title")
     top = canvas.height + HEAD
     lanes, bottom = lanes_of(log, top + (24 if panel.walk else 0))
+    offsets = {} if panel.walk else offsets_of(log, panel.times)
     for place, (host, lane) in enumerate(zip(log.hosts, lanes)):
-        draw_lane_ground(canvas, lane, host.name, limits_words(log, place))
+        draw_lane_ground(canvas, lane, host.name, ground_of_lane(log, place, offsets))
     canvas.parts.append('<g clip-path="url(#plot)">')
     positions = sorted(set(panel.times))
     kind = "position" if len(positions) <= MOST_CLEAR_POSITIONS else "position faint"
@@ -96,23 +99,24 @@ def draw_panel(canvas: Canvas, log: Log, panel: Panel, scale: Scale, number: int
     for place, lane in enumerate(lanes):
         draw_states(canvas, log, panel, scale, place, lane, colours)
     draw_messages(canvas, log, panel, scale, lanes)
+    draw_readings(canvas, log, scale, lanes, offsets)
     draw_rows(canvas, log, panel, scale, lanes, number)
     if panel.walk:
         draw_walk(canvas, log, panel, scale, lanes, top)
     canvas.parts.append("</g>")
     draw_axis(canvas, scale, bottom + 6)
     canvas.height = bottom + AXIS + 6
-    for step_number, step in enumerate(panel.walk, start=1):
-        bound = bound_of(log, step.kind, step.numbers[0])
+    grounds = grounds_of(panel.walk)
+    bounds = [bound_between(log, ground) for ground in grounds]
+    for ground_number, (ground, bound) in enumerate(zip(grounds, bounds), start=1):
         canvas.text(
             LEFT,
             canvas.height + 14,
-            f"{step_number}. {step_words(log, step)}: {bound.most if bound else ''}",
+            f"{ground_number}. {ground_words(log, ground)}: {bound.most if bound else ''}",
             "small",
         )
         canvas.height += 17
     if panel.walk:
-        bounds = [bound_of(log, step.kind, step.numbers[0]) for step in panel.walk]
         total = sum(bound.most for bound in bounds if bound)
         canvas.text(
             LEFT,
@@ -140,6 +144,40 @@ def limits_words(log: Log, host: int) -> List[str]:
     gaps = sorted({row.gap for row in log.rows if row.host == host} or {log.hosts[host].gap})
     shown = [str(found[0]) if len(found) == 1 else f"{found[0]} to {found[-1]}" for found in (skews, gaps)]
     return [f"skew {shown[0]}", f"gap {shown[1]}"]
+
+
+def ground_of_lane(log: Log, host: int, offsets: Dict[int, Offset]) -> List[str]:
+    """What stands below the name of a host, on two lines."""
+    limits, clocks = limits_words(log, host), clock_words(log, host, offsets)
+    return [", ".join(limits), *clocks] if clocks else limits
+
+
+def clock_words(log: Log, host: int, offsets: Dict[int, Offset]) -> List[str]:
+    """The clocks that a host's rows read, each with its offset in the timing that is shown."""
+    clocks = dict.fromkeys(row.clock for row in log.rows if row.host == host and row.clock is not None)
+    shown = [f"{shortened(log.clocks[clock], 12)} {offset_words(offsets, clock)}".rstrip() for clock in clocks]
+    if not shown:
+        return []
+    return [f"clock {shown[0]}{', ..' if len(shown) > 1 else ''}"]
+
+
+def offset_words(offsets: Dict[int, Offset], clock: int) -> str:
+    """The offset of a clock in a timing, nothing where there is none."""
+    return signed(offsets[clock].middle()) if clock in offsets else ""
+
+
+def draw_readings(canvas: Canvas, log: Log, scale: Scale, lanes: Sequence[Lane], offsets: Dict[int, Offset]) -> None:
+    """Where the clock that a row reads has it, by one offset for all rows of the clock, and how far that may be off."""
+    for row in log.rows:
+        if row.clock not in offsets:
+            continue
+        shown = row.stamp + offsets[row.clock].middle()
+        ends = (scale.at(max(shown - row.error, scale.first)), scale.at(min(shown + row.error, scale.last)))
+        height = lanes[row.host].middle
+        offset = f"the clock {log.clocks[row.clock]} with the offset {signed(offsets[row.clock].middle())}"
+        title = f"line {row.line}: by {offset} it is {shown}, {error_words([row.error])}"
+        canvas.line("reading", ends, (height, height), title, READING)
+        canvas.parts.append(mark(scale.at(shown), height, f'<path class="reading" d="M0 -7 V7"{READING}/>'))
 
 
 def draw_lane_ground(canvas: Canvas, lane: Lane, name: str, limits: Sequence[str]) -> None:
@@ -260,6 +298,8 @@ def row_title(log: Log, panel: Panel, event: int) -> str:
     row, time = log.rows[event], panel.times[event]
     title = f"line {row.line}: {row.kind},{log.host_of(event)},{row.stamp},{row.name}"
     title += f"\nskew {row.skew}: {row.stamp - row.skew} to {row.stamp + row.skew}"
+    if row.clock is not None:
+        title += f"\nclock {log.clocks[row.clock]}, error {row.error}"
     return title + (f"\ntime {time}, shift {signed(time - row.stamp)}" if time != row.stamp else "")
 
 
@@ -307,12 +347,12 @@ def draw_walk(canvas: Canvas, log: Log, panel: Panel, scale: Scale, lanes: Seque
             return clock
         return scale.at(panel.times[event]), lanes[log.rows[event].host].middle
 
-    for number, step in enumerate(panel.walk, start=1):
-        bound = bound_of(log, step.kind, step.numbers[0])
+    for number, ground in enumerate(grounds_of(panel.walk), start=1):
+        bound = bound_between(log, ground)
         if bound is None:
             continue
         (a, y), (b, z) = point(bound.start), point(bound.end)
-        words = f"{number}. {step_words(log, step)}: {bound.most}"
+        words = f"{number}. {ground_words(log, ground)}: {bound.most}"
         ends = data(a=a, b=b, y=y, z=z)
         path, (x, height) = curve(LEFT + a, y, LEFT + b, z)
         canvas.parts.append(

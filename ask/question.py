@@ -2,16 +2,15 @@
 
 from __future__ import annotations
 
-import re
 from dataclasses import dataclass
 from typing import List, Optional, Sequence, Tuple
 
 from ask.encoding import refuse_marks
 from ask.formulas import Tree, read_formula
-from ask.logs import Log, read_log
+from ask.logs import BEGINS_AS_LOG, Log, read_log
 from ask.program import NOT_THERE, Program, Run
 from ask.refusals import refusal
-from ask.reports import Best, Report, Unreadable, read_best, read_report, verdict_of
+from ask.reports import Best, Report, Step, Unreadable, read_best, read_report, verdict_of
 from ask.texts import LIMITS, TOO_LONG, Source, Trouble, is_existing_file, read_source
 from ask.words import TYPED, counted, shortened
 
@@ -78,7 +77,7 @@ def sources_of(formula: str, log: str, kind: str = "log") -> Tuple[Source, Sourc
     try:
         return first, read_source(log, kind)
     except Trouble as trouble:
-        is_turned = re.match(rb"\W*(kind|skewlog2),host,", first.data)
+        is_turned = BEGINS_AS_LOG.match(first.data)
         hint = f", and {first.name} is a log: the formula stands before the log" if is_turned else ""
         raise Trouble(trouble.status, trouble.message + hint) from None
 
@@ -123,6 +122,12 @@ def report_of_run(run: Run) -> Report:
         return read_report(run.output)
     except Unreadable:
         raise unreadable("report", run) from None
+
+
+def step_of_run(run: Run) -> Step:
+    """The bound that the times of a run of `replay` break."""
+    kind, number = run.line().split(" ")[2:4]
+    return Step(kind, (int(number),))
 
 
 def unreadable(what: str, run: Run) -> Trouble:

@@ -7,7 +7,10 @@ from itertools import islice
 from typing import List, Optional, Sequence
 
 from ask.encoding import wide_words
-from ask.logs import HEADERS, KINDS, Record, declared_hosts, field_start, is_log_in_json, number as number_of, records_in
+from ask.logs import (
+    BEGINS_AS_LOG, COLUMNS, FIRST_FIELDS, HEADERS, KINDS, MOST_CLOCKS, MOST_EXTRAS, MOST_ROW_NUMBER,
+    Record, declared_hosts, field_start, is_log_in_json, number as number_of, records_in, rows_in,
+)
 from ask.program import NOT_THERE, Run
 from ask.texts import LIMITS, Source, Trouble, escaped, place_of, shown_text, width_of
 from ask.words import TYPED, counted, grouped, listed, shortened
@@ -46,8 +49,7 @@ def refusal(run: Run, formula: Optional[Source], log: Optional[Source]) -> Troub
 
 def size_refusal(size: int, log: Optional[Source]) -> str:
     """What to do where a formula and a log are too large together."""
-    no_rows = ("kind", "skewlog2", "host", "resync", "latency")
-    rows = sum(record.fields[0] not in no_rows for record in records_in(log.data)) if log else 0
+    rows = rows_in(log.data) if log else 0
     return (
         f"the formula on a log of {counted(rows, 'row')} has the size {grouped(size)}, and the limit is 4,194,304. "
         f"Each F, G, O, H, U and S counts with the square of the rows: cut a window (ask log --help), leave out "
@@ -81,7 +83,7 @@ def formula_refusal(words: Sequence[str], formula: Source, log: Optional[Source]
         known = f"Its hosts: {listed(hosts) or 'none'}{hint}{file_hint(formula)}"
         return f"{where}: the log has no host {shortened(name)}. {known}"
     said = FORMULA_FAULTS.get(number, " ".join(words))
-    if re.match(rb"\W*(kind|skewlog2),host,", formula.data):
+    if BEGINS_AS_LOG.match(formula.data):
         return f"{formula.name} is a log; the formula stands before the log"
     if number == "1" and re.match(rb"[a-z][a-z0-9_]{32,}", rest):
         said = "a name has at most 32 characters"
@@ -211,17 +213,14 @@ def log_fault_words(number: str, record: Record, records: Sequence[Record], data
     version = HEADERS.get(tuple(records[0].fields), 1)
     kinds = ", ".join(KINDS[version])
     if number == "1":
-        line = ",".join(record.fields[:100])[:1000]
-        hint = header_hint(line)
-        line = shown_text(line.encode())
-        wanted = "kind,host,time,name or skewlog2,host,time,name"
-        return f"the first line has to be {wanted}, and is {shortened(line)}{hint}", 0
+        return header_words(record), 0
     if number == "2":
         return f"a record has four fields, and this one has {len(record.fields)}", 0
     if number == "3":
         if fields[0] in KINDS[version]:
-            return f"the program doesn't know the kind {fields[0]}: it is older than ask (./skewcheck builds one)", 0
-        hint = ". The first line skewlog2,host,time,name allows it" if fields[0] in KINDS[2] else ""
+            return f"the program doesn't know the kind {fields[0]}: it is {OLDER}", 0
+        allowing = next((other for other in KINDS if fields[0] in KINDS[other]), None)
+        hint = f". The first line {header_of(allowing)} allows it" if allowing else ""
         return f"there is no kind {shortened(fields[0])!r}. The kinds: {kinds}{hint}", 0
     if number == "4":
         return f"{shortened(fields[1])!r} is no host's name: {name_rule()}, and none is named true, false or inf", 1
@@ -252,8 +251,41 @@ def log_fault_words(number: str, record: Record, records: Sequence[Record], data
         count = len(declared_hosts(records_in(data)))
         return f"{counted(count, 'host')}; at most 64: leave out hosts that the formula and the messages don't need", 0
     if number == "13":
-        rows = sum(other.fields[0] not in ("host", "resync", "latency") for other in records_in(data)) - 1
-        return f"{counted(rows, 'row')}; at most 1,024: cut a window (ask log --help, docs/real-logs.md)", 0
+        return f"{counted(rows_in(data), 'row')}; at most 1,024: cut a window (ask log --help, docs/real-logs.md)", 0
+    return fault_words_of_third(number, fields, data)
+
+
+OLDER = "older than ask (./skewcheck builds one)"
+
+
+def header_of(version: int) -> str:
+    """The first line of a log of a version."""
+    return ",".join((FIRST_FIELDS[version], *COLUMNS))
+
+
+def header_words(record: Record) -> str:
+    """What is wrong with a first record that the program takes for no header."""
+    version = HEADERS.get(tuple(record.fields))
+    if version:
+        return f"the program doesn't know logs of version {version}: it is {OLDER}"
+    line = ",".join(record.fields[:100])[:1000]
+    first, *others, last = map(header_of, FIRST_FIELDS)
+    wanted = f"{', '.join([first, *others])} or {last}"
+    return f"the first line has to be {wanted}, and is {shortened(shown_text(line.encode()))}{header_hint(line)}"
+
+
+def fault_words_of_third(number: str, fields: Sequence[str], data: bytes) -> "tuple[str, int]":
+    """What is wrong with a record on clocks or on bounds between rows, and with which of its fields."""
+    if number == "17":
+        return f"{grouped(MOST_CLOCKS)} clocks are named before this one, {fields[3]}, and that is the most: cut a window", 3
+    if number == "18":
+        return f"both rows are row {fields[1]}: a bound is between two rows", 2
+    if number == "19":
+        return f"{grouped(MOST_EXTRAS)} bound records stand before this one, and that is the most: cut a window", 0
+    if number == "20":
+        rows = rows_in(data)
+        wrong = next((place for place in (1, 2) if int(fields[place]) >= rows), 1)
+        return f"the log has no row {fields[wrong]}: rows are numbered from 0 to {rows - 1}, in the order of the file", wrong
     return f"fault {number}", 0
 
 
@@ -263,6 +295,10 @@ def name_rule() -> str:
 
 def number_fault_words(fields: Sequence[str]) -> "tuple[str, int]":
     """Which number of a record is none."""
+    if fields[0] == "clock":
+        return f"the error {shortened(fields[2])!r} is no whole number from 0 to 10^18, without a sign or a leading zero", 2
+    if fields[0] == "bound":
+        return bound_number_words(fields)
     if fields[0] in ("host", "resync", "latency"):
         names = ("least latency", "greatest latency") if fields[0] == "latency" else ("skew", "gap")
         wrong = 2 if number_of(fields[2], 10**18) is None or (fields[0], fields[2]) == ("latency", "0") else 3
@@ -273,3 +309,11 @@ def number_fault_words(fields: Sequence[str]) -> "tuple[str, int]":
     if re.search(r"\d[.T:]\d|\d-\d", fields[2]):
         hint = ". `ask log` makes whole units of decimal seconds and ISO 8601 stamps"
     return f"the stamp {shortened(fields[2])!r} is no whole number up to 4*10^18, with - where it is negative{hint}", 2
+
+
+def bound_number_words(fields: Sequence[str]) -> "tuple[str, int]":
+    """Which number of a bound record is none."""
+    wrong = next((place for place in (1, 2) if number_of(fields[place], MOST_ROW_NUMBER) is None), None)
+    if wrong:
+        return f"the row {shortened(fields[wrong])!r} is no number of a row: a whole number from 0, without a leading zero", wrong
+    return f"the distance {shortened(fields[3])!r} is no whole number up to 10^20, with - where it is negative", 3

@@ -8,11 +8,15 @@ from typing import Dict, List, NamedTuple, Optional, Tuple
 
 SECTION = re.compile(rb"^(true|false) (witness|refuted|unknown)\b", re.M)
 STATUSES = {(b"witness", b"refuted"): 0, (b"refuted", b"witness"): 1, (b"witness", b"witness"): 2}
-STEP_WORDS = {"low": 2, "high": 2, "rise": 2, "message": 2, "late": 2, "extra": 2, "order": 4}
+BOUNDS = ("low", "high", "rise", "message", "late", "under", "over", "extra")
+STEP_WORDS = {**{kind: 2 for kind in BOUNDS}, "order": 4}
 
 
 class Step(NamedTuple):
-    """A step of a walk: a bound of the log by kind and number, or `order` with two rows and a number."""
+    """A step of a walk: a bound of the log by kind and number, or `order` with two rows and a number.
+
+    The number is that of a row, and of an `extra` that of a bound record.
+    """
 
     kind: str
     numbers: Tuple[int, ...]

@@ -157,7 +157,7 @@ LIMITS = {
 }
 
 
-LOG_BEGINS = re.compile(rb"(?:\xef\xbb\xbf)?[\r\n]*\"?(?:kind|skewlog2)\"?,\"?host")
+LOG_BEGINS = re.compile(rb"(?:\xef\xbb\xbf)?[\r\n]*\"?(?:kind|skewlog[23])\"?,\"?host")
 
 
 def read_source(name: str, kind: str = "file") -> Source:

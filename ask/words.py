@@ -8,9 +8,10 @@ import sys
 from dataclasses import dataclass, field
 from typing import Any, Dict, List, Sequence
 
-from ask.logs import Log, bound_of
+from ask.logs import Bound, Log, Row, bound_of
 from ask.reports import Step
 from ask.texts import escaped_json, escaped_lines, write_output
+from ask.walks import Ground, bound_between, broken_ground, grounds_of
 
 USAGE = 64  # the status of words that are no command
 MOST_EXACT = 2**53  # the magnitude up to which all whole numbers are floats of 64 bits
@@ -134,8 +135,12 @@ def step_words(log: Log, step: Step) -> str:
     bound = bound_of(log, step.kind, event)
     if bound is None:
         return " ".join([step.kind, *(str(number) for number in step.numbers)])
+    if step.kind == "extra":
+        return f"{after_words(log, bound)}: the bound of line {log.extras[event].line}"
     row = log.rows[event]
     name = row_words(log, event)
+    if step.kind in ("under", "over"):
+        return f"{name} {reading_words(log, row, step.kind)}"
     by = f"its stamp is {row.stamp} and the skew of {log.host_of(event)} {row.skew}"
     if step.kind == "low":
         return f"{name} can't be before {-bound.most}: {by}"
@@ -151,9 +156,45 @@ def step_words(log: Log, step: Step) -> str:
     return f"{name} can't be less than {-bound.most} after {earlier}: the gap of {log.host_of(event)}"
 
 
+def after_words(log: Log, bound: Bound) -> str:
+    """That one row can't be more than so much after another."""
+    later, earlier = (row_words(log, end or 0) for end in (bound.start, bound.end))
+    if bound.most > 0:
+        return f"{later} can't be more than {bound.most} after {earlier}"
+    return f"{later} can't be less than {-bound.most} before {earlier}" if bound.most else f"{later} can't be after {earlier}"
+
+
+def reading_words(log: Log, row: Row, kind: str) -> str:
+    """What the clock that a row reads says of its time."""
+    clock = log.clocks[row.clock or 0]
+    far = f"before {row.stamp - row.error}" if kind == "under" else f"after {row.stamp + row.error}"
+    return f"can't be {far} by the clock {clock}: its stamp is {row.stamp}, {error_words([row.error])}"
+
+
+def error_words(errors: Sequence[int]) -> str:
+    """How far readings of a clock may be off from what it shows."""
+    each = " and ".join(str(error) for error in dict.fromkeys(errors))
+    return f"off by at most {each}" if any(errors) else "without an error"
+
+
+def ground_words(log: Log, ground: Ground) -> str:
+    """What a ground says, as a sentence without its full stop."""
+    bound = bound_between(log, ground)
+    if len(ground) == 1 or bound is None:
+        return " and ".join(step_words(log, step) for step in ground)
+    rows = [log.rows[step.numbers[0]] for step in ground]
+    by = f"they are by one clock, {log.clocks[rows[0].clock or 0]}, {error_words([row.error for row in rows])}"
+    return f"{after_words(log, bound)}: {by}"
+
+
+def broken_words(log: Log, step: Step, times: Sequence[int]) -> str:
+    """What the first bound says that times break."""
+    return ground_words(log, broken_ground(log, step, times))
+
+
 def walk_words(log: Log, walk: Sequence[Step]) -> List[str]:
     """The bounds of a closed walk, and by how much they contradict each other."""
-    lines = [f"  {step_words(log, step)}" for step in walk]
+    lines = [f"  {sentence}" for sentence in walk_facts(log, walk)]
     bounds = [bound_of(log, step.kind, step.numbers[0]) for step in walk]
     if all(bounds):
         excess = -sum(bound.most for bound in bounds if bound)
@@ -163,4 +204,4 @@ def walk_words(log: Log, walk: Sequence[Step]) -> List[str]:
 
 def walk_facts(log: Log, walk: Sequence[Step]) -> List[str]:
     """The bounds of a closed walk, for programs."""
-    return [step_words(log, step) for step in walk]
+    return [ground_words(log, ground) for ground in grounds_of(walk)]

@@ -14,13 +14,16 @@ from ask.nearer import brought_nearer
 from ask.program import STOPPED, Run, Stopped, program_of
 from ask.question import (
     VERDICTS, Question, accepted_log, accepted_tree, answered, report_of_run, run_facts, run_lines, shown_formula,
-    sources_of, text_of_source,
+    sources_of, step_of_run, text_of_source,
 )
-from ask.reports import Report, Section, Step
+from ask.reports import Report, Section
+from ask.steady import EITHER, steady_answer
 from ask.texts import Trouble, write_text
 from ask.windows.answer import long_answer
 from ask.windows.opening import add_window_words, long_question
-from ask.words import USAGE, Answer, bold, counted, grouped, signed, step_words, table, walk_facts, walk_words
+from ask.words import (
+    USAGE, Answer, bold, broken_words, counted, error_words, grouped, signed, table, walk_facts, walk_words,
+)
 
 FEW_CONFLICTS = 100  # what is tried where a run was stopped
 MOST_ROWS_SHOWN = 40
@@ -121,6 +124,7 @@ class Reading:
         self.say_warnings(warnings)
         self.say_contradiction()
         self.say_stamps()
+        self.say_steady()
         timings = self.timings()
         reasons, named = self.reasons(timings)
         self.say_timings(timings, named)
@@ -151,10 +155,19 @@ class Reading:
             self.facts["as_stamped"] = {"value": word}
             self.lines.append(f"With every row at its stamp it is {word}. [replay]")
         elif run.status == 6:
-            kind, number = run.line().split(" ")[2:4]
-            broken = step_words(self.log, Step(kind, (int(number),)))
-            self.facts["as_stamped"] = {"value": None, "broken": f"{kind} {number}", "sentence": broken}
+            step = step_of_run(run)
+            broken = broken_words(self.log, step, stamps)
+            self.facts["as_stamped"] = {"value": None, "broken": f"{step.kind} {step.numbers[0]}", "sentence": broken}
             self.lines.append(f"The stamps themselves are no admissible timing: {broken}. [replay]")
+
+    def say_steady(self) -> None:
+        """What it would be with steady clocks, where the log doesn't tell and declares none."""
+        if self.run.status != EITHER or self.arguments.quiet:
+            return
+        steady = steady_answer(self.question, self.log)
+        if steady:
+            self.facts["steady"] = steady.facts()
+            self.lines.append(steady.sentence())
 
     # Timings
 
@@ -188,7 +201,7 @@ class Reading:
             self.lines.append(f"  {counted(rest, 'row')} left out; --all shows all")
         if any("both" in row[-1] for row in rows):
             self.lines.append("  both: a row that isn't at its stamp in either timing")
-        self.remarks += self.spreads(timings)
+        self.remarks += self.spreads(timings) + self.offsets(timings)
         self.lines += [f"  {remark}" for remark in self.remarks]
 
     def cells(self, event: int, timings: Dict[bool, List[int]]) -> List[str]:
@@ -213,11 +226,28 @@ class Reading:
         """That rows of one host are shifted by different amounts, which an offset couldn't do."""
         for times in timings.values():
             for number, host in enumerate(self.log.hosts):
-                shifts = {time - row.stamp for time, row in zip(times, self.log.rows) if row.host == number}
-                if len(shifts) > 1:
+                rows = [event for event, row in enumerate(self.log.rows) if row.host == number and row.clock is None]
+                shifts = self.shifts(times, rows)
+                if len(set(shifts)) > 1:
                     amounts = f"{signed(min(shifts))} to {signed(max(shifts))}"
                     return [f"rows of {host.name} are shifted by different amounts, {amounts}: {SPREAD_NOTE}"]
         return []
+
+    def offsets(self, timings: Dict[bool, List[int]]) -> List[str]:
+        """By how much the rows of each clock are shifted, which has one offset."""
+        found = []
+        for value, times in timings.items():
+            for clock, rows in zip(self.log.clocks, self.log.clock_rows()):
+                shifts = self.shifts(times, rows)
+                if any(shifts):
+                    amounts = signed(min(shifts)) + (f" to {signed(max(shifts))}" if len(set(shifts)) > 1 else "")
+                    off = error_words([max(self.log.rows[event].error for event in rows)])
+                    found.append(f"{str(value).lower()}: rows by the clock {clock} are shifted by {amounts}, by one offset, {off}")
+        return found
+
+    def shifts(self, times: List[int], events: Sequence[int]) -> List[int]:
+        """By how much rows are shifted."""
+        return [times[event] - self.log.rows[event].stamp for event in events]
 
     # Reasons
 

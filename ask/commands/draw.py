@@ -12,12 +12,13 @@ from ask.page import page_of
 from ask.picture import Panel, picture
 from ask.program import NOT_THERE, Run, program_of
 from ask.question import (
-    Question, accepted_log, accepted_tree, answered, formula_source, report_of_run, run_facts, shown_formula, unreadable,
+    Question, accepted_log, accepted_tree, answered, formula_source, report_of_run, run_facts, shown_formula, step_of_run,
+    unreadable,
 )
 from ask.refusals import refusal
 from ask.reports import Report, Step, Unreadable, read_report, steps_of
 from ask.texts import Source, Trouble, read_source, say
-from ask.words import Answer, step_words
+from ask.words import Answer, broken_words
 
 ANY = Source("true", b"true")  # a formula that every timing has, where only the timing is asked about
 REJECTED = 5  # the status of a report that doesn't hold
@@ -111,14 +112,13 @@ class Drawing:
             raise unreadable("timing", run)
         run = self.question.replay("true", stamps)
         title = "By the stamps"
-        return [
-            Panel(title if run.status == 0 else f"{title}, which are no admissible timing: {self.broken(run)}", stamps)
-        ]
+        if run.status != 0:
+            title += f", which are no admissible timing: {self.broken(run, stamps)}"
+        return [Panel(title, stamps)]
 
-    def broken(self, run: Run) -> str:
+    def broken(self, run: Run, times: Sequence[int]) -> str:
         """The bound that a timing breaks."""
-        kind, number = run.line().split(" ")[2:4]
-        return step_words(self.log(), Step(kind, (int(number),)))
+        return broken_words(self.log(), step_of_run(run), times)
 
     def contradiction(self, walk: Sequence[Step]) -> Panel:
         self.has_timing = False
@@ -131,7 +131,7 @@ class Drawing:
             raise self.refused(run)
         numbers = [int(line) for line in times.data.decode("ascii").split("\n") if line.strip()]
         if run.status == 6:
-            return [Panel(f"No admissible timing: {self.broken(run)}", numbers)]
+            return [Panel(f"No admissible timing: {self.broken(run, numbers)}", numbers)]
         value = f", where the formula is {run.line()}" if self.formula else ""
         return [Panel(f"The timing of {times.name}{value}", numbers)]
 
@@ -179,7 +179,7 @@ class Drawing:
                     raise Trouble(
                         REJECTED,
                         f"{source.name} isn't a report on this log: its timing for {str(value).lower()} isn't "
-                        f"admissible, since {self.broken(run)}",
+                        f"admissible, since {self.broken(run, section.times)}",
                     )
 
     def panels_of_check(self, as_found: bool) -> List[Panel]:

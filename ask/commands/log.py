@@ -3,17 +3,19 @@
 from __future__ import annotations
 
 import argparse
-from typing import Dict, List, Sequence, Tuple
+from typing import Dict, List, Optional, Sequence, Tuple
 
 from ask.access import AccessWords, access_events, format_of
 from ask.encoding import refuse_wide
 from ask.events import WRONG, Found, Keys, Rows, name_map, read_events
-from ask.limits import LimitWords, LogHost, hosts_of, settle_limits
-from ask.logs import MOST_ROWS, ROW_KINDS
-from ask.making import Making, cut_window, making_of, settle_messages, spread_carried
+from ask.limits import LimitWords, LogHost, clocks_of, durations, hosts_of, limit_words_of, settle_limits
+from ask.logs import COLUMNS, FIRST_FIELDS, MOST_ROWS, MOST_SKEW, ROW_KINDS
+from ask.making import Line, Making, cut_window, making_of, settle_messages, spread_carried
+from ask.readings import settle_readings
 from ask.spelling import Spellings, spelling_warnings, take_as_one
 from ask.stamps import UNITS
 from ask.texts import Source, Trouble, escaped, read_source, say, write_text
+from ask.ties import bound_lines, error_of, measured_of, ties_of_durations, ties_of_files, warn_of_durations
 from ask.words import USAGE, Answer, counted, listed, shortened
 
 
@@ -24,7 +26,7 @@ def add_words(commands: "argparse._SubParsersAction[argparse.ArgumentParser]", c
         description="Writes one log made of files: logs of the program, which are joined; tables of comma-separated "
         "fields with their names in the first line; files with a JSON object a line; and, with --access, the lines of "
         "a web server. Stamps may be whole units, decimal seconds or ISO 8601; names that aren't names are mapped. The "
-        "log is of version 2 where it says something that only that one has. What was changed is said on the standard "
+        "log is of the least version that has what it says. What was changed is said on the standard "
         "error, or in the file of --notes. The program isn't needed.",
     )
     words.add_argument("files", nargs="+", metavar="FILE")
@@ -105,8 +107,24 @@ def add_words_on_clocks(words: argparse._ArgumentGroup) -> None:
         ("--clock", "[HOST=]FILE", "the same by the lines of chronyd or ntpd on steps in a file"),
         ("--tracking", "[HOST=]FILE", "a tracking log of chrony, or what `chronyc tracking` wrote: its greatest errors "
          "are added to the skew"),
+        ("--clock-error", "[HOST=]D", "the clock of each machine keeps its offset, and a stamp is off by at most D from "
+         "what it shows; behind a step it is another clock. HOST may be a machine too"),
     ):
         words.add_argument(option, action="append", default=[], metavar=metavar, help=what)
+    words.add_argument(
+        "--machine",
+        metavar="KEY[,KEY]",
+        help="the key of the machine, all hosts of which read one clock; else of several keys of --host all but the last",
+    )
+    words.add_argument(
+        "--duration",
+        metavar="FIELD[±D]",
+        help=(
+            "the field that says how long ago the request of a row began, by a clock that nothing sets, and by how much "
+            "that may be off; ± may be written +-. The request began with the first row of its id on the host, or the "
+            "begin of the access line"
+        ),
+    )
 
 
 def add_words_on_windows(words: argparse._ArgumentGroup) -> None:
@@ -134,16 +152,15 @@ def do(arguments: argparse.Namespace) -> Answer:
     making.spellings = spellings.hosts
     making.notes += spellings.notes()
     making.warnings += warnings_of_rows(arguments, found)
+    lines = making.lines
     cut_window(making, arguments)
     if not making.lines and not arguments.part:
         raise Trouble(WRONG, "no row is left in the window")
     note_many(making)
     settle_messages(making, arguments.part)
     settle_idle_hosts(making, found, arguments.part)
-    words = LimitWords(
-        arguments.skew, arguments.gap, arguments.latency, arguments.step, arguments.clock, arguments.tracking,
-    )
-    idle = settle_limits(making, words)
+    words = limit_words_of(arguments)
+    idle = settle_clocks_and_bounds(making, found, arguments, words, lines)
     spread_carried(making)
     hosts = hosts_of(making, found, words)
     text = log_text(making, hosts, idle, mapped_names(making))
@@ -154,6 +171,25 @@ def do(arguments: argparse.Namespace) -> Answer:
         tell(warnings if arguments.notes is not None else [*warnings, *making.notes])
     facts = {"log": "".join(f"{line}\n" for line in text), "warnings": making.warnings, "notes": making.notes}
     return Answer(0, text, facts)
+
+
+def settle_clocks_and_bounds(
+    making: Making, found: Found, arguments: argparse.Namespace, words: LimitWords, lines: Sequence[Line]
+) -> Dict[str, Tuple[int, int]]:
+    """Gives the rows of the window their limits, clocks and bounds, of all rows that there are.
+
+    The limits of hosts without rows are told.
+    """
+    clocks = clocks_of(making, words)
+    idle = settle_limits(making, words, clocks)
+    measured = measured_of(arguments.duration)
+    errors = durations(words.clock_error, "--clock-error", making, others=list(making.machines()))
+    settle_readings(making, errors, clocks, error_of(measured, making) if measured else 0)
+    making.ties += ties_of_files(making, found.bounds)
+    if measured:
+        making.ties += ties_of_durations(making, lines, measured)
+    warn_of_durations(making)
+    return idle
 
 
 def warnings_of_rows(arguments: argparse.Namespace, found: Found) -> List[str]:
@@ -178,14 +214,16 @@ def found_in_files(arguments: argparse.Namespace) -> Found:
     """What the files have, in their order."""
     found, rows = Found(), row_table(arguments.row)
     without_kind = "pulse" if arguments.pulses else "note"
+    measured = measured_of(arguments.duration)
+    field = measured.field if measured else ""
     if arguments.access is not None:
         form = format_of(arguments.access)
-        words = AccessWords(arguments.time, arguments.id, arguments.only, rows, arguments.as_host, without_kind)
+        words = AccessWords(arguments.time, arguments.id, arguments.only, rows, arguments.as_host, without_kind, field)
         found.events = access_events([input_file(name) for name in arguments.files], form, words)
         return found
     keys = Keys(
         tuple(arguments.host.split(",")), arguments.time or "time", arguments.name, arguments.kind, arguments.id,
-        without_kind,
+        without_kind, tuple(arguments.machine.split(",")) if arguments.machine is not None else (), field,
     )
     for name in arguments.files:
         read_events(input_file(name), keys, rows, found)
@@ -244,8 +282,9 @@ def mapped_names(making: Making) -> Dict[str, str]:
 def log_text(
     making: Making, hosts: Dict[str, LogHost], idle: Dict[str, Tuple[int, int]], mapped: Dict[str, str]
 ) -> List[str]:
-    """The lines of the log, of version 2 where a latency, a pulse or a change of a skew needs it."""
+    """The lines of the log, of the least version that has what it says."""
     known: Dict[str, Tuple[int, int]] = {}  # the skew and the gap of each host from here on
+    read: Dict[str, Tuple[str, int]] = {}  # the clock of each host from here on, and the error of a reading
     heads, body = [], []
     for line in making.lines:
         host, limits = hosts[line.host].name, (line.skew, line.gap)
@@ -254,9 +293,25 @@ def log_text(
         elif known[line.host] != limits:
             body.append(f"resync,{host},{line.skew},{line.gap}")
         known[line.host] = limits
+        reading = reading_of(line, read.get(line.host))
+        if reading and read.get(line.host) != reading:
+            body.append(f"clock,{host},{reading[1]},{reading[0]}")
+            read[line.host] = reading
         body.append(f"{line.kind},{host},{line.stamp},{mapped[line.name]}")
     heads += [f"host,{hosts[name].name},{skew},{gap}" for name, (skew, gap) in idle.items()]
     told = [(host.name, host.latency) for host in hosts.values() if host.latency]
     latencies = [f"latency,{name},{least},{'inf' if most is None else most}" for name, (least, most) in told]
+    bounds = bound_lines(making, making.lines)
     is_second = bool(latencies) or any(text.startswith(("resync,", "pulse,")) for text in body)
-    return [f"{'skewlog2' if is_second else 'kind'},host,time,name", *heads, *latencies, *body]
+    version = 3 if bounds or read else 2 if is_second else 1
+    return [",".join((FIRST_FIELDS[version], *COLUMNS)), *heads, *latencies, *body, *bounds]
+
+
+def reading_of(line: Line, before: Optional[Tuple[str, int]]) -> Optional[Tuple[str, int]]:
+    """The clock that a row reads and the error of that, None where it reads none.
+
+    Behind rows that read one it reads theirs, with an error by which that says nothing.
+    """
+    if line.clock:
+        return line.clock, line.error
+    return before and (before[0], MOST_SKEW)

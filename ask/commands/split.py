@@ -10,10 +10,11 @@ from pathlib import Path
 from typing import Dict, List
 
 from ask.commands.log import (
-    add_words_on_clocks, add_words_on_events, found_in_files, log_text, mapped_names, tell, warnings_of_rows,
+    add_words_on_clocks, add_words_on_events, found_in_files, log_text, mapped_names, settle_clocks_and_bounds, tell,
+    warnings_of_rows,
 )
 from ask.events import WRONG
-from ask.limits import LimitWords, LogHost, hosts_of, settle_limits
+from ask.limits import LogHost, hosts_of, limit_words_of
 from ask.logs import MOST_HOSTS, MOST_ROWS
 from ask.making import Line, Making, making_of, settle_messages, spread_carried
 from ask.spelling import Spellings, take_as_one
@@ -55,10 +56,8 @@ def do(arguments: argparse.Namespace) -> Answer:
     making.spellings = spellings.hosts
     making.notes += spellings.notes()
     making.warnings += warnings_of_rows(arguments, found)
-    words = LimitWords(
-        arguments.skew, arguments.gap, arguments.latency, arguments.step, arguments.clock, arguments.tracking,
-    )
-    settle_limits(making, words)
+    words = limit_words_of(arguments)
+    settle_clocks_and_bounds(making, found, arguments, words, making.lines)
     hosts = hosts_of(making, found, words, len(making.hosts()))
     parts = parts_of(making)
     if not parts:
@@ -104,7 +103,9 @@ def parts_of(making: Making) -> Dict[str, List[Line]]:
 
 def carried_to(first: Line, before: Line) -> Line:
     """A row that sets what was set before, in front of the first row of its host in a part."""
-    return replace(first, kind="set", name=before.name, is_carried=True, where=before.where)
+    return replace(
+        first, kind="set", name=before.name, is_carried=True, where=before.where, number=-1, duration="", begun=None, clock="",
+    )
 
 
 def logs_of(making: Making, parts: Dict[str, List[Line]], hosts: Dict[str, LogHost]) -> Dict[str, str]:
@@ -114,7 +115,10 @@ def logs_of(making: Making, parts: Dict[str, List[Line]], hosts: Dict[str, LogHo
     long: List[str] = []
     notes = 0
     for value, lines in parts.items():
-        part = Making([replace(line) for line in lines], making.unit, making.is_whole)
+        part = Making(
+            [replace(line) for line in lines], making.unit, making.is_whole, ties=making.ties,
+            places_of_ties=making.ties_by_later(),
+        )
         if len(part.hosts()) > MOST_HOSTS:
             raise Trouble(WRONG, f"the part {shortened(value)} has {counted(len(part.hosts()), 'host')}; at most 64")
         settle_messages(part, False)

@@ -154,7 +154,10 @@ class Tolerance:
 
 
 def widened_source(source: Source, amount: int) -> Source:
-    """The file of a log with all skews greater by an amount, which the program refuses where a skew is above 10^18."""
+    """The file of a log with all skews greater by an amount, which the program refuses where a skew is above 10^18.
+
+    The errors of clocks stay.
+    """
     records = [record.fields for record in records_of(source.data)]
     for fields in records:
         if fields[0] in ("host", "resync"):
@@ -165,4 +168,4 @@ def widened_source(source: Source, amount: int) -> Source:
 
 def widened(log: Log, amount: int) -> Log:
     """The log with all skews greater by an amount."""
-    return Log(log.version, log.hosts, [row._replace(skew=row.skew + amount) for row in log.rows])
+    return replace(log, rows=[row._replace(skew=row.skew + amount) for row in log.rows])

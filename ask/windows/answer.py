@@ -15,7 +15,7 @@ from ask.program import STOPPED, Stopped
 from ask.question import VERDICTS, accepted_tree, run_facts, run_lines, shown_formula, text_of_source
 from ask.reports import read_report
 from ask.texts import Trouble, say
-from ask.words import USAGE, Answer, bold, counted, grouped, listed, signed, step_words, table, walk_facts, walk_words
+from ask.words import USAGE, Answer, bold, broken_words, counted, grouped, listed, signed, table, walk_facts, walk_words
 from ask.windows.asking import Keep, Said, Setting, Whole
 from ask.windows.bounds import Contradiction
 from ask.windows.cautions import cautions_of_long_log
@@ -167,7 +167,7 @@ class LongReading:
             self.facts["as_stamped"] = {"value": word}
             self.lines.append(f"With every row at its stamp it is {word}. [{BY_ASK}]")
             return
-        said = step_words(self.asked.log, broken)
+        said = broken_words(self.asked.log, broken, stamps)
         named = f"{broken.kind} {broken.numbers[0]}"
         self.facts["as_stamped"] = {"value": None, "broken": named, "sentence": said}
         self.lines.append(f"The stamps themselves are no admissible timing: {said}. [{BY_ASK}]")
@@ -350,6 +350,10 @@ class Stamped:
     def stamps(self) -> List[int]:
         """The stamps."""
         return self.shown.stamps()
+
+    def clock_rows(self) -> List[List[int]]:
+        """For each clock the rows that read it."""
+        return self.shown.bounded.clock_rows()
 
 
 def verdict_words(verdict: Verdict, formula: str, log: str) -> str:

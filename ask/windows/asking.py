@@ -346,9 +346,10 @@ class Findings:
             self.whole.bounds.with_rows_at(said.times, self.whole.times)
             return None
         except Contradiction as contradiction:
-            events: Set[int] = {event for step in contradiction.walk for event in step.numbers}
+            walk = contradiction.walk
         ranges = list(said.ranges)
         log = self.whole.log
+        events: Set[int] = {event for step in walk for event in log.rows_of(step.kind, step.numbers[0])}
         for event in events | {send for send in (log.sender[event] for event in events) if send >= 0}:
             host, place = log.rows.host[event], log.place[event]
             start, end = ranges[host]

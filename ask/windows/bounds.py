@@ -1,7 +1,8 @@
 """The least and the greatest time of each row of a whole log, in passes over its rows (Bellman 1958).
 
 A bound is `t_start - t_end <= most`, so from the zero moment walks of bounds tell how early each row can be, and back
-to it how late. Rows are in the order of what happens before what, but for greatest latencies, which go back.
+to it how late. Rows are in the order of what happens before what, but for greatest latencies and bound records, which
+may go back, and for clocks, whose offsets are to and from all rows that read them.
 """
 
 from __future__ import annotations
@@ -12,6 +13,7 @@ from typing import Deque, Dict, Iterator, List, NamedTuple, Optional, Sequence, 
 
 from ask.reports import Step
 from ask.windows.longlog import NONE, LongLog
+from ask.windows.loose import FAR, Loose, Readings
 
 
 class Contradiction(Exception):
@@ -38,11 +40,7 @@ class Bounds:
         self.gaps = log.rows.gaps()
         least = [host.least for host in log.hosts]
         self.delay = array("q", (least[host] for host in log.rows.host))  # of a message to a row, at least
-        self.late = log.latencies()
-        self.late_of: Dict[int, List[Tuple[int, int]]] = {}  # of a receive its send, and of a send its receives
-        for send, receive, most in self.late:
-            self.late_of.setdefault(receive, []).append((send, most))
-            self.late_of.setdefault(send, []).append((receive, most))
+        self.loose, self.readings = Loose(log), Readings(log)
         self.order = self.ordered()
 
     # The order
@@ -100,19 +98,25 @@ class Bounds:
 
     def behind(self, event: int) -> Iterator[Tuple[int, int]]:
         """The rows that come behind a row, and by how much at least."""
+        return ((other, least) for _, other, least in self.out_of(event))
+
+    def out_of(self, event: int) -> Iterator[Tuple[str, int, int]]:
+        """The same, each with the kind of the bound."""
         later = self.log.later[event]
         if later != NONE:
-            yield later, self.gaps[later]
+            yield "rise", later, self.gaps[later]
         for receive in self.log.receivers(event):
-            yield receive, self.delay[receive]
+            yield "message", receive, self.delay[receive]
 
-    def late_receives(self, event: int) -> Iterator[Tuple[int, int]]:
-        """The receives of what a row sends that have a greatest latency, each with it."""
-        return ((other, most) for other, most in self.late_of.get(event, ()) if self.log.sender[event] != other)
+    def all_before(self, event: int) -> Iterator[Tuple[int, int]]:
+        """The same as before, also by bounds that go back."""
+        yield from self.before(event)
+        yield from self.loose.into(event)
 
-    def late_send(self, event: int) -> Iterator[Tuple[int, int]]:
-        """The send of what a row receives, with the greatest latency, where it has one."""
-        return ((other, most) for other, most in self.late_of.get(event, ()) if self.log.sender[event] == other)
+    def all_behind(self, event: int) -> Iterator[Tuple[int, int]]:
+        """The same as behind, also by bounds that go back."""
+        yield from self.behind(event)
+        yield from self.loose.out_of(event)
 
     # Times
 
@@ -136,7 +140,7 @@ class Bounds:
             if time > high[event]:
                 raise Contradiction(self.walk_to(found, event, time))
             found[event] = time
-        if self.late:
+        if len(self.loose) or len(self.readings):
             Raising(self, found, high).settle()
         return found
 
@@ -165,24 +169,32 @@ class Bounds:
             send = sender[event]
             if send != NONE and time - delay[event] < found[send]:
                 found[send] = time - delay[event]
-        if self.late:
+        if len(self.loose) or len(self.readings):
             self.lower(found)
         return found
 
     def lower(self, found: array) -> None:
-        """Lowers greatest times until greatest latencies hold of them too."""
-        waiting = deque(send for send, receive, most in self.late if found[send] + most < found[receive])
-        while waiting:
+        """Lowers greatest times until the bounds that go back, and those of clocks, hold of them too."""
+        edges = zip(self.loose.source, self.loose.target, self.loose.distance)
+        waiting = deque(target for source, target, distance in edges if found[target] - distance < found[source])
+        while waiting or self.is_lowered_by_clocks(found, waiting):
             event = waiting.popleft()
             time = found[event]
-            for other, most in self.late_receives(event):
-                if time + most < found[other]:
-                    found[other] = time + most
-                    waiting.append(other)
-            for other, least in self.before(event):
+            for other, least in self.all_before(event):
                 if time - least < found[other]:
                     found[other] = time - least
                     waiting.append(other)
+
+    def is_lowered_by_clocks(self, found: array, waiting: Deque[int]) -> bool:
+        """Lowers the rows that are later than their clocks' other rows allow, and has them wait; whether there are any."""
+        offsets = [FAR] * self.readings.count
+        for event, clock, low, _ in self.readings.rows():
+            offsets[clock] = min(offsets[clock], found[event] - low)
+        for event, clock, _, high in self.readings.rows():
+            if offsets[clock] + high < found[event]:
+                found[event] = offsets[clock] + high
+                waiting.append(event)
+        return bool(waiting)
 
     # Timings
 
@@ -199,8 +211,8 @@ class Bounds:
                 return Step("rise", (event,))
             if send != NONE and time < times[send] + delay[event]:
                 return Step("message", (event,))
-        late = ((receive, times[receive] - times[send] > most) for send, receive, most in self.late)
-        return next((Step("late", (receive,)) for receive, is_late in late if is_late), None)
+        loose, late = self.loose, self.loose.count_late
+        return loose.broken(times, 0, late) or self.readings.broken(times) or loose.broken(times, late, len(loose))
 
     def near(self, wanted: Sequence[int], times: Times) -> array:
         """A timing of the log that is near to wanted times: each put where the log allows it, and later ones behind."""
@@ -216,40 +228,65 @@ class Bounds:
 
 
 class Raising:
-    """Least times that are raised until greatest latencies hold of them too.
+    """Least times that are raised until the bounds that go back, and those of clocks, hold of them too.
 
-    What raised a row last is kept, so that a closed walk of negative sum is seen (Cherkassky and Goldberg 1999).
+    What raised a row or an offset last is kept, so that a closed walk of negative sum is seen (Cherkassky and
+    Goldberg 1999). Clocks are numbered behind the rows.
     """
 
     def __init__(self, bounds: Bounds, found: array, high: Sequence[int]):
         self.bounds, self.found, self.high = bounds, found, high
-        self.raised_by: Dict[int, Tuple[str, int]] = {}
+        self.before = array("q", found)  # as the pass over the rows left them
+        self.raised_by: Dict[int, Tuple[Step, int]] = {}
+        self.offsets = [-FAR] * bounds.readings.count
         self.left = len(found)  # raises until a closed walk is looked for
 
     def settle(self) -> None:
         """Raises least times, or finds the contradiction."""
-        found = self.found
-        waiting = deque(
-            receive for send, receive, most in self.bounds.late if found[receive] - most > found[send]
-        )
+        found, loose = self.found, self.bounds.loose
+        edges = zip(loose.source, loose.target, loose.distance)
+        self.spread(deque(source for source, target, distance in edges if found[source] + distance > found[target]))
+        while True:
+            waiting = self.raised_by_clocks()
+            if not waiting:
+                return
+            self.spread(waiting)
+            self.look_for_cycle()
+
+    def spread(self, waiting: Deque[int]) -> None:
+        """Raises what comes behind rows that were raised."""
+        found, loose = self.found, self.bounds.loose
         while waiting:
             event = waiting.popleft()
-            for other, most in self.bounds.late_send(event):
-                self.put(other, found[event] - most, ("late", event), waiting)
-            for other, least in self.bounds.behind(event):
-                kind = "rise" if self.bounds.log.earlier[other] == event else "message"
-                self.put(other, found[event] + least, (kind, event), waiting)
+            for number in loose.numbers_from(event):
+                target, distance = loose.target[number], loose.distance[number]
+                if found[event] + distance > found[target]:
+                    self.put(target, found[event] + distance, (loose.step(number), event), waiting)
+            for kind, other, least in self.bounds.out_of(event):
+                if found[event] + least > found[other]:
+                    self.put(other, found[event] + least, (Step(kind, (other,)), event), waiting)
 
-    def put(self, event: int, time: int, by: Tuple[str, int], waiting: Deque[int]) -> None:
-        """Raises a row to a time, where it isn't as late already."""
-        if time <= self.found[event]:
-            return
-        self.found[event] = time
+    def raised_by_clocks(self) -> Deque[int]:
+        """Raises offsets to what rows ask of them, and rows to what the offsets ask; the rows that were raised."""
+        found, offsets, readings = self.found, self.offsets, self.bounds.readings
+        waiting: Deque[int] = deque()
+        for event, clock, _, high in readings.rows():
+            if found[event] - high > offsets[clock]:
+                offsets[clock] = found[event] - high
+                self.raised_by[len(found) + clock] = (Step("over", (event,)), event)
+        for event, clock, low, _ in readings.rows():
+            if offsets[clock] + low > found[event]:
+                self.put(event, offsets[clock] + low, (Step("under", (event,)), len(found) + clock), waiting)
+        return waiting
+
+    def put(self, event: int, time: int, by: Tuple[Step, int], waiting: Deque[int]) -> None:
+        """Raises a row to a time that is later than its own."""
         self.raised_by[event] = by
-        waiting.append(event)
-        self.left -= 1
         if time > self.high[event]:
             raise Contradiction(self.walk(event))
+        self.found[event] = time
+        waiting.append(event)
+        self.left -= 1
         if self.left == 0:
             self.left = len(self.found)
             self.look_for_cycle()
@@ -267,13 +304,14 @@ class Raising:
 
     def walk(self, event: int) -> List[Step]:
         """The walk by which a row was raised: to where it begins, or until it is closed."""
-        walk, seen, first = [], {}, event
+        walk: List[Step] = []
+        seen: Dict[int, int] = {}
+        first = event
         while event in self.raised_by and event not in seen:
             seen[event] = len(walk)
-            kind, other = self.raised_by[event]
-            walk.append(Step(kind, (other if kind == "late" else event,)))
-            event = other
+            step, event = self.raised_by[event]
+            walk.append(step)
         if event in seen:
             return walk[seen[event] :][::-1]
-        begun = self.bounds.walk_to(self.found, event, self.found[event])
+        begun = self.bounds.walk_to(self.before, event, self.before[event])
         return [*begun[:-1], *walk[::-1], Step("high", (first,))]

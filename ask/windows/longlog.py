@@ -3,9 +3,11 @@
 from __future__ import annotations
 
 from array import array
-from typing import Dict, Iterator, List, Optional, Sequence, Tuple, Union, overload
+from typing import Dict, Iterable, Iterator, List, Optional, Sequence, Tuple, Union, overload
 
-from ask.logs import HEADERS, ROW_KINDS, Fault, Log, Reader, Record, Row, records_in
+from ask.logs import (
+    HEADERS, ROW_KINDS, Fault, Log, Reader, Record, Row, Terms, fault_of_whole, record_numbered, records_in,
+)
 
 CODES = {kind: code for code, kind in enumerate(ROW_KINDS)}
 SET, CLEAR, SEND, RECV, NOTE, PULSE = (CODES[kind] for kind in ("set", "clear", "send", "recv", "note", "pulse"))
@@ -19,11 +21,11 @@ class Rows(Sequence[Row]):
 
     def __init__(self) -> None:
         self.host, self.stamp, self.kind = array("B"), array("q"), bytearray()
-        self.name, self.limit, self.line = array("I"), array("I"), array("I")
+        self.name, self.term, self.line = array("I"), array("I"), array("I")
         self.names: List[str] = []  # of which the column has the places
         self.number_of: Dict[str, int] = {}
-        self.limits: List[Tuple[int, int]] = []  # skews and gaps, of which the column has the places
-        self.limit_of: Dict[Tuple[int, int], int] = {}
+        self.terms: List[Terms] = []  # of which the column has the places
+        self.term_of: Dict[Terms, int] = {}
 
     def __len__(self) -> int:
         return len(self.stamp)
@@ -38,40 +40,68 @@ class Rows(Sequence[Row]):
         if isinstance(event, slice):
             return [self[place] for place in range(*event.indices(len(self)))]
         kind, name = ROW_KINDS[self.kind[event]], self.names[self.name[event]]
-        return Row(self.host[event], self.stamp[event], kind, name, *self.limits[self.limit[event]], self.line[event])
+        skew, gap, *reading = self.terms[self.term[event]]
+        return Row(self.host[event], self.stamp[event], kind, name, skew, gap, self.line[event], *reading)
 
     def append(self, row: Row) -> None:
         """Adds a row."""
         number = self.number_of.setdefault(row.name, len(self.names))
         if number == len(self.names):
             self.names.append(row.name)
-        self.add(row.host, row.stamp, CODES[row.kind], number, self.limit_numbered((row.skew, row.gap)), row.line)
+        term = self.term_numbered(Terms(row.skew, row.gap, row.clock, row.error))
+        self.add(row.host, row.stamp, CODES[row.kind], number, term, row.line)
 
-    def limit_numbered(self, limit: Tuple[int, int]) -> int:
-        """The place of a skew and a gap, which are kept."""
-        number = self.limit_of.setdefault(limit, len(self.limits))
-        if number == len(self.limits):
-            self.limits.append(limit)
+    def term_numbered(self, terms: Terms) -> int:
+        """The place of what holds of a row, which is kept."""
+        number = self.term_of.setdefault(terms, len(self.terms))
+        if number == len(self.terms):
+            self.terms.append(terms)
         return number
 
-    def add(self, host: int, stamp: int, code: int, name: int, limit: int, line: int) -> None:
-        """Adds a row whose name, skew and gap have places."""
+    def add(self, host: int, stamp: int, code: int, name: int, term: int, line: int) -> None:
+        """Adds a row whose name and terms have places."""
         self.host.append(host)
         self.stamp.append(stamp)
         self.kind.append(code)
         self.name.append(name)
-        self.limit.append(limit)
+        self.term.append(term)
         self.line.append(line)
 
     def skews(self) -> Iterator[int]:
         """The skew of each row."""
-        skews = [skew for skew, _ in self.limits]
-        return (skews[limit] for limit in self.limit)
+        skews = [terms.skew for terms in self.terms]
+        return (skews[term] for term in self.term)
 
     def gaps(self) -> array:
         """The gap of each row."""
-        gaps = [gap for _, gap in self.limits]
-        return array("q", (gaps[limit] for limit in self.limit))
+        gaps = [terms.gap for terms in self.terms]
+        return array("q", (gaps[term] for term in self.term))
+
+    def readings(self) -> Iterator[Tuple[int, int, int, int]]:
+        """The rows that read a clock, each with the clock, and the stamp less and more the error of the reading."""
+        if all(terms.clock is None for terms in self.terms):
+            return
+        for event, (stamp, term) in enumerate(zip(self.stamp, self.term)):
+            terms = self.terms[term]
+            if terms.clock is not None:
+                yield event, terms.clock, stamp - terms.error, stamp + terms.error
+
+
+class Links:
+    """Numbers by the rows that they belong to: of each row the last one, and from each number the one before it."""
+
+    def __init__(self, count: int, rows: Iterable[int]):
+        self.last, self.before = array("i", [NONE]) * count, array("i")
+        for number, row in enumerate(rows):
+            self.before.append(self.last[row])
+            self.last[row] = number
+
+    def of(self, row: int) -> Iterator[int]:
+        """The numbers of a row."""
+        found = self.last[row]
+        while found != NONE:
+            yield found
+            found = self.before[found]
 
 
 class LongLog(Log):
@@ -98,6 +128,7 @@ class LongLog(Log):
             for first, second in zip(events, events[1:]):
                 self.earlier[second], self.later[first] = first, second
         self.settle_messages(count)
+        self.extras_of = Links(count, (extra.later for extra in self.extras)) if self.extras else None
 
     def settle_messages(self, count: int) -> None:
         """Finds the send of each receive, and of each send its last receive, from each of which the one before it."""
@@ -129,6 +160,14 @@ class LongLog(Log):
         while found != NONE:
             yield found
             found = self.receiver_before[found]
+
+    def extras_after(self, event: int) -> Iterator[int]:
+        """The bound records by which a row is at most so much after another, by their numbers."""
+        return self.extras_of.of(event) if self.extras_of else iter(())
+
+    def rows_of(self, kind: str, number: int) -> Tuple[int, ...]:
+        """The rows that a bound of a report names by its kind and number."""
+        return self.extras[number][:2] if kind == "extra" else (number,)
 
     def low(self) -> array:
         """For each row the least time that its own stamp allows."""
@@ -175,8 +214,8 @@ class LongReader(Reader):
             code, host = self.codes.get(kind), self.numbers.get(host_name)
             number = self.log.rows.number_of.get(name)
             if code is not None and host is not None and number is not None and is_short_stamp(stamp):
-                limit = self.log.rows.limit_numbered(self.limits[host])
-                self.log.rows.add(host, int(stamp), code, number, limit, record.line)
+                term = self.log.rows.term_numbered(self.terms[host])
+                self.log.rows.add(host, int(stamp), code, number, term, record.line)
                 return 0
         return super().take(record)
 
@@ -198,19 +237,18 @@ def read_long_log(data: bytes) -> Union[LongLog, Fault]:
         fault = reader.take(record)
         if fault:
             return Fault(fault, place)
-    log = reader.log
-    if not len(log.rows):
-        return Fault(11, None)
+    return fault_of_messages(reader, data) or fault_of_whole(reader.log, data) or settled(reader.log)
+
+
+def fault_of_messages(reader: LongReader, data: bytes) -> Optional[Fault]:
+    """The fault that a message is received which no row sends."""
+    rows = reader.log.rows
+    sent = {rows.number_of[name] for name in reader.sent}
+    unmatched = next((e for e, code in enumerate(rows.kind) if code == RECV and rows.name[e] not in sent), None)
+    return None if unmatched is None else Fault(10, record_numbered(data, ROW_KINDS, unmatched))
+
+
+def settled(log: LongLog) -> LongLog:
+    """A log all of whose rows are there."""
     log.settle()
-    unmatched = next((e for e, code in enumerate(log.rows.kind) if code == RECV and log.sender[e] == NONE), None)
-    return log if unmatched is None else Fault(10, record_of_row(data, unmatched))
-
-
-def record_of_row(data: bytes, event: int) -> int:
-    """The number of the record that is a row of a log."""
-    rows = -1
-    for place, record in enumerate(records_in(data), start=1):
-        rows += record.fields[0] in ROW_KINDS
-        if rows == event:
-            return place
-    raise IndexError(event)
+    return log

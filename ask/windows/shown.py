@@ -2,17 +2,20 @@
 
 from __future__ import annotations
 
-from typing import Any, Dict, List, Sequence
+from dataclasses import replace
+from typing import Any, Dict, List, Optional, Sequence
 
 from ask.grounds import MOST_BOUNDS_SHOWN, bounds_used
-from ask.logs import Log, Row, read_log
+from ask.logs import Extra, Log, Row, read_log
 from ask.program import NOT_THERE
 from ask.question import Question
 from ask.reports import Section, Step
 from ask.texts import Source, Trouble
-from ask.words import counted, row_words, step_words
+from ask.walks import Ground
+from ask.words import counted, ground_words, row_words
+from ask.windows.longlog import NONE
 from ask.windows.opening import LongQuestion
-from ask.windows.window import Window
+from ask.windows.window import Bounded, Window
 
 NO_LINE = 0  # of the row that is before all others of a window
 
@@ -26,7 +29,10 @@ class ShownWindow:
         if not isinstance(log, Log):
             raise Trouble(NOT_THERE, f"the window from {window.slice.first} is no log that ask can read")
         self.bounded = log  # with the bounds that the window has
-        self.log = Log(log.version, log.hosts, [self.row(place, row) for place, row in enumerate(log.rows)])
+        self.log = replace(
+            log, rows=[self.row(place, row) for place, row in enumerate(log.rows)],
+            extras=[self.with_line(extra, bounded) for extra, bounded in zip(log.extras, window.bounded)],
+        )
         self.question = Question(
             asked.program, Source(asked.formula.name, window.formula), Source(self.name(), window.log), asked.options,
         )
@@ -40,6 +46,11 @@ class ShownWindow:
         """The stamp, skew, gap and line that a row has in the long log."""
         whole = self.asked.log.rows[event]
         return row._replace(stamp=whole.stamp, skew=whole.skew, gap=whole.gap, line=whole.line, kind=whole.kind)
+
+    def with_line(self, extra: Extra, bounded: Bounded) -> Extra:
+        """A bound record with the line that it has in the long log."""
+        is_of_log = bounded.number != NONE
+        return extra._replace(line=self.asked.log.extras[bounded.number].line if is_of_log else NO_LINE)
 
     def event(self, place: int) -> "int | None":
         """The row of the long log that a row of the window stands for, or None for the first one."""
@@ -56,16 +67,26 @@ class ShownWindow:
 
     def stamps(self) -> List[int]:
         """The stamps of the rows, each put where the whole log allows it, and the moments of those carried in."""
-        rows = self.bounded.rows
-        low = [row.stamp - row.skew for row in rows]
-        high = [row.stamp + row.skew for row in rows]
+        low = [row.stamp - row.skew for row in self.bounded.rows]
+        high = [row.stamp + row.skew for row in self.bounded.rows]
+        for bounded in self.window.bounded:
+            if bounded.number == NONE and bounded.earlier == 0:
+                high[bounded.later] = self.window.base + bounded.most
+            elif bounded.number == NONE:
+                low[bounded.earlier] = self.window.base - bounded.most
         return [min(max(row.stamp, least), most) for row, least, most in zip(self.log.rows, low, high)]
 
     # Bounds
 
-    def sentence(self, step: Step) -> str:
-        """What a bound of the window says."""
+    def sentence(self, ground: Ground) -> str:
+        """What a ground of the window says."""
+        step = ground[0]
         event = step.numbers[0]
+        end = self.end_bounded(step)
+        if end is not None:
+            return self.end_words(end)
+        if step.kind == "extra" or len(ground) > 1:
+            return ground_words(self.log, ground)
         row, own = self.bounded.rows[event], self.log.rows[event]
         before = self.bounded.row_before(event) if step.kind == "rise" else None
         if event < self.first_row() or before is not None and before < self.first_row():
@@ -74,13 +95,25 @@ class ShownWindow:
             return f"{row_words(self.log, event)} can't be before {row.stamp - row.skew}: so the whole log has it"
         if step.kind == "high" and row.stamp + row.skew != own.stamp + own.skew:
             return f"{row_words(self.log, event)} can't be after {row.stamp + row.skew}: so the whole log has it"
-        return step_words(self.log, step)
+        return ground_words(self.log, ground)
+
+    def end_bounded(self, step: Step) -> Optional[Bounded]:
+        """The bound record of the window that says a least or a greatest time, where a step is one."""
+        bounded = self.window.bounded[step.numbers[0]] if step.kind == "extra" else None
+        return bounded if bounded is not None and bounded.number == NONE else None
+
+    def end_words(self, bounded: Bounded) -> str:
+        """What a bound record says that tells a least or a greatest time."""
+        base, is_greatest = self.window.base, bounded.earlier == 0
+        far = f"after {base + bounded.most}" if is_greatest else f"before {base - bounded.most}"
+        name = row_words(self.log, bounded.later if is_greatest else bounded.earlier)
+        return f"{name} can't be {far}: so the whole log has it"
 
     def ground_lines(self, section: Section, is_all: bool) -> List[str]:
         """A line for each bound that a derivation of the window rests on."""
         counts: Dict[str, int] = {}
-        for step, uses in bounds_used(self.bounded, section):
-            sentence = self.sentence(step)
+        for ground, uses in bounds_used(self.bounded, section):
+            sentence = self.sentence(ground)
             counts[sentence] = counts.get(sentence, 0) + uses
         used = list(counts.items())
         shown = used if is_all else used[:MOST_BOUNDS_SHOWN]
@@ -89,13 +122,21 @@ class ShownWindow:
         return lines + more * (len(shown) < len(used))
 
     def ground_facts(self, section: Section) -> List[Dict[str, Any]]:
-        """The same for programs; a bound is named by the row of the long log."""
-        found = []
-        for step, uses in bounds_used(self.bounded, section):
-            event = self.event(step.numbers[0])
-            named = f"{step.kind} {'anchor' if event is None else event}"
-            found.append({"bound": named, "uses": uses, "sentence": self.sentence(step)})
-        return found
+        """The same for programs; a bound is named by the row, or the bound record, of the long log."""
+        return [
+            {"bound": " ".join(map(self.name_of_step, ground)), "uses": uses, "sentence": self.sentence(ground)}
+            for ground, uses in bounds_used(self.bounded, section)
+        ]
+
+    def name_of_step(self, step: Step) -> str:
+        """A bound of the window as one of the long log."""
+        end = self.end_bounded(step)
+        if end is not None:
+            return f"high {self.event(end.later)}" if end.earlier == 0 else f"low {self.event(end.earlier)}"
+        if step.kind == "extra":
+            return f"extra {self.window.bounded[step.numbers[0]].number}"
+        event = self.event(step.numbers[0])
+        return f"{step.kind} {'anchor' if event is None else event}"
 
 
 def lines_of(asked: LongQuestion, events: Sequence[int]) -> str:

@@ -4,11 +4,12 @@ from __future__ import annotations
 
 from array import array
 from collections import deque
-from typing import Dict, List, Sequence
+from typing import Deque, Dict, List, Sequence
 
 from ask.windows.bounds import Bounds, Times
 from ask.windows.cuts import Slice
 from ask.windows.longlog import LongLog
+from ask.windows.loose import Ends
 from ask.windows.shape import Shape
 from ask.windows.truth import Evaluator, Truth
 
@@ -61,65 +62,80 @@ def with_moved(bounds: Bounds, timing: Sequence[int], moved: Dict[int, int]) -> 
 
 def room(bounds: Bounds, times: Sequence[int], moved: Sequence[int]) -> "tuple[Dict[int, int], Dict[int, int]]":
     """The least and the greatest times of rows where all others stay as they are in a timing."""
-    inside = set(moved)
     least = {event: bounds.low[event] for event in moved}
     greatest = {event: bounds.high[event] for event in moved}
     for event in moved:
-        for other, distance in bounds.before(event):
-            if other not in inside:
+        for other, distance in bounds.all_before(event):
+            if other not in least:
                 least[event] = max(least[event], times[other] + distance)
-        for other, distance in bounds.behind(event):
-            if other not in inside:
+        for other, distance in bounds.all_behind(event):
+            if other not in least:
                 greatest[event] = min(greatest[event], times[other] - distance)
-        for other, most in bounds.late_receives(event):
-            if other not in inside:
-                least[event] = max(least[event], times[other] - most)
-        for other, most in bounds.late_send(event):
-            if other not in inside:
-                greatest[event] = min(greatest[event], times[other] + most)
-    narrow(bounds, least, greatest)
+    narrow(bounds, least, greatest, bounds.readings.ends(times, least))
     return least, greatest
 
 
-def narrow(bounds: Bounds, least: Dict[int, int], greatest: Dict[int, int]) -> None:
-    """Raises least times and lowers greatest ones until the bounds between these rows hold of both."""
-    waiting = deque(least)
-    while waiting:
-        event = waiting.popleft()
-        behind = list(bounds.behind(event)) + [(send, -most) for send, most in bounds.late_send(event)]
-        for other, distance in behind:
-            if other in least and least[other] < least[event] + distance:
-                least[other] = least[event] + distance
-                waiting.append(other)
-    waiting = deque(greatest)
-    while waiting:
-        event = waiting.popleft()
-        before = list(bounds.before(event)) + [(receive, -most) for receive, most in bounds.late_receives(event)]
-        for other, distance in before:
-            if other in greatest and greatest[other] > greatest[event] - distance:
-                greatest[other] = greatest[event] - distance
-                waiting.append(other)
+def narrow(bounds: Bounds, least: Dict[int, int], greatest: Dict[int, int], ends: Dict[int, Ends]) -> None:
+    """Raises least times and lowers greatest ones until the bounds between these rows, and clocks, hold of both."""
+    rising, falling = deque(least), deque(greatest)
+    while rising or falling or is_narrowed_by_clocks(bounds, least, greatest, ends, rising, falling):
+        while rising:
+            event = rising.popleft()
+            for other, distance in bounds.all_behind(event):
+                if other in least and least[other] < least[event] + distance:
+                    least[other] = least[event] + distance
+                    rising.append(other)
+        while falling:
+            event = falling.popleft()
+            for other, distance in bounds.all_before(event):
+                if other in greatest and greatest[other] > greatest[event] - distance:
+                    greatest[other] = greatest[event] - distance
+                    falling.append(other)
+
+
+def is_narrowed_by_clocks(
+    bounds: Bounds, least: Dict[int, int], greatest: Dict[int, int], ends: Dict[int, Ends], rising: Deque[int],
+    falling: Deque[int],
+) -> bool:
+    """Raises and lowers times to what the clocks of the rows allow, and has those rows wait; whether there are any."""
+    read = [(event, reading) for event, reading in ((event, bounds.readings.of(event)) for event in least) if reading]
+    for event, reading in read:
+        ends[reading.clock] = ends[reading.clock].with_row(least[event], greatest[event], reading)
+    for event, reading in read:
+        low, high = ends[reading.clock].least + reading.low, ends[reading.clock].greatest + reading.high
+        if low > least[event]:
+            least[event] = low
+            rising.append(event)
+        if high < greatest[event]:
+            greatest[event] = high
+            falling.append(event)
+    return bool(rising or falling)
 
 
 def keeps(bounds: Bounds, times: Sequence[int], moved: Dict[int, int]) -> bool:
     """Whether a timing stays one where these rows are moved."""
-    at = {**moved}
 
     def time(event: int) -> int:
-        return at[event] if event in at else times[event]
+        return moved[event] if event in moved else times[event]
 
     for event, moment in moved.items():
         if not bounds.low[event] <= moment <= bounds.high[event]:
             return False
-        if any(moment < time(other) + least for other, least in bounds.before(event)):
+        if any(moment < time(other) + least for other, least in bounds.all_before(event)):
             return False
-        if any(time(other) < moment + least for other, least in bounds.behind(event)):
+        if any(time(other) < moment + least for other, least in bounds.all_behind(event)):
             return False
-        if any(time(other) > moment + most for other, most in bounds.late_receives(event)):
-            return False
-        if any(moment > time(other) + most for other, most in bounds.late_send(event)):
-            return False
-    return True
+    return has_offsets(bounds, times, moved)
+
+
+def has_offsets(bounds: Bounds, times: Sequence[int], moved: Dict[int, int]) -> bool:
+    """Whether each clock that these rows read has an offset where they are moved."""
+    ends = bounds.readings.ends(times, moved)
+    for event, moment in moved.items():
+        reading = bounds.readings.of(event)
+        if reading:
+            ends[reading.clock] = ends[reading.clock].with_row(moment, moment, reading)
+    return all(one.least <= one.greatest for one in ends.values())
 
 
 def shifted(log: LongLog, times: Sequence[int]) -> List[int]:

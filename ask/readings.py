@@ -1,0 +1,130 @@
+"""Which clock each row of a log in the making reads: one a machine, and another one from each step of it on."""
+
+from __future__ import annotations
+
+from dataclasses import dataclass, field
+from typing import Dict, List, Optional, Sequence, Set, Tuple
+
+from ask.clocks import Clock, ClockStep
+from ask.events import WRONG, Limits, name_map
+from ask.limits import FEWER, Told, in_file
+from ask.logs import MOST_CLOCKS, MOST_SKEW
+from ask.making import Line, Making
+from ask.texts import Trouble
+from ask.words import counted, listed, shortened
+
+Key = Tuple[str, int, str, int]  # a machine, the steps before, and where resyncs of a file tell more, the host and how many
+
+
+@dataclass
+class Host:
+    """A host as far as its rows were gone through: the steps and resyncs that are passed."""
+
+    steps: Sequence[ClockStep]
+    passed: int = 0
+    resyncs: int = 0
+    limits: Optional[Limits] = None
+    clocks: Set[str] = field(default_factory=set)
+
+    def pass_to(self, line: Line) -> None:
+        """Goes on to the next row of the host."""
+        while self.passed < len(self.steps) and moment_of(line) > self.steps[self.passed].last:
+            self.passed += 1
+        if self.limits is not None and line.limits is not None and line.limits is not self.limits:
+            self.resyncs += 1
+        self.limits = line.limits
+
+    def doubt(self, line: Line) -> int:
+        """How far the clock may have been stepped already or not yet, where a row is near to steps that aren't passed."""
+        return sum(step.size for step in self.steps[self.passed :] if step.first <= moment_of(line))
+
+
+def moment_of(line: Line) -> int:
+    """The stamp at which the clock of a row was read."""
+    return line.stamp if line.read_at is None else line.read_at
+
+
+def settle_readings(making: Making, errors: Told, clocks: Dict[str, Clock], error_of_duration: int) -> None:
+    """Gives each row the clock that it reads and the error of the reading, where words or its file tell one.
+
+    Rows near to a step may have been before it or behind it: they read the clock of before with an error that is
+    greater by the step. A row whose stamp was computed has the error of the duration too.
+    """
+    steps = steps_of_machines(making, clocks)
+    hosts: Dict[str, Host] = {}
+    names: Dict[Key, str] = {}
+    for line in making.lines:
+        if line.is_carried:
+            continue
+        error = error_told(line, errors, making)
+        host = hosts.setdefault(line.host, Host(steps.get(line.machine, ())))
+        host.pass_to(line)
+        if error is None:
+            continue
+        of_file = line.file_clock
+        resyncs = () if of_file else (line.host, host.resyncs)
+        key = (of_file.name if of_file else line.machine, host.passed, *(resyncs if host.resyncs and resyncs else ("", 0)))
+        line.clock = names.setdefault(key, name_for(key, names))
+        more = error_of_duration if line.read_at is not None else 0
+        line.error = error + host.doubt(line) + more + (1 if making.cut.get(line.host) else 0)
+        if line.error > MOST_SKEW:
+            raise Trouble(WRONG, f"{line.where}: the error of its clock is above 10^18 in units: choose a coarser --unit")
+        host.clocks.add(line.clock)
+    warn_of_narrowed_errors(making, errors)
+    take_names(making, hosts)
+
+
+def steps_of_machines(making: Making, clocks: Dict[str, Clock]) -> Dict[str, List[ClockStep]]:
+    """The steps of each machine: those that are told of any of its hosts."""
+    return {
+        machine: sorted({step for host in hosts if host in clocks for step in clocks[host].steps})
+        for machine, hosts in making.machines().items()
+    }
+
+
+def name_for(key: Key, names: Dict[Key, str]) -> str:
+    """A name for the next clock of a machine, with a number behind it from the second one on."""
+    count = sum(other[0] == key[0] for other in names)
+    return key[0] if count == 0 else f"{key[0]}\0{count + 1}"
+
+
+def error_told(line: Line, errors: Told, making: Making) -> Optional[int]:
+    """The error of a row's clock by the words, else by its file, None where neither tells one."""
+    told = errors.get(line.host, errors.get(line.machine, errors.get(None)))
+    return error_of_file(line, making) if told is None else told
+
+
+def error_of_file(line: Line, making: Making) -> Optional[int]:
+    """The error of a row's clock that its file tells, in units, or None."""
+    if line.file_clock is None:
+        return None
+    error = in_file(line.file_clock.error, making)
+    if error is None:
+        raise Trouble(WRONG, f"{line.file_clock.where}: the error {shortened(line.file_clock.error)!r} is no duration")
+    return error
+
+
+def warn_of_narrowed_errors(making: Making, errors: Told) -> None:
+    """Tells of each clock of a file to which the words give a smaller error, with the first place where they do."""
+    warned = set()
+    for line in making.lines:
+        of_file = error_of_file(line, making)
+        told = error_told(line, errors, making)
+        if of_file is not None and told is not None and told < of_file and line.file_clock:
+            name, where = line.file_clock.name, line.file_clock.where
+            if name not in warned:
+                warned.add(name)
+                making.warnings.append(f"--clock-error: the error of {name} is {told}, and {where} says {of_file}: {FEWER}")
+
+
+def take_names(making: Making, hosts: Dict[str, Host]) -> None:
+    """Gives the clocks names of the log, and tells which hosts read each."""
+    clocks = list(dict.fromkeys(line.clock for line in making.lines if line.clock))
+    if len(clocks) > MOST_CLOCKS:
+        raise Trouble(WRONG, f"{counted(len(clocks), 'clock')}; at most 1,024: cut a window by --only or by --from and --to")
+    mapped = name_map(clocks)
+    for line in making.lines:
+        line.clock = mapped.get(line.clock, "")
+    for clock in clocks:
+        readers = [shortened(name) for name, host in hosts.items() if clock in host.clocks]
+        making.notes.append(f"clock: {mapped[clock]} is read by {listed(readers)}")
