@@ -6,7 +6,7 @@ import json
 import os
 import sys
 from dataclasses import dataclass, field
-from typing import Any, Dict, List, Sequence
+from typing import Any, Dict, List, Optional, Sequence
 
 from ask.logs import Bound, Log, Row, bound_of
 from ask.reports import Step
@@ -115,6 +115,16 @@ def table(heads: Sequence[str], rows: Sequence[Sequence[str]], left: Sequence[in
 
 
 # Rows, bounds and walks
+
+
+def decided_words(status: int, formula: str, log: str) -> Optional[str]:
+    """The verdict in a sentence, where it is one of 0, 1 and 2: by all timings, by none, by some."""
+    verdicts = {
+        0: f"True: {formula} is true by every timing that {log} admits.",
+        1: f"False: {formula} is false by every timing that {log} admits.",
+        2: f"Either: {formula} is true by some timings that {log} admits and false by others. The log doesn't tell.",
+    }
+    return verdicts.get(status)
 
 
 def row_words(log: Log, event: int) -> str:

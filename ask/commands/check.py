@@ -22,7 +22,7 @@ from ask.texts import Trouble, write_text
 from ask.windows.answer import long_answer
 from ask.windows.opening import add_window_words, long_question
 from ask.words import (
-    USAGE, Answer, bold, broken_words, counted, error_words, grouped, signed, table, walk_facts, walk_words,
+    USAGE, Answer, bold, broken_words, counted, decided_words, error_words, grouped, signed, table, walk_facts, walk_words,
 )
 
 FEW_CONFLICTS = 100  # what is tried where a run was stopped
@@ -304,12 +304,9 @@ class Reading:
 
 def verdict_words(status: int, formula: str, log: str, report: Report, options: Sequence[str]) -> str:
     """The verdict in a sentence."""
-    if status == 0:
-        return f"True: {formula} is true by every timing that {log} admits."
-    if status == 1:
-        return f"False: {formula} is false by every timing that {log} admits."
-    if status == 2:
-        return f"Either: {formula} is true by some timings that {log} admits and false by others. The log doesn't tell."
+    told = decided_words(status, formula, log)
+    if told is not None:
+        return told
     if status == 3:
         return f"No timing: {log} admits none, since these bounds contradict each other."
     found = "true" if report.sections[True].kind == "witness" else "false"

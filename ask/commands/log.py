@@ -147,11 +147,7 @@ def do(arguments: argparse.Namespace) -> Answer:
     found = found_in_files(arguments)
     if not found.events and not arguments.part:
         raise Trouble(WRONG, f"there is no row in {listed(arguments.files)}")
-    spellings = take_as_one(found) if arguments.same_name else Spellings({}, {})
-    making = making_of(found.events, arguments.unit)
-    making.spellings = spellings.hosts
-    making.notes += spellings.notes()
-    making.warnings += warnings_of_rows(arguments, found)
+    making = making_of_files(arguments, found)
     lines = making.lines
     cut_window(making, arguments)
     if not making.lines and not arguments.part:
@@ -190,6 +186,16 @@ def settle_clocks_and_bounds(
         making.ties += ties_of_durations(making, lines, measured)
     warn_of_durations(making)
     return idle
+
+
+def making_of_files(arguments: argparse.Namespace, found: Found) -> Making:
+    """The log to be made of what the files have, with what was taken as one host and what is to be warned of."""
+    spellings = take_as_one(found) if arguments.same_name else Spellings({}, {})
+    making = making_of(found.events, arguments.unit)
+    making.spellings = spellings.hosts
+    making.notes += spellings.notes()
+    making.warnings += warnings_of_rows(arguments, found)
+    return making
 
 
 def warnings_of_rows(arguments: argparse.Namespace, found: Found) -> List[str]:

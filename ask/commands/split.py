@@ -10,14 +10,13 @@ from pathlib import Path
 from typing import Dict, List
 
 from ask.commands.log import (
-    add_words_on_clocks, add_words_on_events, found_in_files, log_text, mapped_names, settle_clocks_and_bounds, tell,
-    warnings_of_rows,
+    add_words_on_clocks, add_words_on_events, found_in_files, log_text, making_of_files, mapped_names,
+    settle_clocks_and_bounds, tell,
 )
 from ask.events import WRONG
 from ask.limits import LogHost, hosts_of, limit_words_of
 from ask.logs import MOST_HOSTS, MOST_ROWS
-from ask.making import Line, Making, making_of, settle_messages, spread_carried
-from ask.spelling import Spellings, take_as_one
+from ask.making import Line, Making, settle_messages, spread_carried
 from ask.stamps import UNITS
 from ask.texts import Trouble, escaped, reason_of, write_text
 from ask.words import Answer, counted, listed, shortened
@@ -51,11 +50,7 @@ def do(arguments: argparse.Namespace) -> Answer:
     found = found_in_files(arguments)
     if not found.events:
         raise Trouble(WRONG, f"there is no row in {listed(arguments.files)}")
-    spellings = take_as_one(found) if arguments.same_name else Spellings({}, {})
-    making = making_of(found.events, arguments.unit)
-    making.spellings = spellings.hosts
-    making.notes += spellings.notes()
-    making.warnings += warnings_of_rows(arguments, found)
+    making = making_of_files(arguments, found)
     words = limit_words_of(arguments)
     settle_clocks_and_bounds(making, found, arguments, words, making.lines)
     hosts = hosts_of(making, found, words, len(making.hosts()))

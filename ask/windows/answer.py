@@ -15,7 +15,7 @@ from ask.program import STOPPED, Stopped
 from ask.question import VERDICTS, accepted_tree, run_facts, run_lines, shown_formula, text_of_source
 from ask.reports import read_report
 from ask.texts import Trouble, say
-from ask.words import USAGE, Answer, bold, broken_words, counted, grouped, listed, signed, table, walk_facts, walk_words
+from ask.words import USAGE, Answer, bold, broken_words, counted, decided_words, grouped, listed, signed, table, walk_facts, walk_words
 from ask.windows.asking import Keep, Said, Setting, Whole
 from ask.windows.bounds import Contradiction
 from ask.windows.cautions import cautions_of_long_log
@@ -358,13 +358,9 @@ class Stamped:
 
 def verdict_words(verdict: Verdict, formula: str, log: str) -> str:
     """The verdict in a sentence."""
-    status = verdict.status()
-    if status == 0:
-        return f"True: {formula} is true by every timing that {log} admits."
-    if status == 1:
-        return f"False: {formula} is false by every timing that {log} admits."
-    if status == 2:
-        return f"Either: {formula} is true by some timings that {log} admits and false by others. The log doesn't tell."
+    told = decided_words(verdict.status(), formula, log)
+    if told is not None:
+        return told
     for value, other in ((True, False), (False, True)):
         if verdict.can_be[value]:
             word, missing = str(value).lower(), str(other).lower()
