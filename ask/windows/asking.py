@@ -281,12 +281,13 @@ class Findings:
         whole = self.whole
         assert said.times is not None
         moved = clamped(said.times, whole.times)
-        if moved == said.times or self.fails_locally(said, moved):
-            timing = with_moved(whole.bounds, whole.near(), moved)
-            if fails(whole.bounds, whole.shape, timing, said.part):
-                return timing
+        if moved != said.times and not self.fails_locally(said, moved):
+            return None
+        timing = with_moved(whole.bounds, whole.near(), moved)
+        if fails(whole.bounds, whole.shape, timing, said.part):
+            return timing
         try:
-            timing = whole.bounds.with_rows_at(said.times, whole.times)
+            timing = whole.bounds.with_rows_at(moved, whole.times)
         except Contradiction:
             return None
         return timing if fails(whole.bounds, whole.shape, timing, said.part) else None
@@ -343,7 +344,7 @@ class Findings:
         """The ranges of a window with the rows of a contradiction with its timing; None where that is no more."""
         assert said.times is not None
         try:
-            self.whole.bounds.with_rows_at(said.times, self.whole.times)
+            self.whole.bounds.with_rows_at(clamped(said.times, self.whole.times), self.whole.times)
             return None
         except Contradiction as contradiction:
             walk = contradiction.walk

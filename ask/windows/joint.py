@@ -150,7 +150,8 @@ class Joint:
         if repair.is_all and said.can_hold is False:
             self.excluding = said
             return False
-        self.reach[repair.moment] = self.reach.get(repair.moment, 0) + 1
+        # A wider repair of all rows would be the same one.
+        self.reach[repair.moment] = MOST_GROWN + 1 if repair.is_all else self.reach.get(repair.moment, 0) + 1
         return True
 
     def moved(self, repair: Repair, said: Said) -> Optional[Dict[int, int]]:

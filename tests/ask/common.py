@@ -51,6 +51,11 @@ def standing_in(folder):
         os.chdir(before)
 
 
+def planted(owner, name, wrong):
+    """Has something wrong in place of what is right, of which it is made."""
+    return mock.patch.object(owner, name, wrong(getattr(owner, name)))
+
+
 def asked(words, folder=ROOT, text=b"", **environment):
     """How ask with these words ended: its status, what it wrote, and what it said beside that."""
     written, said = io.StringIO(), io.StringIO()

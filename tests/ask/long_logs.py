@@ -16,6 +16,7 @@ class Run(NamedTuple):
     latencies: dict  # the least and the greatest latency of a host by its number, None for no greatest one
     events: list  # in the order of the log
     spacing: int
+    bounds: tuple = ()  # the numbers of two rows each, and how long behind the other the one is at most
 
 
 class Event(NamedTuple):
@@ -25,23 +26,32 @@ class Event(NamedTuple):
     name: str
     skew: int
     stamp: int
+    clock: str = ""  # that is read, and by how much the reading may be off
+    error: int = 0
 
 
 def text_of(run):
-    """The log of a run, in version 1 where that can say it."""
+    """The log of a run, in version 1 where that can say it, and in version 2 where that can."""
     now = [skew for _, skew, _ in run.hosts]
+    read = [("", 0) for _ in run.hosts]
     body = []
     for event in run.events:
         name, _, gap = run.hosts[event.host]
         if now[event.host] != event.skew:
             now[event.host] = event.skew
             body.append(f"resync,{name},{event.skew},{gap}")
+        if read[event.host] != (event.clock, event.error):
+            read[event.host] = (event.clock, event.error)
+            body.append(f"clock,{name},{event.error},{event.clock}")
         body.append(f"{event.kind},{name},{event.stamp},{event.name}")
+    body += [f"bound,{later},{earlier},{most}" for later, earlier, most in run.bounds]
     heads = [f"host,{name},{skew},{gap}" for name, skew, gap in run.hosts]
     for number, (least, most) in sorted(run.latencies.items()):
         heads.append(f"latency,{run.hosts[number][0]},{least},{'inf' if most is None else most}")
     is_second = bool(run.latencies) or any(line.startswith(("resync", "pulse")) for line in body)
-    return "\n".join([f"{'skewlog2' if is_second else 'kind'},host,time,name", *heads, *body]) + "\n"
+    is_third = any(line.startswith(("clock", "bound")) for line in body)
+    first = "skewlog3" if is_third else "skewlog2" if is_second else "kind"
+    return "\n".join([f"{first},host,time,name", *heads, *body]) + "\n"
 
 
 class Builder:
@@ -223,7 +233,69 @@ def chain(draw, count):
     return builder.run(count)
 
 
-FAMILIES = {"chatter": chatter, "requests": requests, "beats": beats, "chain": chain}
+PLAIN = {"chatter": chatter, "requests": requests, "beats": beats, "chain": chain}
+
+
+# Runs of version 3
+
+
+def clocks(draw, count):
+    """A run of another family whose hosts read clocks."""
+    return with_clocks(draw, PLAIN[draw.choice(list(PLAIN))](draw, count))
+
+
+def bounds(draw, count):
+    """A run of another family with bounds between its rows, some of which read clocks too."""
+    run = PLAIN[draw.choice(list(PLAIN))](draw, count)
+    return with_bounds(draw, with_clocks(draw, run) if draw.random() < 0.3 else run)
+
+
+def with_clocks(draw, run):
+    """A run whose hosts read clocks, several of them one, which are other clocks from when they were set again.
+
+    Skews may be wide against the errors of readings. Some hosts read one from a moment on alone, some none.
+    """
+    wider, moments = draw.choice((1, 1, 2, 4)), sorted(event.time for event in run.events)
+    machines = [draw.randrange(len(run.hosts)) for _ in run.hosts]
+    settings = [draw.sample(moments, min(len(moments), draw.choice((0, 0, 1, 3)))) for _ in run.hosts]
+    begins = [draw.choice((moments[0], moments[0], moments[0], draw.choice(moments), moments[-1] + 1)) for _ in run.hosts]
+    begins[run.events[0].host] = moments[0]
+    errors = [draw.choice((0, 0, 1, 2, run.spacing // 10, run.spacing // 3)) for _ in run.hosts]
+    least, events = {}, []  # the least skew of the rows that read a clock
+    for event in run.events:
+        event = event._replace(skew=wider * event.skew)
+        if event.time >= begins[event.host]:
+            machine = machines[event.host]
+            clock = f"k{machine}_{sum(moment <= event.time for moment in settings[machine])}"
+            least[clock] = min(event.skew, least.get(clock, event.skew))
+            event = event._replace(clock=clock, error=errors[event.host])
+        events.append(event)
+    offsets = {clock: int(skew * draw.uniform(-0.9, 0.9)) for clock, skew in least.items()}
+    for place, event in enumerate(events):
+        if event.clock:
+            offset = offsets[event.clock]
+            error = min(event.error, least[event.clock] - abs(offset))
+            events[place] = event._replace(stamp=event.time - offset + draw.randint(-error, error))
+    if draw.random() < 0.5:
+        events = by_stamps(events, len(run.hosts))
+    return run._replace(hosts=[(name, wider * skew, gap) for name, skew, gap in run.hosts], events=events)
+
+
+def with_bounds(draw, run):
+    """A run with bounds between rows that mostly stand near to each other, as of durations, which its times keep."""
+    times = [event.time for event in run.events]
+    near, share = draw.choice((4, 12, 40)), draw.choice((0.05, 0.2, 0.5))
+    found = []
+    for _ in range(max(1, int(share * len(times)))):
+        one, reach = draw.randrange(len(times)), near if draw.random() < 0.95 else len(times)
+        other = min(max(one + draw.choice((-1, 1)) * draw.randint(1, reach), 0), len(times) - 1)
+        for later, earlier in ((one, other), (other, one))[: draw.choice((1, 2)) if one != other else 0]:
+            room = draw.choice((0, 0, 1, run.spacing // 10, run.spacing))
+            found.append((later, earlier, times[later] - times[earlier] + room))
+    return run._replace(bounds=tuple(found))
+
+
+FAMILIES = {**PLAIN, "clocks": clocks, "bounds": bounds}
 
 
 # Formulas
@@ -272,13 +344,21 @@ def at_end(draw, run):
     return f"{run.hosts[event.host][0]}.{event.name}"
 
 
+def blur(draw, run):
+    """By how much about a row may be off from another one: a skew, or less where clocks or bounds may tell of both."""
+    skew = max(skew for _, skew, _ in run.hosts)
+    if run.bounds or any(event.clock for event in run.events):
+        return draw.choice((skew, max(1, max(event.error for event in run.events)), max(1, run.spacing // 10)))
+    return skew
+
+
 def some_formula(draw, run, number_for):
     """A formula of the kinds that windows answer; `number_for` tells a number with which a promise is met."""
     choice = draw.random()
     if choice < 0.6:
         promise = some_promise(draw, run)
         number = number_for(promise)
-        skew = max(skew for _, skew, _ in run.hosts)
+        skew = blur(draw, run)
         number = max(1, number + draw.choice((0, 0, draw.randint(-skew, 2 * skew), draw.randint(0, 4 * skew), 5 * skew + 1)))
         body = promise.replace("?", str(number))
     elif choice < 0.7:

@@ -3,9 +3,12 @@
 import os
 import random
 import unittest
+from collections import Counter
 
 import common  # sets the path
 import clock_logs
+import long_logs
+import windows_agreement
 
 from ask.formulas import read_formula
 from ask.logs import bound_of, read_log
@@ -21,6 +24,7 @@ from ask.windows.timings import keeps, room
 from ask.windows.verdict import verdict_of_slices
 
 CASES = 400
+FAMILIES = ["clocks", "bounds"]  # of logs of hundreds of rows
 HEAD = "skewlog3,host,time,name\n"
 
 
@@ -158,6 +162,45 @@ class Windows(unittest.TestCase):
             self.assertTrue(clock_logs.is_timing(read_log(window.log), timing))
 
 
+class Families(unittest.TestCase):
+    def runs(self, family):
+        """Logs of a family, each with the times of the run that it is of."""
+        for seed in range(40):
+            draw = random.Random(f"{family} {seed}")
+            run = long_logs.FAMILIES[family](draw, draw.randint(60, 200))
+            yield read_long_log(long_logs.text_of(run).encode()), [event.time for event in run.events]
+
+    def test_a_run_is_a_timing(self):
+        for family in FAMILIES:
+            for log, times in self.runs(family):
+                self.assertIsNone(Bounds(log).broken(times))
+
+    def test_what_clocks_are_like(self):
+        found = Counter()
+        for log, _ in self.runs("clocks"):
+            hosts = [{log.rows.host[event] for event in events} for events in log.clock_rows()]
+            clocks = {(row.host, row.clock) for row in log.rows}
+            found["of several hosts"] += any(len(some) > 1 for some in hosts)
+            found["set again"] += len({host for host, _ in clocks}) < len(clocks)
+            found["with an error"] += any(row.error for row in log.rows)
+            found["without an error"] += any(row.clock is not None and not row.error for row in log.rows)
+            found["rows without one"] += any(row.clock is None for row in log.rows)
+            found["none"] += not log.clocks
+        self.assertEqual((found.pop("none"), min(found.values()) > 9), (0, True), found)
+
+    def test_what_bounds_are_like(self):
+        found = Counter()
+        for log, times in self.runs("bounds"):
+            rooms = [extra.most - times[extra.later] + times[extra.earlier] for extra in log.extras]
+            found["that the run just keeps"] += 0 in rooms
+            found["with room"] += max(rooms) > 0
+            found["to an earlier row"] += any(extra.later < extra.earlier for extra in log.extras)
+            found["beside clocks"] += bool(log.clocks)
+            found["far apart"] += any(abs(extra.later - extra.earlier) > 40 for extra in log.extras)
+            found["none"] += not log.extras
+        self.assertEqual((found.pop("none"), min(found.values()) > 4), (0, True), found)
+
+
 class Verdicts(unittest.TestCase):
     """What windows of a log tell, against what the program tells of the whole; of as many cases as CASES says, else 40."""
 
@@ -168,6 +211,14 @@ class Verdicts(unittest.TestCase):
             formula = clock_logs.some_formula(draw, read_log(text.encode()))
             with self.subTest(log=text, formula=formula):
                 self.assertEqual(self.by_windows(draw, text, formula), self.of_whole(text, formula))
+
+    def test_long_logs(self):
+        for place in range(int(os.environ.get("CASES", "6"))):
+            case = windows_agreement.case_of(f"clocks {place}", FAMILIES, (60, 100))
+            with self.subTest(log=case.log, formula=case.formula):
+                said, wrong, _ = windows_agreement.windows_answer(find_program(None), case)
+                right = windows_agreement.whole_answer(find_program(None), case, 120)
+                self.assertEqual((wrong, windows_agreement.compared(said, right) == "DIFFERENT"), ("", False), (said, right))
 
     def of_whole(self, text, formula):
         """Whether the formula can be true and false, None where no timing is admissible."""

@@ -1,6 +1,5 @@
 """Long logs by windows: what is read, the bounds of the whole, truth, verdicts, and folders that are kept."""
 
-import contextlib
 import json
 import os
 import random
@@ -10,7 +9,7 @@ import unittest
 from pathlib import Path
 from unittest import mock
 
-from common import asked, facts_of_text, status_of
+from common import asked, facts_of_text, planted, status_of
 import formats
 import generate
 import logs as reference_logs
@@ -291,13 +290,6 @@ class Verdicts(unittest.TestCase):
     def test_numbers_beyond_what_a_window_may_have(self):
         log = f"{HEAD}host,a,1000000000000000000,0\nnote,a,-4000000000000000000,n\npulse,a,4000000000000000000,p\n"
         self.assertIn(told(log, "G !a.p"), ((False, True), (None, True), (None, None)))
-
-
-@contextlib.contextmanager
-def planted(owner, name, wrong):
-    """Has something wrong in place of what is right."""
-    with mock.patch.object(owner, name, wrong(getattr(owner, name))):
-        yield
 
 
 def without_row(right):

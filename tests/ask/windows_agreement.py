@@ -24,7 +24,8 @@ import long_logs
 
 from ask.formulas import read_formula
 from ask.program import Program, find_program
-from ask.windows.asking import Setting, Whole
+from ask.windows.answer import SECONDS_OF_WINDOW
+from ask.windows.asking import UNDECIDED, Setting, Whole
 from ask.windows.bounds import Contradiction
 from ask.windows.longlog import read_long_log
 from ask.windows.shape import shape_of
@@ -75,7 +76,7 @@ def evaluated(log, times, shape):
 
 
 def whole_answer(program, case, seconds):
-    """What the program says of the whole log: whether it can be true and false, or None where that takes too long."""
+    """What the program says of the whole log: whether it can be true and false, or None where that is too much for it."""
     with tempfile.TemporaryDirectory() as folder:
         Path(folder, "f").write_text(case.formula)
         Path(folder, "l").write_text(case.log)
@@ -84,7 +85,7 @@ def whole_answer(program, case, seconds):
             status = subprocess.run(words, stdout=subprocess.DEVNULL, timeout=seconds).returncode
         except subprocess.TimeoutExpired:
             return None
-    return STATUSES.get(status) or (status if status != 4 else None)
+    return STATUSES.get(status) or (status if status not in UNDECIDED else None)
 
 
 def windows_answer(program, case):
@@ -95,7 +96,8 @@ def windows_answer(program, case):
         whole = Whole(log, shape)
     except Contradiction:
         return 3, "", 0
-    verdict = verdict_of_slices(whole, Setting(Program(program), most=case.most, size=case.size))
+    setting = Setting(Program(program), seconds=SECONDS_OF_WINDOW, most=case.most, size=case.size)
+    verdict = verdict_of_slices(whole, setting)
     wrong = [value for value, times in verdict.timings.items() if replayed(program, case, times) != value]
     said = f"the timings for {wrong} are none" if wrong else ""
     return (verdict.can_be[True], verdict.can_be[False]), said, verdict.findings.asker.runs

@@ -28,6 +28,11 @@ use Rattle.cdcl_core.specs.Walking.{lit_at, step_in}
 use Rattle.cdcl_core.proofs.Pairs.{atom_there, paired}
 use Rattle.mt_list.proofs.Lists.{parts_same}
 
+-- what has an edge has both
+edges_some : (o : Option (SystemEdge × SystemEdge)) (b : Bool) (x : SystemEdge) → sensed_edge o b ≡ Some x → (both : SystemEdge × SystemEdge) × (o ≡ Some both)
+edges_some (Some both) b x is = (both, refl)
+edges_some None b x is = absurd (cc)
+
 -- the edges of literals are those of the ones that have one
 sensed_some : (both : SystemEdge × SystemEdge) (b : Bool) → (x : SystemEdge) × (sensed_edge (Some both) b ≡ Some x)
 sensed_some both true = (both.0, refl)
@@ -150,8 +155,9 @@ module _ (log : Logged) (bounds : List Bound) (base : List SystemEdge) (atoms : 
   order_edge : (k : ℕ) → k < length orders → sensed_edge (order_edges (atom_at atoms (lit_at orders k).var)) (lit_at orders k).positive ≡ Some (system.edge_at (edges_of links lits) k)
   order_edge k within =
       let in_atoms = low k _ within in
-      let at = linked_is.each (lit_at orders k).var (atom_at atoms (lit_at orders k).var) (atom_there atoms (lit_at orders k).var in_atoms) in
-      ap (λ o. sensed_edge o (lit_at orders k).positive) (sym at) ∙ order_at k within
+      let some = edges_some (edges_at links (lit_at orders k).var) (lit_at orders k).positive _ (order_at k within) in
+      let at = linked_is.each (lit_at orders k).var (atom_at atoms (lit_at orders k).var) some.0 (atom_there atoms (lit_at orders k).var in_atoms) some.1 in
+      ap (λ o. sensed_edge o (lit_at orders k).positive) (at ∙ sym some.1) ∙ order_at k within
 
   -- the step at a place has the edge at that place
   step_edge : (p : ℕ) (s : Step) → p < length edges → step_in bounds atoms orders p ≡ Some s → edge_of log s ≡ Some (edge_in (system.edge_at edges p))

@@ -1,6 +1,6 @@
 -- What a search ends with: a model, lines that refute, or lines that derive.
-use Rattle.std.proofs.Common.{◌≡◌, ◌∙◌, sym, subst, ℕ, ◌+◌, ◌*◌, ◌^◌, ◌<◌, ◌≤◌, Bool, true, List, ◌++◌, length, arith, ℤ}
-use Rattle.std.specs.Prelude.{All, Contains}
+use Rattle.std.proofs.Common.{◌≡◌, ◌∙◌, refl, sym, subst, ℕ, ◌+◌, ◌*◌, ◌^◌, ◌<◌, ◌≤◌, Bool, true, false, List, ◌++◌, length, Option, Some, None, arith, ℤ}
+use Rattle.std.specs.Prelude.{All, Contains, IfNone, IfSome}
 use Rattle.std.specs.List.{list_any}
 use Rattle.std.proofs.lemmas.List.{get_or_append_left, length-append}
 use Rattle.std.proofs.lemmas.List.Elements.{All-contains, All-weaker}
@@ -26,7 +26,7 @@ use Rattle.cdcl_core.specs.declared.state.SearchState.{SearchState}
 use Rattle.cdcl_core.specs.Assignments.{IsSatisfying}
 use Rattle.cdcl_core.specs.Founds.{IsPosed, lessons}
 use Rattle.cdcl_core.specs.Recording.{IsRecord}
-use Rattle.cdcl_core.specs.Searching.{IsMidway, IsSearch}
+use Rattle.cdcl_core.specs.Searching.{IsMidway, IsSearch, allowance}
 use Rattle.cdcl_core.proofs.Lessons.{lessons_learn}
 use Rattle.cdcl_core.specs.Turns.{AreRefuting}
 
@@ -35,13 +35,26 @@ all_front : {X : Type 0} (P : X → Type 0) (xs ys : List X) → All P (xs ++ ys
 all_front P xs ys all k d below = rw (get_or_append_left xs ys d k below) at (all k d (omega (arith, below, length-append xs ys)))
 
 -- a refutation answers, where its conflicts are fewer than the budget
-pub refuted_found : (p : Problem) (n budget : ℕ) (lines : List Line) → n < budget → AreRefuting p n lines → (log : Logged) (f : Form) (v : Bool) → IsLog log → Fits (sought_of log f v) p
+pub refuted_found : (p : Problem) (whole : Bool) (n budget : ℕ) (lines : List Line) → n < budget → AreRefuting p whole n lines → length lines ≤ 2 * budget → (log : Logged) (f : Form) (v : Bool) → IsLog log → Fits (sought_of log f v) p
     → Refutes log f v lines × (lessons lines < budget) × (length lines ≤ 2 * budget)
-refuted_found p n budget lines less refutation log f v valid fits = (
+refuted_found p whole n budget lines less refutation few log f v valid fits = (
   refutation.refutes log f v valid fits,
   let count = refutation.lesson_count in omega (arith, count, less),
-  let few = refutation.few_lines in omega (arith, few, less),
+  few,
 )
+
+-- where there are too many lines, or none, some order was assumed
+assumed_some : (w : Bool) → 0 < allowance w → w ≡ false
+assumed_some true some = absurd (omega (arith, some))
+assumed_some false some = refl
+
+pub too_many : (p : Problem) (w : Bool) (n budget : ℕ) (o : Option (List Line)) → n < budget → IfNone o (w ≡ false) → IfSome o (AreRefuting p w n)
+    → ((lines : List Line) → o ≡ Some lines → 2 * budget < length lines) → w ≡ false
+too_many p w n budget None less none refuting many = none
+too_many p w n budget (Some lines) less none refuting many =
+    let more = many lines refl in
+    let few = refuting.few_lines in
+    assumed_some w (omega (arith, more, few, less))
 
 module _ (p : Problem) (s : SearchState) (n : ℕ) where
   -- what satisfies the problem and all that was derived is a model
@@ -60,7 +73,7 @@ module _ (p : Problem) (s : SearchState) (n : ℕ) where
 
   -- where a clause is false at level 0 one line more refutes
   pub refutation : (c : ℕ) (lines : List Line) → IsMidway p s n c → length lines ≡ length s.derived.lines + 1 → lessons lines ≡ lessons s.derived.lines
-      → ((log : Logged) (f : Form) (v : Bool) → IsRecord log f v p.atoms s.derived.db s.derived.cites s.derived.lines → Refutes log f v lines) → AreRefuting p n lines
+      → ((log : Logged) (f : Form) (v : Bool) → IsRecord log f v p.atoms s.derived.db s.derived.cites s.derived.lines → Refutes log f v lines) → AreRefuting p s.theory.whole n lines
   refutation c lines mid count same refutes = record {
     few_lines = let few = mid.spent.few_lines in omega (arith, count, few);
     lesson_count = same ∙ mid.spent.lesson_count;
@@ -85,9 +98,9 @@ module _ (p : Problem) (s : SearchState) (n : ℕ) where
             (learnt s.derived.lines) spending.own;
       }
 
-  pub spent_found : (budget : ℕ) → n ≡ budget → IsSearch p s n → (log : Logged) (f : Form) (v : Bool) → IsLog log → Fits (sought_of log f v) p
+  pub spent_found : (budget : ℕ) → n ≡ budget → IsSearch p s n → length s.derived.lines ≤ 2 * budget → (log : Logged) (f : Form) (v : Bool) → IsLog log → Fits (sought_of log f v) p
       → Spends log f v p.rules budget s.derived.lines × (length s.derived.lines ≤ 2 * budget)
-  spent_found budget all search log f v valid fits = (spends budget all search log f v valid fits, let few = search.spent.few_lines in omega (arith, few, all))
+  spent_found budget all search few log f v valid fits = (spends budget all search log f v valid fits, few)
 
   -- so it is below three to the number of atoms, ..
   pub spent_bounded : (budget : ℕ) → n ≡ budget → IsSearch p s n → IsPosed p → budget < 3 ^ length p.atoms

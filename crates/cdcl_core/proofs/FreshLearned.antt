@@ -27,7 +27,7 @@ use Rattle.proof_log.specs.Derivations.{HasClauses}
 use Rattle.proof_log.specs.Freshness.{Fresh, IsLearnAt, IsNew, Used, known_before, rules_of_line}
 use Rattle.cdcl_core.specs.Extending.{Extends}
 use Rattle.cdcl_core.specs.Orders.{read_lit}
-use Rattle.cdcl_core.specs.Recording.{IsLearnLine, IsRecord, cite_at, read_clause}
+use Rattle.cdcl_core.specs.Recording.{IsLearnLine, IsRecord, IsSettled, cite_at, read_clause}
 use Rattle.cdcl_core.specs.Spending.{IsQuietBelow, IsSpending, NamesOneOf}
 use Rattle.cdcl_core.proofs.FreshClauses.{misses_below}
 use Rattle.cdcl_core.proofs.LineGrowth.{hints_kept, line_last}
@@ -52,7 +52,7 @@ module _ (log : Logged) (f : Form) (v : Bool) (rules : List Rule) (atoms : List 
   extends : (lits : List Lit) → Extends known (db ++ lits ∷ [])
   extends lits = let (added, is) = quiet.clauses in (added ++ lits ∷ [], ap (λ (cs : List (List Lit)). cs ++ lits ∷ []) is ∙ append_assoc known added (lits ∷ []))
 
-  module _ (lits : List Lit) (refs : List ℕ) (own : List Literal) (cited : List Hint) (low : All (λ l. l.var < length atoms) lits) (unit : IsUnitBelow t lits) (used : HintsAreUsed db lits refs)
+  module _ (lits : List Lit) (refs : List ℕ) (own : List Literal) (cited : List Hint) (low : All (λ l. l.var < length atoms) lits) (unit : IsUnitBelow t lits) (used : HintsAreUsed db lits refs) (settled : All (λ c. IsSettled (cite_at cites c)) refs)
       (own_is : own ≡ read_clause atoms lits) (cited_is : cited ≡ map (cite_at cites) refs) where
     abbrev d : Line
     d = line.Learn own cited
@@ -88,7 +88,7 @@ module _ (log : Logged) (f : Form) (v : Bool) (rules : List Rule) (atoms : List 
           learn = own_learn;
           clauses = clauses;
           cited = hints_kept s lines (d ∷ []) (length lines + 1) cited clauses
-              (subst (λ (hs : List Hint). HasClauses s lines (length lines + 1) hs clauses) (sym cited_is) (cites_have s atoms db cites lines refs record_.cited used.held));
+              (subst (λ (hs : List Hint). HasClauses s lines (length lines + 1) hs clauses) (sym cited_is) (cites_have s atoms db cites lines refs record_.cited used.held settled));
           resolvent = subst (λ (ls : List Literal). HintsUsed negated ls clauses) (sym own_is) (used_read atoms once db lits refs within low used);
         }
 
@@ -103,8 +103,8 @@ module _ (log : Logged) (f : Form) (v : Bool) (rules : List Rule) (atoms : List 
         (λ learn. fresh_learned) (λ learn. used_learned)
 
   -- so is what a line of its literals and its hints is spent on
-  pub spending_learned : (lits : List Lit) (refs : List ℕ) (d : Line) → All (λ l. l.var < length atoms) lits → IsUnitBelow t lits → HintsAreUsed db lits refs
+  pub spending_learned : (lits : List Lit) (refs : List ℕ) (d : Line) → All (λ l. l.var < length atoms) lits → IsUnitBelow t lits → HintsAreUsed db lits refs → All (λ c. IsSettled (cite_at cites c)) refs
       → IsLearnLine (read_clause atoms lits) (map (cite_at cites) refs) d
       → IsSpending log f v rules atoms (db ++ lits ∷ []) (cites ++ hint.Line (length lines + 1) ∷ []) (lines ++ d ∷ [])
-  spending_learned lits refs (line.Cycle steps) low unit used is = absurd is
-  spending_learned lits refs (line.Learn own cited) low unit used (own_is, cited_is, numbers) = learned_line lits refs own cited low unit used own_is cited_is
+  spending_learned lits refs (line.Cycle steps) low unit used settled is = absurd is
+  spending_learned lits refs (line.Learn own cited) low unit used settled (own_is, cited_is, numbers) = learned_line lits refs own cited low unit used settled own_is cited_is

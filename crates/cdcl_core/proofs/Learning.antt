@@ -20,7 +20,7 @@ use Rattle.proof_log.specs.Derivations.{IsLearnt, IsShown, Refutes, clause_of_li
 use Rattle.proof_log.specs.Spelled.{IsSpelled, IsSpelledHint}
 use Rattle.cdcl_core.specs.Founds.{lessons}
 use Rattle.cdcl_core.specs.Orders.{IsOrderAmong, atom_at, read_lit}
-use Rattle.cdcl_core.specs.Recording.{IsLearnLine, IsRecord, cite_at, read_clause}
+use Rattle.cdcl_core.specs.Recording.{IsLearnLine, IsRecord, IsSettled, cite_at, read_clause}
 use Rattle.cdcl_core.proofs.Counts.{few_hints, few_literals}
 use Rattle.cdcl_core.proofs.LineGrowth.{lessons_more, refutes_more}
 use Rattle.cdcl_core.proofs.Pairs.{atom_there}
@@ -53,13 +53,16 @@ module _ (log : Logged) (f : Form) (v : Bool) (atoms : List Atom) (db : List (Li
   abbrev s : Sought
   s = sought_of log f v
 
+  abbrev AreSettled : List ℕ → Type 0
+  AreSettled refs = All (λ c. IsSettled (cite_at cites c)) refs
+
   abbrev cited_by : List ℕ → List Hint
   cited_by refs = map (cite_at cites) refs
 
   learn_right : (lits : List Lit) (refs : List ℕ) (d : Line) → All (λ l. l.var < length atoms) lits → HasVarsOnce lits → HintsRefute db (map negation lits) refs
-      → IsLearnLine (read_clause atoms lits) (cited_by refs) d → IsRight s lines d (read_clause atoms lits)
-  learn_right lits refs (line.Cycle steps) low vars hints is = absurd is
-  learn_right lits refs (line.Learn own cited) low vars hints (own_is, cited_is, numbers) = record {
+      → AreSettled refs → IsLearnLine (read_clause atoms lits) (cited_by refs) d → IsRight s lines d (read_clause atoms lits)
+  learn_right lits refs (line.Cycle steps) low vars hints settled is = absurd is
+  learn_right lits refs (line.Learn own cited) low vars hints settled (own_is, cited_is, numbers) = record {
     spelled = record {
       lit_count = let many = few_literals (length atoms) lits vars low in let size = length-map lits (read_lit atoms) in let same = ap length own_is in omega (arith, many, size, same, few);
       hint_count = let many = few_hints (length atoms) db (map negation lits) refs within hints in let size = length-map refs (cite_at cites) in
@@ -70,7 +73,7 @@ module _ (log : Logged) (f : Form) (v : Bool) (atoms : List Atom) (db : List (Li
     };
     shown = subst (λ (c : List Literal). IsLearnt s lines (length lines + 1) c cited) (sym own_is)
         (subst (λ (h : List Hint). IsLearnt s lines (length lines + 1) (read_clause atoms lits) h) (sym cited_is)
-        (learnt_read s atoms db cites lines lits refs once old.of_log.in_range within low old.cited hints));
+        (learnt_read s atoms db cites lines lits refs once old.of_log.in_range within low old.cited hints settled));
     clause_is = own_is;
   } where
     own_among : All (λ (l : Literal). IsOrderAmong (length log.rows + 1) l.atom) own
@@ -86,16 +89,16 @@ module _ (log : Logged) (f : Form) (v : Bool) (atoms : List Atom) (db : List (Li
 
   -- the record with a learned clause and its line
   pub record_learned : (lits : List Lit) (refs : List ℕ) (d : Line) → All (λ l. l.var < length atoms) lits → HasVarsOnce lits → 0 < length lits → HintsRefute db (map negation lits) refs
-      → IsLearnLine (read_clause atoms lits) (cited_by refs) d → length lines + 1 < 2 ^ 32
+      → AreSettled refs → IsLearnLine (read_clause atoms lits) (cited_by refs) d → length lines + 1 < 2 ^ 32
       → IsRecord log f v atoms (db ++ lits ∷ []) (cites ++ hint.Line (length lines + 1) ∷ []) (lines ++ d ∷ [])
-  record_learned lits refs d low vars some hints is few_lines =
-      let right = learn_right lits refs d low vars hints is in
+  record_learned lits refs d low vars some hints settled is few_lines =
+      let right = learn_right lits refs d low vars hints settled is in
       record_more log f v atoms db cites lines d lits old right.spelled right.shown right.clause_is some few_lines
 
   -- with a line whose clause is empty the lines refute
-  pub record_refuted : (refs : List ℕ) (d : Line) → HintsRefute db [] refs → IsLearnLine [] (cited_by refs) d → Refutes log f v (lines ++ d ∷ [])
-  record_refuted refs d hints is =
-      let right = learn_right [] refs d (All-nil (λ (l : Lit). l.var < length atoms)) (λ i j e less below. absurd (omega (arith, below))) hints is in
+  pub record_refuted : (refs : List ℕ) (d : Line) → HintsRefute db [] refs → AreSettled refs → IsLearnLine [] (cited_by refs) d → Refutes log f v (lines ++ d ∷ [])
+  record_refuted refs d hints settled is =
+      let right = learn_right [] refs d (All-nil (λ (l : Lit). l.var < length atoms)) (λ i j e less below. absurd (omega (arith, below))) hints settled is in
       refutes_more log f v lines d old.derives right.spelled right.shown right.clause_is
 
 -- a line whose clause is empty is no lesson, and any other Learn line is one

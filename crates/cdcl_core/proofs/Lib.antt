@@ -24,6 +24,8 @@ pub mod CycleLines
 pub mod Models
 pub mod Decisions
 pub mod Starts
+pub mod Grounds
+pub mod Settlings
 pub mod Learned
 pub mod LinkedUpTo
 pub mod Progress

@@ -25,7 +25,7 @@ use Rattle.axiom_rules.specs.declared.literal.Atom.TheVariants.{Order}
 use Rattle.axiom_rules.specs.Atoms.{IsVar}
 use Rattle.mtl_encode.specs.Models.{value_at}
 use Rattle.cdcl_core.specs.Assignments.{AreValues}
-use Rattle.cdcl_core.specs.Orders.{AreLinks, order_edges}
+use Rattle.cdcl_core.specs.Orders.{HasAllLinks, order_edges}
 use Rattle.axiom_rules.proofs.RulesHold.{of-sense}
 
 contains_right : {X : Type 0} (xs ys : List X) (y : X) → Contains ys y → Contains (xs ++ ys) y
@@ -76,7 +76,7 @@ module _ (t : Assigned) (values : List Bool) (are : AreValues t values) where
     pub model_clauses : (db : List (List Lit)) → All (All (λ l. l.var < t.vars)) db → AreSettled t.entries db → All (λ lits. list_any (value_of (value_at values)) lits ≡ true) db
     model_clauses db vars settled = λ c d below. settled_true _ (vars c d below) (settled c d below)
 
-    module _ (db : List (List Lit)) (atoms : List Atom) (links : List (Option (Edge × Edge))) (base : List Edge) (g : Constraints) (count : t.vars ≡ length atoms) (linked : AreLinks atoms links)
+    module _ (db : List (List Lit)) (atoms : List Atom) (links : List (Option (Edge × Edge))) (base : List Edge) (g : Constraints) (count : t.vars ≡ length atoms) (linked : HasAllLinks atoms links)
         (step : InStep t db links base g) (solved : IsSolved g) where
       -- the edge of a literal of the trail is met
       met : (l : Lit) (x : Edge) → Contains (literals t.entries) l → edge_of links l ≡ Some x → Meets g.numbers x
@@ -92,7 +92,7 @@ module _ (t : Assigned) (values : List Bool) (are : AreValues t values) where
           let l = (entry_at t.entries k).lit in
           let held = literal_held t.entries k l within refl in
           let sense = All-get_or (λ (x : Entry). value_at values x.lit.var ≡ x.lit.positive) t.entries k no_entry within are.sense in
-          let edges : edges_at links l.var ≡ order_edges (Order e f c) = ap (edges_at links) var ∙ linked.each v (Order e f c) is in
+          let edges : edges_at links l.var ≡ order_edges (Order e f c) = ap (edges_at links) var ∙ linked v (Order e f c) is in
           sym (ap (value_at values) var) ∙ sense ∙ go l.positive (λ x at. met l x held (ap (λ o. sensed_edge o l.positive) edges ∙ at))
         where
           go : (b : Bool) → ((x : Edge) → sensed_edge (order_edges (Order e f c)) b ≡ Some x → Meets g.numbers x) → b ≡ int_le (number_of g.numbers (e + 1) -ℤ number_of g.numbers (f + 1)) c

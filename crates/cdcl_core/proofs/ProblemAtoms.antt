@@ -160,3 +160,11 @@ edges-room s p valid fits =
     let listed : length p.bounds ≡ length (bounds_of s.log) = ap length fits.bounds in
     let few = few-bounds s.log in
     omega (arith, count, listed, few, valid.few_rows, valid.few_extras, fits.few_atoms)
+
+-- with one edge more there are few enough
+pub edges-room-one : (s : Sought) (p : Problem) → IsLog s.log → Fits s p → length p.edges + 1 ≤ MAX_EDGES
+edges-room-one s p valid fits =
+    let count = edge-count s.log p.bounds p.edges fits.edges in
+    let listed : length p.bounds ≡ length (bounds_of s.log) = ap length fits.bounds in
+    let few = few-bounds s.log in
+    omega (arith, count, listed, few, valid.few_rows, valid.few_extras)

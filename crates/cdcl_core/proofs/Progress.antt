@@ -1,5 +1,6 @@
 -- How a search goes on from one conflict to the next.
-use Rattle.std.proofs.Common.{◌≡◌, ◌∙◌, sym, ap, inl, inr, ℕ, ◌+◌, ◌^◌, ◌-◌, ◌<◌, ◌≤◌, Bool, List, [], ◌++◌, length, take, Option, arith, append_assoc, append-nil}
+use Rattle.std.proofs.Common.{◌≡◌, ◌⊎◌, ◌∙◌, sym, ap, refl, inl, inr, ℕ, ◌+◌, ◌*◌, ◌^◌, ◌-◌, ◌<◌, ◌≤◌, Bool, true, false, List, [], ◌++◌, length, take, Option, arith, append_assoc, append-nil}
+use Rattle.std.specs.Prelude.{All, IsTrue}
 use Rattle.mt_model.specs.Form.{Form}
 use Rattle.mt_model.specs.Log.{Logged}
 use Rattle.neg_cycle.specs.declared.system.Edge.{Edge}
@@ -22,15 +23,19 @@ use Rattle.cdcl_core.specs.declared.state.SearchState.{SearchState}
 use Rattle.cdcl_core.specs.declared.strategy.Strategy.{Strategy}
 use Rattle.cdcl_core.specs.Founds.{lessons}
 use Rattle.cdcl_core.specs.Orders.{linked}
-use Rattle.cdcl_core.specs.Recording.{IsRecord}
+use Rattle.proof_log.specs.declared.line.Line.{Line}
+use Rattle.cdcl_core.specs.declared.settling.TheConstants.{MAX_SETTLED}
+use Rattle.cdcl_core.specs.Recording.{IsRecord, IsSettled}
+use Rattle.cdcl_core.specs.Settling.{HasSettled}
 use Rattle.cdcl_core.specs.Running.{HasStopped, IsConflicted, IsRun, IsRunning, IsStuck, IsStuckOver}
 use Rattle.cdcl_core.specs.Extending.{Extends}
-use Rattle.cdcl_core.specs.Searching.{AreLinkedUpTo, HasSpent, IsMidway, IsSearch, IsSearchFor, IsStopped}
+use Rattle.cdcl_core.specs.Searching.{AreLinkedUpTo, HasSpent, IsMidway, IsSearch, IsSearchFor, IsStopped, allowance}
 use Rattle.cdcl_core.specs.Spending.{IsQuietBelow, IsSpending}
 use Rattle.cdcl_core.proofs.Conflicts.{false_conflicted}
 use Rattle.cdcl_core.proofs.Descents.{run_decided, run_grown}
 use Rattle.cdcl_core.proofs.LinkedUpTo.{linked_all, linked_grown}
 use Rattle.cdcl_core.proofs.ProblemAtoms.{edge-count}
+use Rattle.cdcl_core.proofs.Settlings.{all_kept}
 
 pub extends_same : (db : List (List Lit)) → Extends db db
 extends_same db = ([], sym (append-nil db))
@@ -49,7 +54,12 @@ stopped_closed db links base t g (conflict.Refused l) stopped = stopped.closed
 
 -- the state with another trail and graph
 abbrev pub moved : SearchState → Assigned → Constraints → Strategy → SearchState
-moved s u h y = record { theory = s.theory; trail = u; graph = h; linked = s.linked; derived = s.derived; strategy = y }
+moved s u h y = record { theory = s.theory; trail = u; graph = h; ground = s.ground; linked = s.linked; derived = s.derived; strategy = y }
+
+-- there are never too many lines of assumed orders
+pub allowance_most : (whole : Bool) → allowance whole ≤ 4000000
+allowance_most true = omega arith
+allowance_most false = omega arith
 
 module _ (p : Problem) (s : SearchState) where
   module _ (own : IsSearchFor p s) where
@@ -77,16 +87,18 @@ module _ (p : Problem) (s : SearchState) where
       nodes = limits.nodes ∙ own.nodes;
       room = let old = own.room in let equal = limits.capacity in omega (arith, old, equal);
       linked = linked_grown s.theory.links s.trail.entries s.linked own.linked u.entries kept longer;
+      ground = own.ground;
       clauses = own.clauses;
+      settled = own.settled;
       derives = own.derives;
     }
 
     -- there is room for so many clauses and lines more
     pub clause_room : (n more : ℕ) (known : List (List Lit)) → n ≤ 999999 → more ≤ 1 → HasSpent p s n more known → length s.derived.db < 2 ^ 32 - 1
-    clause_room n more known few little spent = let clauses = spent.few_clauses in let least = own.theory_of.posed.fits.few_clauses in omega (arith, clauses, least, few, little)
+    clause_room n more known few little spent = let clauses = spent.few_clauses in let least = own.theory_of.posed.fits.few_clauses in let atoms = own.theory_of.posed.fits.few_atoms in omega (arith, clauses, least, atoms, few, little)
 
     pub line_room : (n more : ℕ) (known : List (List Lit)) → n ≤ 999999 → more ≤ 1 → HasSpent p s n more known → length s.derived.lines < 2 ^ 32 - 1
-    line_room n more known few little spent = let lines = spent.few_lines in omega (arith, lines, few, little)
+    line_room n more known few little spent = let lines = spent.few_lines in let most = allowance_most s.theory.whole in omega (arith, lines, most, few, little)
 
   spent_moved : (n more : ℕ) (known : List (List Lit)) (u : Assigned) (h : Constraints) (y : Strategy) → HasSpent p s n more known → HasSpent p (moved s u h y) n more known
   spent_moved n more known u h y spent = record { few_clauses = spent.few_clauses; few_lines = spent.few_lines; lesson_count = spent.lesson_count; spending = spent.spending }
@@ -162,13 +174,14 @@ module _ (p : Problem) (s : SearchState) where
       → o.lits.items ≡ linked s.theory.links (literals s.trail.entries) → length k.db ≡ length s.derived.db + 1 → Extends s.derived.db k.db
       → length k.lines ≡ length s.derived.lines + 1
       → lessons k.lines ≡ lessons s.derived.lines
+      → (All IsSettled s.derived.cites → All IsSettled k.cites)
       → ((base : List Edge) (m : Lit) → length base ≡ length s.theory.bounds → IsStuck s.derived.db s.theory.links base s.trail s.graph m → IsConflicted k.db s.theory.links base s.trail s.graph c)
       → ((log : Logged) (f : Form) (v : Bool) (base : List Edge) (m : Lit) → AreEdges log s.theory.bounds base → IsStuck s.derived.db s.theory.links base s.trail s.graph m
       → IsRecord log f v s.theory.atoms s.derived.db s.derived.cites s.derived.lines → IsRecord log f v s.theory.atoms k.db k.cites k.lines)
       → ((log : Logged) (f : Form) (v : Bool) (rules : List Rule) (table : List Atom) (known : List (List Lit))
       → IsSpending log f v rules table known s.derived.cites s.derived.lines → IsSpending log f v rules table known k.cites k.lines)
-      → IsMidway p (record { theory = s.theory; trail = s.trail; graph = s.graph; linked = o; derived = k; strategy = s.strategy }) n c
-  midway_cycle n c l o k stopped seen lits clauses more lines same conflicted derives spends =
+      → IsMidway p (record { theory = s.theory; trail = s.trail; graph = s.graph; ground = s.ground; linked = o; derived = k; strategy = s.strategy }) n c
+  midway_cycle n c l o k stopped seen lits clauses more lines same settles conflicted derives spends =
       let own = stopped.search_for in
       let theory_of = own.theory_of in
       let spent = stopped.spent in
@@ -179,7 +192,9 @@ module _ (p : Problem) (s : SearchState) where
           nodes = own.nodes;
           room = own.room;
           linked = linked_all s.theory.links s.trail.entries o seen lits;
+          ground = own.ground;
           clauses = extends_more p.db s.derived.db k.db own.clauses more;
+          settled = λ whole. settles (own.settled whole);
           derives = λ log f v valid fits.
               let record_ = derives log f v p.edges l (rw theory_of.bounds fits.edges) stopped.stopped (rw theory_of.atoms (own.derives log f v valid fits)) in
               rw theory_of.atoms at record_;
@@ -195,16 +210,62 @@ module _ (p : Problem) (s : SearchState) where
         conflicted = conflicted p.edges l (edges_count own) stopped.stopped;
       }
 
+  -- the lines of assumed orders leave the conflict
+  few_settled : (lines : List Line) (n : ℕ) (w : Bool) → s.theory.whole ≡ w → length s.derived.lines ≤ n + allowance w → (lines ≡ s.derived.lines) ⊎ (length lines ≤ MAX_SETTLED)
+      → (IsTrue w → lines ≡ s.derived.lines) → length lines ≤ n + allowance w
+  few_settled lines n true is old few none = rw (none refl) old
+  few_settled lines n false is old few none = elim few [
+    | inl same ↦ rw same old
+    | inr most ↦ omega (arith, most)
+  ]
+
+  pub midway_settled : (n c : ℕ) (g : Constraints) (k : Derived) → IsMidway p s n c → HasSameLimits s.ground g → g.edges ≡ s.ground.edges
+      → HasSettled s.theory.atoms s.theory.bounds s.ground.edges s.derived k → (All IsSettled s.derived.cites → k.lines ≡ s.derived.lines)
+      → IsMidway p (record { theory = s.theory; trail = s.trail; graph = s.graph; ground = g; linked = s.linked; derived = k; strategy = s.strategy }) n c
+  midway_settled n c g k mid limits same settles none =
+      let own = mid.search_for in
+      let theory_of = own.theory_of in
+      let spent = mid.spent in
+      record {
+        search_for = record {
+          theory_of = theory_of;
+          assigned = own.assigned;
+          nodes = own.nodes;
+          room = own.room;
+          linked = own.linked;
+          ground = record {
+            nodes = limits.nodes ∙ own.ground.nodes;
+            edges = same ∙ own.ground.edges;
+            room = let room = own.ground.room in let equal = limits.capacity in omega (arith, room, equal);
+          };
+          clauses = rw settles.clauses own.clauses;
+          settled = λ whole. all_kept s.derived.cites k.cites settles.count settles.kept (own.settled whole);
+          derives = λ log f v valid fits.
+              let record_ = settles.derives log f v (rw (theory_of.bounds, own.ground.edges) fits.edges) (rw theory_of.atoms (own.derives log f v valid fits)) in
+              rw theory_of.atoms at record_;
+        };
+        known = mid.known;
+        spent = record {
+          few_clauses = rw settles.clauses spent.few_clauses;
+          few_lines = few_settled k.lines (2 * n + 1) s.theory.whole refl spent.few_lines settles.few (λ whole. none (own.settled whole));
+          lesson_count = settles.lesson_count ∙ spent.lesson_count;
+          spending = λ log f v valid fits. settles.spending log f v p.rules p.atoms mid.known (spent.spending log f v valid fits);
+        };
+        quiet = rw settles.clauses mid.quiet;
+        conflicted = rw settles.clauses mid.conflicted;
+      }
+
   -- after a learned clause the search has one conflict more
   pub learned : (n c : ℕ) (u : Assigned) (h : Constraints) (o : LinkedLits) (k : Derived) (y : Strategy) → IsMidway p s n c → u.vars ≡ s.trail.vars
       → HasSameLimits s.graph h → AreLinkedUpTo s.theory.links u.entries o → IsRun k.db s.theory.links p.edges u h → Extends s.derived.db k.db
       → length k.db ≡ length s.derived.db + 1 → length k.lines ≡ length s.derived.lines + 1 → lessons k.lines ≡ lessons s.derived.lines + 1
+      → (All IsSettled s.derived.cites → All IsSettled k.cites)
       → ((log : Logged) (f : Form) (v : Bool) → IsRecord log f v s.theory.atoms s.derived.db s.derived.cites s.derived.lines → IsRecord log f v s.theory.atoms k.db k.cites k.lines)
       → ((log : Logged) (f : Form) (v : Bool) (rules : List Rule) (known : List (List Lit)) → IsQuietBelow known s.derived.db s.trail
       → IsRecord log f v s.theory.atoms s.derived.db s.derived.cites s.derived.lines
       → IsSpending log f v rules s.theory.atoms known s.derived.cites s.derived.lines → IsSpending log f v rules s.theory.atoms k.db k.cites k.lines)
-      → IsSearch p (record { theory = s.theory; trail = u; graph = h; linked = o; derived = k; strategy = y }) (n + 1)
-  learned n c u h o k y mid same limits are run more clauses lines count derives spending =
+      → IsSearch p (record { theory = s.theory; trail = u; graph = h; ground = s.ground; linked = o; derived = k; strategy = y }) (n + 1)
+  learned n c u h o k y mid same limits are run more clauses lines count settles derives spending =
       let own = mid.search_for in
       let theory_of = own.theory_of in
       let spent = mid.spent in
@@ -215,7 +276,9 @@ module _ (p : Problem) (s : SearchState) where
           nodes = limits.nodes ∙ own.nodes;
           room = let old = own.room in let equal = limits.capacity in omega (arith, old, equal);
           linked = are;
+          ground = own.ground;
           clauses = extends_more p.db s.derived.db k.db own.clauses more;
+          settled = λ whole. settles (own.settled whole);
           derives = λ log f v valid fits.
               let record_ = derives log f v (rw theory_of.atoms (own.derives log f v valid fits)) in
               rw theory_of.atoms at record_;

@@ -20,7 +20,7 @@ use Rattle.proof_log.specs.declared.line.Hint.{Hint}
 use Rattle.proof_log.specs.declared.line.Line.{Line}
 use Rattle.proof_log.specs.Derivations.{HasClauses, IsLearnt, is_in_range}
 use Rattle.cdcl_core.specs.Orders.{atom_at, read_lit}
-use Rattle.cdcl_core.specs.Recording.{AreCited, cite_at, read_clause}
+use Rattle.cdcl_core.specs.Recording.{AreCited, IsSettled, cite_at, read_clause}
 use Rattle.cdcl_core.proofs.Pairs.{atom_there}
 use Rattle.clause_db.proofs.LawLemmas.{lit_same}
 
@@ -87,20 +87,22 @@ module _ (atoms : List Atom) (once : AreOnce atoms) where
 
 -- the hints that cite clauses have these clauses
 pub cites_have : (s : Sought) (atoms : List Atom) (db : List (List Lit)) (cites : List Hint) (lines : List Line) (refs : List ℕ) → AreCited s atoms db cites lines → AreHeld db refs
-    → HasClauses s lines (length lines + 1) (map (cite_at cites) refs) (map (read_clause atoms) (clauses_at db refs))
-cites_have s atoms db cites lines [] are held = refl
-cites_have s atoms db cites lines (c ∷ cs) are held =
-    rw (are.each c (All-head (λ (k : ℕ). k < length db) c cs held), cites_have s atoms db cites lines cs are (All-tail (λ (k : ℕ). k < length db) c cs held)) refl
+    → All (λ c. IsSettled (cite_at cites c)) refs → HasClauses s lines (length lines + 1) (map (cite_at cites) refs) (map (read_clause atoms) (clauses_at db refs))
+cites_have s atoms db cites lines [] are held settled = refl
+cites_have s atoms db cites lines (c ∷ cs) are held settled =
+    let here = All-head (λ (k : ℕ). IsSettled (cite_at cites k)) c cs settled in
+    let rest = All-tail (λ (k : ℕ). IsSettled (cite_at cites k)) c cs settled in
+    rw (are.each c (All-head (λ (k : ℕ). k < length db) c cs held) here, cites_have s atoms db cites lines cs are (All-tail (λ (k : ℕ). k < length db) c cs held) rest) refl
 
 -- a clause that clauses refute the negation of is learnt
 pub learnt_read : (s : Sought) (atoms : List Atom) (db : List (List Lit)) (cites : List Hint) (lines : List Line) (lits : List Lit) (refs : List ℕ)
     → AreOnce atoms → All (λ a. IsTrue (is_in_range s a)) atoms
     → All (All (λ l. l.var < length atoms)) db → All (λ l. l.var < length atoms) lits → AreCited s atoms db cites lines → HintsRefute db (map negation lits) refs
-    → IsLearnt s lines (length lines + 1) (read_clause atoms lits) (map (cite_at cites) refs)
-learnt_read s atoms db cites lines lits refs once ranged within low are hints = record {
+    → All (λ c. IsSettled (cite_at cites c)) refs → IsLearnt s lines (length lines + 1) (read_clause atoms lits) (map (cite_at cites) refs)
+learnt_read s atoms db cites lines lits refs once ranged within low are hints settled = record {
   in_range = ranges lits low;
   clauses = map (read_clause atoms) (clauses_at db refs);
-  cited = cites_have s atoms db cites lines refs are hints.held;
+  cited = cites_have s atoms db cites lines refs are hints.held settled;
   refuted = refutes_read atoms once db lits refs within low hints;
 } where
   ranges : (ls : List Lit) → All (λ l. l.var < length atoms) ls → All (λ (l : Literal). IsTrue (is_in_range s l.atom)) (read_clause atoms ls)

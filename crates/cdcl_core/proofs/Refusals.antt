@@ -1,5 +1,5 @@
 -- What adding the clause of a refused edge's walk asks for, and what it gives.
-use Rattle.std.proofs.Common.{◌≡◌, ◌∙◌, sym, ap, refl, subst, ℕ, ◌+◌, ◌-◌, ◌<◌, inl, inr, Bool, true, false, List, [], ◌∷◌, ◌++◌, length, Option, arith}
+use Rattle.std.proofs.Common.{◌≡◌, ◌∙◌, sym, ap, refl, subst, ℕ, ◌+◌, ◌-◌, ◌<◌, inl, inr, Bool, true, false, List, [], ◌∷◌, ◌++◌, length, Option, Some, None, arith}
 use Rattle.std.specs.Prelude.{IsSome, is_some, slice_index_or, All}
 use Rattle.std.proofs.lemmas.Bool.{cases_lt}
 use Rattle.std.proofs.lemmas.List.{get_or_past, length-append}
@@ -29,6 +29,11 @@ linked_within links v some = elim (cases_lt v (length links)) [
   | inr past ↦ let none : false ≡ true = sym (ap is_some (get_or_past links v _ past)) ∙ some in absurd (cc)
 ]
 
+-- what there is
+some_is : {X : Type 0} (o : Option X) → is_some o ≡ true → (x : X) × (o ≡ Some x)
+some_is (Some x) some = (x, refl)
+some_is None some = absurd (cc)
+
 -- an atom with edges has a step, whatever the sense
 has_step : (a : Atom) (b : Bool) → is_some (order_edges a) ≡ true → IsSome (sensed_step b a)
 has_step (Order e f c) true some = refl
@@ -44,11 +49,12 @@ has_step (Gap k i m) b some = absurd (cc)
 pub are_orders : (atoms : List Atom) (links : List (Option (Edge × Edge))) (lits : List Lit) → AreLinks atoms links → All (IsOrderAmong MAX_NODES) atoms → AreOrders atoms (linked links lits)
 are_orders atoms links lits are among =
     All-weaker (λ (l : Lit). is_some (edges_at links l.var) ≡ true) (IsHeldOrder atoms) (λ l some.
+    let both = some_is (edges_at links l.var) some in
     let within : l.var < length atoms = let low = linked_within links l.var some in let count = are.count in omega (arith, low, count) in
     record {
       within = within;
       among = among l.var (First 0) within;
-      steps = has_step (atom_at atoms l.var) l.positive (sym (ap is_some (are.each l.var (atom_at atoms l.var) (atom_there atoms l.var within))) ∙ some);
+      steps = has_step (atom_at atoms l.var) l.positive (ap is_some (are.each l.var (atom_at atoms l.var) both.0 (atom_there atoms l.var within) both.1));
     })
     (linked links lits) (filter_passes (λ (l : Lit). is_some (edges_at links l.var)) lits)
 

@@ -1,5 +1,5 @@
 -- Walks of bounds of a log that visit no node twice: how long they are, and that their steps have a spelling.
-use Rattle.std.proofs.Common.{◌≡◌, ◌≢◌, ◌∙◌, sym, ap, refl, arith, ℕ, ◌+◌, ◌<◌, ◌≤◌, inl, inr, true, eqb, List, [], ◌∷◌, length, map, Some, None, get_or, pos}
+use Rattle.std.proofs.Common.{◌≡◌, ◌≢◌, ◌∙◌, sym, ap, refl, arith, ℕ, ◌<◌, ◌≤◌, inl, inr, true, eqb, List, [], ◌∷◌, length, map, Some, None, get_or, pos}
 use Rattle.std.specs.Prelude.{All, AllPairs, option_map, position, slice_get}
 use Rattle.std.specs.List.{list_any}
 use Rattle.std.proofs.lemmas.Bool.{ltb-true, eqb-true, or_cases}

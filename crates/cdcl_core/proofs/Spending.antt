@@ -1,12 +1,12 @@
 -- What the lines of a search are spent on, from one line to the next.
-use Rattle.std.proofs.Common.{◌≡◌, ◌∙◌, ap, sym, subst, ℕ, zero, suc, ◌+◌, ◌-◌, ◌<◌, ◌≤◌, Bool, inl, inr, List, [], ◌∷◌, ◌++◌, length, map, take, Option, Some, arith, append-nil}
+use Rattle.std.proofs.Common.{◌≡◌, ◌∙◌, ap, refl, sym, set, subst, ℕ, zero, suc, ◌+◌, ◌-◌, ◌<◌, ◌≤◌, Bool, inl, inr, List, [], ◌∷◌, ◌++◌, length, map, take, Option, Some, arith, append-nil}
 use Rattle.std.specs.Prelude.{All, Any, Contains}
 use Rattle.std.specs.List.{filter_map}
 use Rattle.std.specs.Result.{result_ok}
 use Rattle.std.proofs.lemmas.Bool.{cases_lt}
 use Rattle.std.proofs.lemmas.List.{length_push, map-append, take-append-le, take_all, take_at}
 use Rattle.std.proofs.lemmas.List.Concat.{flat_map-append, flat_map-cons}
-use Rattle.std.proofs.lemmas.List.Elements.{All-nil, All-cons, All-append, All-contains, All-contains_itself, All-map, All-weaker, Contains-append_left, Contains-get_or, filter_map-append}
+use Rattle.std.proofs.lemmas.List.Elements.{All-nil, All-cons, All-append, All-contains, All-contains_itself, All-map, All-set, All-weaker, Contains-append_left, Contains-get_or, filter_map-append}
 use Rattle.std.proofs.lemmas.Option.{get_or_from_slice_get, slice_get_within}
 use Rattle.mt_model.specs.declared.step.Step.{Step}
 use Rattle.mt_model.specs.Form.{Form}
@@ -152,6 +152,22 @@ module _ (log : Logged) (f : Form) (v : Bool) (rules : List Rule) (atoms : List 
     own = learnt_more (All (λ l. Contains atoms l.atom)) lines d old.own own;
   }
 
+  -- a clause of an assumed order
+  pub spending_assumed : (known : List (List Lit)) (cites : List Hint) (lines : List Line) (clause : List Lit) → IsSpending log f v rules atoms known cites lines
+      → IsSpending log f v rules atoms (known ++ clause ∷ []) (cites ++ hint.Line 0 ∷ []) lines
+  spending_assumed known cites lines clause old =
+      let more = read_more atoms known (known ++ clause ∷ []) (clause ∷ [], refl) in
+      record {
+        fresh = old.fresh;
+        used = old.used;
+        cites_name = All-append (NamesOneOf rules) cites (hint.Line 0 ∷ []) old.cites_name (All-cons (NamesOneOf rules) (hint.Line 0) [] tt (All-nil (NamesOneOf rules)));
+        lines_name = old.lines_name;
+        rules_known = All-weaker (Contains (map (read_clause atoms) known)) (Contains (map (read_clause atoms) (known ++ clause ∷ []))) more (clauses_of s rules) old.rules_known;
+        learnt_known = All-weaker (Contains (map (read_clause atoms) known)) (Contains (map (read_clause atoms) (known ++ clause ∷ []))) more (learnt lines) old.learnt_known;
+        occur = old.occur;
+        own = old.own;
+      }
+
   -- a Cycle line leaves what is known
   spending_cycle : (known : List (List Lit)) (cites : List Hint) (lines : List Line) (steps : List Step) (m : ℕ) → IsSpending log f v rules atoms known cites lines
       → IsSpending log f v rules atoms known (cites ++ hint.Line m ∷ []) (lines ++ line.Cycle steps ∷ [])
@@ -161,6 +177,22 @@ module _ (log : Logged) (f : Form) (v : Bool) (rules : List Rule) (atoms : List 
     where
       no_learn : IsLearnAt (lines ++ line.Cycle steps ∷ []) (length lines + 1) → ⊥
       no_learn learn = let same : Some (line.Cycle steps) ≡ Some (line.Learn learn.lits learn.hints) = sym (line_last lines (line.Cycle steps)) ∙ learn.stands in absurd (cc)
+
+  -- the Cycle line of a clause that stands already
+  pub spending_settled : (known : List (List Lit)) (cites : List Hint) (lines : List Line) (steps : List Step) (at m : ℕ) → IsSpending log f v rules atoms known cites lines
+      → IsSpending log f v rules atoms known (set cites at (hint.Line m)) (lines ++ line.Cycle steps ∷ [])
+  spending_settled known cites lines steps at m old =
+      let more = spending_cycle known cites lines steps m old in
+      record {
+        fresh = more.fresh;
+        used = more.used;
+        cites_name = All-set (NamesOneOf rules) cites at (hint.Line m) tt old.cites_name;
+        lines_name = more.lines_name;
+        rules_known = more.rules_known;
+        learnt_known = more.learnt_known;
+        occur = more.occur;
+        own = more.own;
+      }
 
   -- the same of lists that are equal to these
   pub cycle_spent : (known : List (List Lit)) (cites : List Hint) (lines : List Line) (steps : List Step) (m : ℕ) (cites_after : List Hint) (lines_after : List Line)

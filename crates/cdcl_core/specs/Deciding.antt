@@ -10,11 +10,19 @@ use Rattle.cdcl_core.specs.declared.decision.Decision.TheVariants as decision
 abbrev pub IfDone : (List Bool → Type 0) → Decision → Type 0
 IfDone P (decision.Done values) = P values
 IfDone P (decision.Decide lit start) = Unit {0}
+IfDone P decision.Lost = Unit {0}
 
 -- the fact holds of the literal and the start, where one is decided
 abbrev pub IfDecides : (Lit → ℕ → Type 0) → Decision → Type 0
 IfDecides P (decision.Done values) = Unit {0}
 IfDecides P (decision.Decide lit start) = P lit start
+IfDecides P decision.Lost = Unit {0}
+
+-- the fact holds, where what is sought was lost
+abbrev pub IfLost : Type 0 → Decision → Type 0
+IfLost P (decision.Done values) = Unit {0}
+IfLost P (decision.Decide lit start) = Unit {0}
+IfLost P decision.Lost = P
 
 -- the literal's variable is one of so many and unassigned, and no other one below the start is
 pub record IsNext (vars : ℕ) (entries : List Entry) (lit : Lit) (start : ℕ) : Type 0 where

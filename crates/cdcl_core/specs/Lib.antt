@@ -8,6 +8,7 @@ pub mod Deciding
 pub mod Running
 pub mod Extending
 pub mod Spending
+pub mod Settling
 pub mod Searching
 pub mod Turns
 pub mod Values

@@ -63,10 +63,14 @@ sensed_step _ (Gap k i m) = None
 abbrev pub order_step : Literal → Option Step
 order_step l = sensed_step l.positive l.atom
 
--- each variable has the edges of its atom
+-- each variable that has edges has those of its atom
 pub record AreLinks (atoms : List Atom) (links : List (Option (Edge × Edge))) : Type 0 where
   pub count : length links ≡ length atoms
-  pub each : (v : ℕ) (a : Atom) → IsVar atoms v a → edges_at links v ≡ order_edges a
+  pub each : (v : ℕ) (a : Atom) (both : Edge × Edge) → IsVar atoms v a → edges_at links v ≡ Some both → order_edges a ≡ Some both
+
+-- each variable of an order atom has edges
+abbrev pub HasAllLinks : List Atom → List (Option (Edge × Edge)) → Type 0
+HasAllLinks atoms links = (v : ℕ) (a : Atom) → IsVar atoms v a → edges_at links v ≡ order_edges a
 
 -- those of the literals that have an edge, in order
 abbrev pub linked : List (Option (Edge × Edge)) → List Lit → List Lit

@@ -1,5 +1,5 @@
 -- Clauses with the hints that cite them, and lines that derive.
-use Rattle.std.specs.Prelude.{◌≡◌, ℕ, ◌+◌, ◌^◌, ◌<◌, Bool, IsTrue, List, length, map, Some, All, slice_index_or}
+use Rattle.std.specs.Prelude.{◌≡◌, ℕ, zero, suc, ◌+◌, ◌^◌, ◌<◌, Bool, true, false, IsTrue, List, length, map, Some, All, slice_index_or}
 use Rattle.mt_model.specs.Form.{Form}
 use Rattle.mt_model.specs.Log.{Logged, IsLog}
 use Rattle.clause_db.specs.declared.lit.Lit.{Lit}
@@ -21,14 +21,24 @@ use Rattle.cdcl_core.specs.Orders.{IsOrderAmong, read_lit}
 abbrev pub cite_at : List Hint → ℕ → Hint
 cite_at cites c = slice_index_or cites c (hint.Line 0)
 
+-- line 0, which is none, stands for the line of an assumed order that isn't written yet
+abbrev pub is_open : Hint → Bool
+is_open (hint.Rule r) = false
+is_open (hint.Line zero) = true
+is_open (hint.Line (suc n)) = false
+
+-- the hint names a rule or a line
+abbrev pub IsSettled : Hint → Type 0
+IsSettled h = is_open h ≡ false
+
 -- a clause of variables as one of their atoms
 abbrev pub read_clause : List Atom → List Lit → List Literal
 read_clause atoms lits = map (read_lit atoms) lits
 
--- each clause has a hint by which a line after these cites it
+-- each clause has a hint, and by one that names a rule or a line a line after these cites it
 pub record AreCited (s : Sought) (atoms : List Atom) (db : List (List Lit)) (cites : List Hint) (lines : List Line) : Type 0 where
   pub count : length cites ≡ length db
-  pub each : (c : ℕ) → c < length db → clause_of_hint s lines (length lines + 1) (cite_at cites c) ≡ Some (read_clause atoms (clause_at db c))
+  pub each : (c : ℕ) → c < length db → IsSettled (cite_at cites c) → clause_of_hint s lines (length lines + 1) (cite_at cites c) ≡ Some (read_clause atoms (clause_at db c))
   pub spelled : All IsSpelledHint cites
 
 -- the atoms are in range, and each order atom is one of two rows of the log, with bounds that an order step may have

@@ -1,5 +1,5 @@
 -- What a search has from turn to turn, and what it answers.
-use Rattle.std.specs.Prelude.{◌≡◌, ℕ, ◌+◌, ◌*◌, ◌^◌, ◌<◌, ◌≤◌, List, [], length, Bool}
+use Rattle.std.specs.Prelude.{◌≡◌, ℕ, ◌+◌, ◌*◌, ◌^◌, ◌<◌, ◌≤◌, List, length, Bool, false}
 use Rattle.mt_model.specs.Form.{Form}
 use Rattle.mt_model.specs.Log.{Logged, IsLog}
 use Rattle.axiom_rules.specs.Sought.{sought_of}
@@ -15,7 +15,7 @@ use Rattle.cdcl_core.specs.declared.found.Found.{Found}
 use Rattle.cdcl_core.specs.declared.state.SearchState.{SearchState}
 use Rattle.cdcl_core.specs.Assignments.{IsSatisfying}
 use Rattle.cdcl_core.specs.Founds.{IfSpent, IsFound, lessons}
-use Rattle.cdcl_core.specs.Searching.{IsMidway, IsSearch, IsStopped}
+use Rattle.cdcl_core.specs.Searching.{IsMidway, IsSearch, IsStopped, allowance}
 
 -- a search for some problem, after less than a million conflicts
 pub record IsUnderWay (s : SearchState) : Type 0 where
@@ -38,14 +38,15 @@ pub record IsFalseIn (s : SearchState) (c : ℕ) : Type 0 where
   pub few : conflicts ≤ 999999
   pub midway : IsMidway problem s conflicts c
 
--- some values satisfy the problem and all that was derived, or a descent stopped in conflict
+-- some values satisfy the problem and all that was derived, or a descent stopped in conflict, or was lost where not each order atom has its edges
 abbrev pub HasDescended : Problem → SearchState → ℕ → Descent → Type 0
 HasDescended p s n (descent.Met values) = IsSearch p s n × IsSatisfying p.atoms s.derived.db s.graph.numbers values
 HasDescended p s n (descent.Stopped x) = IsStopped p s n x
+HasDescended p s n descent.Lost = s.theory.whole ≡ false
 
--- the lines refute what the problem fits, with so many lessons
-pub record AreRefuting (p : Problem) (conflicts : ℕ) (lines : List Line) : Type 0 where
-  pub few_lines : length lines ≤ 2 * conflicts + 2
+-- the lines refute what the problem fits, with so many lessons; more lines than two a conflict are those of assumed orders
+pub record AreRefuting (p : Problem) (whole : Bool) (conflicts : ℕ) (lines : List Line) : Type 0 where
+  pub few_lines : length lines ≤ 2 * conflicts + 2 + allowance whole
   pub lesson_count : lessons lines ≡ conflicts
   pub refutes : (log : Logged) (f : Form) (v : Bool) → IsLog log → Fits (sought_of log f v) p → Refutes log f v lines
 

@@ -1,9 +1,9 @@
 //! The hints that cite clauses.
 
-ghost use Rattle.std.specs.Prelude.{◌≡◌, ◌^◌, ◌<◌, [], ◌∷◌, ◌++◌, length, map, All, OnOk, OnErr};
+ghost use Rattle.std.specs.Prelude.{◌≡◌, ◌^◌, ◌<◌, [], ◌∷◌, ◌++◌, IsTrue, length, map, set, All, OnOk, OnErr};
 ghost use Rattle.proof_log.specs.declared.line.Hint.TheVariants as hint;
 ghost use Rattle.proof_log.specs.Spelled.{IsNumber};
-ghost use Rattle.cdcl_core.specs.Recording.{IsRuleInRange, cite_at};
+ghost use Rattle.cdcl_core.specs.Recording.{IsRuleInRange, cite_at, is_open as open_hint};
 
 use axiom_rules::{Rule, RuleList};
 use clause_db::ClauseRef;
@@ -65,6 +65,30 @@ impl Cites {
     {
         self.lines.push(line)?;
         Ok(())
+    }
+
+    /// Whether a clause is that of an assumed order whose line isn't written yet.
+    pub fn is_open(&self, clause: ClauseRef) -> bool
+        requires within { clause < length self.now }
+        ensures open { result ≡ open_hint (cite_at self.now clause) }
+    {
+        match self.hint(clause) {
+            Hint::Line(line) => line == 0,
+            Hint::Rule(_) => false,
+        }
+    }
+
+    /// Has such a clause cited by its line.
+    pub fn settle(&mut self, clause: ClauseRef, line: u32)
+        requires within { clause < length self.old }
+        requires open { IsTrue (open_hint (cite_at self.old clause)) }
+        ensures settled { self.new ≡ set self.old clause (hint.Line line) }
+    {
+        let place = clause.get() as usize;
+        let many = self.rules.as_slice().len();
+        if place >= many {
+            self.lines[place - many] = line;
+        }
     }
 
     /// The hint that cites a clause.

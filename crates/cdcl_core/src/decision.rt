@@ -1,11 +1,11 @@
 //! What is decided where nothing is left to propagate.
 
-ghost use Rattle.std.specs.Prelude.{◌≡◌, ℕ, ◌<◌, IfOk, IfSome};
+ghost use Rattle.std.specs.Prelude.{◌≡◌, ℕ, ◌<◌, length, false, All, IfOk, IfSome, IsTrue};
 ghost use Rattle.propagate.specs.Clauses.{AreSettled};
 ghost use Rattle.propagate.specs.Trails.{IsUnassigned};
 ghost use Rattle.cdcl_core.specs.Assignments.{IsSatisfying};
-ghost use Rattle.cdcl_core.specs.Deciding.{IfDecides, IfDone, IsNext};
-ghost use Rattle.cdcl_core.specs.Orders.{AreLinks};
+ghost use Rattle.cdcl_core.specs.Deciding.{IfDecides, IfDone, IfLost, IsNext};
+ghost use Rattle.cdcl_core.specs.Orders.{HasAllLinks, IsOrderAmong};
 ghost use Rattle.cdcl_core.specs.Running.{IsRunning};
 
 use crate::assignment::{unassigned, values_of};
@@ -26,6 +26,8 @@ pub enum Decision {
     Done(Bits),
     /// This literal is decided. Then no variable below the start is unassigned.
     Decide { lit: Lit, start: u32 },
+    /// Each variable is assigned, and an order that has no edges may be another in the present timing.
+    Lost,
 }
 
 // The literal, if its variable is unassigned.
@@ -49,11 +51,14 @@ pub fn next(
     start: u32,
 ) -> Result<Decision, AllocError>
     requires running { IsRunning sight.now.vars sight.now.db.now sight.now.links.now sight.now.trail.now sight.now.graph.now }
-    requires links { AreLinks theory.now.atoms sight.now.links.now }
+    requires orders { All (IsOrderAmong sight.now.graph.now.nodes) theory.now.atoms }
+    requires all_links { IsTrue theory.now.whole → HasAllLinks theory.now.atoms sight.now.links.now }
+    requires count { length theory.now.atoms ≡ sight.now.vars }
     requires settled { AreSettled sight.now.trail.now.entries sight.now.db.now }
     requires before { (w : ℕ) → w < start → IsUnassigned sight.now.trail.now.entries w → ⊥ }
     ensures done { IfOk result (IfDone (IsSatisfying theory.now.atoms sight.now.db.now sight.now.graph.now.numbers)) }
     ensures decides { IfOk result (IfDecides (IsNext sight.now.vars sight.now.trail.now.entries)) }
+    ensures lost { IfOk result (IfLost (theory.now.whole ≡ false)) }
 {
     if !strategy.fills() {
         if let Some(decision) = repair(alloc, theory, sight, strategy, start)? {
@@ -72,10 +77,11 @@ fn repair(
     strategy: &mut Strategy,
     start: u32,
 ) -> Result<Option<Decision>, AllocError>
-    requires links { AreLinks theory.now.atoms sight.now.links.now }
+    requires orders { All (IsOrderAmong sight.now.graph.now.nodes) theory.now.atoms }
     requires before { (w : ℕ) → w < start → IsUnassigned sight.now.trail.now.entries w → ⊥ }
     ensures done { IfOk result (λ o. IfSome o (IfDone (IsSatisfying theory.now.atoms sight.now.db.now sight.now.graph.now.numbers))) }
     ensures decides { IfOk result (λ o. IfSome o (IfDecides (IsNext sight.now.vars sight.now.trail.now.entries))) }
+    ensures found { IfOk result (λ o. IfSome o (IfLost ⊥)) }
 {
     if let Some(choice) = strategy.decision(*sight)? {
         if let Some(lit) = open(sight.trail, sight.vars, choice) {
@@ -92,11 +98,12 @@ fn read(
     sight: &Sight<'_>,
     strategy: &mut Strategy,
 ) -> Result<Option<Decision>, AllocError>
-    requires links { AreLinks theory.now.atoms sight.now.links.now }
+    requires orders { All (IsOrderAmong sight.now.graph.now.nodes) theory.now.atoms }
     ensures done { IfOk result (λ o. IfSome o (IfDone (IsSatisfying theory.now.atoms sight.now.db.now sight.now.graph.now.numbers))) }
     ensures decides { IfOk result (λ o. IfSome o (IfDecides (λ lit start. ⊥))) }
+    ensures found { IfOk result (λ o. IfSome o (IfLost ⊥)) }
 {
-    let values = values_in(alloc, sight, strategy)?;
+    let values = values_in(alloc, &theory.atoms, sight, strategy)?;
     if meet_all(values.as_slice(), sight.db) {
         Ok(Some(Decision::Done(values)))
     } else {
@@ -113,15 +120,19 @@ fn fill(
     start: u32,
 ) -> Result<Decision, AllocError>
     requires running { IsRunning sight.now.vars sight.now.db.now sight.now.links.now sight.now.trail.now sight.now.graph.now }
-    requires links { AreLinks theory.now.atoms sight.now.links.now }
+    requires orders { All (IsOrderAmong sight.now.graph.now.nodes) theory.now.atoms }
+    requires all_links { IsTrue theory.now.whole → HasAllLinks theory.now.atoms sight.now.links.now }
+    requires count { length theory.now.atoms ≡ sight.now.vars }
     requires settled { AreSettled sight.now.trail.now.entries sight.now.db.now }
     requires before { (w : ℕ) → w < start → IsUnassigned sight.now.trail.now.entries w → ⊥ }
     ensures done { IfOk result (IfDone (IsSatisfying theory.now.atoms sight.now.db.now sight.now.graph.now.numbers)) }
     ensures decides { IfOk result (IfDecides (IsNext sight.now.vars sight.now.trail.now.entries)) }
+    ensures lost { IfOk result (IfLost (theory.now.whole ≡ false)) }
 {
     graphs_are_solved(sight.graph);
     match unassigned(sight.trail, start, sight.vars) {
-        None => Ok(Decision::Done(values_of(alloc, sight.trail, sight.vars)?)),
+        None if theory.whole => Ok(Decision::Done(values_of(alloc, sight.trail, sight.vars)?)),
+        None => Ok(Decision::Lost),
         Some(var) => {
             let value = strategy.holds(*sight, Lit::new(var, true))?;
             Ok(Decision::Decide {

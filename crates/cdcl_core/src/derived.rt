@@ -1,10 +1,10 @@
 //! What a search has derived: clauses, the hint that cites each, and the lines.
 
-ghost use Rattle.std.specs.Prelude.{◌≡◌, ◌+◌, ◌-◌, ◌^◌, ◌<◌, [], ◌∷◌, ◌++◌, length, map, All, IfOk, OnOk};
+ghost use Rattle.std.specs.Prelude.{◌≡◌, ◌+◌, ◌-◌, ◌^◌, ◌<◌, [], ◌∷◌, ◌++◌, IsTrue, length, map, set, All, IfOk, OnOk};
 ghost use Rattle.proof_log.specs.declared.line.Hint.TheVariants as hint;
 ghost use Rattle.clause_db.specs.Literals.{HasVarsOnce};
 ghost use Rattle.cdcl_core.specs.Orders.{read_lit};
-ghost use Rattle.cdcl_core.specs.Recording.{HasNumbers, IsRuleInRange, cite_at};
+ghost use Rattle.cdcl_core.specs.Recording.{HasNumbers, IsRuleInRange, cite_at, is_open};
 
 use crate::cites::Cites;
 use crate::walk::literal_of;
@@ -87,6 +87,45 @@ impl Derived {
         self.lines.push(line)?;
         self.cites.push(self.lines.len() as u32)?;
         self.db.add(lits)
+    }
+
+    /// Adds a clause of this literal alone, whose line isn't written yet.
+    pub fn assume(&mut self, lit: Lit) -> Result<(), AllocError>
+        requires clause_room { length self.old.db < 2 ^ 32 - 1 }
+        ensures clause { OnOk result (self.new.db ≡ self.old.db ++ (lit ∷ []) ∷ []) }
+        ensures cite { OnOk result (self.new.cites ≡ self.old.cites ++ hint.Line 0 ∷ []) }
+        ensures line { OnOk result (self.new.lines ≡ self.old.lines) }
+    {
+        self.cites.push(0)?;
+        self.db.add(&[lit])?;
+        Ok(())
+    }
+
+    /// Adds a clause of each of these literals alone, whose lines aren't written yet.
+    pub fn assume_all(&mut self, assumed: &[Lit]) -> Result<(), AllocError>
+        requires room { length self.old.db + length assumed.now < 2 ^ 32 - 1 }
+        ensures clauses { OnOk result (self.new.db ≡ self.old.db ++ map (λ l. l ∷ []) assumed.now) }
+        ensures cites { OnOk result (self.new.cites ≡ self.old.cites ++ map (λ l. hint.Line 0) assumed.now) }
+        ensures lines { OnOk result (self.new.lines ≡ self.old.lines) }
+    {
+        for lit in assumed {
+            self.assume(*lit)?;
+        }
+        Ok(())
+    }
+
+    /// Adds the line of such a clause.
+    pub fn settle(&mut self, clause: ClauseRef, line: Line) -> Result<(), AllocError>
+        requires within { clause < length self.old.cites }
+        requires open { IsTrue (is_open (cite_at self.old.cites clause)) }
+        requires line_room { length self.old.lines < 2 ^ 32 - 1 }
+        ensures clauses { OnOk result (self.new.db ≡ self.old.db) }
+        ensures cite { OnOk result (self.new.cites ≡ set self.old.cites clause (hint.Line (length self.old.lines + 1))) }
+        ensures line { OnOk result (self.new.lines ≡ self.old.lines ++ line ∷ []) }
+    {
+        self.lines.push(line)?;
+        self.cites.settle(clause, self.lines.len() as u32);
+        Ok(())
     }
 
     /// Gives the lines out, after which there are none.

@@ -1,6 +1,6 @@
 //! Deciding and propagating until nothing is left or something is in conflict.
 
-ghost use Rattle.std.specs.Prelude.{ℕ, IfOk};
+ghost use Rattle.std.specs.Prelude.{◌≡◌, ℕ, IfOk};
 ghost use Rattle.mtl_encode.specs.declared.problem.Problem.{Problem};
 ghost use Rattle.cdcl_core.specs.Searching.{IsSearch};
 ghost use Rattle.cdcl_core.specs.Turns.{HasDescended, IsUnderWay};
@@ -30,6 +30,8 @@ pub enum Descent {
     Met(Bits),
     /// In conflict.
     Stopped(Conflict),
+    /// With each variable assigned, where an order that has no edges may be another in the graph's timing.
+    Lost,
 }
 
 impl SearchState {
@@ -37,6 +39,7 @@ impl SearchState {
     /// is refused.
     pub fn descend(&mut self, alloc: Global) -> Result<Descent, AllocError>
         requires under_way { IsUnderWay self.old }
+        ensures theory { self.new.theory ≡ self.old.theory }
         ensures descended { IfOk result (λ descent. (p : Problem) (n : ℕ) → IsSearch p self.old n → HasDescended p self.new n descent) }
     {
         let mut start = 0;
@@ -66,6 +69,7 @@ impl SearchState {
             };
             match next(alloc, theory, &sight, &mut self.strategy, start)? {
                 Decision::Done(values) => return Ok(Descent::Met(values)),
+                Decision::Lost => return Ok(Descent::Lost),
                 Decision::Decide { lit, start: begin } => {
                     start = begin;
                     match self.trail.decide(lit, &self.theory.links, &mut self.graph) {

@@ -1,13 +1,13 @@
 //! Order atoms as difference constraints.
 
-ghost use Rattle.std.specs.Prelude.{◌≡◌, ◌+◌, ◌≤◌, ◌<◌, length, All, IfOk};
+ghost use Rattle.std.specs.Prelude.{◌≡◌, ◌+◌, ◌≤◌, ◌<◌, [], length, All, IfOk, false};
 ghost use Rattle.neg_cycle.specs.declared.system.TheConstants.{MAX_EDGES, MAX_NODES};
 ghost use Rattle.neg_cycle.specs.Systems.{IsSystem};
 ghost use Rattle.difference_graph.specs.Graphs.{HasSolution};
-ghost use Rattle.cdcl_core.specs.Orders.{AreLinks, IsOrderAmong, order_edges as edges_of_order, order_step as step_of_order};
+ghost use Rattle.cdcl_core.specs.Orders.{AreLinks, HasAllLinks, IsOrderAmong, order_edges as edges_of_order, order_step as step_of_order};
 
 use axiom_rules::{Atom, AtomTable, Literal};
-use clause_db::Var;
+use clause_db::{Lit, Var};
 use difference_graph::{Graph, Push};
 use mt_model::Step;
 use neg_cycle::Edge;
@@ -57,15 +57,29 @@ pub fn order_step(literal: Literal) -> Option<Step>
     }
 }
 
-/// The edges of the atoms, by their variables.
-pub fn links_of(alloc: Global, atoms: &AtomTable) -> Result<Links, AllocError>
+// Whether the next of these literals is of a variable.
+fn is_next(assumed: &[Lit], next: usize, var: Var) -> bool
+    ensures some { assumed.now ≡ [] → result ≡ false }
+{
+    match assumed.get(next) {
+        Some(lit) => lit.var() == var,
+        None => false,
+    }
+}
+
+/// The edges of the atoms, by their variables, but for those that are assumed, in the order of their variables.
+pub fn links_of(alloc: Global, atoms: &AtomTable, assumed: &[Lit]) -> Result<Links, AllocError>
     requires orders { All (IsOrderAmong MAX_NODES) atoms.now }
     ensures links { IfOk result (AreLinks atoms.now) }
+    ensures all { IfOk result (λ links. assumed.now ≡ [] → HasAllLinks atoms.now links) }
 {
     let mut links = Links::new(alloc, atoms.len())?;
+    let mut next: usize = 0;
     for v in 0..atoms.len() {
         let var = Var::new(v);
-        if let Some((yes, no)) = order_edges(atoms.atom(var)) {
+        if is_next(assumed, next, var) {
+            next = next.saturating_add(1);
+        } else if let Some((yes, no)) = order_edges(atoms.atom(var)) {
             links.set(var, yes, no);
         }
     }

@@ -15,7 +15,7 @@ ghost use Rattle.axiom_rules.specs.declared.rule.Rule.{Rule};
 ghost use Rattle.cdcl_core.specs.Founds.{lessons};
 ghost use Rattle.propagate.specs.Trails.{literals};
 ghost use Rattle.cdcl_core.specs.Orders.{AreLinks, IsOrderAmong, linked};
-ghost use Rattle.cdcl_core.specs.Recording.{IsLearnLine, IsRecord, cite_at, read_clause};
+ghost use Rattle.cdcl_core.specs.Recording.{IsLearnLine, IsRecord, IsSettled, cite_at, read_clause};
 ghost use Rattle.cdcl_core.specs.Running.{IsConflicted, IsStuck, IsStuckOver};
 ghost use Rattle.cdcl_core.specs.Extending.{Extends};
 ghost use Rattle.cdcl_core.specs.Spending.{IsSpending};
@@ -53,6 +53,7 @@ pub fn add_cycle(
     ensures kept { OnOk result (Extends derived.old.db derived.new.db) }
     ensures lines { OnOk result (length derived.new.lines ≡ length derived.old.lines + 1) }
     ensures lessons { OnOk result (lessons derived.new.lines ≡ lessons derived.old.lines) }
+    ensures settled { OnOk result (All IsSettled derived.old.cites → All IsSettled derived.new.cites) }
     ensures conflicted { IfOk result (λ c. (base : List Edge) (l : Lit) → length base ≡ length bounds.now → IsStuck derived.old.db links.now base trail.now graph.now l
         → IsConflicted derived.new.db links.now base trail.now graph.now c) }
     ensures derives { OnOk result ((log : Logged) (f : Form) (v : Bool) (base : List Edge) (l : Lit) → AreEdges log bounds.now base → IsStuck derived.old.db links.now base trail.now graph.now l

@@ -1,26 +1,38 @@
 //! The values of all atoms in the present timing, and whether they meet all clauses.
 
-ghost use Rattle.std.specs.Prelude.{◌≡◌, ◌↔◌, ◌<◌, IsTrue, IfOk, IfSome, length, true, All};
+ghost use Rattle.std.specs.Prelude.{◌≡◌, ◌↔◌, ◌<◌, IsTrue, IfOk, IfSome, length, map, true, All};
 ghost use Rattle.std.specs.List.{list_any};
 ghost use Rattle.neg_cycle.specs.Systems.{Meets};
 ghost use Rattle.clause_db.specs.Literals.{value_of as value_of_literal};
 ghost use Rattle.propagate.specs.Links.{edges_at};
 ghost use Rattle.mtl_encode.specs.Models.{value_at};
 ghost use Rattle.cdcl_core.specs.Assignments.{AreOrderValues};
+ghost use Rattle.cdcl_core.specs.Orders.{IsOrderAmong, order_edges};
 
+use crate::difference::order_edges as edges_of_order;
 use crate::sight::Sight;
 use crate::strategy::Strategy;
+use axiom_rules::AtomTable;
 use clause_db::{ClauseRef, Db, Lit, Var};
+use difference_graph::graphs_are_solved;
 use mt_model::Bits;
 use std::alloc::{AllocError, Global};
 
 // The value of a variable in the present timing, where these are the values of the smaller ones: of an order what the
 // numbers say, of another what its clauses make of it.
-fn value_in(sight: &Sight<'_>, strategy: &mut Strategy, values: &[bool], var: Var) -> bool
-    requires within { var < sight.now.vars }
-    ensures order { IfSome (edges_at sight.now.links.now var) (λ both. IsTrue result ↔ Meets sight.now.graph.now.numbers both.0) }
+fn value_in(
+    atoms: &AtomTable,
+    sight: &Sight<'_>,
+    strategy: &mut Strategy,
+    values: &[bool],
+    var: Var,
+) -> bool
+    requires within { var < length atoms.now }
+    requires orders { All (IsOrderAmong sight.now.graph.now.nodes) atoms.now }
+    ensures order { IfSome (edges_at (map order_edges atoms.now) var) (λ both. IsTrue result ↔ Meets sight.now.graph.now.numbers both.0) }
 {
-    match sight.links.get(var) {
+    graphs_are_solved(sight.graph);
+    match edges_of_order(atoms.atom(var)) {
         Some((yes, _)) => sight.graph.meets(yes),
         None => strategy.value(*sight, values, var),
     }
@@ -29,15 +41,17 @@ fn value_in(sight: &Sight<'_>, strategy: &mut Strategy, values: &[bool], var: Va
 /// The value of each variable in the present timing.
 pub fn values_in(
     alloc: Global,
+    atoms: &AtomTable,
     sight: &Sight<'_>,
     strategy: &mut Strategy,
 ) -> Result<Bits, AllocError>
-    ensures count { IfOk result (λ values. length values ≡ sight.now.vars) }
-    ensures orders { IfOk result (AreOrderValues sight.now.links.now sight.now.graph.now.numbers) }
+    requires orders { All (IsOrderAmong sight.now.graph.now.nodes) atoms.now }
+    ensures count { IfOk result (λ values. length values ≡ length atoms.now) }
+    ensures orders { IfOk result (AreOrderValues (map order_edges atoms.now) sight.now.graph.now.numbers) }
 {
     let mut values = Bits::new(alloc);
-    for v in 0..sight.vars {
-        let value = value_in(sight, strategy, values.as_slice(), Var::new(v));
+    for v in 0..atoms.len() {
+        let value = value_in(atoms, sight, strategy, values.as_slice(), Var::new(v));
         values.push(value)?;
     }
     Ok(values)

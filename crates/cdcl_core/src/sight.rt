@@ -74,10 +74,10 @@ impl<'a> Sight<'a> {
         Some(if lit.positive() { yes } else { no })
     }
 
-    /// Whether the present timing meets an order literal.
+    /// Whether the present timing meets an order literal, or has it where it is assigned and has no edge.
     pub fn meets(&self, lit: Lit) -> bool {
         match self.edge(lit) {
-            None => false,
+            None => self.truth(lit) == Some(true),
             Some(edge) => self.graph.meets(edge),
         }
     }

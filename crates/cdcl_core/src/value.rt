@@ -6,13 +6,15 @@ ghost use Rattle.skew_bounds.specs.Consistency.{IsConflict};
 ghost use Rattle.skew_bounds.specs.Tight.{IsTight};
 ghost use Rattle.formula_arena.specs.Nodes.{nodes_of};
 ghost use Rattle.question.specs.Size.{IsSmall};
-ghost use Rattle.cdcl_core.specs.Values.{IsSearched, RefuteEachValue};
+ghost use Rattle.cdcl_core.specs.Values.{IsFoundFor, IsSearched, RefuteEachValue};
 
+use crate::decided::decided_by;
+use crate::main_loop::search_by;
 use crate::{Budget, Found, search};
 use mt_model::{Log, Steps, Times, bounds_are_admissible, log_is_valid};
 use mtl_encode::encode_by;
 use proof_log::{Line, Lines};
-use question::{Question, Settled};
+use question::{Question, Settled, question_is_asked};
 use skew_bounds::{Tight, times_of};
 use std::alloc::{AllocError, Global};
 
@@ -25,6 +27,37 @@ pub enum Searched {
     Refuted(Lines),
     /// Lines that derive, with as many clauses learnt as the budget.
     Spent(Lines),
+}
+
+// What is found in a problem that the log, the formula and the value fit: where the search that assumes the orders that the
+// bounds decide comes to nothing, the problem is searched as it is.
+fn found_by(
+    alloc: Global,
+    question: Question,
+    tight: &Tight,
+    value: bool,
+    budget: Budget,
+) -> Result<Found, AllocError>
+    requires small { IsSmall question.log (nodes_of question.form) }
+    requires tight { IsTight question.log tight.now }
+    ensures found { IfOk result (IsFoundFor question.entry.log question.entry.form value budget) }
+{
+    bounds_are_admissible();
+    // What a log and a formula are, their parts are known with.
+    log_is_valid(question.log());
+    let _ = question.formula().tree();
+    question_is_asked(&question);
+    let (log, nodes) = (question.log(), question.nodes());
+    let problem = encode_by(alloc, question, value, tight)?;
+    let assumed = decided_by(alloc, &problem.atoms, tight)?;
+    match search_by(alloc, problem, &assumed, budget.get())? {
+        Some(found) => Ok(found),
+        None => {
+            let again = Question::new(alloc, log, nodes)?;
+            let problem = encode_by(alloc, again, value, tight)?;
+            search(alloc, problem, budget.get())
+        }
+    }
 }
 
 /// A timing that the log admits and in which the formula has a value, lines that refute that it has it, or lines that spend
@@ -41,13 +74,11 @@ pub fn search_value(
     requires tight { IsTight question.log tight.now }
     ensures found { IfOk result (IsSearched question.entry.log question.entry.form value budget) }
 {
-    bounds_are_admissible();
-    // What a log and a formula are, their parts are known with.
+    // What a log is, it is known with.
     log_is_valid(question.log());
     let rows = question.log().rows().len();
-    let _ = question.formula().tree();
-    let problem = encode_by(alloc, question, value, tight)?;
-    match search(alloc, problem, budget.get())? {
+    let found = found_by(alloc, question, tight, value, budget)?;
+    match found {
         Found::Model {
             values: _,
             potentials,

@@ -9,6 +9,7 @@ use Rattle.cdcl_core.specs.Walking.{denied_in}
 use Rattle.cdcl_core.proofs.CycleLines.{cycle_recorded}
 use Rattle.cdcl_core.proofs.Spending.{cycle_spent}
 use Rattle.cdcl_core.proofs.Refusals.{are_orders, clause_conflicted, clause_once, walk_within}
+use Rattle.cdcl_core.proofs.Settlings.{all_more}
 use Rattle.cdcl_core.proofs.lines.add_cycle.Goals as goal
 
 -- what holds of the clauses with one more at the end, and of its place, holds of those that were made
@@ -54,10 +55,20 @@ returns-clause-conflicted c =
     (λ d n. (base : List Edge) (l : Lit) → length base ≡ many → IsStuck db links base t g l → IsConflicted d links base t g n) c.add.ensures.place clause
     (λ base l count stuck. clause_conflicted c.args.atoms.now db links base many t g l stuck count c.requires.links c.requires.orders c.requires.vars c.graphs_are_solved.ensures.solution)
 
+-- what follows from a fact of a success
+of_one : {T E : Type 0} (A P : Type 0) (r : Result T E) → (A → P) → OnOk r A → OnOk r P
+of_one A P (Ok x) then a = then a
+of_one A P (Err e) then a = tt
+
 -- what follows from three facts of a success
 of_three : {T E : Type 0} (A B C P : Type 0) (r : Result T E) → (A → B → C → P) → OnOk r A → OnOk r B → OnOk r C → OnOk r P
 of_three A B C P (Ok x) then a b c = then a b c
 of_three A B C P (Err e) then a b c = tt
+
+pub returns-clause-settled : goal.returns-clause-settled
+returns-clause-settled c =
+    let cites = c.args.derived.now.cites in
+    of_one _ _ c.add.result (λ cite all. rw cite (all_more cites (length c.args.derived.now.lines) all)) c.add.ensures.cite
 
 pub returns-clause-derives : goal.returns-clause-derives
 returns-clause-derives c =

@@ -1,9 +1,10 @@
 -- What the calls of a descent ask for, and where it ends.
-use Rattle.std.proofs.Common.{◌∙◌, ap, subst, ℕ, ◌<◌, ◌≤◌, length, arith}
+use Rattle.std.proofs.Common.{◌∙◌, ap, refl, subst, sym, ℕ, ◌<◌, ◌≤◌, length, All, arith}
 use Rattle.propagate.specs.Trails.{Assigned, IsTrail, IsUnassigned, decided}
 use Rattle.propagate.specs.Reach.{IsLast}
 use Rattle.propagate.proofs.TrailLemmas.{trail_decided}
 use Rattle.mtl_encode.specs.declared.problem.Problem.{Problem}
+use Rattle.cdcl_core.specs.Orders.{IsOrderAmong}
 use Rattle.cdcl_core.specs.Searching.{IsSearch}
 use Rattle.cdcl_core.proofs.Descents.{decided_fewer, last_decided, running_next, running_room}
 use Rattle.cdcl_core.proofs.LinkedUpTo.{decided_kept, decided_longer}
@@ -12,7 +13,7 @@ use Rattle.cdcl_core.proofs.Scanned.{decided_free, decided_taken, grown_free}
 use Rattle.cdcl_core.proofs.state.SearchState.descend.Goals as goal
 
 pub decisions-init : goal.decisions-init
-decisions-init c = record { under_way = c.requires.under_way; before = λ w low free. absurd (omega (arith, low)); search = λ p n search. search }
+decisions-init c = record { under_way = c.requires.under_way; theory = refl; before = λ w low free. absurd (omega (arith, low)); search = λ p n search. search }
 
 pub propagate-requires : goal.propagate-requires
 propagate-requires c =
@@ -30,6 +31,7 @@ propagate-requires c =
 
 pub returns-in-ClauseConflict : goal.returns-in-ClauseConflict
 returns-in-ClauseConflict c = record {
+  theory = c.decisions.invariant.theory;
   descended = λ p n old.
       let s = c.decisions.self in
       let in_step = rw c.in-ClauseConflict.is at c.in_ok-reached.ensures.in_step in
@@ -42,6 +44,7 @@ returns-in-ClauseConflict c = record {
 
 pub returns-in-TheoryConflict : goal.returns-in-TheoryConflict
 returns-in-TheoryConflict c = record {
+  theory = c.decisions.invariant.theory;
   descended = λ p n old.
       let s = c.decisions.self in
       let theory = rw c.in-TheoryConflict.is at c.in_ok-reached.ensures.theory_conflict in
@@ -64,13 +67,17 @@ next-requires c =
     let running = search_running w.problem (moved s c.propagate.new.self c.propagate.new.graph s.strategy) w.conflicts quiet in
     record {
       running = rw c.len-vars.ensures.atoms running;
-      links = w.search.search_for.theory_of.links_are;
+      orders = subst (λ (nodes : ℕ). All (IsOrderAmong nodes) s.theory.atoms)
+          (w.search.search_for.theory_of.nodes ∙ sym w.search.search_for.nodes ∙ sym c.propagate.ensures.edges.limits.nodes) w.search.search_for.theory_of.within;
+      all_links = w.search.search_for.theory_of.all_links;
+      count = sym c.len-vars.ensures.atoms;
       settled = rw c.in-Quiet.is at c.in_ok-reached.ensures.quiet;
       before = λ v low free. c.decisions.invariant.before v low (grown_free s.trail c.propagate.new.self c.propagate.ensures.grown v free);
     }
 
 pub returns-in-Done : goal.returns-in-Done
 returns-in-Done c = record {
+  theory = c.decisions.invariant.theory;
   descended = λ p n old.
       let s = c.decisions.self in
       let search = c.decisions.invariant.search p n old in
@@ -80,6 +87,9 @@ returns-in-Done c = record {
         rw search.search_for.theory_of.atoms at (rw c.in-Done.is at c.in_ok-values.ensures.done),
       );
 }
+
+pub returns-in-Lost : goal.returns-in-Lost
+returns-in-Lost c = record { theory = c.decisions.invariant.theory; descended = λ p n old. rw c.in-Lost.is at c.in_ok-values.ensures.lost }
 
 pub decide-requires-clause-room : goal.decide-requires-clause-room
 decide-requires-clause-room c =
@@ -134,6 +144,7 @@ decisions-preserved c =
     (ap (λ (x : Assigned). x.vars) c.decide.ensures.trail) c.decide.ensures.limits
     (rw c.decide.ensures.trail (decided_kept u lit mark)) longer trail c.decide.ensures.closed closed_at c.in-Kept.ensures.in_step in
     record {
+      theory = c.decisions.invariant.theory;
       under_way = record { problem = w.problem; conflicts = w.conflicts; few = w.few; search = keeps w.problem w.conflicts w.search };
       before = λ v less free.
           let rest = rw c.decide.ensures.trail at free in
@@ -144,6 +155,7 @@ decisions-preserved c =
 
 pub returns-in-Cycle : goal.returns-in-Cycle
 returns-in-Cycle c = record {
+  theory = c.decisions.invariant.theory;
   descended = λ p n old.
       let s = c.decisions.self in
       let next = rw c.in-Decide.is at c.in_ok-values.ensures.decides in
