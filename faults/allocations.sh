@@ -57,7 +57,7 @@ try /dev/null audit examples/within_9.formula $log examples/answered_within_8.re
 try /dev/null audit --conflicts 1 examples/either.formula examples/apart.csv examples/apart_either_after_1.report
 try /dev/null audit examples/within_9.formula $log README.md
 try examples/lease.report audit examples/lease.formula examples/lease.csv -
-for report in examples/{held_until,together_both,lease,one_by_hand,hint_missing,end_missing,not_empty,walk_of_nothing}.report; do
+for report in examples/{near_since_either,together_both,lease,one_by_hand,hint_missing,end_missing,not_empty,walk_of_nothing}.report; do
   try /dev/null trim "$report"
   try "$report" trim -
 done

@@ -34,3 +34,4 @@ pub mod Posing
 pub mod KeptLists
 pub mod ShortWalks
 pub mod ValueCases
+pub mod PartModels

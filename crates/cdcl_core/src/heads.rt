@@ -2,7 +2,7 @@
 
 ghost use Rattle.std.specs.Prelude.{◌^◌, ◌<◌};
 
-use clause_db::{ClauseRef, Db, Lit};
+use clause_db::{ClauseRef, Db, Lit, Var};
 use std::alloc::{AllocError, Global};
 
 /// The clauses of each literal that is their head. The head of a clause is the first of its literals, as its rule
@@ -13,6 +13,8 @@ pub struct Heads {
     // Where the clauses of each literal end, and all of these.
     ends: Vec<u32>,
     clauses: Vec<ClauseRef>,
+    // Of each variable whether it stands negated in a clause of which it isn't the head.
+    denied: Vec<bool>,
     // How many clauses have heads, how many of the first variables are orders, and how many are about times alone.
     problem: u32,
     orders: u32,
@@ -61,6 +63,7 @@ impl Heads {
         let mut heads = Heads {
             ends: vec![in alloc; 0; 2 * vars as usize + 1]?,
             clauses: vec![in alloc; ClauseRef::new(0); db.len() as usize]?,
+            denied: vec![in alloc; false; vars as usize]?,
             problem: db.len(),
             orders,
             timed,
@@ -74,10 +77,33 @@ impl Heads {
     // Counts the clauses of each literal, at the place behind its own.
     fn count(&mut self, db: &Db) {
         for c in 0..db.len() {
-            if let Some(head) = self.head(db.lits(ClauseRef::new(c))) {
+            let lits = db.lits(ClauseRef::new(c));
+            if let Some(head) = self.head(lits) {
                 count_up(&mut self.ends, place_of(head) + 1);
+                self.note_denied(lits, head);
             }
         }
+    }
+
+    // Notes the variables that stand negated in a clause with this head.
+    fn note_denied(&mut self, lits: &[Lit], head: Lit) {
+        for lit in lits {
+            let place = lit.var().get() as usize;
+            if *lit != head
+                && !lit.positive()
+                && let Some(denied) = self.denied.get_mut(place)
+            {
+                *denied = true;
+            }
+        }
+    }
+
+    // Whether a variable stands negated in a clause of which it isn't the head.
+    fn is_denied(&self, var: Var) -> bool {
+        self.denied
+            .get(var.get() as usize)
+            .copied()
+            .unwrap_or(false)
     }
 
     // Puts each clause where those of its head begin, which so comes to be where they end.
@@ -126,6 +152,19 @@ impl Heads {
             self.ends.get(place - 1).copied().unwrap_or(0)
         };
         (start, self.ends.get(place).copied().unwrap_or(0))
+    }
+
+    /// The literal by whose clauses a variable is rated: its negative one; or the positive one where the negative one is the
+    /// head of no clause, and that one is, or some clause wants the variable to be false.
+    pub fn rating_head(&self, var: Var) -> Lit {
+        let head = Lit::new(var, false);
+        let (start, end) = self.range(head);
+        let (first, last) = self.range(head.negated());
+        if start == end && (first < last || self.is_denied(var)) {
+            head.negated()
+        } else {
+            head
+        }
     }
 
     /// The clause at a place.

@@ -17,6 +17,7 @@ mod lines;
 mod linked;
 mod main_loop;
 mod needs;
+mod part;
 mod ratings;
 mod read_off;
 mod restarts;

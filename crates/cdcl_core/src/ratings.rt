@@ -115,18 +115,19 @@ impl Ratings {
         Ok(value == lit.positive())
     }
 
-    /// The value of a variable that is no order, where the smaller ones have these values: it is true where each
-    /// clause has another true literal whose head is its negation.
+    /// The value of a variable that is no order, where the smaller ones have these values: it isn't that of the head by
+    /// whose clauses it is rated where each of these has another true literal.
     pub fn value(&mut self, sight: Sight<'_>, heads: &Heads, values: &[bool], var: Var) -> bool {
-        let (start, end) = heads.range(Lit::new(var, false));
+        let head = heads.rating_head(var);
+        let (start, end) = heads.range(head);
         for place in start..end {
             if let Some(clause) = heads.at(place)
                 && !self.is_justified(sight, clause, values, var)
             {
-                return false;
+                return head.positive();
             }
         }
-        true
+        !head.positive()
     }
 
     // Whether a literal of another variable than this is true in a clause by these values.
@@ -172,8 +173,8 @@ impl Ratings {
         }
     }
 
-    // Rates a variable: it is true where each clause has another true literal whose head is its negation. The smaller
-    // variables that it asks for are rated first.
+    // Rates a variable: its value isn't that of the head by whose clauses it is rated where each of these has another
+    // true literal. The smaller variables that it asks for are rated first.
     fn rate(&mut self, sight: Sight<'_>, heads: &Heads, var: Var) -> Result<bool, AllocError> {
         self.pending.push(Pending::of(heads, var))?;
         // Each variable begins once and is rated once.
@@ -203,13 +204,14 @@ impl Ratings {
 
     // Goes on with a rating until it is known or asks for a smaller variable.
     fn step(&mut self, sight: Sight<'_>, heads: &Heads, pending: Pending) -> Step {
-        let (_, end) = heads.range(Lit::new(pending.var, false));
+        let head = heads.rating_head(pending.var);
+        let (_, end) = heads.range(head);
         let mut looked = pending.looked;
         for place in pending.place..end {
             if let Some(clause) = heads.at(place) {
                 match self.answer(sight, heads, clause, pending.var, looked) {
                     Answer::Met(at) => self.note_support(clause, at),
-                    Answer::Unmet => return Step::Rated(false),
+                    Answer::Unmet => return Step::Rated(head.positive()),
                     Answer::Asks { looked, var } => {
                         let again = Pending {
                             var: pending.var,
@@ -222,7 +224,7 @@ impl Ratings {
             }
             looked = 0;
         }
-        Step::Rated(true)
+        Step::Rated(!head.positive())
     }
 
     // What a clause says of a variable of it, from the literal on that comes after so many.
@@ -268,7 +270,7 @@ fn is_true(values: &[bool], lit: Lit) -> bool {
 impl Pending {
     // A variable of whose clauses none was looked at.
     fn of(heads: &Heads, var: Var) -> Pending {
-        let (place, _) = heads.range(Lit::new(var, false));
+        let (place, _) = heads.range(heads.rating_head(var));
         Pending {
             var,
             place,

@@ -10,6 +10,7 @@ ghost use Rattle.cdcl_core.specs.Values.{IsFoundFor, IsSearched, RefuteEachValue
 
 use crate::decided::decided_by;
 use crate::main_loop::search_by;
+use crate::part::search_part;
 use crate::{Budget, Found, search};
 use mt_model::{Log, Steps, Times, bounds_are_admissible, log_is_valid};
 use mtl_encode::encode_by;
@@ -29,8 +30,8 @@ pub enum Searched {
     Spent(Lines),
 }
 
-// What is found in a problem that the log, the formula and the value fit: where the search that assumes the orders that the
-// bounds decide comes to nothing, the problem is searched as it is.
+// What is found in the problem of all rules that are kept: where the search that assumes the orders that the bounds decide
+// comes to nothing, the problem is searched as it is.
 fn found_by(
     alloc: Global,
     question: Question,
@@ -60,10 +61,8 @@ fn found_by(
     }
 }
 
-/// A timing that the log admits and in which the formula has a value, lines that refute that it has it, or lines that spend
-/// the budget. Some timing is admissible, and the least and greatest differences of the log's events are known. An error is
-/// want of memory.
-pub fn search_value(
+// What a search of the problem of all rules that are kept finds.
+fn search_whole(
     alloc: Global,
     question: Question,
     tight: &Tight,
@@ -85,6 +84,33 @@ pub fn search_value(
         } => Ok(Searched::Timing(times_of(alloc, rows, potentials.as_slice())?)),
         Found::Refuted(lines) => Ok(Searched::Refuted(lines)),
         Found::Spent(lines) => Ok(Searched::Spent(lines)),
+    }
+}
+
+/// A timing that the log admits and in which the formula has a value, lines that refute that it has it, or lines that spend
+/// the budget. Some timing is admissible, and the least and greatest differences of the log's events are known. An error is
+/// want of memory.
+///
+/// The instances of rules that the value asks for are searched first, and all that are kept where that comes to nothing.
+pub fn search_value(
+    alloc: Global,
+    question: Question,
+    tight: &Tight,
+    value: bool,
+    budget: Budget,
+) -> Result<Searched, AllocError>
+    requires small { IsSmall question.log (nodes_of question.form) }
+    requires tight { IsTight question.log tight.now }
+    ensures found { IfOk result (IsSearched question.entry.log question.entry.form value budget) }
+{
+    question_is_asked(&question);
+    let (log, nodes) = (question.log(), question.nodes());
+    match search_part(alloc, question, tight, value, budget)? {
+        Some(searched) => Ok(searched),
+        None => {
+            let again = Question::new(alloc, log, nodes)?;
+            search_whole(alloc, again, tight, value, budget)
+        }
     }
 }
 

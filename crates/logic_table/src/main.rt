@@ -19,8 +19,9 @@
 //!   its clause are told, one a line, or its fault.
 //! - in `[problems]` `?`: a name. The problem is told: the number of nodes, `edge` with each edge, `rule` with each
 //!   rule and its four arguments, and after each rule the variables of its clause with their senses, and at last
-//!   `atom` with the atom of each variable, in order. `*`: a name. The size of the problem is told. `!`: a name. The
-//!   numbers of the problem's clauses and atoms are told.
+//!   `atom` with the atom of each variable, in order. `@`: a name. The same is told of the problem of the instances
+//!   that the value sought asks for. `*`: a name. The size of the problem is told. `!`: a name. The numbers of the
+//!   problem's clauses and atoms are told.
 //! - in `[derivations]` `?`: a name. It is told what the derivation shows: `refutes`, `derives`, `wrong` and the
 //!   number of the first wrong line, or `syntax` and the number of the first faulty line. `%`: a name. It is told of
 //!   each Learn line whether it is fresh over the rules of the problem. After either the derivation is empty.

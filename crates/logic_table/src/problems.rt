@@ -6,9 +6,9 @@ use crate::case::LogicCase;
 use crate::writing::{push_atom, push_items, push_sign};
 use axiom_rules::{AtomTable, Rule};
 use clause_db::{ClauseRef, Db, Lit, Var};
-use mtl_encode::{Problem, encode};
+use mtl_encode::{Problem, encode, encode_asked};
 use neg_cycle::Edge;
-use question::{MAX_SIZE, size_of, sizes_are_unique};
+use question::{MAX_SIZE, Nodes, Question, size_of, sizes_are_unique};
 use skew_bounds::{Consistency, Tight, TightFault, settle, tight};
 use std::alloc::Global;
 use table_case::{Parsed, push_line, push_marked, push_shown};
@@ -110,6 +110,25 @@ fn push_problem_of(alloc: Global, case: &LogicCase, out: &mut Vec<u8>) -> Option
     }
 }
 
+// The problem of the instances that the value sought of a case asks for, if the log admits some timing.
+fn asked_of(alloc: Global, case: &LogicCase) -> Option<Problem> {
+    let log = case.log(alloc)?;
+    let f = case.formula(alloc)?;
+    let nodes = Nodes::asked(alloc, &log, &f).ok()?;
+    let question = Question::new(alloc, &log, &nodes).ok()?;
+    let tight = tight(alloc, &log).ok()?;
+    encode_asked(alloc, question, case.value(), &tight).ok()
+}
+
+// Adds the parts of that problem.
+fn push_asked_of(alloc: Global, case: &LogicCase, out: &mut Vec<u8>) -> Option<()> {
+    if is_consistent(alloc, case)? {
+        push_problem(alloc, &asked_of(alloc, case)?, out)
+    } else {
+        push_line(out, b"inconsistent")
+    }
+}
+
 // The size of the problem of a log and the nodes of a formula.
 fn size(alloc: Global, parsed: &Parsed) -> Option<u128> {
     match tight(alloc, &parsed.log) {
@@ -158,6 +177,10 @@ pub fn take(
         b'?' => {
             push_marked(out, mark, text)?;
             push_problem_of(alloc, case, out)
+        }
+        b'@' => {
+            push_marked(out, mark, text)?;
+            push_asked_of(alloc, case, out)
         }
         b'*' => {
             push_marked(out, mark, text)?;

@@ -1,5 +1,5 @@
 -- Clauses that grow by that of one more rule.
-use Rattle.std.proofs.Common.{◌≡◌, ◌∙◌, sym, ap, refl, ℕ, ◌+◌, ◌<◌, ◌≤◌, List, [], ◌∷◌, ◌++◌, length, take, Option, Some, None, Ok, inl, inr, arith}
+use Rattle.std.proofs.Common.{◌≡◌, ◌∙◌, sym, ap, refl, ℕ, ◌+◌, ◌<◌, ◌≤◌, Bool, false, List, [], ◌∷◌, ◌++◌, length, take, Option, Some, None, Ok, inl, inr, arith}
 use Rattle.std.specs.Prelude.{All, Any, slice_get, slice_index_or}
 use Rattle.std.specs.List.{flat_map, range_with_len}
 use Rattle.std.specs.Option.{option_map_or}
@@ -23,6 +23,7 @@ use Rattle.mtl_encode.proofs.RangeLemmas.{part-low, place-of}
 use Rattle.mtl_encode.proofs.RuleLengths.{few-in}
 use Rattle.mtl_encode.specs.declared.clauses.Clauses.{Clauses}
 use Rattle.mtl_encode.specs.Growth.{AreClauses, Gains, HasRoom, most_in, most_literals_of, most_of, with_atoms}
+use Rattle.mtl_encode.specs.Instances.{kept}
 use Rattle.mtl_encode.specs.Problems.{IsClauseOf, ReadsAs, StandsIn}
 
 module _ (s : Sought) where
@@ -52,6 +53,15 @@ module _ (s : Sought) where
       let sum = sum_by-cons (most_in s) rule rules in
       let more : 1 ≤ most_in s rule = some (width_of rule.number) (arg rule.args 0) in
       omega (arith, ih, sum, more)
+
+  -- the clause of a rule may have a literal
+  pub some-literal : (rule : Rule) → 1 ≤ most_in s rule
+  some-literal rule = some (width_of rule.number) (arg rule.args 0)
+
+  -- there is room for a rule that is kept, where there is for what is kept of it
+  pub kept-room : (out : Rule → Bool) (old : List Rule) (rule : Rule) (clause : List Literal) → clause_of s rule ≡ Ok clause → out rule ≡ false
+      → HasRoom s (old ++ kept s out rule) → HasRoom s (old ++ rule ∷ [])
+  kept-room out old rule clause is left room = rw (is, left) at room
 
 -- an atom that stands in the clause of a rule stands in that of one of more rules
 any-left : {X : Type 0} (P : X → Type 0) (xs : List X) (x : X) → Any P xs → Any P (xs ++ x ∷ [])

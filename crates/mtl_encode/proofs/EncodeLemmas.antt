@@ -1,5 +1,5 @@
 -- What the parts of an encoding make together.
-use Rattle.std.proofs.Common.{◌≡◌, ◌∙◌, ap, refl, ℕ, ◌+◌, ◌^◌, ◌≤◌, Bool, true, List, [], ◌++◌, length, inl, inr, ℤ, arith}
+use Rattle.std.proofs.Common.{◌≡◌, ◌∙◌, ap, refl, ℕ, ◌^◌, ◌≤◌, Bool, true, List, [], ◌++◌, length, inl, inr, ℤ, arith}
 use Rattle.std.specs.Prelude.{◌↔◌, All}
 use Rattle.mt_model.specs.declared.bound.Bound.{Bound}
 use Rattle.mt_model.specs.Bounds.{BoundsAreAdmissible, bounds_of}
@@ -21,6 +21,7 @@ use Rattle.mtl_encode.proofs.InstanceCounts.{room-for-all}
 use Rattle.mtl_encode.proofs.KeptRules.{instances-listed}
 use Rattle.question.proofs.TightExtremes.{tight-consistent, tight-extremes}
 use Rattle.mtl_encode.specs.declared.clauses.Clauses.{Clauses}
+use Rattle.mtl_encode.specs.Asked.{AreAsked}
 use Rattle.mtl_encode.specs.Growth.{AreClauses, Gains, HasRoom, most_literals_of}
 use Rattle.mtl_encode.specs.Instances.{instances, out_by}
 use Rattle.mtl_encode.specs.Exact.{RulesAreExact}
@@ -59,6 +60,23 @@ few-atoms s out empty added none gained room =
 
 pub lists-of : (s : Sought) (left : Sought → Rule → Bool) (rules : List Rule) → rules ≡ instances s (left s) → ListsRules s (left s) rules
 lists-of s left rules all = rw all (instances-listed s (left s))
+
+-- the clauses of rules that are asked for fit what is sought, with the bounds and their edges
+pub fits-asked : (s : Sought) (asked held : Clauses) (bounds : List Bound) (edges : List Edge) (nodes : ℕ) → AreAsked s asked → AreClauses s held
+    → held.rules ≡ asked.rules → length held.atoms ≡ length asked.atoms
+    → IsLog s.log → bounds ≡ bounds_of s.log → AreEdges s.log bounds edges → All (IsEdge (node_count_of s.log)) edges → nodes ≡ node_count_of s.log
+    → Fits s (record { db = held.db; rules = held.rules; atoms = held.atoms; bounds = bounds; edges = edges; nodes = nodes })
+fits-asked s asked held bounds edges nodes are clauses rules atoms valid listed have within count = record {
+  count = clauses.count;
+  clauses = clauses.clauses;
+  atoms = clauses.atoms;
+  bounds = listed;
+  edges = have;
+  nodes = count;
+  system = rw count (system-of s.log bounds edges valid listed have within);
+  few_clauses = omega (arith, are.few_rules, ap length rules, clauses.count);
+  few_atoms = omega (arith, are.few_atoms, atoms);
+}
 
 -- the clauses with the bounds and their edges fit what is sought
 pub fits-of : (s : Sought) (out : Rule → Bool) (held : Clauses) (bounds : List Bound) (edges : List Edge) (nodes : ℕ) → AreClauses s held

@@ -31,3 +31,4 @@ mod EncodeLemmas
 pub mod VariableLemmas
 mod OrderLemmas
 mod Rankings
+pub mod HeldLemmas

@@ -8,3 +8,4 @@ pub mod Instances
 pub mod Seconds
 pub mod Growth
 pub mod Variables
+pub mod Asked

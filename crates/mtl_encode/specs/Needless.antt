@@ -1,5 +1,5 @@
 -- Which instances of rules are needless: those that the least and the greatest differences of events' times make true, or of no use.
-use Rattle.std.specs.Prelude.{◌≡◌, ℕ, Bool, true, false, ◌&&◌, ◌||◌, List, length, pos, int_le, int_lt}
+use Rattle.std.specs.Prelude.{ℕ, Bool, true, false, ◌&&◌, ◌||◌, List, length, pos, int_le, int_lt}
 use Rattle.std.specs.List.{list_any, range_with_len}
 use Rattle.std.specs.Option.{option_map_or}
 use Rattle.question.specs.Extremes.{Extremes, farthest, nearest}

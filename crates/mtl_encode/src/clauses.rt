@@ -88,8 +88,8 @@ impl Clauses {
         }
     }
 
-    // Adds a rule with its clause, whose literals are written to `lits`.
-    fn push(
+    /// Adds a rule with its clause, whose literals are written to `lits`.
+    pub fn push(
         &mut self,
         lits: &mut Vec<Lit>,
         guesses: &mut [Guess; GUESSES],
@@ -99,8 +99,10 @@ impl Clauses {
     ) -> Result<(), AllocError>
         requires clauses { AreClauses rules.now self.old }
         requires clause { clause_of rules.now rule ≡ Ok clause.now }
-        requires room { HasRoom rules.now (self.old.rules ++ rule ∷ []) }
-        ensures { OnOk result (Gains rules.now self.old self.new (rule ∷ [])) }
+        requires atoms { length self.old.atoms + length clause.now ≤ 2 ^ 29 }
+        requires rules { length self.old.rules < 2 ^ 29 }
+        ensures gains { OnOk result (Gains rules.now self.old self.new (rule ∷ [])) }
+        ensures atoms { OnOk result (length self.new.atoms ≤ length self.old.atoms + length clause.now) }
     {
         clauses_have_atoms_once();
         write_lits(lits, guesses, &mut self.atoms, clause)?;

@@ -1,6 +1,6 @@
 //! The problem of a question and a value.
 
-ghost use Rattle.std.specs.Prelude.{◌≡◌, ◌+◌, Bool, List, length, IfOk, ℤ};
+ghost use Rattle.std.specs.Prelude.{◌≡◌, ◌≢◌, ◌+◌, AllPairs, Bool, List, length, IfOk, ℤ};
 ghost use Rattle.mt_model.specs.Form.{Form};
 ghost use Rattle.mt_model.specs.Timing.{Admissible};
 ghost use Rattle.mt_model.specs.Truth.{truth};
@@ -16,7 +16,12 @@ ghost use Rattle.mtl_encode.specs.Listing.{ListsRules};
 ghost use Rattle.mtl_encode.specs.Models.{IsModel};
 ghost use Rattle.mtl_encode.specs.Problems.{Fits};
 
+use crate::asked::asked_of;
+use crate::changes::told_by;
 use crate::clauses::Clauses;
+use crate::known::known_by;
+use crate::scene::Scene;
+use crate::windows::Windows;
 use crate::{Problem, rules_are_exact};
 use axiom_rules::Rules;
 use formula_arena::{Arena, cores_are_cores};
@@ -123,4 +128,51 @@ pub fn encode(
         }
         Consistency::Conflict(_) => unreachable!(),
     }
+}
+
+/// The problem of the instances that a value sought of a question's formula can ask for: of each literal that has to be true
+/// those that say what follows, from the rows on that can be first, by windows over the rows' least times. An instance is left
+/// out where the bounds make its clause true. An error is want of memory.
+pub fn encode_asked(
+    alloc: Global,
+    question: Question,
+    value: bool,
+    tight: &Tight,
+) -> Result<Problem, AllocError>
+    ensures fits { IfOk result (Fits (sought_of question.entry.log question.entry.form value)) }
+
+    // Each rule is there once.
+    ensures once { IfOk result (λ p. AllPairs (λ q r. q ≢ r) p.rules) }
+{
+    log_is_valid(question.log());
+    let (log, nodes) = (question.log(), question.nodes());
+    let rules = Rules::new(alloc, log, nodes.arena(), nodes.root(), value)?;
+    let told = told_by(alloc, log, nodes.arena())?;
+    let windows = Windows::new(alloc, tight, rules.events())?;
+    let known = known_by(alloc, &rules, nodes.arena(), tight, &windows, &told)?;
+    let scene = Scene {
+        rules: &rules,
+        arena: nodes.arena(),
+        tight,
+        windows: &windows,
+        told: &told,
+        known: &known,
+    };
+    let asked = asked_of(alloc, scene)?;
+    let ordered = asked.in_order(alloc, &rules)?;
+    let Clauses {
+        db,
+        rules: listed,
+        atoms,
+    } = ordered;
+    let system = question.into_system();
+    let (bounds, edges) = (system.bounds, system.edges);
+    Ok(Problem {
+        db,
+        rules: listed,
+        atoms,
+        bounds,
+        edges,
+        nodes: node_count(log),
+    })
 }

@@ -2,17 +2,24 @@
 //! some admissible timing gives the formula that value.
 #![tactic(auto)]
 
+mod asked;
+mod changes;
 mod clauses;
+mod demands;
 mod encoding;
+mod held;
+mod known;
 mod laws;
 mod listing;
 mod needless;
 mod problem;
 mod pulses;
+mod scene;
 mod variables;
+mod windows;
 mod workspace;
 
-pub use encoding::{encode, encode_by};
+pub use encoding::{encode, encode_asked, encode_by};
 pub use laws::{meanings_satisfy_rules, rules_are_exact};
 pub use problem::Problem;
 pub use question::{MAX_SIZE, size_of};

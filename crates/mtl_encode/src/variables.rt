@@ -189,6 +189,7 @@ fn ordered_atoms(alloc: Global, log: &Log, atoms: &AtomTable) -> Result<Ordered,
     requires few { length atoms.now ≤ 2 ^ 29 }
     ensures only { IfOk result (λ o. All (Contains atoms.now) o.atoms) }
     ensures places { IfOk result (λ o. AreMoved atoms.now o.atoms o.places.items) }
+    ensures count { IfOk result (λ o. length o.atoms ≡ length atoms.now) }
 {
     let order = order_of(alloc, log, atoms)?;
     let places = places_of(alloc, &order)?;
@@ -206,6 +207,7 @@ impl Clauses {
         requires few { length self.atoms ≤ 2 ^ 29 }
         ensures rules { IfOk result (λ c. c.rules ≡ self.rules) }
         ensures clauses { IfOk result (λ c. AreClauses rules.now c) }
+        ensures atoms { IfOk result (λ c. length c.atoms ≡ length self.atoms) }
     {
         let Clauses {
             db,

@@ -1,8 +1,6 @@
 use Rattle.std.proofs.lemmas.Result.{IfOk-from_err}
-use Rattle.question.proofs.TightExtremes.{tight-consistent}
 use Rattle.mtl_encode.proofs.EncodeLemmas.{all-listed, few-atoms, fits-of, lists-of, room-first, room-of}
 use Rattle.mtl_encode.specs.Instances.{instances, out_by}
-use Rattle.mtl_encode.specs.Growth.{HasRoom}
 use Rattle.mtl_encode.proofs.encoding.problem_of.Goals as goal
 
 -- there is room for all rules that are kept

@@ -1,0 +1,165 @@
+//! The instances of rules that are asked for, with their clauses, and which literals ask for more.
+
+ghost use Rattle.std.specs.Prelude.{◌≡◌, IfOk, OnOk};
+ghost use Rattle.mtl_encode.specs.Asked.{AreAsked, IsHeld};
+
+use crate::clauses::Clauses;
+use crate::demands::demands_of;
+use crate::held::Held;
+use crate::scene::Scene;
+use crate::workspace::Workspace;
+use axiom_rules::{Atom, Literal, Rule, RuleFault, SOME_IS_FIRST};
+use clause_db::Lit;
+use std::alloc::{AllocError, Global};
+
+/// Which senses of an atom's literals were asked for.
+#[derive(Clone, Copy)]
+struct Senses {
+    positive: bool,
+    negative: bool,
+}
+
+/// The literals that were asked for, and those of them that haven't said yet what they ask for.
+#[derive(Drop)]
+struct Wanted {
+    senses: Vec<Senses>,
+    open: Vec<Lit>,
+}
+
+impl Wanted {
+    fn new(alloc: Global) -> Wanted {
+        Wanted {
+            senses: Vec::new(alloc),
+            open: Vec::new(alloc),
+        }
+    }
+
+    // Notes that a literal is asked for: whether it wasn't yet.
+    fn note(&mut self, lit: Lit) -> Result<bool, AllocError> {
+        let place = lit.var().get() as usize;
+        for _ in self.senses.len()..place + 1 {
+            self.senses.push(Senses {
+                positive: false,
+                negative: false,
+            })?;
+        }
+        let Some(senses) = self.senses.get_mut(place) else {
+            return Ok(false);
+        };
+        let sense = if lit.positive() {
+            &mut senses.positive
+        } else {
+            &mut senses.negative
+        };
+        let known = *sense;
+        *sense = true;
+        Ok(!known)
+    }
+
+    // Takes in the literals of a clause, but for its head.
+    fn take(&mut self, lits: &[Lit], clause: &[Literal], head: Literal) -> Result<(), AllocError> {
+        for (lit, literal) in lits.iter().zip(clause) {
+            let asks = *literal != head && !matches!(literal.atom, Atom::Order { .. });
+            if asks && self.note(*lit)? {
+                self.open.push(*lit)?;
+            }
+        }
+        Ok(())
+    }
+}
+
+/// The instances that a value sought asks for, as they come.
+#[derive(Drop)]
+struct Asked {
+    held: Held,
+    wanted: Wanted,
+    workspace: Workspace,
+}
+
+impl Asked {
+    // Adds an instance that a literal asks for, whose negation is the head of its clause, but where it has no clause or the
+    // bounds make that true.
+    fn add(&mut self, scene: Scene<'_>, head: Literal, rule: Rule) -> Result<(), AllocError>
+        requires held { IsHeld scene.rules.now self.old.held }
+        ensures held { OnOk result (IsHeld scene.entry.rules.now self.new.held) }
+    {
+        match scene.rules.clause_of(&rule, &mut self.workspace.clause) {
+            Ok(()) => {}
+            Err(RuleFault::Memory) => return Err(AllocError),
+            Err(_) => return Ok(()),
+        }
+        if scene.is_met(self.workspace.clause.as_slice(), head) {
+            return Ok(());
+        }
+        if self.held.add(&mut self.workspace, scene.rules, rule)? {
+            let workspace = &self.workspace;
+            self.wanted
+                .take(&workspace.lits, workspace.clause.as_slice(), head)?;
+        }
+        Ok(())
+    }
+
+    // The same of several.
+    fn add_all(&mut self, scene: Scene<'_>, head: Literal, rules: &[Rule]) -> Result<(), AllocError>
+        requires held { IsHeld scene.rules.now self.old.held }
+        ensures held { OnOk result (IsHeld scene.entry.rules.now self.new.held) }
+    {
+        for rule in rules {
+            self.add(scene, head, *rule)?;
+        }
+        Ok(())
+    }
+
+    // The next literal that hasn't said yet what it asks for.
+    fn next(&mut self) -> Option<Literal>
+        ensures held { self.new.held ≡ self.old.held }
+    {
+        let lit = self.wanted.open.pop()?;
+        let atoms = &self.held.clauses.atoms;
+        if lit.var().get() < atoms.len() {
+            Some(Literal {
+                atom: atoms.atom(lit.var()),
+                positive: lit.positive(),
+            })
+        } else {
+            None
+        }
+    }
+
+    // Adds all that is asked for, from the rows on that can be first.
+    fn ask(&mut self, alloc: Global, scene: Scene<'_>) -> Result<(), AllocError>
+        requires held { IsHeld scene.rules.now self.old.held }
+        ensures held { OnOk result (IsHeld scene.entry.rules.now self.new.held) }
+    {
+        let first = Rule {
+            number: SOME_IS_FIRST,
+            args: [0, 0, 0, 0],
+        };
+        self.add(scene, Literal::default().negated(), first)?;
+        let mut demands = Vec::new(alloc);
+        'literals: for _turn in 0..u32::MAX {
+            let Some(literal) = self.next() else {
+                break 'literals;
+            };
+            demands.clear();
+            demands_of(scene, literal, &mut demands)?;
+            self.add_all(scene, literal.negated(), &demands)?;
+        }
+        Ok(())
+    }
+}
+
+/// The clauses of the instances that the value sought asks for.
+pub fn asked_of(alloc: Global, scene: Scene<'_>) -> Result<Clauses, AllocError>
+    ensures { IfOk result (AreAsked scene.entry.rules.now) }
+{
+    let mut asked = Asked {
+        held: Held::new(alloc),
+        wanted: Wanted::new(alloc),
+        workspace: Workspace::new(alloc),
+    };
+    asked.ask(alloc, scene)?;
+    let Asked { held, .. } = asked;
+    let Held { clauses, .. } = held;
+    Ok(clauses)
+}

@@ -1,0 +1,304 @@
+//! What a literal asks for: the instances that say what follows from it.
+
+use crate::scene::Scene;
+use axiom_rules::{Atom, Literal, Rule};
+use formula_arena::{Core, Direction};
+use mt_model::NodeId;
+use question::greatest_between;
+use std::alloc::AllocError;
+
+// Where demands go, and what is known of the question.
+#[derive(Drop)]
+struct Asking<'a> {
+    scene: Scene<'a>,
+    demands: &'a mut Vec<Rule>,
+}
+
+impl Asking<'_> {
+    fn add(&mut self, number: u8, args: [u32; 4]) -> Result<(), AllocError> {
+        self.demands.push(Rule { number, args })?;
+        Ok(())
+    }
+
+    // A proposition: the changes that it can follow.
+    fn ask_proposition(&mut self, k: u32, e: u32, positive: bool) -> Result<(), AllocError> {
+        let Some(told) = self.scene.told.get(k as usize) else {
+            return Ok(());
+        };
+        if positive {
+            self.add(1, [k, e, 0, 0])?;
+        }
+        for place in self.scene.places(told, e) {
+            if told.sets_at(place) != Some(positive) {
+                self.add(2, [k, e, place, 0])?;
+            }
+        }
+        if !positive {
+            for place in self.scene.pulses(told, e) {
+                self.add(27, [k, e, place, 0])?;
+            }
+        }
+        Ok(())
+    }
+
+    // An until or a since.
+    fn ask_reach(&mut self, k: u32, e: u32, positive: bool) -> Result<(), AllocError> {
+        if positive {
+            return self.add(17, [k, e, 0, 0]);
+        }
+        let Some(u) = self.scene.rules.reach_at(k) else {
+            return Ok(());
+        };
+        for placed in self.scene.reached(&u, e) {
+            if !self.scene.is_dead(&u, e, placed.row) {
+                self.add(18, [k, e, placed.row, 0])?;
+            }
+        }
+        Ok(())
+    }
+
+    fn ask_node(&mut self, k: u32, e: u32, positive: bool) -> Result<(), AllocError> {
+        if k >= self.scene.arena.len() {
+            return Ok(());
+        }
+        let args = [k, e, 0, 0];
+        match self.scene.arena.node(NodeId::new(k)) {
+            Core::True if positive => Ok(()),
+            Core::True => self.add(3, args),
+            Core::Prop(_) => self.ask_proposition(k, e, positive),
+            Core::Not(_) => self.add(if positive { 4 } else { 5 }, args),
+            Core::And(..) if positive => {
+                self.add(6, args)?;
+                self.add(7, args)
+            }
+            Core::And(..) => self.add(8, args),
+            Core::Until(..) | Core::Since(..) => self.ask_reach(k, e, positive),
+        }
+    }
+
+    fn ask_first(&mut self, e: u32) -> Result<(), AllocError> {
+        let earliest = self.scene.windows.earliest();
+        if greatest_between(self.scene.tight, e, earliest) < 0 {
+            return self.add(9, [e, earliest, 0, 0]);
+        }
+        for placed in self
+            .scene
+            .windows
+            .between(i128::MIN, self.scene.greatest(e))
+        {
+            self.add(9, [e, placed.row, 0, 0])?;
+        }
+        self.add(24, [e, 0, 0, 0])
+    }
+
+    fn ask_witness(&mut self, args: [u32; 4], positive: bool) -> Result<(), AllocError> {
+        let [k, i, j, _] = args;
+        let Some(u) = self.scene.rules.reach_at(k) else {
+            return Ok(());
+        };
+        let is_free = self.scene.rules.is_constant(u.left);
+        if !positive {
+            return self.add(if is_free { 28 } else { 16 }, args);
+        }
+        self.add(12, args)?;
+        self.add(13, args)?;
+        self.add(14, args)?;
+        if is_free {
+            return Ok(());
+        }
+        self.add(15, args)
+    }
+
+    // A span, with what says that it holds in both senses: so its value can be told before those of the gaps.
+    fn ask_span(&mut self, args: [u32; 4], positive: bool) -> Result<(), AllocError> {
+        let [k, i, j, _] = args;
+        let Some(u) = self.scene.rules.reach_at(k) else {
+            return Ok(());
+        };
+        for placed in self.scene.between(&u, i, j) {
+            self.add(19, [k, i, j, placed.row])?;
+        }
+        if positive {
+            return Ok(());
+        }
+        self.add(20, args)?;
+        let beyond = match u.direction {
+            Direction::Ahead => self.scene.windows.between(self.scene.least(j), i128::MAX),
+            Direction::Behind => self
+                .scene
+                .windows
+                .between(i128::MIN, self.scene.greatest(j)),
+        };
+        for placed in beyond {
+            if self.scene.gap_value(&u, i, placed.row).is_none() {
+                self.add(21, [k, i, j, placed.row])?;
+            }
+        }
+        Ok(())
+    }
+
+    // A gap, but for one further than the interval reaches: what is no span up to an event says of that by itself that it is
+    // none.
+    fn ask_gap(&mut self, args: [u32; 4]) -> Result<(), AllocError> {
+        let [k, i, m, _] = args;
+        let Some(u) = self.scene.rules.reach_at(k) else {
+            return Ok(());
+        };
+        if self.scene.is_never_up_to(&u, i, m) {
+            return Ok(());
+        }
+        self.add(22, args)?;
+        self.add(23, args)
+    }
+
+    fn ask_instant(&mut self, e: u32, x: u32, positive: bool) -> Result<(), AllocError> {
+        if !positive {
+            return self.add(26, [e, x, 0, 0]);
+        }
+        if greatest_between(self.scene.tight, e, x) < 0 {
+            return self.add(25, [e, x, 0, 0]);
+        }
+        self.add(25, [x, e, 0, 0])?;
+        self.add(25, [e, x, 0, 0])
+    }
+
+    // A node that isn't true, or isn't false.
+    fn refute_node(&mut self, k: u32, e: u32, positive: bool) -> Result<(), AllocError> {
+        let args = [k, e, 0, 0];
+        if k >= self.scene.arena.len() {
+            return Ok(());
+        }
+        match self.scene.arena.node(NodeId::new(k)) {
+            Core::And(left, _) if positive => {
+                let is_left = self.scene.known.value(left.get(), e) == Some(false);
+                self.add(if is_left { 6 } else { 7 }, args)
+            }
+            Core::Until(..) | Core::Since(..) if !positive => self.refute_reach(k, e),
+            _ => self.ask_node(k, e, positive),
+        }
+    }
+
+    // An until or a since that isn't false: one witness that there always is.
+    fn refute_reach(&mut self, k: u32, e: u32) -> Result<(), AllocError> {
+        let Some(u) = self.scene.rules.reach_at(k) else {
+            return Ok(());
+        };
+        for placed in self.scene.reached(&u, e) {
+            if self.scene.witness_value(&u, e, placed.row) == Some(true) {
+                return self.add(18, [k, e, placed.row, 0]);
+            }
+        }
+        Ok(())
+    }
+
+    // A witness that is none: by the right side rather than by the distance, since a node's value at an event is one for all
+    // that look at it, and each distance takes a line of its own.
+    fn refute_witness(&mut self, args: [u32; 4]) -> Result<(), AllocError> {
+        let [k, i, j, _] = args;
+        let Some(u) = self.scene.rules.reach_at(k) else {
+            return Ok(());
+        };
+        let number = if self.scene.known.value(u.right, j) == Some(false) {
+            14
+        } else if self.scene.is_never_from(&u, i, j) {
+            12
+        } else if self.scene.is_never_up_to(&u, i, j) {
+            13
+        } else {
+            15
+        };
+        self.add(number, args)
+    }
+
+    // A span over which the left side isn't true: one event at which it isn't.
+    fn refute_span(&mut self, args: [u32; 4]) -> Result<(), AllocError> {
+        let [k, i, j, _] = args;
+        let Some(u) = self.scene.rules.reach_at(k) else {
+            return Ok(());
+        };
+        for placed in self.scene.between(&u, i, j) {
+            let m = placed.row;
+            if self.scene.is_within(&u, i, j, m)
+                && self.scene.known.value(u.left, m) == Some(false)
+            {
+                return self.add(19, [k, i, j, m]);
+            }
+        }
+        Ok(())
+    }
+
+    // A gap that is none: by the left side rather than by the times, for the same reason.
+    fn refute_gap(&mut self, args: [u32; 4]) -> Result<(), AllocError> {
+        let [k, i, m, _] = args;
+        let Some(u) = self.scene.rules.reach_at(k) else {
+            return Ok(());
+        };
+        let is_left = self.scene.known.value(u.left, m) == Some(true);
+        self.add(if is_left { 23 } else { 22 }, args)
+    }
+
+    // Adds what says that a literal that is never true isn't.
+    fn refute(&mut self, literal: Literal) -> Result<(), AllocError> {
+        let positive = literal.positive;
+        match literal.atom {
+            Atom::Node { k, e } => self.refute_node(k, e, positive),
+            Atom::Wit { k, i, j } if positive => self.refute_witness([k, i, j, 0]),
+            Atom::Span { k, i, j } if positive => self.refute_span([k, i, j, 0]),
+            Atom::Gap { k, i, m } if positive => self.refute_gap([k, i, m, 0]),
+            _ => self.follow(literal),
+        }
+    }
+
+    // Adds what follows from a literal.
+    fn follow(&mut self, literal: Literal) -> Result<(), AllocError> {
+        let positive = literal.positive;
+        match literal.atom {
+            Atom::Node { k, e } => self.ask_node(k, e, positive),
+            Atom::Wit { k, i, j } => self.ask_witness([k, i, j, 0], positive),
+            Atom::Span { k, i, j } => self.ask_span([k, i, j, 0], positive),
+            Atom::Same { e, x } => self.ask_instant(e, x, positive),
+            Atom::First { e } if positive => self.ask_first(e),
+            Atom::Gap { k, i, m } if positive => self.ask_gap([k, i, m, 0]),
+            Atom::Order { .. } | Atom::First { .. } | Atom::Gap { .. } => Ok(()),
+        }
+    }
+
+    // Adds what a literal asks for: nothing where it is always true, and what refutes it where it never is.
+    fn ask(&mut self, literal: Literal) -> Result<(), AllocError> {
+        match self.scene.literal_value(literal) {
+            Some(true) => Ok(()),
+            Some(false) => self.refute(literal),
+            None => self.follow_both(literal),
+        }
+    }
+
+    // Adds what follows from a literal, and where it is about a node without untils and sinces from its negation too: with
+    // clauses of both senses what is found of a proposition goes both ways. Of an until they would ask for all its witnesses.
+    fn follow_both(&mut self, literal: Literal) -> Result<(), AllocError> {
+        self.follow(literal)?;
+        match literal.atom {
+            Atom::Node { k, .. } if self.scene.known.is_plain(k) => self.follow(literal.negated()),
+            _ => Ok(()),
+        }
+    }
+}
+
+// Where an instance stands among those of one literal: by its number, and then by its arguments. So the clauses of a head are
+// gone through in the order of the log.
+fn rank(rule: Rule) -> u128 {
+    let [_, second, third, fourth] = rule.args;
+    let args = (second as u128) << 64 | (third as u128) << 32 | fourth as u128;
+    (rule.number as u128) << 96 | args
+}
+
+/// Adds the instances that a literal asks for, in order: what has to hold where it is true.
+pub fn demands_of(
+    scene: Scene<'_>,
+    literal: Literal,
+    demands: &mut Vec<Rule>,
+) -> Result<(), AllocError> {
+    let mut asking = Asking { scene, demands };
+    asking.ask(literal)?;
+    demands.sort_unstable_by_key(|rule| rank(*rule));
+    Ok(())
+}
