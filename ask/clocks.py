@@ -58,13 +58,15 @@ class Clock:
         for line in lines:
             while passed < len(steps) and line.stamp > steps[passed].last:
                 passed += 1
+            moment = line.known_at()
+            before = passed if moment == line.stamp else passed_by(steps, moment)
             # The size of the step that comes next, 0 where no more comes; of those that may be next, the greatest.
-            end = max(passed, bisect_right(firsts, line.stamp))
-            found.append(max(sizes[passed : end + 1]) + max(tracked.get(line.stamp, 0), self.reported))
+            end = max(before, bisect_right(firsts, moment))
+            found.append(max(sizes[before : end + 1]) + max(tracked.get(moment, 0), self.reported))
         return found
 
     def tracked_errors(self, lines: Sequence[Line]) -> Dict[int, int]:
-        """The greatest error of each stamp by the tracking log, where there is one.
+        """The greatest error at each moment at which rows read the clock, by the tracking log, where there is one.
 
         A stamp in the second of an update may be before it and after it.
         """
@@ -77,22 +79,27 @@ class Clock:
         found: Dict[int, int] = {}
         open_spans: List[Tuple[int, int]] = []  # those that have begun: their errors, the greatest first, and their ends
         begun = 0
-        for line in sorted(lines, key=lambda line: line.stamp):
-            while begun < len(spans) and spans[begun][0] <= line.stamp:
+        for moment in sorted({line.known_at() for line in lines}):
+            while begun < len(spans) and spans[begun][0] <= moment:
                 heapq.heappush(open_spans, (-spans[begun][2], spans[begun][1]))
                 begun += 1
-            while open_spans and open_spans[0][1] <= line.stamp:
+            while open_spans and open_spans[0][1] <= moment:
                 heapq.heappop(open_spans)
             if open_spans:
-                found[line.stamp] = -open_spans[0][0]
-        outside = next((line for line in lines if line.stamp not in found), None)
+                found[moment] = -open_spans[0][0]
+        outside = next((line for line in lines if line.known_at() not in found), None)
         if outside:
-            words = f"the stamp {outside.stamp} isn't between two updates of the tracking log"
+            words = f"the stamp {outside.known_at()} isn't between two updates of the tracking log"
             raise Trouble(WRONG, f"{outside.where}: {words}")
         return found
 
 
 # Steps
+
+
+def passed_by(steps: Sequence[ClockStep], moment: int) -> int:
+    """How many steps, in their order, are surely before a moment."""
+    return next((place for place, step in enumerate(steps) if moment <= step.last), len(steps))
 
 
 def steps_told(making: Making, telling: str) -> List[ClockStep]:

@@ -112,6 +112,11 @@ class Found:
     bounds: List[FileBound] = field(default_factory=list)
     count: int = 0  # of events, each of which may be several rows
     seen: Set[str] = field(default_factory=set)  # hosts with rows in the files before
+    unit: Optional[str] = None  # of the log, where the words name none
+    notes: List[str] = field(default_factory=list)
+    warnings: List[str] = field(default_factory=list)
+    named: Dict[str, List[str]] = field(default_factory=dict)  # the hosts that a word names beside those of that name
+    shown: Dict[str, str] = field(default_factory=dict)  # hosts of parts, each with its name in its part
 
 
 Fields = Dict[str, str]
@@ -279,11 +284,21 @@ def part(fields: Fields, key: str, where: str) -> str:
     """The field under a key."""
     if key not in fields:
         has = shortened(listed([shortened(name) for name in list(fields)[:13]]), 120) or "nothing"
-        raise Trouble(WRONG, (
-            f"{where}: there is no {key!r}. It has: {has}. --host, --time and --name say which keys these are, and "
-            "--access what the lines of a web server look like"
+        form = form_of_traces(fields)
+        raise Trouble(WRONG, f"{where}: there is no {key!r}. It has: {has}. " + (
+            f"These are spans of traces: {form} reads them" if form else
+            "--host, --time and --name say which keys these are, and --access what the lines of a web server look like"
         ))
     return fields[key]
+
+
+def form_of_traces(fields: Fields) -> Optional[str]:
+    """The option for the form of traces of which fields are, if they are of one."""
+    if "resourceSpans" in fields:
+        return "--otlp"
+    if '"traceID"' in fields.get("data", "")[:1000]:
+        return "--jaeger"
+    return "--zipkin" if {"traceId", "localEndpoint.serviceName"} <= set(fields) else None
 
 
 def read_stamp(text: str, where: str) -> Stamp:

@@ -6,7 +6,7 @@ import argparse
 from dataclasses import dataclass
 from typing import Dict, Iterator, List, NamedTuple, Optional, Sequence, Tuple
 
-from ask.clocks import Clock, steps_of_file, steps_told, tracking_of_file
+from ask.clocks import Clock, ClockStep, Tracked, steps_of_file, steps_told, tracking_of_file
 from ask.events import WRONG, Found, Latency, Limits, name_map
 from ask.logs import MOST_HOSTS, MOST_SKEW, NO_HOST_NAMES
 from ask.making import Line, Making
@@ -50,16 +50,22 @@ class LogHost:
 def by_host(
     words: Sequence[str], option: str, making: Making, others: Sequence[str] = ()
 ) -> Iterator[Tuple[Optional[str], str]]:
-    """The host of each word, or another name that it may have, None where it is for all, and what is said of it."""
+    """The host of each word, or another name that it may have, None where it is for all, and what is said of it.
+
+    A word that names several hosts stands for each of them, and comes before those that name fewer.
+    """
+    found: List[Tuple[List[Optional[str]], str]] = []
     for word in words:
         spelled, equals, text = word.rpartition("=")
-        host = making.host_named(spelled) if equals else None
-        if host is None and spelled in others:
-            host = spelled
-        if equals and host is None:
-            known = listed([shortened(name) for name in dict.fromkeys([*making.hosts(), *others])])
+        hosts: List[Optional[str]] = [*making.hosts_named(spelled)] if equals else [None]
+        if not hosts and spelled in others:
+            hosts = [spelled]
+        if not hosts:
+            known = listed([shortened(name) for name in dict.fromkeys([*making.words_for_hosts(), *others])])
             raise Trouble(USAGE, f"{option} {word}: there is no host {spelled}. The hosts: {known}")
-        yield host, text
+        found.append((hosts, text))
+    for hosts, text in sorted(found, key=lambda one: -len(one[0])):
+        yield from ((host, text) for host in hosts)
 
 
 Told = Dict[Optional[str], int]  # what an option says of hosts, and of all others under None
@@ -76,12 +82,15 @@ def settle_limits(making: Making, words: LimitWords, clocks: Dict[str, Clock]) -
         line.skew, line.gap = limits_of(line.host, line.limits, making, skews, gaps)
     idle = {host: limits_of(host, limits, making, skews, gaps) for host, limits in making.idle.items()}
     warn_of_narrowed(making, skews, gaps)
+    by_hosts: Dict[str, List[Line]] = {}
+    for line in making.lines:
+        by_hosts.setdefault(line.host, []).append(line)
     for host, clock in clocks.items():
-        lines = [line for line in making.lines if line.host == host and not line.is_carried]
+        lines = [line for line in by_hosts.get(host, ()) if not line.is_carried]
         for line, error in zip(lines, clock.errors(lines)):
             line.skew += error
-        for line in making.lines:
-            if line.host == host and line.is_carried and lines:
+        for line in by_hosts.get(host, ()):
+            if line.is_carried and lines:
                 line.skew = lines[0].skew
     note_cut_digits(making)
     if any(skew > MOST_SKEW for skew in [line.skew for line in making.lines] + [skew for skew, _ in idle.values()]):
@@ -96,7 +105,8 @@ def limits_of(host: str, limits: Optional[Limits], making: Making, skews: Told, 
     skew = skews.get(host, skews.get(None, of_file[0]))
     if skew is None:
         raise Trouble(USAGE, (
-            f"how far may the stamps of {host} be off? Say it by --skew {host}=D, or by --skew D for all hosts"
+            f"how far may the stamps of {making.name_of(host)} be off? Say it by --skew {making.name_of(host)}=D, or by "
+            "--skew D for all hosts"
         ))
     return skew + (1 if making.cut.get(host) else 0), gaps.get(host, gaps.get(None, of_file[1]))
 
@@ -120,10 +130,12 @@ def warn_of_narrowed(making: Making, skews: Told, gaps: Told) -> None:
 
 def note_cut_digits(making: Making) -> None:
     """Tells of the hosts whose stamps lost digits, which a skew that is one unit greater covers."""
+    counts: Dict[str, int] = {}
     for host in making.hosts():
-        count = making.cut.get(host, 0)
+        counts[making.name_of(host)] = counts.get(making.name_of(host), 0) + making.cut.get(host, 0)
+    for name, count in counts.items():
         if count:
-            stamps = f"{counted(count, 'stamp')} of {shortened(host)}"
+            stamps = f"{counted(count, 'stamp')} of {shortened(name)}"
             making.notes.append(
                 f"digits below a unit are cut off in {stamps}: each skew of it is 1 unit greater for that"
             )
@@ -191,12 +203,14 @@ def clocks_of(making: Making, words: LimitWords) -> Dict[str, Clock]:
         return [clocks.setdefault(name, Clock(10 ** UNITS[making.unit or "s"])) for name in names]
 
     for option, texts, read in (("--step", words.step, steps_told), ("--clock", words.clock, steps_of_file)):
+        steps: Dict[str, List[ClockStep]] = {}  # of each text, which is read once though it is for several hosts
         for host, text in by_host(texts, option, making):
-            steps = read(making, text)
+            steps[text] = steps[text] if text in steps else read(making, text)
             for clock in clocks_named(host):
-                clock.steps += steps
+                clock.steps += steps[text]
+    files: Dict[str, Tracked] = {}
     for host, text in by_host(words.tracking, "--tracking", making):
-        tracked = tracking_of_file(making, text)
+        tracked = files[text] = files[text] if text in files else tracking_of_file(making, text)
         for clock in clocks_named(host):
             clock.updates += tracked.updates
             clock.reported = max(clock.reported, tracked.reported)
@@ -210,10 +224,9 @@ def hosts_of(making: Making, found: Found, words: LimitWords, most: int = MOST_H
     """The hosts in the order of their first rows, by their names in the files; more than so many are refused."""
     names = making.hosts()
     if len(names) > most:
-        raise Trouble(
-            WRONG, f"{counted(len(names), 'host')}; at most 64: cut a window by --only or by --from and --to",
-        )
-    mapped = name_map(names, NO_HOST_NAMES)
+        fewer = "choose by --trace and --service, or" if making.named else "cut a window by --only or"
+        raise Trouble(WRONG, f"{counted(len(names), 'host')}; at most 64: {fewer} by --from and --to")
+    mapped = name_map([making.name_of(name) for name in names], NO_HOST_NAMES)
     told = {host: latency_told(text, making) for host, text in by_host(words.latency, "--latency", making)}
     hosts = {}
     for name in names:
@@ -223,9 +236,10 @@ def hosts_of(making: Making, found: Found, words: LimitWords, most: int = MOST_H
             told_words = f"messages to {shortened(name)} take {latency_words(latency)}"
             of_file_words = f"{found.latencies[name].where} says {latency_words(of_file)}"
             making.warnings.append(f"--latency: {told_words}, and {of_file_words}: {FEWER}")
-        hosts[name] = LogHost(mapped[name], latency)
-    making.warnings += spelling_warnings("hosts", names, mapped)
-    making.notes += [f"host: {shortened(name)!r} is {host.name}" for name, host in hosts.items() if name != host.name]
+        hosts[name] = LogHost(mapped[making.name_of(name)], latency)
+    making.warnings += spelling_warnings("hosts", list(mapped), mapped)
+    shown = dict.fromkeys(map(making.name_of, names))
+    making.notes += [f"host: {shortened(name)!r} is {mapped[name]}" for name in shown if name != mapped[name]]
     return hosts
 
 

@@ -41,6 +41,10 @@ class Line:
     clock: str = ""
     error: int = 0
 
+    def known_at(self) -> int:
+        """The stamp, or the moment before it at which the clock was read of which it is computed."""
+        return self.stamp if self.read_at is None else min(self.stamp, self.read_at)
+
 
 class Tie(NamedTuple):
     """That all rows of one event are at most so much after those of another, by the numbers of the events."""
@@ -62,6 +66,8 @@ class Making:
     cut: Dict[str, int] = field(default_factory=dict)  # how many stamps of each host lost digits below a unit
     idle: Dict[str, Limits] = field(default_factory=dict)  # hosts without rows that stay, with what their file says
     spellings: Dict[str, str] = field(default_factory=dict)  # hosts that were taken as another one
+    named: Dict[str, List[str]] = field(default_factory=dict)  # the hosts that a word names beside those of that name
+    shown: Dict[str, str] = field(default_factory=dict)  # hosts of parts, each with its name in its part
     ties: List[Tie] = field(default_factory=list)  # in their order
     places_of_ties: Dict[int, List[int]] = field(default_factory=dict)  # what ties_by_later found
 
@@ -73,6 +79,21 @@ class Making:
         """The host that a word names, or None."""
         host = self.spellings.get(word, word)
         return host if host in self.hosts() else None
+
+    def name_of(self, host: str) -> str:
+        """The name of a host by the files, or in its part."""
+        return self.shown.get(host, host)
+
+    def words_for_hosts(self) -> List[str]:
+        """What hosts can be named by."""
+        return [word for word in dict.fromkeys([*self.named, *self.hosts()]) if word not in self.shown]
+
+    def hosts_named(self, word: str) -> List[str]:
+        """The hosts that a word names: several, where it names what they are of."""
+        if word in self.named:
+            return self.named[word]
+        host = self.host_named(word)
+        return [] if host is None else [host]
 
     def ties_by_later(self) -> Dict[int, List[int]]:
         """The places of ties by the number of their later event."""

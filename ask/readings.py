@@ -5,7 +5,7 @@ from __future__ import annotations
 from dataclasses import dataclass, field
 from typing import Dict, List, Optional, Sequence, Set, Tuple
 
-from ask.clocks import Clock, ClockStep
+from ask.clocks import Clock, ClockStep, passed_by
 from ask.events import WRONG, Limits, name_map
 from ask.limits import FEWER, Told, in_file
 from ask.logs import MOST_CLOCKS, MOST_SKEW
@@ -26,17 +26,18 @@ class Host:
     limits: Optional[Limits] = None
     clocks: Set[str] = field(default_factory=set)
 
-    def pass_to(self, line: Line) -> None:
-        """Goes on to the next row of the host."""
+    def pass_to(self, line: Line) -> int:
+        """Goes on to the next row of the host, and tells how many steps were passed when it read its clock."""
         while self.passed < len(self.steps) and moment_of(line) > self.steps[self.passed].last:
             self.passed += 1
         if self.limits is not None and line.limits is not None and line.limits is not self.limits:
             self.resyncs += 1
         self.limits = line.limits
+        return self.passed if line.known_at() == line.stamp else passed_by(self.steps, line.known_at())
 
-    def doubt(self, line: Line) -> int:
+    def doubt(self, line: Line, passed: int) -> int:
         """How far the clock may have been stepped already or not yet, where a row is near to steps that aren't passed."""
-        return sum(step.size for step in self.steps[self.passed :] if step.first <= moment_of(line))
+        return sum(step.size for step in self.steps[passed:] if step.first <= moment_of(line))
 
 
 def moment_of(line: Line) -> int:
@@ -58,15 +59,15 @@ def settle_readings(making: Making, errors: Told, clocks: Dict[str, Clock], erro
             continue
         error = error_told(line, errors, making)
         host = hosts.setdefault(line.host, Host(steps.get(line.machine, ())))
-        host.pass_to(line)
+        passed = host.pass_to(line)
         if error is None:
             continue
         of_file = line.file_clock
         resyncs = () if of_file else (line.host, host.resyncs)
-        key = (of_file.name if of_file else line.machine, host.passed, *(resyncs if host.resyncs and resyncs else ("", 0)))
+        key = (of_file.name if of_file else line.machine, passed, *(resyncs if host.resyncs and resyncs else ("", 0)))
         line.clock = names.setdefault(key, name_for(key, names))
         more = error_of_duration if line.read_at is not None else 0
-        line.error = error + host.doubt(line) + more + (1 if making.cut.get(line.host) else 0)
+        line.error = error + host.doubt(line, passed) + more + (1 if making.cut.get(line.host) else 0)
         if line.error > MOST_SKEW:
             raise Trouble(WRONG, f"{line.where}: the error of its clock is above 10^18 in units: choose a coarser --unit")
         host.clocks.add(line.clock)
@@ -126,5 +127,5 @@ def take_names(making: Making, hosts: Dict[str, Host]) -> None:
     for line in making.lines:
         line.clock = mapped.get(line.clock, "")
     for clock in clocks:
-        readers = [shortened(name) for name, host in hosts.items() if clock in host.clocks]
-        making.notes.append(f"clock: {mapped[clock]} is read by {listed(readers)}")
+        readers = dict.fromkeys(making.name_of(name) for name, host in hosts.items() if clock in host.clocks)
+        making.notes.append(f"clock: {mapped[clock]} is read by {listed([shortened(name) for name in readers])}")

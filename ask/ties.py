@@ -13,17 +13,31 @@ from ask.texts import Trouble
 from ask.words import USAGE, counted, grouped, shortened
 
 SIGNS = ("\u00b1", "+-")  # before the error of a duration
+STEADY = "--steady-spans"
 
 
 class Measured(NamedTuple):
-    """The field of how long ago the request of a row began, and by how much that may be off, as the words have it."""
+    """The field of how long ago the request of a row began, and by how much that may be off, as the words have it.
+
+    Of spans there is no such field, since each has its duration.
+    """
 
     field: str
     error: str
 
+    def words(self) -> str:
+        """The option that says so."""
+        return f"--duration {self.field}\u00b1{self.error}" if self.field else f"{STEADY} {self.error}"
 
-def measured_of(text: Optional[str]) -> Optional[Measured]:
-    """What `FIELD±D` says; D may be left out."""
+    def name(self) -> str:
+        """What has the duration."""
+        return self.field or "the span"
+
+
+def measured_of(text: Optional[str], of_spans: Optional[str] = None) -> Optional[Measured]:
+    """What `FIELD±D` says, whose D may be left out, or the error of the durations of spans."""
+    if of_spans is not None:
+        return Measured("", of_spans)
     if text is None:
         return None
     sign = next((sign for sign in SIGNS if sign in text), None)
@@ -37,7 +51,8 @@ def error_of(measured: Measured, making: Making) -> int:
     """By how much a duration may be off, in units, rounded up."""
     error = duration_in_units(measured.error, making.unit)
     if error is None or error > MOST_SKEW:
-        raise Trouble(USAGE, f"--duration {measured.field}±{measured.error}: behind ± it is {duration_rule(making.unit)}")
+        behind = "behind ± it" if measured.field else "the error"
+        raise Trouble(USAGE, f"{measured.words()}: {behind} is {duration_rule(making.unit)}")
     return error
 
 
@@ -69,7 +84,9 @@ def ties_of_durations(making: Making, lines: Sequence[Line], measured: Measured)
     """The bounds by the durations of rows in the window, of all rows that there are."""
     error, begins = error_of(measured, making), begins_of(lines)
     if not begins:
-        raise Trouble(WRONG, f"--duration {measured.field}: no event of the files has this field")
+        raise Trouble(WRONG, f"--duration {measured.field}: no event of the files has this field" if measured.field else (
+            f"{STEADY}: no span of the files has an end"
+        ))
     kept = {line.number for line in making.lines}
     ends = {line.number: line for line in making.lines if line.duration}
     left_out = 0
@@ -89,7 +106,7 @@ def span_of(line: Line, making: Making, measured: Measured) -> Tuple[int, int]:
     """The duration of a row in units, rounded down and up."""
     least, most = (in_file(line.duration, making, is_down) for is_down in (True, False))
     if least is None or most is None or most > MOST_SKEW:
-        raise Trouble(WRONG, f"{line.where}: {measured.field} is {shortened(line.duration)!r}, which is no duration")
+        raise Trouble(WRONG, f"{line.where}: {measured.name()} is {shortened(line.duration)!r}, which is no duration")
     return least, most
 
 

@@ -16,18 +16,20 @@ from ask.spelling import Spellings, spelling_warnings, take_as_one
 from ask.stamps import UNITS
 from ask.texts import Source, Trouble, escaped, read_source, say, write_text
 from ask.ties import bound_lines, error_of, measured_of, ties_of_durations, ties_of_files, warn_of_durations
+from ask.traces import TraceWords, choice_of, events_of_traces
 from ask.words import USAGE, Answer, counted, listed, shortened
 
 
 def add_words(commands: "argparse._SubParsersAction[argparse.ArgumentParser]", common: argparse.ArgumentParser) -> None:
     """Adds the words of the command."""
     words = commands.add_parser(
-        "log", parents=[common], allow_abbrev=False, help="make a log of tables, lines of JSON or access lines, or cut a window",
+        "log", parents=[common], allow_abbrev=False,
+        help="make a log of tables, lines of JSON, access lines or traces, or cut a window",
         description="Writes one log made of files: logs of the program, which are joined; tables of comma-separated "
-        "fields with their names in the first line; files with a JSON object a line; and, with --access, the lines of "
-        "a web server. Stamps may be whole units, decimal seconds or ISO 8601; names that aren't names are mapped. The "
-        "log is of the least version that has what it says. What was changed is said on the standard "
-        "error, or in the file of --notes. The program isn't needed.",
+        "fields with their names in the first line; files with a JSON object a line; with --access the lines of "
+        "a web server; and with --otlp, --jaeger or --zipkin the spans of traces. Stamps may be whole units, decimal "
+        "seconds or ISO 8601; names that aren't names are mapped. The log is of the least version that has what it says. "
+        "What was changed is said on the standard error, or in the file of --notes. The program isn't needed.",
     )
     words.add_argument("files", nargs="+", metavar="FILE")
     words.add_argument("--unit", choices=list(UNITS), help="of the log; else the coarsest that keeps all digits")
@@ -45,6 +47,7 @@ def add_words(commands: "argparse._SubParsersAction[argparse.ArgumentParser]", c
         ),
     )
     add_words_on_events(words.add_argument_group("what an event is, and what it becomes"))
+    add_words_on_traces(words.add_argument_group("spans of traces (docs/real-logs.md)"))
     add_words_on_clocks(words.add_argument_group("clocks and messages; without a HOST it is for all hosts"))
     add_words_on_windows(words.add_argument_group("which rows are kept"))
     words.set_defaults(do=do)
@@ -94,6 +97,36 @@ def add_words_on_events(words: argparse._ArgumentGroup) -> None:
         "--pulses",
         action="store_true",
         help="events without a kind become pulses, propositions that are true at one instant",
+    )
+
+
+def add_words_on_traces(words: argparse._ArgumentGroup) -> None:
+    """Adds the words on traces."""
+    for form, what in (
+        ("otlp", "OTLP JSON, as the file exporter of the OpenTelemetry collector writes it. A span sets its name on the host "
+         "of its service and clears it, and is a message to that of its child in another process"),
+        ("jaeger", "JSON of the query API of Jaeger"),
+        ("zipkin", "JSON of Zipkin's version 2"),
+    ):
+        words.add_argument(
+            f"--{form}", dest="traces", action="append_const", const=form, help=f"the files are traces in {what}",
+        )
+    words.add_argument("--trace", action="append", default=[], metavar="ID", help="of this trace alone; may be given again")
+    words.add_argument(
+        "--service", action="append", default=[], metavar="NAME", help="of this service alone; may be given again",
+    )
+    words.add_argument(
+        "--apart",
+        action="store_true",
+        help=(
+            "spans of one process that are open at once are on hosts of their own, but for those within their parents; "
+            "else only those of one name"
+        ),
+    )
+    words.add_argument(
+        "--steady-spans",
+        metavar="ERROR",
+        help="the duration of a span is measured by a clock that nothing sets, and off by at most ERROR",
     )
 
 
@@ -178,7 +211,7 @@ def settle_clocks_and_bounds(
     """
     clocks = clocks_of(making, words)
     idle = settle_limits(making, words, clocks)
-    measured = measured_of(arguments.duration)
+    measured = measured_of(arguments.duration, arguments.steady_spans)
     errors = durations(words.clock_error, "--clock-error", making, others=list(making.machines()))
     settle_readings(making, errors, clocks, error_of(measured, making) if measured else 0)
     making.ties += ties_of_files(making, found.bounds)
@@ -190,11 +223,12 @@ def settle_clocks_and_bounds(
 
 def making_of_files(arguments: argparse.Namespace, found: Found) -> Making:
     """The log to be made of what the files have, with what was taken as one host and what is to be warned of."""
-    spellings = take_as_one(found) if arguments.same_name else Spellings({}, {})
-    making = making_of(found.events, arguments.unit)
-    making.spellings = spellings.hosts
-    making.notes += spellings.notes()
-    making.warnings += warnings_of_rows(arguments, found)
+    is_asked = arguments.same_name and traces_of(arguments) is None  # of traces that is done with their spans
+    spellings = take_as_one(found) if is_asked else Spellings({}, {})
+    making = making_of(found.events, arguments.unit or found.unit)
+    making.spellings, making.named, making.shown = spellings.hosts, found.named, found.shown
+    making.notes += found.notes + spellings.notes()
+    making.warnings += found.warnings + warnings_of_rows(arguments, found)
     return making
 
 
@@ -217,7 +251,9 @@ def settle_idle_hosts(making: Making, found: Found, is_part: bool) -> None:
 
 
 def found_in_files(arguments: argparse.Namespace) -> Found:
-    """What the files have, in their order."""
+    """What the files have, in their order, or of traces in that of their stamps."""
+    if traces_of(arguments) is not None:
+        return found_in_traces(arguments)
     found, rows = Found(), row_table(arguments.row)
     without_kind = "pulse" if arguments.pulses else "note"
     measured = measured_of(arguments.duration)
@@ -234,6 +270,50 @@ def found_in_files(arguments: argparse.Namespace) -> Found:
     for name in arguments.files:
         read_events(input_file(name), keys, rows, found)
     return found
+
+
+def traces_of(arguments: argparse.Namespace) -> Optional[str]:
+    """The form of the traces that the files have, or None where words don't speak of traces; both is refused."""
+    forms = list(dict.fromkeys(arguments.traces or ()))
+    if not forms:
+        wrong = next((option for option, value in words_on_traces(arguments) if value), None)
+        if wrong:
+            raise Trouble(USAGE, f"{wrong} is for traces: --otlp, --jaeger or --zipkin says what form they have")
+        return None
+    if len(forms) > 1:
+        raise Trouble(USAGE, f"--{forms[0]} and --{forms[1]}: all files of a run have one form")
+    wrong = next((option for option, value, usual in words_on_others(arguments) if value != usual), None)
+    if wrong:
+        raise Trouble(USAGE, f"{wrong} isn't for traces, whose spans tell that themselves: --trace and --service choose")
+    return forms[0]
+
+
+def words_on_traces(arguments: argparse.Namespace) -> List[Tuple[str, object]]:
+    """The options that are for traces alone, and what they say."""
+    return [
+        ("--trace", arguments.trace), ("--service", arguments.service), ("--apart", arguments.apart),
+        ("--steady-spans", arguments.steady_spans is not None),
+    ]
+
+
+def words_on_others(arguments: argparse.Namespace) -> List[Tuple[str, object, object]]:
+    """The options that aren't for traces, what they say, and what they say where they aren't given."""
+    given = vars(arguments)
+    return [
+        ("--host", arguments.host, "host"), ("--name", arguments.name, "name"), ("--kind", arguments.kind, "kind"),
+        ("--id", given.get("by") or arguments.id, given.get("by") or "id"), ("--time", arguments.time, None),
+        ("--access", arguments.access, None), ("--as", arguments.as_host, "web"), ("--row", arguments.row, []),
+        ("--pulses", arguments.pulses, False), ("--duration", arguments.duration, None), ("--only", arguments.only, []),
+    ]
+
+
+def found_in_traces(arguments: argparse.Namespace) -> Found:
+    """What the files have of traces."""
+    machine = tuple(arguments.machine.split(",")) if arguments.machine is not None else ()
+    return events_of_traces([input_file(name) for name in arguments.files], TraceWords(
+        traces_of(arguments) or "", choice_of(arguments.trace, arguments.service), machine, "by" in vars(arguments),
+        arguments.steady_spans is not None, arguments.same_name, arguments.apart,
+    ))
 
 
 def input_file(name: str) -> Source:

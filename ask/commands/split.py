@@ -10,8 +10,8 @@ from pathlib import Path
 from typing import Dict, List
 
 from ask.commands.log import (
-    add_words_on_clocks, add_words_on_events, found_in_files, log_text, making_of_files, mapped_names,
-    settle_clocks_and_bounds, tell,
+    add_words_on_clocks, add_words_on_events, add_words_on_traces, found_in_files, log_text, making_of_files, mapped_names,
+    settle_clocks_and_bounds, tell, traces_of,
 )
 from ask.events import WRONG
 from ask.limits import LogHost, hosts_of, limit_words_of
@@ -19,8 +19,9 @@ from ask.logs import MOST_HOSTS, MOST_ROWS
 from ask.making import Line, Making, settle_messages, spread_carried
 from ask.stamps import UNITS
 from ask.texts import Trouble, escaped, reason_of, write_text
-from ask.words import Answer, counted, listed, shortened
+from ask.words import USAGE, Answer, counted, listed, shortened
 
+TRACE = "trace"  # the key of the parts of traces
 NO_ROOM = 73  # the status where a folder isn't empty or can't be made
 MOST_NAME = 200  # letters of a value in the name of a file
 UNSAFE = re.compile(r"[^A-Za-z0-9_.-]")
@@ -29,23 +30,27 @@ UNSAFE = re.compile(r"[^A-Za-z0-9_.-]")
 def add_words(commands: "argparse._SubParsersAction[argparse.ArgumentParser]", common: argparse.ArgumentParser) -> None:
     """Adds the words of the command."""
     words = commands.add_parser(
-        "split", parents=[common], allow_abbrev=False, help="make a log of each request of tables or lines of JSON",
+        "split", parents=[common], allow_abbrev=False, help="make a log of each request or trace",
         description="Makes a log for each value of a field, as for each request, of the files that `ask log` takes, with "
-        "what the hosts had set before its first row carried in. The logs lie in a folder, each a file VALUE.csv, that "
+        "what the hosts had set before its first row carried in; of traces a log for each, which is the one that `ask log "
+        "--trace` makes, in the unit of all of them. The logs lie in a folder, each a file VALUE.csv, that "
         "examples/many_logs.py asks. The program isn't needed.",
     )
     words.add_argument("files", nargs="+", metavar="FILE")
-    words.add_argument("--by", required=True, metavar="KEY", help="the key whose values tell the parts")
+    words.add_argument("--by", required=True, metavar="KEY", help="the key whose values tell the parts, `trace` of traces")
     words.add_argument("--into", required=True, metavar="FOLDER", help="where the logs go; it is made, or empty")
     words.add_argument("--unit", choices=list(UNITS), help="of the logs; else the coarsest that keeps all digits")
     words.add_argument("--notes", metavar="NOTES", help="the file for what was changed")
     add_words_on_events(words.add_argument_group("what an event is, and what it becomes"))
+    add_words_on_traces(words.add_argument_group("spans of traces (docs/real-logs.md)"))
     add_words_on_clocks(words.add_argument_group("clocks and messages; without a HOST it is for all hosts"))
     words.set_defaults(do=do, only=[])
 
 
 def do(arguments: argparse.Namespace) -> Answer:
     """The answer of the command."""
+    if traces_of(arguments) is not None and arguments.by != TRACE:
+        raise Trouble(USAGE, f"--by {arguments.by}: traces are split --by {TRACE}")
     arguments.id = arguments.by
     found = found_in_files(arguments)
     if not found.events:

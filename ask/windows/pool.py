@@ -8,7 +8,7 @@ import subprocess
 import time
 from contextlib import suppress
 from dataclasses import dataclass, field
-from typing import Dict, Generic, Iterable, Iterator, List, NamedTuple, Optional, Sequence, TypeVar
+from typing import Dict, Generic, Iterable, Iterator, List, Optional, Sequence, TypeVar
 
 from ask.ends import uninterrupted
 from ask.program import MOST_OUTPUT, NOT_THERE, STOPPED, Program, Stopped, handed, started
@@ -18,7 +18,8 @@ MOST_TO_WAIT = 0.5  # seconds after which runs are looked at again
 Key = TypeVar("Key")
 
 
-class Job(NamedTuple, Generic[Key]):
+@dataclass(frozen=True)
+class Job(Generic[Key]):
     """A run that is wanted: what it is about, the words of the program, and the files behind them."""
 
     key: Key
@@ -26,7 +27,8 @@ class Job(NamedTuple, Generic[Key]):
     files: Sequence[bytes]
 
 
-class Done(NamedTuple, Generic[Key]):
+@dataclass(frozen=True)
+class Done(Generic[Key]):
     """A run that has ended: what it is about, its status, and what it wrote."""
 
     key: Key

@@ -11,7 +11,18 @@ FORMULA = b"G (a.req -> F[0,5] b.ack)"
 ROWS = b'{"time": 10, "host": "a", "name": "x"}\n{"time": 12, "host": "b", "name": "y"}\n'
 TIMES = b"10\n15\n"
 REPORT = b"skewcheck 1\nevents 2\ntrue witness\n8\n13\nfalse witness\n8\n14\nend\n"
+SPAN_OF_OTLP = (
+    b'{"resourceSpans":[{"resource":{"attributes":[{"key":"service.name","value":{"stringValue":"a"}}]},"scopeSpans":[{"spans":'
+    b'[{"traceId":"0af7651916cd43dd8448eb211c80319c","spanId":"00f067aa0ba902b7","name":"x","kind":2,"startTimeUnixNano":'
+    b'"1700000000000000000","endTimeUnixNano":"1700000000500000000","events":[{"timeUnixNano":1700000000100000000,"name":"e"}]}]}]}]}\n'
+)
+SPAN_OF_JAEGER = (
+    b'{"data":[{"traceID":"1","spans":[{"traceID":"1","spanID":"2","operationName":"x","references":[],"startTime":1700000000000000,'
+    b'"duration":500,"tags":[],"logs":[],"processID":"p1"}],"processes":{"p1":{"serviceName":"a","tags":[]}}}]}\n'
+)
+SPAN_OF_ZIPKIN = b'[{"traceId":"1","id":"2","name":"x","timestamp":1700000000000000,"duration":500,"localEndpoint":{"serviceName":"a"}}]\n'
 FILES = {
+    "o": SPAN_OF_OTLP, "g": SPAN_OF_JAEGER, "z": SPAN_OF_ZIPKIN,
     "f": FORMULA, "l": TWO_ROWS, "t": TIMES, "r": REPORT, "j": ROWS, "d": b"G (a.req -> F[0,?] b.ack)", "e": b"F {1}.{2}",
     "a": b"1700000000.000 0.010 r1\n1700000000.100 0.010 r2\n", "c": b"2023-11-14T22:13:28Z chronyd[1]: System clock was stepped by 0.5 s\n",
     "s": b"time,host,name\n2023-11-14T22:13:30.003Z,a,n\n",
@@ -30,6 +41,9 @@ BASES = {
     "log of JSON": (["log", "j", "--skew", "5", "--notes", "notes"], (1, 5)),
     "log of access lines": (["log", "a", "--access", FORMAT, "--skew", "5ms"], (1,)),
     "log with steps": (["log", "s", "--skew", "5ms", "--clock", "c"], (1, 5)),
+    "log of OTLP": (["log", "o", "--otlp", "--skew", "5ms"], (1,)),
+    "log of Jaeger": (["log", "g", "--jaeger", "--skew", "5ms", "--steady-spans", "1us"], (1,)),
+    "log of Zipkin": (["log", "z", "--zipkin", "--skew", "5ms"], (1,)),
     "draw": (["draw", "l"], (1,)),
     "draw --svg": (["draw", "l", "--formula", "f", "--svg"], (1, 3)),
     "draw --times": (["draw", "l", "--times", "t", "--svg"], (1, 3)),
@@ -97,7 +111,7 @@ def odd_files():
         for change in (b"\r\n", b"\r"):
             files = {key: data.replace(b"\n", change) for key, data in FILES.items() if key not in "tr"}
             yield case(f"other ends of lines for {name}: {change!r}", words, (0, 2), files)
-        marked = {key: b"\xef\xbb\xbf" + data for key, data in FILES.items() if key in "ljacs"}
+        marked = {key: b"\xef\xbb\xbf" + data for key, data in FILES.items() if key in "ljacsogz"}
         yield case(f"a byte order mark for {name}:", words, (0, 2), marked)
 
 
@@ -133,6 +147,8 @@ def odd_bytes():
             ("a head of a table", ["log", "l", "--skew", "5"], {"l": b"time,host,na" + letter + b"me\n1,h,n\n"}),
             ("JSON", ["log", "j", "--skew", "5"], {"j": b'{"time":1,"host":"h' + in_json + b'","name":"' + in_json + b'"}\n'}),
             ("a key of JSON", ["log", "j", "--skew", "5"], {"j": b'{"time":1,"ho' + in_json + b'st":"h","name":"n"}\n'}),
+            ("OTLP", ["log", "o", "--otlp", "--skew", "5"], {"o": SPAN_OF_OTLP.replace(b'"x"', b'"' + in_json + b'"').replace(b'"a"', b'"h' + in_json + b'"')}),
+            ("a kind of OTLP", ["log", "o", "--otlp", "--skew", "5"], {"o": SPAN_OF_OTLP.replace(b'"kind":2', b'"kind":"' + in_json + b'"')}),
             ("bytes of JSON", ["log", "j", "--skew", "5"], {"j": b'{"time":1,"host":"h' + letter + b'","name":"n"}\n'}),
             ("an access line", ["log", "a", "--access", FORMAT, "--skew", "5ms"], {"a": b"1700000000.000 0.0" + letter + b"10 r1\n"}),
             ("an id of an access line", ["log", "a", "--access", FORMAT, "--skew", "5ms", "--row", "begin=note:r{request_id}"],
