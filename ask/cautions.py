@@ -11,6 +11,7 @@ from ask.program import Run, Stopped
 from ask.question import VERDICTS, Question, text_of_source
 from ask.texts import Source, place_of
 from ask.words import Answer, lines_words, listed, shortened, yellow
+from ask.written import place_written
 
 MOST_PARTS = 4000  # of a formula that is made of another one
 BY_THE_LOG = ("unset", "no-proposition")  # the kinds that are told without a run
@@ -94,7 +95,8 @@ def never_set(log: Log, tree: Tree) -> Iterator[Tuple[int, Tree]]:
 
 def caution_of_name(formula: Source, log: Log, host: int, part: Tree, run: Optional[str] = None) -> Caution:
     """The warning of a proposition that no row sets or pulses."""
-    name, place = part.name, place_of(formula.data, len(text_of_source(formula)[: part.start].encode()))
+    written, start = place_written(formula, len(text_of_source(formula)[: part.start].encode()))
+    name, place = part.name, place_of(written.data, start)
     where = f"{text_of(part)} (line {place.line}, column {place.column})"
     others = [
         event for event, row in enumerate(log.rows) if row.name == name and row.kind in ("note", "send", "recv")

@@ -9,6 +9,7 @@ from typing import Callable, Iterator, List, Optional, Sequence, Set, Tuple
 from ask.formulas import NO_BOUND, Tree, chained, enclosed, interval_text, propositions, text_of
 from ask.logs import Log, change_rows, pulse_rows
 from ask.question import Question
+from ask.units import Scale
 from ask.words import lines_words, shortened
 
 DEEPEST = 5  # operators of time within one another that are explained
@@ -42,7 +43,7 @@ class Timing:
         rows = [self.log.rows[event] for event in events]
         shown = [f"{self.log.host_of(event)} {row.kind} {row.name}" for event, row in zip(events, rows)]
         more = ", .." if len(shown) > 4 else ""
-        return f"at {moment} ({lines_words(self.log, events)}: {', '.join(shown[:4])}{more})"
+        return f"at {self.log.scale.moment(moment)} ({lines_words(self.log, events)}: {', '.join(shown[:4])}{more})"
 
     def least_place(self, place: int, is_there: Callable[[int], bool], is_forward: bool) -> int:
         """The nearest position from a place on, forward or back, up to which something is there; it is somewhere."""
@@ -225,10 +226,11 @@ def steps_of_all(timing: Timing, tree: Tree, place: int, value: bool) -> List[st
     child = text_of(tree.parts[0])
     sign = "F" if is_forward(tree) else "O"
     interval = interval_text(tree.interval)
-    here = timing.positions[place]
+    scale = timing.log.scale
+    where = f"{interval_words(tree, scale)} {scale.moment(timing.positions[place])}"
     if value:
-        return [f"{shown(tree.parts[0])} holds at each position {interval_words(tree)} {here}"]
-    line = f"{shown(tree.parts[0])} holds at no position {interval_words(tree)} {here}"
+        return [f"{shown(tree.parts[0])} holds at each position {where}"]
+    line = f"{shown(tree.parts[0])} holds at no position {where}"
     if not interval:
         return [line]
     found = nearest(timing, sign, tree.interval[0], child, place)
@@ -252,16 +254,17 @@ def distance_words(timing: Timing, place: int, other: int) -> str:
     distance = timing.positions[other] - timing.positions[place]
     if distance == 0:
         return "the same instant"
-    return f"{abs(distance)} {'earlier' if distance < 0 else 'later'}"
+    return f"{timing.log.scale.span(abs(distance))} {'earlier' if distance < 0 else 'later'}"
 
 
-def interval_words(tree: Tree) -> str:
+def interval_words(tree: Tree, scale: Scale) -> str:
     """Which positions an interval speaks of, before the moment that it is counted from."""
     low, high = tree.interval
     way = "after" if is_forward(tree) else "before"
     if (low, high) == NO_BOUND:
         return "from" if is_forward(tree) else "up to"
-    return f"{low} or more {way}" if high == "inf" else f"{low} to {high} {way}"
+    least = scale.span(int(low))
+    return f"{least} or more {way}" if high == "inf" else f"{least} to {scale.span(int(high))} {way}"
 
 
 def steps_of_until(timing: Timing, tree: Tree, place: int, value: bool, depth: int) -> Iterator[str]:
@@ -288,7 +291,8 @@ def steps_of_until(timing: Timing, tree: Tree, place: int, value: bool, depth: i
         yield from steps(timing, part, failing, part_value, depth + 1)
     found_right = nearest(timing, sign, tree.interval[0], text_of(right), place)
     if found_right is None:
-        yield f"{shown(right)} holds at no position {interval_words(tree)} {timing.positions[place]}"
+        scale = timing.log.scale
+        yield f"{shown(right)} holds at no position {interval_words(tree, scale)} {scale.moment(timing.positions[place])}"
     else:
         away = distance_words(timing, place, found_right)
         yield f"{shown(right)} first holds {timing.place_words(found_right)}, {away}"
@@ -306,7 +310,7 @@ def vanished_words(timing: Timing, tree: Tree) -> List[str]:
                 if not timing.holds(f"{part.host}.{part.name}", place):
                     lines.append(
                         f"{lines_words(timing.log, [first, second])} set and clear {part.host}.{part.name} at one "
-                        f"instant, {timing.times[first]}, where the later row counts: it isn't true there "
-                        f"(gap {timing.log.rows[second].gap})"
+                        f"instant, {timing.log.scale.moment(timing.times[first])}, where the later row counts: it isn't true there "
+                        f"(gap {timing.log.scale.span(timing.log.rows[second].gap)})"
                     )
     return lines

@@ -259,6 +259,33 @@ def parts_written(tree: Tree) -> int:
     return count(tree)
 
 
+def different_parts(tree: Tree) -> int:
+    """How many different parts a formula has in terms of `true`, propositions, `!`, `&`, `U` and `S` (docs/formula.md)."""
+    numbers: Dict[Tuple[object, ...], int] = {}
+
+    def number(*key: object) -> int:
+        return numbers.setdefault(key, len(numbers))
+
+    def number_of(part: Tree) -> int:
+        if part.form == "prop":
+            return number("prop", part.host, part.name)
+        if part.form in ("true", "false"):
+            return number("true") if part.form == "true" else number("!", number("true"))
+        inner = [number_of(one) for one in part.parts]
+        if part.form in ("|", "->"):
+            left = number("!", inner[0]) if part.form == "|" else inner[0]
+            return number("!", number("&", left, number("!", inner[1])))
+        if part.form in ("F", "O", "G", "H"):
+            sign = "U" if part.form in ("F", "G") else "S"
+            some = number("!", inner[0]) if part.form in ("G", "H") else inner[0]
+            found = number(sign, part.interval, number("true"), some)
+            return number("!", found) if part.form in ("G", "H") else found
+        return number(part.form, part.interval, *inner)
+
+    number_of(tree)
+    return len(numbers)
+
+
 def enclosed(tree: Tree) -> str:
     """The text of a tree as a part: in parentheses where it has two parts of its own."""
     return f"({text_of(tree)})" if len(tree.parts) == 2 else text_of(tree)

@@ -12,6 +12,7 @@ from dataclasses import dataclass, field
 from typing import Dict, Iterable, Iterator, List, NamedTuple, Optional, Sequence, Tuple, Union
 
 from ask.texts import BYTE_ORDER_MARK, LINE_END
+from ask.units import BARE, Scale
 
 MOST_HOSTS = 64
 MOST_ROWS = 1024
@@ -102,6 +103,7 @@ class Log:
     extras: List[Extra] = field(default_factory=list)
     before: List[Optional[int]] = field(default_factory=list, repr=False, compare=False)  # what rows_before found
     sent_by: Dict[int, Dict[str, int]] = field(default_factory=dict, repr=False, compare=False)  # what sends found
+    scale: Scale = field(default=BARE, repr=False, compare=False)  # the unit, which no log itself has
 
     def host_of(self, event: int) -> str:
         """The name of the host of a row."""

@@ -160,7 +160,7 @@ function titlesAt(x, y) {
 }
 
 const tip = document.querySelector("#tip"), axis = ticks[0];
-
+@DATES@
 // Shows the moment at a point, and what is there.
 function showTip(x, y) {
   const place = x - svg.getBoundingClientRect().left;
@@ -168,7 +168,7 @@ function showTip(x, y) {
   const passed = Math.round(axis.offset + ((place - left) * plot / width + moved) / zoom / plot * axis.span);
   const moment = BigInt(axis.element.dataset.base) + BigInt(passed);
   const found = titlesAt(x, y), more = found.length - most;
-  tip.textContent = [`at ${moment}`, ...found.slice(0, most), ...(more > 0 ? [`and ${more} more`] : [])].join("\\n");
+  tip.textContent = [`at ${@MOMENT@}`, ...found.slice(0, most), ...(more > 0 ? [`and ${more} more`] : [])].join("\\n");
   const page = document.documentElement;
   tip.style.left = `${Math.max(0, Math.min(x + 14, page.clientWidth - tip.offsetWidth - 2))}px`;
   tip.style.top = `${y + 18 + tip.offsetHeight > page.clientHeight ? y - 8 - tip.offsetHeight : y + 18}px`;
@@ -203,7 +203,20 @@ fit();
 </html>"""
 
 
-def page_of(title: str, svg: str) -> str:
-    """The page that shows a picture."""
-    parts = {"@TITLE@": markup(title), "@SVG@": svg}
+# A moment as an ISO 8601 time in the zone of the log's source.
+DATES = """
+function dated(moment) {
+  const {digits, epoch, ahead, zone} = axis.element.dataset, whole = 10n ** BigInt(digits);
+  const local = moment + BigInt(epoch) + BigInt(ahead) * whole, rest = (local % whole + whole) % whole;
+  const date = new Date(Number((local - rest) / whole) * 1000);
+  if (isNaN(date)) return moment;
+  return date.toISOString().slice(0, -5) + (digits > 0 ? `.${String(rest).padStart(digits, "0")}` : "") + zone;
+}
+"""
+
+
+def page_of(title: str, svg: str, is_dated: bool = False) -> str:
+    """The page that shows a picture; where moments have dates it shows these at the pointer."""
+    dates, moment = (DATES, "dated(moment)") if is_dated else ("", "moment")
+    parts = {"@TITLE@": markup(title), "@SVG@": svg, "@DATES@": dates, "@MOMENT@": moment}
     return re.sub("|".join(parts), lambda found: parts[found.group()], PAGE)

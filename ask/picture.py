@@ -16,7 +16,7 @@ from ask.offsets import Offset, offsets_of
 from ask.reports import Step
 from ask.texts import markup
 from ask.walks import bound_between, grounds_of
-from ask.words import error_words, ground_words, shortened, signed
+from ask.words import error_words, ground_words, shortened
 
 EDGE = 12  # within which figures begin at their row
 READING = ' stroke="#7a5195" stroke-width="3" stroke-opacity=".6"'
@@ -104,7 +104,7 @@ def draw_panel(canvas: Canvas, log: Log, panel: Panel, scale: Scale, number: int
     if panel.walk:
         draw_walk(canvas, log, panel, scale, lanes, top)
     canvas.parts.append("</g>")
-    draw_axis(canvas, scale, bottom + 6)
+    draw_axis(canvas, scale, bottom + 6, log.scale)
     canvas.height = bottom + AXIS + 6
     grounds = grounds_of(panel.walk)
     bounds = [bound_between(log, ground) for ground in grounds]
@@ -112,7 +112,7 @@ def draw_panel(canvas: Canvas, log: Log, panel: Panel, scale: Scale, number: int
         canvas.text(
             LEFT,
             canvas.height + 14,
-            f"{ground_number}. {ground_words(log, ground)}: {bound.most if bound else ''}",
+            f"{ground_number}. {ground_words(log, ground)}: {log.scale.span(bound.most) if bound else ''}",
             "small",
         )
         canvas.height += 17
@@ -121,7 +121,7 @@ def draw_panel(canvas: Canvas, log: Log, panel: Panel, scale: Scale, number: int
         canvas.text(
             LEFT,
             canvas.height + 16,
-            f"The bounds add up to {total}, and a loop that can be met has no negative sum.",
+            f"The bounds add up to {log.scale.span(total)}, and a loop that can be met has no negative sum.",
             "number",
         )
         canvas.height += 26
@@ -142,7 +142,8 @@ def limits_words(log: Log, host: int) -> List[str]:
     """The skew and the gap of a host's rows, from the least to the greatest where a resync changes them."""
     skews = sorted({row.skew for row in log.rows if row.host == host} or {log.hosts[host].skew})
     gaps = sorted({row.gap for row in log.rows if row.host == host} or {log.hosts[host].gap})
-    shown = [str(found[0]) if len(found) == 1 else f"{found[0]} to {found[-1]}" for found in (skews, gaps)]
+    span, spans = log.scale.span, log.scale.spans
+    shown = [span(found[0]) if len(found) == 1 else spans(found[0], found[-1]) for found in (skews, gaps)]
     return [f"skew {shown[0]}", f"gap {shown[1]}"]
 
 
@@ -155,15 +156,15 @@ def ground_of_lane(log: Log, host: int, offsets: Dict[int, Offset]) -> List[str]
 def clock_words(log: Log, host: int, offsets: Dict[int, Offset]) -> List[str]:
     """The clocks that a host's rows read, each with its offset in the timing that is shown."""
     clocks = dict.fromkeys(row.clock for row in log.rows if row.host == host and row.clock is not None)
-    shown = [f"{shortened(log.clocks[clock], 12)} {offset_words(offsets, clock)}".rstrip() for clock in clocks]
+    shown = [f"{shortened(log.clocks[clock], 12)} {offset_words(log, offsets, clock)}".rstrip() for clock in clocks]
     if not shown:
         return []
     return [f"clock {shown[0]}{', ..' if len(shown) > 1 else ''}"]
 
 
-def offset_words(offsets: Dict[int, Offset], clock: int) -> str:
+def offset_words(log: Log, offsets: Dict[int, Offset], clock: int) -> str:
     """The offset of a clock in a timing, nothing where there is none."""
-    return signed(offsets[clock].middle()) if clock in offsets else ""
+    return log.scale.shift(offsets[clock].middle()) if clock in offsets else ""
 
 
 def draw_readings(canvas: Canvas, log: Log, scale: Scale, lanes: Sequence[Lane], offsets: Dict[int, Offset]) -> None:
@@ -174,8 +175,8 @@ def draw_readings(canvas: Canvas, log: Log, scale: Scale, lanes: Sequence[Lane],
         shown = row.stamp + offsets[row.clock].middle()
         ends = (scale.at(max(shown - row.error, scale.first)), scale.at(min(shown + row.error, scale.last)))
         height = lanes[row.host].middle
-        offset = f"the clock {log.clocks[row.clock]} with the offset {signed(offsets[row.clock].middle())}"
-        title = f"line {row.line}: by {offset} it is {shown}, {error_words([row.error])}"
+        offset = f"the clock {log.clocks[row.clock]} with the offset {offset_words(log, offsets, row.clock)}"
+        title = f"line {row.line}: by {offset} it is {log.scale.moment(shown)}, {error_words(log, [row.error])}"
         canvas.line("reading", ends, (height, height), title, READING)
         canvas.parts.append(mark(scale.at(shown), height, f'<path class="reading" d="M0 -7 V7"{READING}/>'))
 
@@ -206,8 +207,8 @@ def draw_states(
         shown = f"{log.hosts[host].name}.{name}"
         for begin, end in stretches(log, panel.times, positions, host, name):
             a, b = scale.at(begin), PLOT + BEYOND if end is None else scale.at(end)
-            words = f"{shown} is true from {begin}"
-            words += "" if end is None else f" up to {end}, where it isn't set any more"
+            words = f"{shown} is true from {log.scale.moment(begin)}"
+            words += "" if end is None else f" up to {log.scale.moment(end)}, where it isn't set any more"
             canvas.parts.append(
                 f'<rect class="w" {data(a=a, b=b)} x="{LEFT + a:g}" y="{strip_top(lane, place)}" '
                 f'width="{max(b - a, 2):g}" height="{STRIP - 4}" rx="2" fill="{colour}">'
@@ -215,7 +216,7 @@ def draw_states(
             )
         for event, row in enumerate(log.rows):
             if (row.kind, row.host, row.name) == ("pulse", host, name):
-                words = f"{shown} is true at {panel.times[event]}, by the pulse of line {row.line}"
+                words = f"{shown} is true at {log.scale.moment(panel.times[event])}, by the pulse of line {row.line}"
                 diamond = f'<path class="pulse" d="{DIAMOND}" fill="{colour}"/><title>{markup(words)}</title>'
                 height = strip_top(lane, place) + (STRIP - 4) / 2
                 canvas.parts.append(mark(scale.at(panel.times[event]), height, diamond))
@@ -258,7 +259,7 @@ def draw_messages(canvas: Canvas, log: Log, panel: Panel, scale: Scale, lanes: S
         heights = (lanes[log.rows[send].host].middle, lanes[row.host].middle)
         takes = panel.times[event] - panel.times[send]
         ends_words = f"{log.host_of(send)} line {log.rows[send].line} to {log.host_of(event)} line {row.line}"
-        title = f"message {row.name}: {ends_words}, takes {takes}"
+        title = f"message {row.name}: {ends_words}, takes {log.scale.span(takes)}"
         canvas.line("message", ends, heights, title, ' marker-end="url(#head)"')
 
 
@@ -289,18 +290,20 @@ def draw_rows(canvas: Canvas, log: Log, panel: Panel, scale: Scale, lanes: Seque
         )
         off = "" if has_room[event] else " off"
         anchor = "middle" if at > EDGE else "start"  # the names begin left of the plot
-        parts += f'<text class="shift{off}" x="0" y="15" text-anchor="{anchor}">{signed(shift)}</text>' if shift else ""
+        parts += f'<text class="shift{off}" x="0" y="15" text-anchor="{anchor}">{log.scale.shift(shift)}</text>' if shift else ""
         canvas.parts.append(mark(at, height, parts))
 
 
 def row_title(log: Log, panel: Panel, event: int) -> str:
     """What is shown where the pointer is on a row: its line of the file, and its times."""
-    row, time = log.rows[event], panel.times[event]
+    row, time, scale = log.rows[event], panel.times[event], log.scale
     title = f"line {row.line}: {row.kind},{log.host_of(event)},{row.stamp},{row.name}"
-    title += f"\nskew {row.skew}: {row.stamp - row.skew} to {row.stamp + row.skew}"
+    title += f"\nstamp {scale.moment(row.stamp)}" if scale.epoch is not None else ""
+    ends = f"{scale.moment(row.stamp - row.skew)} to {scale.moment(row.stamp + row.skew)}"
+    title += f"\nskew {scale.span(row.skew)}: {ends}"
     if row.clock is not None:
-        title += f"\nclock {log.clocks[row.clock]}, error {row.error}"
-    return title + (f"\ntime {time}, shift {signed(time - row.stamp)}" if time != row.stamp else "")
+        title += f"\nclock {log.clocks[row.clock]}, error {scale.span(row.error)}"
+    return title + (f"\ntime {scale.moment(time)}, shift {scale.shift(time - row.stamp)}" if time != row.stamp else "")
 
 
 def label_levels(log: Log, panel: Panel, scale: Scale) -> List[Optional[Tuple[int, bool]]]:
@@ -327,7 +330,7 @@ def shift_rooms(log: Log, panel: Panel, scale: Scale) -> List[bool]:
     rooms = [False] * len(log.rows)
     for event in sorted(range(len(log.rows)), key=lambda event: panel.times[event]):
         row = log.rows[event]
-        half = LETTER * len(signed(panel.times[event] - row.stamp)) / 2
+        half = LETTER * len(log.scale.shift(panel.times[event] - row.stamp)) / 2
         at = scale.at(panel.times[event])
         if panel.times[event] != row.stamp and at - half >= free.get(row.host, -100.0):
             rooms[event] = True
@@ -352,10 +355,11 @@ def draw_walk(canvas: Canvas, log: Log, panel: Panel, scale: Scale, lanes: Seque
         if bound is None:
             continue
         (a, y), (b, z) = point(bound.start), point(bound.end)
-        words = f"{number}. {ground_words(log, ground)}: {bound.most}"
+        most = log.scale.span(bound.most)
+        words = f"{number}. {ground_words(log, ground)}: {most}"
         ends = data(a=a, b=b, y=y, z=z)
         path, (x, height) = curve(LEFT + a, y, LEFT + b, z)
         canvas.parts.append(
             f'<path class="step c" {ends} d="{path}" marker-end="url(#redhead)"><title>{markup(words)}</title></path>'
         )
-        canvas.parts.append(f'<text class="number m" {ends} x="{x:g}" y="{height:g}">{number}: {bound.most}</text>')
+        canvas.parts.append(f'<text class="number m" {ends} x="{x:g}" y="{height:g}">{number}: {most}</text>')

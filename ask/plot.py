@@ -10,7 +10,9 @@ import math
 from dataclasses import dataclass, field
 from typing import List, Tuple
 
+from ask.stamps import UNITS
 from ask.texts import markup
+from ask.units import Scale as Unit
 
 LEFT = 120  # where the plot begins
 PLOT = 980  # its width
@@ -107,15 +109,16 @@ def curve(a: float, y: float, b: float, z: float) -> Tuple[str, Tuple[float, flo
 # The axis
 
 
-def draw_axis(canvas: Canvas, scale: Scale, height: float) -> None:
-    """The axis with its ticks; large moments are counted from the first."""
+def draw_axis(canvas: Canvas, scale: Scale, height: float, unit: Unit) -> None:
+    """The axis with its ticks, in the unit of the log where it is known; large moments are counted from the first."""
     canvas.parts.append(f'<line class="axis" x1="{LEFT}" x2="{LEFT + PLOT}" y1="{height}" y2="{height}"/>')
     base = scale.first if max(abs(scale.first), abs(scale.last)) >= 10**7 else 0
-    if base:
-        canvas.text(LEFT, height + 32, f"counted from {base}", "small")
+    words = [f"in {unit.unit}"] * bool(unit.unit) + [f"counted from {unit.moment(base)}"] * bool(base)
+    if words:
+        canvas.text(LEFT, height + 32, ", ".join(words), "small")
     canvas.parts.append(
         f'<g class="ticks" data-base="{base}" data-offset="{scale.first - base}" '
-        f'data-span="{scale.last - scale.first}" data-y="{height}">'
+        f'data-span="{scale.last - scale.first}" data-y="{height}"{dates(unit)}>'
     )
     for moment in ticks(scale.first, scale.last):
         at = scale.at(moment)
@@ -124,6 +127,16 @@ def draw_axis(canvas: Canvas, scale: Scale, height: float) -> None:
             f'<text class="small" y="16" text-anchor="middle">{moment - base}</text></g>'
         )
     canvas.parts.append("</g>")
+
+
+def dates(unit: Unit) -> str:
+    """How a script in a page makes dates of moments, where that can be."""
+    if unit.unit is None or unit.epoch is None:
+        return ""
+    return (
+        f' data-digits="{UNITS[unit.unit]}" data-epoch="{unit.epoch}" data-ahead="{unit.ahead()}" '
+        f'data-zone="{markup(unit.zone or "Z")}"'
+    )
 
 
 def ticks(first: int, last: int) -> List[int]:

@@ -12,7 +12,9 @@ from ask.program import NOT_THERE, Program, Run
 from ask.refusals import refusal
 from ask.reports import Best, Report, Step, Unreadable, read_best, read_report, verdict_of
 from ask.texts import LIMITS, TOO_LONG, Source, Trouble, is_existing_file, read_source
+from ask.units import scale_of_source, scaled
 from ask.words import TYPED, counted, shortened
+from ask.written import as_written
 
 REFUSED = 65  # the status where a text is no formula
 UNKNOWN_WORDS = 64  # the status of the program where it doesn't know a command
@@ -71,15 +73,20 @@ def formula_source(word: str) -> Source:
     return refuse_marks(Source(TYPED, data), REFUSED)
 
 
-def sources_of(formula: str, log: str, kind: str = "log") -> Tuple[Source, Source]:
-    """A formula and the file of a log."""
+def sources_of(formula: str, log: str, unit: Optional[str], kind: str = "log") -> Tuple[Source, Source]:
+    """A formula as it is written and the file of a log, with its unit where that is known."""
     first = formula_source(formula)
     try:
-        return first, read_source(log, kind)
+        return first, log_source(log, unit, kind)
     except Trouble as trouble:
         is_turned = BEGINS_AS_LOG.match(first.data)
         hint = f", and {first.name} is a log: the formula stands before the log" if is_turned else ""
         raise Trouble(trouble.status, trouble.message + hint) from None
+
+
+def log_source(log: str, unit: Optional[str], kind: str = "log") -> Source:
+    """The file of a log, with its unit where the words or the notes beside it tell one."""
+    return scaled(read_source(log, kind), log, unit)
 
 
 def text_of_source(formula: Source) -> str:
@@ -88,8 +95,8 @@ def text_of_source(formula: Source) -> str:
 
 
 def shown_formula(formula: Source) -> str:
-    """A formula on one line, the beginning of it where it is long."""
-    return shortened(" ".join(text_of_source(formula).split()), 300)
+    """A formula as it was written on one line, the beginning of it where it is long."""
+    return shortened(" ".join(text_of_source(as_written(formula)).split()), 300)
 
 
 def accepted_log(source: Source) -> Log:
@@ -97,6 +104,7 @@ def accepted_log(source: Source) -> Log:
     log = read_log(source.data)
     if not isinstance(log, Log):
         raise Trouble(NOT_THERE, f"the program accepts {source.name}, and ask can't read it")
+    log.scale = scale_of_source(source)
     return log
 
 
@@ -104,6 +112,7 @@ def log_with_rows(program: Program, source: Source) -> Log:
     """The log of a file, or the trouble of the program's refusal of it."""
     log = read_log(source.data)
     if isinstance(log, Log):
+        log.scale = scale_of_source(source)
         return log
     raise refusal(program.run("times", [source]), None, source)
 
@@ -112,7 +121,7 @@ def accepted_tree(formula: Source) -> Tree:
     """The tree of a formula that the program has accepted."""
     tree = read_formula(text_of_source(formula))
     if tree is None:
-        raise Trouble(NOT_THERE, f"the program accepts {formula.name}, and ask can't read it")
+        raise Trouble(NOT_THERE, f"the program accepts {as_written(formula).name}, and ask can't read it")
     return tree
 
 

@@ -14,6 +14,10 @@ from ask.logs import (
 from ask.program import NOT_THERE, Run
 from ask.texts import LIMITS, Source, Trouble, escaped, place_of, shown_text, width_of
 from ask.words import TYPED, counted, grouped, listed, shortened
+from ask.written import place_written
+
+
+WRONG_FORMULA = 65  # the status where a text is no formula
 
 
 def refusal(run: Run, formula: Optional[Source], log: Optional[Source]) -> Trouble:
@@ -68,9 +72,18 @@ FORMULA_FAULTS = {
 }
 
 
-def formula_refusal(words: Sequence[str], formula: Source, log: Optional[Source]) -> str:
-    """What is wrong with a formula, and where."""
-    number, offset = words[2], int(words[-1])
+def faulty_formula(formula: Source, offset: int, said: str) -> Trouble:
+    """The trouble that something of a formula is wrong, at a byte of its text."""
+    source, start = place_written(formula, offset)
+    place = place_of(source.data, start)
+    where = f"{source.name}, line {place.line}, column {place.column}"
+    return Trouble(WRONG_FORMULA, f"{where}: {said}\n{shown_place(source.data, start)}")
+
+
+def formula_refusal(words: Sequence[str], asked: Source, log: Optional[Source]) -> str:
+    """What is wrong with a formula, and where; of one that was written in other words the place is one of these."""
+    number = words[2]
+    formula, offset = place_written(asked, int(words[-1]))
     place = place_of(formula.data, offset)
     where = f"{formula.name}, line {place.line}, column {place.column}"
     rest = formula.data[offset:]
@@ -140,7 +153,7 @@ def interval_hint(data: bytes, offset: int) -> str:
 
 OTHER_SPELLINGS = {
     "?": "a ? is found by ask deadline", "=": "an implication is ->", "&": "a conjunction is one &",
-    "|": "a disjunction is one |",
+    "|": "a disjunction is one |", "{": "braces are those of each{h in HOSTS: ..} and once{h in HOSTS: ..}",
 }
 
 

@@ -4,6 +4,7 @@ from __future__ import annotations
 
 import re
 from datetime import date
+from sys import intern
 from typing import NamedTuple, Optional, Sequence, Tuple
 
 UNITS = {"s": 0, "ms": 3, "us": 6, "ns": 9}  # the digits behind the point of a second
@@ -27,6 +28,7 @@ class Stamp(NamedTuple):
     seconds: int
     digits: str
     has_zone: bool = True
+    zone: str = ""  # as it is written, where it is
 
 
 def stamp_of(text: str) -> Optional[Stamp]:
@@ -85,7 +87,7 @@ def iso_stamp(found: "re.Match[str]") -> Stamp:
     hours, minutes = zone_parts(zone)
     ahead = (3600 * hours + 60 * minutes) * (-1 if zone and zone[0] == "-" else 1)
     seconds = 86400 * days + 3600 * hour + 60 * minute + second - ahead
-    return Stamp("iso", seconds, found.group(7) or "", zone is not None)
+    return Stamp("iso", seconds, found.group(7) or "", zone is not None, intern(zone or ""))
 
 
 def zone_parts(zone: Optional[str]) -> Tuple[int, int]:
@@ -106,7 +108,7 @@ def later(stamp: Stamp, duration: Stamp, times: int) -> Stamp:
     size = max(len(stamp.digits), len(duration.digits))
     parts = [part.seconds * 10**size + int(part.digits.ljust(size, "0") or 0) for part in (stamp, duration)]
     seconds, digits = divmod(parts[0] + times * parts[1], 10**size)
-    return Stamp(stamp.kind, seconds, str(digits).rjust(size, "0") if size else "", stamp.has_zone)
+    return Stamp(stamp.kind, seconds, str(digits).rjust(size, "0") if size else "", stamp.has_zone, stamp.zone)
 
 
 def finest_unit(stamps: Sequence[Stamp]) -> str:

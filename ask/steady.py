@@ -8,6 +8,7 @@ from ask.logs import COLUMNS, FIRST_FIELDS, MOST_CLOCKS, MOST_SKEW, Log, records
 from ask.program import Stopped
 from ask.question import VERDICTS, Question, text_of_source
 from ask.texts import LIMITS, Source
+from ask.units import BARE, Scale, scale_of_source
 from ask.words import TYPED
 
 EITHER, NO_TIMING, UNKNOWN = 2, 3, 4  # statuses of check
@@ -20,10 +21,11 @@ class Steady(NamedTuple):
     error: int
     status: Optional[int]
     words: str  # of the run
+    scale: Scale = BARE
 
     def sentence(self) -> str:
         """The finding in a sentence, with what was assumed where it tells something."""
-        clocks = f"clocks that are steady within {self.error}"
+        clocks = f"clocks that are steady within {self.scale.span(self.error)}"
         if self.status in (None, UNKNOWN):
             where = "within the conflicts" if self.status else "in time"
             return f"Whether {clocks} would tell wasn't found {where}.{self.run_words()}"
@@ -31,7 +33,7 @@ class Steady(NamedTuple):
             return f"{clocks.capitalize()} wouldn't tell either.{self.run_words()}"
         if self.status == NO_TIMING:
             return f"With {clocks} no timing is admissible: they weren't so steady.{self.run_words()}"
-        assumed = f"one clock a host was assumed, from which no stamp is off by more than {self.error}"
+        assumed = f"one clock a host was assumed, from which no stamp is off by more than {self.scale.span(self.error)}"
         return f"With {clocks} it is {VERDICTS[self.status]}.{self.run_words()} The log doesn't say so: {assumed}."
 
     def run_words(self) -> str:
@@ -56,8 +58,8 @@ def steady_answer(question: Question, log: Log) -> Optional[Steady]:
     try:
         run = Question(question.program, question.formula, source, question.options).check(text)
     except Stopped:
-        return Steady(error, None, "")
-    return Steady(error, run.status, run.words) if run.status in VERDICTS else None
+        return Steady(error, None, "", log.scale)
+    return Steady(error, run.status, run.words, log.scale) if run.status in VERDICTS else None
 
 
 def has_host_of_several_rows(log: Log) -> bool:
@@ -84,4 +86,5 @@ def steady_source(source: Source, error: int) -> Optional[Source]:
             lines.append(f"clock,{fields[1]},{error},clock_{clocks}")
     text = "".join(f"{line}\n" for line in lines).encode()
     is_fit = clocks <= MOST_CLOCKS and len(text) <= LIMITS["log"].most
-    return Source(f"'{source.name}, with clocks steady within {error}'", text) if is_fit else None
+    within = scale_of_source(source).span(error)
+    return Source(f"'{source.name}, with clocks steady within {within}'", text) if is_fit else None

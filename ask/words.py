@@ -9,7 +9,7 @@ from dataclasses import dataclass, field
 from typing import Any, Dict, List, Optional, Sequence
 
 from ask.logs import Bound, Log, Row, bound_of
-from ask.reports import Step
+from ask.reports import Report, Step
 from ask.texts import escaped_json, escaped_lines, write_output
 from ask.walks import Ground, bound_between, broken_ground, grounds_of
 
@@ -127,6 +127,24 @@ def decided_words(status: int, formula: str, log: str) -> Optional[str]:
     return verdicts.get(status)
 
 
+def no_timing_words(log: str) -> str:
+    """That a log admits no timing, before the bounds that show it."""
+    return f"No timing: {log} admits none, since these bounds contradict each other."
+
+
+def verdict_words(status: int, formula: str, log: str, report: Report, options: Sequence[str]) -> str:
+    """The verdict of a report in a sentence."""
+    told = decided_words(status, formula, log)
+    if told is not None:
+        return told
+    if status == 3:
+        return no_timing_words(log)
+    found = "true" if report.sections[True].kind == "witness" else "false"
+    other = "false" if found == "true" else "true"
+    limit = grouped(int(options[1])) if options else "200,000"
+    return f"Unknown: {formula} can be {found}, and whether it can be {other} wasn't found within {limit} conflicts."
+
+
 def row_words(log: Log, event: int) -> str:
     """A row as sentences name it, as `pay recv m1 (line 6)`."""
     row = log.rows[event]
@@ -151,39 +169,43 @@ def step_words(log: Log, step: Step) -> str:
     name = row_words(log, event)
     if step.kind in ("under", "over"):
         return f"{name} {reading_words(log, row, step.kind)}"
-    by = f"its stamp is {row.stamp} and the skew of {log.host_of(event)} {row.skew}"
+    scale = log.scale
+    by = f"its stamp is {scale.moment(row.stamp)} and the skew of {log.host_of(event)} {scale.span(row.skew)}"
     if step.kind == "low":
-        return f"{name} can't be before {-bound.most}: {by}"
+        return f"{name} can't be before {scale.moment(-bound.most)}: {by}"
     if step.kind == "high":
-        return f"{name} can't be after {bound.most}: {by}"
+        return f"{name} can't be after {scale.moment(bound.most)}: {by}"
     if step.kind == "late":
-        return f"{name} can't be more than {bound.most} after {row_words(log, bound.end or 0)}: message {row.name}"
+        return f"{name} can't be more than {scale.span(bound.most)} after {row_words(log, bound.end or 0)}: message {row.name}"
     earlier = row_words(log, bound.start or 0)
     if step.kind == "message":
-        return f"{name} can't be less than {-bound.most} after {earlier}: message {row.name}"
+        return f"{name} can't be less than {scale.span(-bound.most)} after {earlier}: message {row.name}"
     if bound.most == 0:
         return f"{name} can't be before {earlier}: rows of one host are in the order of the file"
-    return f"{name} can't be less than {-bound.most} after {earlier}: the gap of {log.host_of(event)}"
+    return f"{name} can't be less than {scale.span(-bound.most)} after {earlier}: the gap of {log.host_of(event)}"
 
 
 def after_words(log: Log, bound: Bound) -> str:
     """That one row can't be more than so much after another."""
     later, earlier = (row_words(log, end or 0) for end in (bound.start, bound.end))
     if bound.most > 0:
-        return f"{later} can't be more than {bound.most} after {earlier}"
-    return f"{later} can't be less than {-bound.most} before {earlier}" if bound.most else f"{later} can't be after {earlier}"
+        return f"{later} can't be more than {log.scale.span(bound.most)} after {earlier}"
+    if bound.most == 0:
+        return f"{later} can't be after {earlier}"
+    return f"{later} can't be less than {log.scale.span(-bound.most)} before {earlier}"
 
 
 def reading_words(log: Log, row: Row, kind: str) -> str:
     """What the clock that a row reads says of its time."""
     clock = log.clocks[row.clock or 0]
-    far = f"before {row.stamp - row.error}" if kind == "under" else f"after {row.stamp + row.error}"
-    return f"can't be {far} by the clock {clock}: its stamp is {row.stamp}, {error_words([row.error])}"
+    moment = log.scale.moment
+    far = f"before {moment(row.stamp - row.error)}" if kind == "under" else f"after {moment(row.stamp + row.error)}"
+    return f"can't be {far} by the clock {clock}: its stamp is {moment(row.stamp)}, {error_words(log, [row.error])}"
 
 
-def error_words(errors: Sequence[int]) -> str:
+def error_words(log: Log, errors: Sequence[int]) -> str:
     """How far readings of a clock may be off from what it shows."""
-    each = " and ".join(str(error) for error in dict.fromkeys(errors))
+    each = " and ".join(log.scale.span(error) for error in dict.fromkeys(errors))
     return f"off by at most {each}" if any(errors) else "without an error"
 
 
@@ -193,7 +215,7 @@ def ground_words(log: Log, ground: Ground) -> str:
     if len(ground) == 1 or bound is None:
         return " and ".join(step_words(log, step) for step in ground)
     rows = [log.rows[step.numbers[0]] for step in ground]
-    by = f"they are by one clock, {log.clocks[rows[0].clock or 0]}, {error_words([row.error for row in rows])}"
+    by = f"they are by one clock, {log.clocks[rows[0].clock or 0]}, {error_words(log, [row.error for row in rows])}"
     return f"{after_words(log, bound)}: {by}"
 
 
@@ -208,7 +230,7 @@ def walk_words(log: Log, walk: Sequence[Step]) -> List[str]:
     bounds = [bound_of(log, step.kind, step.numbers[0]) for step in walk]
     if all(bounds):
         excess = -sum(bound.most for bound in bounds if bound)
-        lines.append(f"Together they ask for {excess} more than there is.")
+        lines.append(f"Together they ask for {log.scale.span(excess)} more than there is.")
     return lines
 
 

@@ -83,7 +83,8 @@ def files_of(options):
     formulas = {Path(name).name: Path(name) for name in options.formulas}
     if not logs:
         raise Trouble(CANNOT_READ, f"{shown(folder)} has no file NAME.csv")
-    others = sum(path.name not in logs for path in folder.iterdir())
+    known = {*logs, *(f"{name}.notes" for name in logs)}  # and what `ask` keeps beside a log
+    others = sum(path.name not in known for path in folder.iterdir())
     if others:
         tell(f"left out of {shown(folder)}, being no NAME.csv: {others}")
     if len(formulas) < len(options.formulas):

@@ -9,10 +9,11 @@ from ask.cautions import add_strict_words, with_cautions
 from ask.grounds import ground_facts, ground_lines
 from ask.logs import Log
 from ask.program import NOT_THERE, program_of
-from ask.question import Question, best_of_run, log_with_rows, run_facts, run_lines
+from ask.question import Question, best_of_run, log_source, log_with_rows, run_facts, run_lines
 from ask.reports import Best
 from ask.rows import RULE, row_of
-from ask.texts import Source, Trouble, read_source
+from ask.texts import Source, Trouble
+from ask.units import Scale, add_unit_words, unit_facts
 from ask.words import USAGE, Answer, bold, row_words, walk_facts, walk_words
 
 ANY = Source("'true'", b"true")  # a formula that every timing has
@@ -31,6 +32,7 @@ def add_words(commands: "argparse._SubParsersAction[argparse.ArgumentParser]", c
     words.add_argument("first", metavar="ROW", help=RULE)
     words.add_argument("second", metavar="ROW", help="in the same way")
     add_strict_words(words)
+    add_unit_words(words)
     words.add_argument("--all", action="store_true", help="show all bounds that an end rests on")
     words.add_argument("--runs", action="store_true", help="name all runs of the program")
     words.set_defaults(do=do)
@@ -39,13 +41,13 @@ def add_words(commands: "argparse._SubParsersAction[argparse.ArgumentParser]", c
 def do(arguments: argparse.Namespace) -> Answer:
     """The answer of the command."""
     program = program_of(arguments)
-    question = Question(program, ANY, read_source(arguments.log, "log"))
+    question = Question(program, ANY, log_source(arguments.log, arguments.unit))
     log = log_with_rows(program, question.log_source)
     first, second = row_of(log, arguments.first), row_of(log, arguments.second)
     if first == second:
         raise Trouble(USAGE, f"both are {row_words(log, first)}: a delay is between two rows")
     answer = with_cautions(Between(question, log, first, second, arguments.all).answer(), [], arguments)
-    answer.facts["runs"] = run_facts(program.runs)
+    answer.facts.update(unit_facts(log.scale), runs=run_facts(program.runs))
     if arguments.runs:
         answer.lines += run_lines(program.runs)
     return answer
@@ -93,10 +95,10 @@ class Between:
         """The answer with both ends."""
         first, second = (row_words(self.log, event) for event in (self.first, self.second))
         name = self.question.log_source.name
-        sentence = f"{second} is {range_words(fewest, most)} {first}, by the timings that {name} admits."
+        sentence = f"{second} is {range_words(self.log.scale, fewest, most)} {first}, by the timings that {name} admits."
         stamped = self.log.rows[self.second].stamp - self.log.rows[self.first].stamp
         self.facts.update(least=fewest, greatest=most, sentence=sentence, as_stamped=stamped, ends={})
-        lines = [bold(sentence), f"By the stamps it is {delay_words(stamped)}."]
+        lines = [bold(sentence), f"By the stamps it is {delay_words(self.log.scale, stamped)}."]
         lines += self.end_lines("greatest", greatest, most) + self.end_lines("least", least, fewest)
         return Answer(0, lines, self.facts)
 
@@ -104,33 +106,34 @@ class Between:
         """A timing that has an end, and the bounds that allow nothing beyond it."""
         start, end = (self.first, self.second) if which == "greatest" else (self.second, self.first)
         run = f"span true {start} {end} 'true' {self.question.log_source.name}"
-        rows = [f"line {self.log.rows[event].line} at {best.times[event]}" for event in (self.first, self.second)]
+        scale, ends = self.log.scale, (self.first, self.second)
+        rows = [f"line {self.log.rows[event].line} at {scale.moment(best.times[event])}" for event in ends]
         facts, grounds = [], []
         if best.why:
             facts, grounds = ground_facts(self.log, best.why), ground_lines(self.log, best.why, self.is_all)
         self.facts["ends"][which] = {"times": best.times, "run": run, "rests_on": facts}
         extreme = {"greatest": "latest", "least": "earliest"}[which]
-        head = f"At the {extreme} {delay_words(delay)}, as with {' and '.join(rows)} [{run}], since"
+        head = f"At the {extreme} {delay_words(scale, delay)}, as with {' and '.join(rows)} [{run}], since"
         return ["", head, *grounds]
 
 
-def delay_words(delay: int) -> str:
+def delay_words(scale: Scale, delay: int) -> str:
     """A delay as `5 after`; what it is after stands behind it."""
     if delay == 0:
         return "at the same instant"
-    return f"{abs(delay)} {'after' if delay > 0 else 'before'}"
+    return f"{scale.span(abs(delay))} {'after' if delay > 0 else 'before'}"
 
 
-def range_words(least: int, most: int) -> str:
+def range_words(scale: Scale, least: int, most: int) -> str:
     """From which delay to which the second row comes, before the name of the first one."""
     if least == most:
-        return "at the same instant as" if most == 0 else f"{'always ' + delay_words(most)}"
+        return "at the same instant as" if most == 0 else f"{'always ' + delay_words(scale, most)}"
     if least > 0:
-        return f"{least} to {most} after"
+        return f"{scale.spans(least, most)} after"
     if most < 0:
-        return f"{-most} to {-least} before"
+        return f"{scale.spans(-most, -least)} before"
     if least == 0:
-        return f"at the same instant as, or up to {most} after,"
+        return f"at the same instant as, or up to {scale.span(most)} after,"
     if most == 0:
-        return f"up to {-least} before, or at the same instant as,"
-    return f"from {-least} before to {most} after"
+        return f"up to {scale.span(-least)} before, or at the same instant as,"
+    return f"from {scale.span(-least)} before to {scale.span(most)} after"

@@ -10,19 +10,22 @@ from ask.cautions import (
     Caution, add_strict_words, caution_facts, caution_lines, cautions_of, strict_status, values_of_status,
 )
 from ask.grounds import ground_facts, ground_lines
+from ask.macros import add_formula_words, formula_answer, written_out
 from ask.nearer import brought_nearer
 from ask.program import STOPPED, Run, Stopped, program_of
+from ask.properties import add_properties_words, properties_answer
 from ask.question import (
     VERDICTS, Question, accepted_log, accepted_tree, answered, report_of_run, run_facts, run_lines, shown_formula,
     sources_of, step_of_run, text_of_source,
 )
-from ask.reports import Report, Section
+from ask.reports import Section
 from ask.steady import EITHER, steady_answer
 from ask.texts import Trouble, write_text
+from ask.units import add_unit_words, unit_facts
 from ask.windows.answer import long_answer
 from ask.windows.opening import add_window_words, long_question
 from ask.words import (
-    USAGE, Answer, bold, broken_words, counted, decided_words, error_words, grouped, signed, table, walk_facts, walk_words,
+    USAGE, Answer, bold, broken_words, counted, error_words, table, verdict_words, walk_facts, walk_words,
 )
 
 FEW_CONFLICTS = 100  # what is tried where a run was stopped
@@ -36,8 +39,11 @@ def add_words(commands: "argparse._SubParsersAction[argparse.ArgumentParser]", c
         "check", parents=[common], allow_abbrev=False, help="the verdict on a formula and a log, in words",
         description="The verdict on a formula and a log in a sentence, warnings, the timings that show it, and why.",
     )
-    words.add_argument("formula", metavar="FORMULA", help="a file, or the formula itself")
-    words.add_argument("log", metavar="LOG")
+    formula = words.add_argument("formula", metavar="FORMULA", help="a file, or the formula itself; not with --properties")
+    log = words.add_argument("log", metavar="LOG")
+    add_properties_words(words, formula, log)
+    add_unit_words(words)
+    add_formula_words(words)
     words.add_argument("--conflicts", metavar="N", help="of the search for each value, as for the program")
     add_strict_words(words)
     words.add_argument(
@@ -57,8 +63,17 @@ def add_words(commands: "argparse._SubParsersAction[argparse.ArgumentParser]", c
 def do(arguments: argparse.Namespace) -> Answer:
     """The answer of the command."""
     options = ["--conflicts", arguments.conflicts] if arguments.conflicts else []
+    if arguments.properties is not None:
+        refuse_wrong_conflicts(arguments.conflicts)
+        return properties_answer(arguments, options)
+    if arguments.junit is not None:
+        raise Trouble(USAGE, "--junit is for --properties")
+    asked, source = sources_of(arguments.formula, arguments.log, arguments.unit, "long log")
+    formula = written_out(asked, source)
+    if arguments.formula_alone:
+        return formula_answer(formula)
     program = program_of(arguments)
-    question = Question(program, *sources_of(arguments.formula, arguments.log, "long log"), options)
+    question = Question(program, formula, source, options)
     refuse_wrong_conflicts(arguments.conflicts)
     if arguments.report == "-":
         raise Trouble(USAGE, "--report names a file, since the standard output has the answer")
@@ -140,7 +155,7 @@ class Reading:
         sentence = verdict_words(self.run.status, formula, log, self.report, self.question.options)
         self.lines += [*self.notes, bold(sentence)]
         self.facts.update(verdict=VERDICTS[self.run.status], check_status=self.run.status, sentence=sentence)
-        self.facts.update(formula=formula, log=log, notes=self.notes)
+        self.facts.update(formula=formula, log=log, notes=self.notes, **unit_facts(self.log.scale))
 
     def say_warnings(self, warnings: Sequence[Caution]) -> None:
         self.facts["warnings"] = caution_facts(warnings)
@@ -207,10 +222,11 @@ class Reading:
     def cells(self, event: int, timings: Dict[bool, List[int]]) -> List[str]:
         """The line of a row in the table of timings."""
         row = self.log.rows[event]
-        cells = [str(row.line), self.log.host_of(event), f"{row.kind} {row.name}", str(row.stamp)]
+        scale = self.log.scale
+        cells = [str(row.line), self.log.host_of(event), f"{row.kind} {row.name}", scale.moment(row.stamp)]
         shifts = [times[event] - row.stamp for times in timings.values()]
         for shift in shifts:
-            cells += [signed(shift), str(row.stamp + shift)]
+            cells += [scale.shift(shift), scale.moment(row.stamp + shift)]
         return cells + ["both" if len(shifts) == 2 and all(shifts) else ""]
 
     def rows_shown(self, timings: Dict[bool, List[int]], named: Set[int]) -> List[int]:
@@ -229,7 +245,7 @@ class Reading:
                 rows = [event for event, row in enumerate(self.log.rows) if row.host == number and row.clock is None]
                 shifts = self.shifts(times, rows)
                 if len(set(shifts)) > 1:
-                    amounts = f"{signed(min(shifts))} to {signed(max(shifts))}"
+                    amounts = f"{self.log.scale.shift(min(shifts))} to {self.log.scale.shift(max(shifts))}"
                     return [f"rows of {host.name} are shifted by different amounts, {amounts}: {SPREAD_NOTE}"]
         return []
 
@@ -240,8 +256,9 @@ class Reading:
             for clock, rows in zip(self.log.clocks, self.log.clock_rows()):
                 shifts = self.shifts(times, rows)
                 if any(shifts):
-                    amounts = signed(min(shifts)) + (f" to {signed(max(shifts))}" if len(set(shifts)) > 1 else "")
-                    off = error_words([max(self.log.rows[event].error for event in rows)])
+                    shift = self.log.scale.shift
+                    amounts = shift(min(shifts)) + (f" to {shift(max(shifts))}" if len(set(shifts)) > 1 else "")
+                    off = error_words(self.log, [max(self.log.rows[event].error for event in rows)])
                     found.append(f"{str(value).lower()}: rows by the clock {clock} are shifted by {amounts}, by one offset, {off}")
         return found
 
@@ -300,16 +317,3 @@ class Reading:
         self.facts["runs"] = run_facts(runs)
         if self.arguments.runs:
             self.lines += run_lines(runs)
-
-
-def verdict_words(status: int, formula: str, log: str, report: Report, options: Sequence[str]) -> str:
-    """The verdict in a sentence."""
-    told = decided_words(status, formula, log)
-    if told is not None:
-        return told
-    if status == 3:
-        return f"No timing: {log} admits none, since these bounds contradict each other."
-    found = "true" if report.sections[True].kind == "witness" else "false"
-    other = "false" if found == "true" else "true"
-    limit = grouped(int(options[1])) if options else "200,000"
-    return f"Unknown: {formula} can be {found}, and whether it can be {other} wasn't found within {limit} conflicts."

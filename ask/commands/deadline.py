@@ -9,12 +9,14 @@ from ask.cautions import add_strict_words, cautions_wanted, cautions_without_run
 from ask.commands.check import refuse_wrong_conflicts
 from ask.formulas import Tree, grows_truer, is_higher, read_formula, stray_mark, subtrees, with_number
 from ask.logs import Fault, Log
+from ask.macros import add_formula_words, formula_answer, written_out
 from ask.program import Run, program_of
 from ask.question import (
     REFUSED, Question, accepted_log, answered, run_facts, run_lines, shown_formula, sources_of, text_of_source,
 )
 from ask.refusals import file_hint
 from ask.texts import Source, Trouble, place_of
+from ask.units import add_unit_words, scale_of_source, unit_facts
 from ask.windows.answer import Progress, setting_of
 from ask.windows.asking import Whole
 from ask.windows.bounds import Contradiction
@@ -23,6 +25,7 @@ from ask.windows.longlog import LongLog
 from ask.windows.opening import LongQuestion, add_window_words, long_log_of, question_of
 from ask.windows.shape import Shape, shape_of
 from ask.words import USAGE, Answer, bold
+from ask.written import as_written, place_written, with_number_in
 
 MOST_NUMBER = 10**18  # in an interval
 MOST_LEVELS = 200  # of a formula that the program takes
@@ -47,6 +50,8 @@ def add_words(commands: "argparse._SubParsersAction[argparse.ArgumentParser]", c
     words.add_argument("log", metavar="LOG")
     words.add_argument("--conflicts", metavar="N", help="of the search for each value, as for the program")
     add_strict_words(words)
+    add_unit_words(words)
+    add_formula_words(words)
     words.add_argument("--runs", action="store_true", help="name all runs of the program")
     add_window_words(words, has_folder=False)
     words.set_defaults(do=do)
@@ -64,14 +69,17 @@ def do(arguments: argparse.Namespace) -> Answer:
     """The answer of the command."""
     refuse_wrong_conflicts(arguments.conflicts)
     options = ["--conflicts", arguments.conflicts] if arguments.conflicts else []
+    asked, source = sources_of(arguments.formula, arguments.log, arguments.unit, "long log")
+    template = written_out(asked, source)
+    if arguments.formula_alone:
+        return formula_answer(template)
     program = program_of(arguments)
-    template, source = sources_of(arguments.formula, arguments.log, "long log")
     question = Question(program, template, source, options)
     tree = tree_of(template)
     log = long_log_of(source, arguments.windows)
     search = Search(question, tree, arguments) if log is None else LongSearch(question, tree, arguments, log)
     answer = search.answer()
-    answer.facts["runs"] = run_facts(program.runs)
+    answer.facts.update(unit_facts(search.scale), runs=run_facts(program.runs))
     if arguments.runs:
         answer.lines += run_lines(program.runs)
     return answer
@@ -82,14 +90,15 @@ def tree_of(template: Source) -> Optional[Tree]:
     text = text_of_source(template)
     if "?" not in text:
         wanted = "write it in place of the number that is asked for, as F[0,?]"
-        raise Trouble(USAGE, f"the formula has no `?`: {wanted}{file_hint(template)}")
+        raise Trouble(USAGE, f"the formula has no `?`: {wanted}{file_hint(as_written(template))}")
     tree = read_formula(text)
     stray = None if tree else stray_mark(text)
     if stray is not None:
-        place = place_of(template.data, len(text[:stray].encode()))
+        written, start = place_written(template, len(text[:stray].encode()))
+        place = place_of(written.data, start)
         raise Trouble(REFUSED, (
-            f"{template.name}, line {place.line}, column {place.column}: this `?` is no bound of an interval. It "
-            f"stands in place of a whole number, as in F[0,?]{file_hint(template)}"
+            f"{written.name}, line {place.line}, column {place.column}: this `?` is no bound of an interval. It "
+            f"stands in place of a whole number, as in F[0,?]{file_hint(written)}"
         ))
     return None if tree and is_higher(tree, MOST_LEVELS) else tree
 
@@ -125,18 +134,15 @@ class Search:
         self.question, self.tree, self.arguments, self.rises = question, tree, arguments, is_rising(tree)
         self.least, self.most = range_of(tree)
         self.last = self.least
-        self.template = text_of_source(question.formula)
+        self.scale = scale_of_source(question.log_source)
         self.runs: Dict[int, Run] = {}
 
     def run_at(self, number: int) -> Run:
         """The check with a number in place of `?`."""
         if number not in self.runs:
-            text = " ".join(self.template.replace("?", str(number)).split())
-            run = self.question.check(text)
-            asked = Question(
-                self.question.program, Source(self.question.formula.name, text.encode()), self.question.log_source,
-            )
-            self.runs[number] = answered(run, asked)
+            formula = with_number_in(self.question.formula, number)
+            run = self.question.check(text_of_source(formula))
+            self.runs[number] = answered(run, Question(self.question.program, formula, self.question.log_source))
         return self.runs[number]
 
     def is_met(self, number: int) -> bool:
@@ -188,7 +194,7 @@ class Search:
         """The answer where a number is the last one that will do."""
         beyond = number - 1 if self.rises else number + 1
         which = "least" if self.rises else "greatest"
-        said = f"{number} is the {which} number with which {self.asked()} is true by every timing."
+        said = f"{self.scale.span(number)} is the {which} number with which {self.asked()} is true by every timing."
         lines = [bold(said), self.line_of(number), self.line_of(beyond)]
         least, greatest = (number, self.greatest_that_fits()) if self.rises else (self.least, number)
         facts = self.facts(said, number, which, number, beyond)
@@ -197,10 +203,11 @@ class Search:
     def any_number(self, number: int) -> Answer:
         """The answer where every number that fits will do, as the check with the hardest to meet shows."""
         greatest = self.greatest_that_fits()
-        span = "Any number" if self.least == 0 else f"Any number from {self.least} on"
-        ends = f"{self.least} is the least" if self.rises else "there is no greatest one"
+        least = self.scale.span(self.least)
+        span = "Any number" if self.least == 0 else f"Any number from {least} on"
+        ends = f"{least} is the least" if self.rises else "there is no greatest one"
         if greatest is not None:
-            span = f"Any number from {self.least} to {greatest}"
+            span = f"Any number from {self.scale.spans(self.least, greatest)}"
             ends = "with others an interval would end before it begins"
         elif self.rises and self.least == 0:
             span = "Any number, 0 included,"
@@ -225,7 +232,7 @@ class Search:
 
     def unknown(self, number: int) -> Answer:
         """The answer where a check left open whether the formula can be false."""
-        said = f"Unknown: with {number} it wasn't found within the conflicts whether it can be false."
+        said = f"Unknown: with {self.scale.span(number)} it wasn't found within the conflicts whether it can be false."
         facts = self.facts(said, None, None, number)
         return Answer(4, [bold(said), self.line_of(number)], {**facts, "unknown_at": number})
 
@@ -240,11 +247,12 @@ class Search:
     def line_of(self, number: int) -> str:
         """What the check with a number said."""
         run = self.run_at(number)
-        return f"  {number}: {SAID[run.status]} [{run.words}]"
+        return f"  {self.scale.span(number)}: {SAID[run.status]} [{run.words}]"
 
     def end_of_log(self) -> str:
         """Why no number beyond the last one that was tried changes anything."""
-        return f"  A greater number changes nothing: by no timing are two rows of the log {self.last} apart, or more."
+        last = self.scale.span(self.last)
+        return f"  A greater number changes nothing: by no timing are two rows of the log {last} apart, or more."
 
     def facts(self, sentence: str, number: Optional[int], which: Optional[str], *shown: int) -> Dict[str, Any]:
         """The answer for programs, with the statuses of the checks that show it."""
@@ -303,13 +311,12 @@ class LongSearch(Search):
 
     def unknown(self, number: int) -> Answer:
         """The answer where windows with a number left open whether they can be false."""
-        said = f"Unknown: with {number} windows didn't tell whether it can be false."
+        said = f"Unknown: with {self.scale.span(number)} windows didn't tell whether it can be false."
         return Answer(4, [bold(said)], {**self.facts(said, None, None), "unknown_at": number})
 
     def question_at(self, number: int, log: Union[LongLog, Fault]) -> LongQuestion:
         """The question with a number in place of `?`."""
-        text = " ".join(self.template.replace("?", str(number)).split())
-        formula, question = Source(self.question.formula.name, text.encode()), self.question
+        formula, question = with_number_in(self.question.formula, number), self.question
         return question_of(question.program, formula, question.log_source, log, question.options)
 
     def shape_at(self, number: int) -> Shape:

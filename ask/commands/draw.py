@@ -7,17 +7,19 @@ from typing import List, Optional, Sequence
 
 from ask.cautions import Caution, add_strict_words, caution_facts, caution_lines, cautions_wanted, strict_status
 from ask.logs import Log
+from ask.macros import written_out
 from ask.nearer import Nearer, brought_nearer
 from ask.page import page_of
 from ask.picture import Panel, picture
 from ask.program import NOT_THERE, Run, program_of
 from ask.question import (
-    Question, accepted_log, accepted_tree, answered, formula_source, report_of_run, run_facts, shown_formula, step_of_run,
-    unreadable,
+    Question, accepted_log, accepted_tree, answered, formula_source, log_source, report_of_run, run_facts, shown_formula,
+    step_of_run, unreadable,
 )
 from ask.refusals import refusal
 from ask.reports import Report, Step, Unreadable, read_report, steps_of
 from ask.texts import Source, Trouble, read_source, say
+from ask.units import add_unit_words, unit_facts
 from ask.words import Answer, broken_words
 
 ANY = Source("true", b"true")  # a formula that every timing has, where only the timing is asked about
@@ -37,6 +39,7 @@ def add_words(commands: "argparse._SubParsersAction[argparse.ArgumentParser]", c
     which.add_argument("--times", metavar="FILE", help="a file of times, as the program's times writes them")
     words.add_argument("--formula", metavar="FORMULA", help="a file, or the formula itself")
     add_strict_words(words)
+    add_unit_words(words)
     words.add_argument("--svg", action="store_true", help="write the picture alone, without a page")
     words.add_argument(
         "--as-found",
@@ -49,8 +52,10 @@ def add_words(commands: "argparse._SubParsersAction[argparse.ArgumentParser]", c
 def do(arguments: argparse.Namespace) -> Answer:
     """The answer of the command."""
     program = program_of(arguments)
-    formula = formula_source(arguments.formula) if arguments.formula is not None else None
-    drawing = Drawing(Question(program, formula or ANY, read_source(arguments.log, "log")), formula)
+    asked = formula_source(arguments.formula) if arguments.formula is not None else None
+    source = log_source(arguments.log, arguments.unit)
+    formula = written_out(asked, source) if asked else None
+    drawing = Drawing(Question(program, formula or ANY, source), formula)
     if arguments.times is not None:
         panels = drawing.panels_of_times(read_source(arguments.times, "times"))
     elif arguments.report is not None:
@@ -66,11 +71,11 @@ def do(arguments: argparse.Namespace) -> Answer:
             say(f"ask: {line}")
     heading = drawing.question.log_source.name + (f": {shown_formula(formula)}" if formula else "")
     svg = picture(log, panels, heading if arguments.svg else "")
-    text = svg if arguments.svg else page_of(heading, svg)
+    text = svg if arguments.svg else page_of(heading, svg, log.scale.epoch is not None)
     titles = [{"title": panel.title, "times": list(panel.times)} for panel in panels]
     facts = {
         "panels": titles, "picture": text, "remarks": list(dict.fromkeys(drawing.remarks)),
-        "warnings": caution_facts(cautions), "runs": run_facts(program.runs),
+        "warnings": caution_facts(cautions), **unit_facts(log.scale), "runs": run_facts(program.runs),
     }
     return Answer(strict_status(arguments, cautions, 0), [text], facts)
 

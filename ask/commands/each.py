@@ -5,35 +5,24 @@ from __future__ import annotations
 import argparse
 import re
 from collections import Counter
-from typing import Any, Dict, List, NamedTuple, Optional, Pattern, Sequence, Tuple
+from typing import Any, Dict, List, Pattern, Sequence, Tuple
 
-from ask.cautions import (
-    Caution, add_strict_words, caution_facts, cautions_of, cautions_of_names, cautions_without_runs, strict_status,
-    values_of_status, wants_runs,
-)
+from ask.cautions import add_strict_words, strict_status
 from ask.commands.check import refuse_wrong_conflicts
-from ask.logs import Fault, Log
-from ask.program import STOPPED, Program, Stopped, program_of
-from ask.question import (
-    VERDICTS, Question, accepted_tree, log_with_rows, report_of_run, run_facts, shown_formula, sources_of,
-    text_of_source,
-)
-from ask.refusals import file_hint, refusal
-from ask.reports import Step
+from ask.lines import SHOWN, Line, table_of, walk_of, warning_lines
+from ask.logs import Log
+from ask.macros import add_formula_words, formulas_answer, shown_line, written_out
+from ask.program import STOPPED, program_of
+from ask.question import run_facts, shown_formula, sources_of, text_of_source
+from ask.refusals import file_hint
 from ask.texts import Source, Trouble
-from ask.windows.answer import Progress, setting_of
-from ask.windows.asking import Whole
-from ask.windows.bounds import Contradiction
-from ask.windows.cautions import cautions_of_long_log
-from ask.windows.longlog import LongLog
-from ask.windows.opening import LongQuestion, add_window_words, formula_on_hosts, long_log_of, long_log_refusal
-from ask.windows.shape import Shape, shape_of
-from ask.windows.verdict import verdict_of_slices
-from ask.words import USAGE, Answer, bold, counted, table, walk_facts, walk_words
+from ask.units import add_unit_words, unit_facts
+from ask.windows.opening import add_window_words
+from ask.words import USAGE, Answer, bold, counted, no_timing_words, table, walk_facts, walk_words
+from ask.written import as_written
 
 # Which status the table has: the first of these that a line has.
 ORDER = (3, 1, 2, 4, STOPPED, 0)
-SHOWN = {**VERDICTS, STOPPED: "stopped"}
 PLACE = re.compile(r"\{(\d{0,3})\}")  # of the name or a group of it in a template
 
 
@@ -56,26 +45,10 @@ def add_words(commands: "argparse._SubParsersAction[argparse.ArgumentParser]", c
     words.add_argument("--over", metavar="REGEX", required=True, help="the names, as '(\\w+)\\.(\\w+)_asked'")
     words.add_argument("--conflicts", metavar="N", help="of the search for each value, as for the program")
     add_strict_words(words)
+    add_unit_words(words)
+    add_formula_words(words)
     add_window_words(words, has_folder=False)
     words.set_defaults(do=do)
-
-
-class Line(NamedTuple):
-    """A line of the table: the name that matched, its formula, its status, its warnings, and a walk if no timing is."""
-
-    name: str
-    formula: str
-    status: int
-    warnings: Sequence[Caution] = ()
-    walk: Optional[Sequence[Step]] = None
-
-    def facts(self) -> Dict[str, Any]:
-        """The line for programs."""
-        verdict = SHOWN[self.status]
-        warnings = caution_facts(self.warnings)
-        return {
-            "name": self.name, "formula": self.formula, "status": self.status, "verdict": verdict, "warnings": warnings,
-        }
 
 
 def do(arguments: argparse.Namespace) -> Answer:
@@ -83,32 +56,34 @@ def do(arguments: argparse.Namespace) -> Answer:
     refuse_wrong_conflicts(arguments.conflicts)
     options = ["--conflicts", arguments.conflicts] if arguments.conflicts else []
     program = program_of(arguments)
-    template, source = sources_of(arguments.template, arguments.log, "long log")
+    template, source = sources_of(arguments.template, arguments.log, arguments.unit, "long log")
     if not re.search(PLACE, text_of_source(template)):
         said = f"{shown_formula(template)} has no {{}} for the names: each of them would have this formula"
         raise Trouble(USAGE, said + file_hint(template))
     pattern = pattern_of(arguments.over)
-    long = long_log_of(source, arguments.windows)
-    if isinstance(long, Fault):
-        raise long_log_refusal(long, source)
-    log = log_with_rows(program, source) if long is None else long
-    matches = matching(log, pattern)
+    table_asked = table_of(program, source, options, arguments)
+    matches = matching(table_asked.log(), pattern)
     if not matches:
         raise Trouble(USAGE, f"{arguments.over} matches no name of {source.name} as a whole")
-    table_of = Table(program, template, source, log, options, wants_runs(arguments))
-    line = table_of.line if long is None else LongTable(table_of, long, arguments).line
-    lines = [line(name, groups) for name, groups in matches.items()]
+    formulas = {name: formula_for(template, source, name, groups) for name, groups in matches.items()}
+    if arguments.formula_alone:
+        return formulas_answer(formulas, is_named=False)
+    lines = [table_asked.line(name, formula, shown_line(as_written(formula))) for name, formula in formulas.items()]
     status = next(status for status in ORDER if any(line.status == status for line in lines))
     facts: Dict[str, Any] = {"lines": [line.facts() for line in lines]}
-    walk = next((line.walk for line in lines if line.walk is not None), None)
-    text = shown(lines)
+    walk, text, log = walk_of(lines), shown(lines), table_asked.log()
     if walk is not None:
-        said = f"No timing: {source.name} admits none, since these bounds contradict each other."
-        text = [bold(said), *walk_words(log, walk), "", *text]
+        text = [bold(no_timing_words(source.name)), *walk_words(log, walk), "", *text]
         facts["contradiction"] = walk_facts(log, walk)
     warnings = [warning for line in lines for warning in line.warnings]
-    facts["runs"] = run_facts(program.runs)
+    facts.update(unit_facts(log.scale), runs=run_facts(program.runs))
     return Answer(strict_status(arguments, warnings, status), text, facts)
+
+
+def formula_for(template: Source, log: Source, name: str, groups: Sequence[str]) -> Source:
+    """The formula of a name that matches, as the program takes it."""
+    text = " ".join(filled(text_of_source(template), name, groups).split())
+    return written_out(Source(f"the formula for {name}", text.encode("utf-8", "surrogateescape")), log)
 
 
 def pattern_of(text: str) -> Pattern:
@@ -143,76 +118,6 @@ def filled(template: str, name: str, groups: Sequence[str]) -> str:
     return re.sub(PLACE, place, template)
 
 
-class Table(NamedTuple):
-    """A template and a log, and how the program is asked for each name."""
-
-    program: Program
-    template: Source
-    source: Source
-    log: Log
-    options: Sequence[str]
-    is_warned_by_runs: bool  # whether all kinds of warnings are asked for
-
-    def line(self, name: str, groups: Sequence[str]) -> Line:
-        """The line of a name."""
-        text = " ".join(filled(text_of_source(self.template), name, groups).split())
-        formula = Source(f"the formula for {name}", text.encode("utf-8", "surrogateescape"))
-        question = Question(self.program, formula, self.source, self.options)
-        try:
-            run = question.check()
-        except Stopped:
-            return Line(name, text, STOPPED)
-        if run.status not in VERDICTS:
-            raise refusal(run, formula, self.source)
-        if run.status == 3:
-            return Line(name, text, 3, (), report_of_run(run).walk)
-        tree = accepted_tree(formula)
-        if self.is_warned_by_runs:
-            warnings = cautions_of(question, self.log, tree, values_of_status(run.status))
-        else:
-            warnings = list(cautions_of_names(question, self.log, tree))
-        return Line(name, text, run.status, warnings)
-
-
-class LongTable:
-    """A template and a long log, and how windows are asked for each name."""
-
-    def __init__(self, table_of: Table, log: LongLog, arguments: argparse.Namespace):
-        self.table, self.log, self.arguments = table_of, log, arguments
-        self.whole: Optional[Whole] = None
-
-    def line(self, name: str, groups: Sequence[str]) -> Line:
-        """The line of a name."""
-        text = " ".join(filled(text_of_source(self.table.template), name, groups).split())
-        formula = Source(f"the formula for {name}", text.encode("utf-8", "surrogateescape"))
-        program, options = self.table.program, self.table.options
-        tree = accepted_tree(formula_on_hosts(program, formula, self.table.source, self.log).formula)
-        asked = LongQuestion(program, formula, self.table.source, self.log, tree, options)
-        try:
-            self.take_shape(shape_of(tree))
-        except Contradiction as contradiction:
-            return Line(name, text, 3, (), contradiction.walk)
-        assert self.whole
-        progress = Progress(not self.arguments.quiet)
-        setting = setting_of(asked, self.arguments, progress)
-        try:
-            verdict = verdict_of_slices(self.whole, setting)
-        except Stopped:
-            return Line(name, text, STOPPED)
-        finally:
-            progress.end()
-        if self.table.is_warned_by_runs:
-            return Line(name, text, verdict.status(), cautions_of_long_log(asked, self.whole, setting, verdict))
-        return Line(name, text, verdict.status(), cautions_without_runs(formula, self.log, tree))
-
-    def take_shape(self, shape: Shape) -> None:
-        """Has a formula be asked of the log, whose bounds are found once."""
-        if self.whole is None:
-            self.whole = Whole(self.log, shape)
-        else:
-            self.whole.take_shape(shape)
-
-
 def shown(lines: Sequence[Line]) -> List[str]:
     """The table, how often each verdict is there, and the warnings."""
     rows = [[line.name, SHOWN[line.status], str(line.status), line.formula] for line in lines]
@@ -220,4 +125,4 @@ def shown(lines: Sequence[Line]) -> List[str]:
     counts = [f"{statuses[status]} {SHOWN[status]}" for status in sorted(statuses)]
     text = table(["name", "verdict", "status", "formula"], rows, left=(0, 1, 3))
     text.append(bold(f"{counted(len(lines), 'formula')}: {', '.join(counts)}."))
-    return text + [f"Warning: {line.name}: {w.sentence}." for line in lines for w in line.warnings]
+    return text + warning_lines(lines)

@@ -17,6 +17,7 @@ from ask.stamps import UNITS
 from ask.texts import Source, Trouble, escaped, read_source, say, write_text
 from ask.ties import bound_lines, error_of, measured_of, ties_of_durations, ties_of_files, warn_of_durations
 from ask.traces import TraceWords, choice_of, events_of_traces
+from ask.units import output_words, refuse_wrong_output, scale_of_making, write_with_notes
 from ask.words import USAGE, Answer, counted, listed, shortened
 
 
@@ -37,6 +38,9 @@ def add_words(commands: "argparse._SubParsersAction[argparse.ArgumentParser]", c
         "--notes",
         metavar="NOTES",
         help="the file for what was changed: the unit, the maps of names, what was carried in",
+    )
+    words.add_argument(
+        "-o", "--output", metavar="LOG", help="write the log there, and its unit and zone in LOG.notes, by which answers say them",
     )
     words.add_argument(
         "--part",
@@ -177,6 +181,7 @@ def add_words_on_windows(words: argparse._ArgumentGroup) -> None:
 
 def do(arguments: argparse.Namespace) -> Answer:
     """The answer of the command."""
+    refuse_wrong_output(arguments.output, arguments.notes)
     found = found_in_files(arguments)
     if not found.events and not arguments.part:
         raise Trouble(WRONG, f"there is no row in {listed(arguments.files)}")
@@ -199,7 +204,11 @@ def do(arguments: argparse.Namespace) -> Answer:
     if not arguments.json and not arguments.quiet:
         tell(warnings if arguments.notes is not None else [*warnings, *making.notes])
     facts = {"log": "".join(f"{line}\n" for line in text), "warnings": making.warnings, "notes": making.notes}
-    return Answer(0, text, facts)
+    if arguments.output is None:
+        return Answer(0, text, facts)
+    scale = scale_of_making(making.unit, making.is_whole, (event.stamp for event in found.events), arguments.files)
+    sentence = output_words(arguments.output, write_with_notes(arguments.output, str(facts["log"]), scale), scale)
+    return Answer(0, [sentence], {**facts, "sentence": sentence})
 
 
 def settle_clocks_and_bounds(

@@ -19,6 +19,7 @@ from ask.logs import MOST_HOSTS, MOST_ROWS
 from ask.making import Line, Making, settle_messages, spread_carried
 from ask.stamps import UNITS
 from ask.texts import Trouble, escaped, reason_of, write_text
+from ask.units import Scale, scale_of_making, write_with_notes
 from ask.words import USAGE, Answer, counted, listed, shortened
 
 TRACE = "trace"  # the key of the parts of traces
@@ -63,7 +64,8 @@ def do(arguments: argparse.Namespace) -> Answer:
     if not parts:
         raise Trouble(WRONG, f"no event has a value of {arguments.by}")
     logs = logs_of(making, parts, hosts)
-    write_logs(Path(arguments.into), logs)
+    scale = scale_of_making(making.unit, making.is_whole, (event.stamp for event in found.events), arguments.files)
+    write_logs(Path(arguments.into), logs, scale)
     warnings = [f"warning: {warning}" for warning in making.warnings]
     if arguments.notes is not None:
         write_text(arguments.notes, "".join(f"{escaped(note)}\n" for note in [*warnings, *making.notes]))
@@ -144,8 +146,8 @@ def file_name(value: str, taken: Dict[str, str]) -> str:
     return f"{name}.csv"
 
 
-def write_logs(folder: Path, logs: Dict[str, str]) -> None:
-    """Writes logs into a folder that is made for them, or empty."""
+def write_logs(folder: Path, logs: Dict[str, str], scale: Scale) -> None:
+    """Writes logs into a folder that is made for them, or empty, each with notes on its unit beside it."""
     try:
         folder.mkdir(parents=True, exist_ok=True)
         is_empty = not any(folder.iterdir())
@@ -154,4 +156,4 @@ def write_logs(folder: Path, logs: Dict[str, str]) -> None:
     if not is_empty:
         raise Trouble(NO_ROOM, f"{escaped(str(folder))} isn't empty: name another folder by --into")
     for name, text in logs.items():
-        write_text(str(folder / name), text)
+        write_with_notes(str(folder / name), text, scale)

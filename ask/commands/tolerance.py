@@ -10,6 +10,7 @@ from ask.cautions import add_strict_words, cautions_wanted, with_cautions
 from ask.commands.check import refuse_wrong_conflicts
 from ask.grounds import ground_facts, ground_lines
 from ask.logs import MOST_SKEW, Log, number, records_of
+from ask.macros import add_formula_words, formula_answer, written_out
 from ask.nearer import brought_nearer
 from ask.program import program_of
 from ask.question import (
@@ -17,7 +18,8 @@ from ask.question import (
 )
 from ask.reports import Best
 from ask.texts import Source, Trouble
-from ask.words import USAGE, Answer, bold, signed, table, walk_facts, walk_words
+from ask.units import Scale, add_unit_words, scale_of_source, unit_facts
+from ask.words import USAGE, Answer, bold, table, walk_facts, walk_words
 
 MOST_ROWS_SHOWN = 40
 
@@ -37,6 +39,8 @@ def add_words(commands: "argparse._SubParsersAction[argparse.ArgumentParser]", c
     words.add_argument("--up-to", dest="most", metavar="MAX", help="the greatest number that is tried, else 10^18")
     words.add_argument("--conflicts", metavar="N", help="of each search, as for the program")
     add_strict_words(words)
+    add_unit_words(words)
+    add_formula_words(words)
     words.add_argument("--all", action="store_true", help="show all rows, and all bounds")
     words.add_argument("--runs", action="store_true", help="name all runs of the program")
     words.set_defaults(do=do)
@@ -46,16 +50,20 @@ def do(arguments: argparse.Namespace) -> Answer:
     """The answer of the command."""
     refuse_wrong_conflicts(arguments.conflicts)
     options = ["--conflicts", arguments.conflicts] if arguments.conflicts else []
+    asked, source = sources_of(arguments.formula, arguments.log, arguments.unit)
+    formula = written_out(asked, source)
+    if arguments.formula_alone:
+        return formula_answer(formula)
     program = program_of(arguments)
-    question = Question(program, *sources_of(arguments.formula, arguments.log), options)
+    question = Question(program, formula, source, options)
     log = log_with_rows(program, question.log_source)
     most = most_of(arguments.most)
-    asked = [*options, arguments.value, str(most)]
-    run = program.run("tolerance", [question.formula, question.log_source], asked)
+    words = [*options, arguments.value, str(most)]
+    run = program.run("tolerance", [question.formula, question.log_source], words)
     try:
         best = best_of_run(run, question, log, arguments.value)
     except Trouble as trouble:
-        more = f"; the size is that with all skews {most_words(most)} greater, and a smaller --up-to may make it smaller"
+        more = f"; the size is that with all skews {most_words(log.scale, most)} greater, and a smaller --up-to may make it smaller"
         raise Trouble(trouble.status, trouble.message + more * run.line().startswith("refused size")) from None
     tolerance = Tolerance(question, log, arguments.value, most, arguments.all)
     answer = tolerance.answer(run.status, best)
@@ -63,7 +71,7 @@ def do(arguments: argparse.Namespace) -> Answer:
         tree = accepted_tree(question.formula)
         wide = replace(question, log_source=widened_source(question.log_source, best.number or 0))
         with_cautions(answer, cautions_wanted(arguments, wide, log, tree, tolerance.values_told(run.status)), arguments)
-    answer.facts["runs"] = run_facts(program.runs)
+    answer.facts.update(unit_facts(log.scale), runs=run_facts(program.runs))
     if arguments.runs:
         answer.lines += run_lines(program.runs)
     return answer
@@ -79,9 +87,9 @@ def most_of(text: Optional[str]) -> int:
     return found
 
 
-def most_words(most: int) -> str:
+def most_words(scale: Scale, most: int) -> str:
     """The greatest number that was tried, in short."""
-    return "10^18" if most == MOST_SKEW else str(most)
+    return "10^18" if most == MOST_SKEW else scale.span(most)
 
 
 class Tolerance:
@@ -96,7 +104,7 @@ class Tolerance:
         formula, name = shown_formula(self.question.formula), self.question.log_source.name
         if best.number is not None:
             return self.found(best, best.number, f"{formula} {{}} {self.value}")
-        more = f"with all skews of {name} {most_words(self.most)} greater"
+        more = f"with all skews of {name} {most_words(self.log.scale, self.most)} greater"
         said = {
             1: f"Never: even {more} {formula} can't be {self.value}.",
             3: f"No timing: even {more} the log admits none, since these bounds contradict each other.",
@@ -120,8 +128,9 @@ class Tolerance:
     def found(self, best: Best, least: int, what: str) -> Answer:
         """The answer where there is a number."""
         name, can = self.question.log_source.name, what.format("can be")
-        less = "as they are" if least == 1 else f"where they are {least - 1} greater"
-        said = f"{can} where all skews of {name} are {least} greater, and not {less}."
+        span = self.log.scale.span
+        less = "as they are" if least == 1 else f"where they are {span(least - 1)} greater"
+        said = f"{can} where all skews of {name} are {span(least)} greater, and not {less}."
         if least == 0:
             said = f"{can} with the skews that {name} has: no stamp has to be off by more."
         question = replace(self.question, log_source=widened_source(self.question.log_source, least))
@@ -134,19 +143,19 @@ class Tolerance:
         if best.why:
             wide = widened(self.log, least - 1)
             self.facts["rests_on"] = ground_facts(wide, best.why)
-            skews = "With the skews as they are" if least == 1 else f"With skews {least - 1} greater"
+            skews = "With the skews as they are" if least == 1 else f"With skews {span(least - 1)} greater"
             lines += ["", f"{skews} it can't be {self.value}, since", *ground_lines(wide, best.why, self.is_all)]
         return Answer(0, lines, self.facts)
 
     def rows(self, times: List[int]) -> List[str]:
         """The rows of a timing, with how far each is beyond its skew; of a long log those that are shifted."""
-        rows = []
+        rows, scale = [], self.log.scale
         for event, (row, time) in enumerate(zip(self.log.rows, times)):
             shift = time - row.stamp
-            beyond = f"{abs(shift) - row.skew} beyond its skew" if abs(shift) > row.skew else ""
+            beyond = f"{scale.span(abs(shift) - row.skew)} beyond its skew" if abs(shift) > row.skew else ""
             if shift or self.is_all or len(times) <= MOST_ROWS_SHOWN:
-                cells = [str(row.line), self.log.host_of(event), f"{row.kind} {row.name}", str(row.stamp)]
-                rows.append([*cells, signed(shift), str(time), beyond])
+                cells = [str(row.line), self.log.host_of(event), f"{row.kind} {row.name}", scale.moment(row.stamp)]
+                rows.append([*cells, scale.shift(shift), scale.moment(time), beyond])
         shown = rows if self.is_all else rows[:MOST_ROWS_SHOWN]
         lines = table(["line", "host", "row", "stamp", "shift", "time", ""], shown, left=(1, 2, 6))
         rest = len(times) - len(shown)
@@ -163,7 +172,8 @@ def widened_source(source: Source, amount: int) -> Source:
         if fields[0] in ("host", "resync"):
             fields[2] = str(int(fields[2]) + amount)
     text = "".join(",".join(fields) + "\n" for fields in records)
-    return Source(f"'{source.name}, skews {amount} greater'" if amount else source.name, text.encode())
+    more = scale_of_source(source).span(amount)
+    return Source(f"'{source.name}, skews {more} greater'" if amount else source.name, text.encode())
 
 
 def widened(log: Log, amount: int) -> Log:

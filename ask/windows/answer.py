@@ -15,7 +15,8 @@ from ask.program import STOPPED, Stopped
 from ask.question import VERDICTS, accepted_tree, run_facts, run_lines, shown_formula, text_of_source
 from ask.reports import read_report
 from ask.texts import Trouble, say
-from ask.words import USAGE, Answer, bold, broken_words, counted, decided_words, grouped, listed, signed, table, walk_facts, walk_words
+from ask.units import unit_facts
+from ask.words import USAGE, Answer, bold, broken_words, counted, decided_words, grouped, listed, table, walk_facts, walk_words
 from ask.windows.asking import Keep, Said, Setting, Whole
 from ask.windows.bounds import Contradiction
 from ask.windows.cautions import cautions_of_long_log
@@ -115,7 +116,7 @@ class LongReading:
         self.asked, self.arguments = asked, arguments
         self.formula, self.name = shown_formula(asked.formula), asked.source.name
         self.lines: List[str] = []
-        self.facts: Dict[str, Any] = {"formula": self.formula, "log": self.name, "notes": []}
+        self.facts: Dict[str, Any] = {"formula": self.formula, "log": self.name, "notes": [], **unit_facts(asked.log.scale)}
         self.remarks: List[str] = []
 
     def contradicted(self, contradiction: Contradiction) -> Answer:
@@ -196,7 +197,7 @@ class LongReading:
             self.lines.append(f"{counted(len(way), 'window')} left open whether it can be {word}:")
             self.lines += [f"  {self.window_words(said)}: {self.open_words(said)}" for said in way[:MOST_WINDOWS_SHOWN]]
         if self.verdict.left:
-            moments = listed([str(moment) for moment in self.verdict.left])
+            moments = listed([self.asked.log.scale.moment(moment) for moment in self.verdict.left])
             self.lines.append(f"The best timing that was found is still otherwise at {moments}.")
         self.facts["windows"] = {
             "rows": len(self.asked.log.rows), "count": len(answers), "most_rows": asker.largest, "runs": asker.runs,
@@ -208,8 +209,9 @@ class LongReading:
     def window_words(self, said: Said) -> str:
         """A window by the moments of its slice and its lines."""
         events = self.whole.glazier.events_in(self.whole.extent.ranges(*said.part))
-        at = f", as at {said.moment}" if said.moment is not None else ""
-        return f"{said.part.first} to {said.part.last} ({lines_of(self.asked, events)}){at}"
+        moment = self.asked.log.scale.moment
+        at = f", as at {moment(said.moment)}" if said.moment is not None else ""
+        return f"{moment(said.part.first)} to {moment(said.part.last)} ({lines_of(self.asked, events)}){at}"
 
     def open_words(self, said: Said) -> str:
         """Why a window leaves something open."""
@@ -302,9 +304,9 @@ class LongReading:
         rows = []
         for event in events:
             row = log.rows[event]
-            cells = [str(row.line), log.host_of(event), f"{row.kind} {row.name}", str(row.stamp)]
+            cells = [str(row.line), log.host_of(event), f"{row.kind} {row.name}", log.scale.moment(row.stamp)]
             for times in timings.values():
-                cells += [signed(times[event] - row.stamp), str(times[event])]
+                cells += [log.scale.shift(times[event] - row.stamp), log.scale.moment(times[event])]
             rows.append(cells)
         what = "Timings that make it true and false" if len(timings) == 2 else (
             f"A timing that makes it {str(next(iter(timings))).lower()}"

@@ -11,6 +11,7 @@ from ask.program import Program
 from ask.question import VERDICTS, Question, accepted_tree
 from ask.refusals import log_refusal, refusal
 from ask.texts import LIMITS, Source, Trouble
+from ask.units import scale_of_source
 from ask.windows.longlog import LongLog, read_long_log
 
 WRONG_LOG = 66  # the status of the program where a file is no log
@@ -81,6 +82,8 @@ def long_log_of(source: Source, is_wanted: bool) -> Union[LongLog, Fault, None]:
     if not is_wanted and not may_be_long(source):
         return None
     log = read_long_log(source.data)
+    if isinstance(log, LongLog):
+        log.scale = scale_of_source(source)
     is_short = isinstance(log, LongLog) and len(log.rows) <= MOST_ROWS and len(source.data) <= LIMITS["log"].most
     return None if is_short and not is_wanted else log
 

@@ -32,6 +32,7 @@ class ShownWindow:
         self.log = replace(
             log, rows=[self.row(place, row) for place, row in enumerate(log.rows)],
             extras=[self.with_line(extra, bounded) for extra, bounded in zip(log.extras, window.bounded)],
+            scale=asked.log.scale,
         )
         self.question = Question(
             asked.program, Source(asked.formula.name, window.formula), Source(self.name(), window.log), asked.options,
@@ -92,9 +93,9 @@ class ShownWindow:
         if event < self.first_row() or before is not None and before < self.first_row():
             return f"the window begins before {row_words(self.log, self.first_row())}"
         if step.kind == "low" and row.stamp - row.skew != own.stamp - own.skew:
-            return f"{row_words(self.log, event)} can't be before {row.stamp - row.skew}: so the whole log has it"
+            return f"{row_words(self.log, event)} can't be before {self.log.scale.moment(row.stamp - row.skew)}: so the whole log has it"
         if step.kind == "high" and row.stamp + row.skew != own.stamp + own.skew:
-            return f"{row_words(self.log, event)} can't be after {row.stamp + row.skew}: so the whole log has it"
+            return f"{row_words(self.log, event)} can't be after {self.log.scale.moment(row.stamp + row.skew)}: so the whole log has it"
         return ground_words(self.log, ground)
 
     def end_bounded(self, step: Step) -> Optional[Bounded]:
@@ -105,7 +106,8 @@ class ShownWindow:
     def end_words(self, bounded: Bounded) -> str:
         """What a bound record says that tells a least or a greatest time."""
         base, is_greatest = self.window.base, bounded.earlier == 0
-        far = f"after {base + bounded.most}" if is_greatest else f"before {base - bounded.most}"
+        moment = self.log.scale.moment
+        far = f"after {moment(base + bounded.most)}" if is_greatest else f"before {moment(base - bounded.most)}"
         name = row_words(self.log, bounded.later if is_greatest else bounded.earlier)
         return f"{name} can't be {far}: so the whole log has it"
 

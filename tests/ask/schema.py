@@ -25,6 +25,14 @@ def tables():
 TABLES = tables()
 
 
+def table_of(words):
+    """The name of the table that the answer to words has."""
+    name = words.split()[0] if words else ""
+    if "--formula" in words and name != "draw":
+        return "--formula"
+    return f"{name} --properties" if "--properties" in words else name
+
+
 def complaint(name, value, place=""):
     """The first place at which a value isn't of the table of a name, or nothing."""
     if not isinstance(value, dict):

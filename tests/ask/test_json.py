@@ -7,10 +7,11 @@ import unittest
 from pathlib import Path
 
 from common import ROOT, asked
-from schema import TABLES, complaint, complaint_of_type
+from schema import TABLES, complaint, complaint_of_type, table_of
 
 EXAMPLES = ROOT / "examples"
 FAR = 4 * 10**18
+SUITE, SUITE_OF_A = "../tests/ask/logs/suite.properties", "../tests/ask/logs/suite_of_a.properties"
 ANSWERED = (
     (0, "check within_9.formula answered.csv"), (1, "check within_0.formula answered.csv"), (2, "check within_8.formula answered.csv"),
     (3, "check p.formula received_first.csv"), (4, "check --conflicts 1 either.formula apart.csv"), (65, "check a.aksed answered.csv --strict"),
@@ -27,7 +28,11 @@ ANSWERED = (
     (0, "log answered.csv"), (0, "log app_events.jsonl --host service --name event --skew 5"),
     (0, "draw answered.csv"), (0, "draw circle.csv --svg"), (0, "draw lease.csv --formula lease.formula"),
     (65, "draw lease.csv --formula a.hodls --strict"), (0, "draw lease.csv --times overlap.times --formula lease.formula"),
-    (0, "--version"),
+    (0, "check true answered.csv --unit us"), (0, "deadline F[0,?]a.req answered.csv --unit ms"), (0, "between ping.csv 0 3 --unit s"),
+    (0, "tolerance true within_5.formula answered.csv --unit ns"), (2, r"each F[0,5]{1}.{2} answered.csv --over (\w+)\.(\w+) --unit ms"),
+    (0, "draw lease.csv --unit s"), (65, f"check apart.csv --properties {SUITE} --conflicts 1"),
+    (3, f"check received_first.csv --properties {SUITE_OF_A} --unit ms"), (0, "check at.most answered.csv --formula"),
+    (0, "each Fa.{} answered.csv --over .* --formula"), (0, "log answered.csv -o /dev/null"), (0, "--version"),
 )
 REFUSED = (
     (64, ""), (64, "what"), (64, "check"), (64, "check a.p set.csv --nothing"), (64, "check a.p set.csv --seconds x"),
@@ -56,7 +61,7 @@ class AgainstThePage(unittest.TestCase):
     def test_answers(self):
         for status, words in ANSWERED:
             with self.subTest(words=words):
-                self.assertEqual(complaint(words.split()[0], self.answer(words, status)), "")
+                self.assertEqual(complaint(table_of(words), self.answer(words, status)), "")
 
     def test_refusals(self):
         for status, words in REFUSED:
@@ -66,10 +71,11 @@ class AgainstThePage(unittest.TestCase):
     def test_each_key_of_the_page_is_in_some_answer(self):
         seen = {name: set() for name in TABLES}
         for status, words in ANSWERED + REFUSED:
-            name = words.split()[0] if words else ""
             facts = self.answer(words, status)
-            seen[name if status < 64 or "--strict" in words else "refusal"] |= set(facts)
-        for name in ("check", "between", "tolerance", "each", "log", "draw", "--version", "refusal"):
+            seen["refusal" if "refusal" in facts else table_of(words)] |= set(facts)
+        for name in (
+            "check", "check --properties", "--formula", "between", "tolerance", "each", "log", "draw", "--version", "refusal",
+        ):
             self.assertEqual(set(TABLES[name]) - seen[name], set(), name)
         self.assertEqual(set(TABLES["deadline"]) - seen["deadline"], {"unknown_at"})
 

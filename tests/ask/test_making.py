@@ -204,7 +204,7 @@ class Parts(unittest.TestCase):
             Path(folder, "t").write_text(self.TABLE)
             ended, text, said = asked(["split", "t", "--by", "request", "--into", "p", "--name", "event", "--skew", "1", *words], folder)
             parts = Path(folder, "p")
-            return ended, {path.name: path.read_text() for path in parts.iterdir()} if parts.is_dir() else {}, said
+            return ended, {path.name: path.read_text() for path in parts.glob("*.csv")} if parts.is_dir() else {}, said
 
     def test_what_was_set_before_is_carried_in(self):
         ended, parts, said = self.split()

@@ -233,7 +233,7 @@ class RoundTrip(unittest.TestCase):
         """The logs of the traces of a form, by their names."""
         ended, _, said = asked(["split", f"--{form}", form, "--by", "trace", "--into", into, "--skew", "5ms", *words, "--notes", "notes"], self.room)
         self.assertEqual(ended, 0, said)
-        return {path.name: path.read_text() for path in sorted((self.room / into).iterdir())}
+        return {path.name: path.read_text() for path in sorted((self.room / into).glob("*.csv"))}
 
     def test_the_three_logs_are_one(self):
         for words in ((), ("--steady-spans", "1us", "--clock-error", "10us"), ("--service", "pay"), ("--trace", "4d", "--unit", "ms")):

@@ -4,6 +4,7 @@ import json
 import random
 import tempfile
 import unittest
+from hashlib import sha256
 from pathlib import Path
 
 from common import asked, status_of
@@ -371,7 +372,16 @@ class Parts(Traces):
         Path(self.room, "spans").write_text(text)
         ended, written, said = asked(["split", "--otlp", "spans", "--by", "trace", "--into", "parts", *words], self.room)
         parts = Path(self.room, "parts")
-        return ended, {path.stem: path.read_text() for path in parts.iterdir()} if parts.is_dir() else {}, said
+        return ended, {path.stem: path.read_text() for path in parts.glob("*.csv")} if parts.is_dir() else {}, said
+
+    def test_each_log_has_its_unit_beside_it(self):
+        ended, parts, said = self.split("--skew", "5")
+        self.assertEqual((ended, len(parts)), (0, 2), said)
+        for name, text in parts.items():
+            notes = json.loads(Path(self.room, "parts", f"{name}.csv.notes").read_text())
+            self.assertEqual(notes, {
+                "unit": "us", "epoch": "1970-01-01T00:00:00Z", "zone": "Z", "sha256": sha256(text.encode()).hexdigest(),
+            })
 
     def test_each_trace_has_hosts_of_its_own(self):
         ended, parts, said = self.split("--skew", "5", "--skew", "bank=9", "--skew", "shop_2=7")
