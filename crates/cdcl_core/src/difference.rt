@@ -86,6 +86,21 @@ pub fn links_of(alloc: Global, atoms: &AtomTable, assumed: &[Lit]) -> Result<Lin
     Ok(links)
 }
 
+// Numbers that mostly meet these edges: each node stands as late as the edge from it to node 0 lets it.
+fn latest(alloc: Global, nodes: u32, edges: &[Edge]) -> Result<Vec<i128>, AllocError>
+    ensures count { IfOk result (λ v. length v.items ≡ nodes) }
+{
+    let mut numbers = vec![in alloc; 0; nodes as usize]?;
+    for edge in edges {
+        if edge.to == 0
+            && let Some(number) = numbers.get_mut(edge.from as usize)
+        {
+            *number = edge.bound;
+        }
+    }
+    Ok(numbers)
+}
+
 /// A graph that holds these edges, which have a solution, with room for as many more as there are variables.
 pub fn graph_of(alloc: Global, nodes: u32, edges: &[Edge], vars: u32) -> Result<Graph, AllocError>
     requires some { 0 < nodes }
@@ -96,7 +111,8 @@ pub fn graph_of(alloc: Global, nodes: u32, edges: &[Edge], vars: u32) -> Result<
     ensures capacity { IfOk result (λ g. g.capacity ≡ length edges.now + vars) }
     ensures edges { IfOk result (λ g. g.edges ≡ edges.now) }
 {
-    let mut graph = Graph::new(alloc, nodes, edges.len() as u32 + vars)?;
+    let numbers = latest(alloc, nodes, edges)?;
+    let mut graph = Graph::near(alloc, &numbers, edges.len() as u32 + vars)?;
     for edge in edges {
         match graph.push(*edge) {
             Push::Kept => {}

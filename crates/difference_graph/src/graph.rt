@@ -1,6 +1,7 @@
 //! Held edges, and numbers that meet them.
 
-ghost use Rattle.std.specs.Prelude.{◌≡◌, ◌↔◌, ◌<◌, ◌≤◌, [], ◌∷◌, ◌++◌, length, take, replicate, pos, IfOk, IsTrue};
+ghost use Rattle.std.specs.Prelude.{◌≡◌, ◌↔◌, ◌<◌, ◌≤◌, [], ◌∷◌, ◌++◌, length, take, replicate, pos, All, IfOk, IsTrue};
+ghost use Rattle.difference_graph.specs.Gaps.{IsNumber};
 ghost use Rattle.neg_cycle.specs.declared.system.TheConstants.{MAX_NODES, MAX_EDGES};
 ghost use Rattle.neg_cycle.specs.Systems.{IsEdge, Meets, IsNegativeCycle, VisitsOnce, edge_at, number_of};
 ghost use Rattle.difference_graph.specs.declared.push.Push.TheVariants.{Kept, Cycle};
@@ -55,6 +56,25 @@ impl Graph {
             held: no_edges(alloc, count, capacity as usize)?,
             limit: capacity,
             current: zeros(alloc, count)?,
+            work: no_work(alloc, count, capacity as usize)?,
+        })
+    }
+
+    /// The same over as many nodes as there are numbers, which it begins with, as near as a graph's may be: where these meet
+    /// the edges to come, each is added at once.
+    pub fn near(alloc: Global, numbers: &[i128], capacity: u32) -> Result<Graph, AllocError>
+        requires some { 0 < length numbers.now }
+        requires few_nodes { length numbers.now ≤ MAX_NODES }
+        requires few_edges { capacity ≤ MAX_EDGES }
+        ensures nodes { IfOk result (λ g. g.nodes ≡ length numbers.now) }
+        ensures capacity { IfOk result (λ g. g.capacity ≡ capacity) }
+        ensures none { IfOk result (λ g. g.edges ≡ []) }
+    {
+        let count = numbers.len();
+        Ok(Graph {
+            held: no_edges(alloc, count, capacity as usize)?,
+            limit: capacity,
+            current: lowered(alloc, numbers)?,
             work: no_work(alloc, count, capacity as usize)?,
         })
     }
@@ -161,4 +181,33 @@ fn zeros(alloc: Global, count: usize) -> Result<Vec<i128>, AllocError>
     let mut numbers = Vec::new(alloc);
     numbers.resize(count, 0)?;
     Ok(numbers)
+}
+
+// The greatest of some numbers, or 0.
+fn greatest(numbers: &[i128]) -> i128 {
+    let mut greatest = 0;
+    for number in numbers {
+        greatest = greatest.max(*number);
+    }
+    greatest
+}
+
+// A number that is lowered by another, and within what a node can have.
+fn within(number: i128, by: i128) -> i128
+    ensures { IsNumber result }
+{
+    number.saturating_sub(by).max(-(1 << 112)).min(0)
+}
+
+// Numbers, each lowered by the greatest of them.
+fn lowered(alloc: Global, numbers: &[i128]) -> Result<Vec<i128>, AllocError>
+    ensures count { IfOk result (λ v. length v.items ≡ length numbers.now) }
+    ensures numbers { IfOk result (λ v. All IsNumber v.items) }
+{
+    let by = greatest(numbers);
+    let mut list = Vec::new(alloc);
+    for number in numbers {
+        list.push(within(*number, by))?;
+    }
+    Ok(list)
 }

@@ -24,7 +24,7 @@ unreachable-requires c =
 pub loop-edge-init : goal.loop-edge-init
 loop-edge-init c =
     let new = c.in_ok-graph.ensures in
-    record { nodes = new.nodes; capacity = new.capacity; held = new.none }
+    record { nodes = new.nodes ∙ ap length c.deref.ensures.value ∙ c.in_ok-numbers.ensures.count; capacity = new.capacity; held = new.none }
 
 pub push-requires : goal.push-requires
 push-requires c =
