@@ -47,7 +47,7 @@ def expected():
         *[f"{ABOUT}/version"] * names_origin(),
         *COMMANDS, *MANUALS, BASH, ZSH, FISH, *[f"{PARTS}/audit/{name}.py" for name in CHECKER],
         *[f"{PARTS}/{name}" for name in names if name.startswith("ask/") and name.endswith(".py")],
-        *[f"{ABOUT}/{name}" for name in names if name.startswith("docs/") and name.endswith((".md", ".svg"))],
+        *[f"{ABOUT}/{name}" for name in names if name.startswith("docs/") and name.endswith((".md", ".svg", ".txt"))],
         *[f"{ABOUT}/{name}" for name in names if name.startswith("examples/") and not name.endswith(".pyc")],
         *[f"{ABOUT}/{name}" for name in PAGES],
     ])

@@ -15,7 +15,7 @@ from typing import Iterator, List
 
 from repository import ROOT, Names
 
-CRATES = {"proved.md", "definitions.md", "crates.md", "DECISIONS.md", "derivations.md", "search.md"}
+CRATES = {"auditing.md", "proved.md", "definitions.md", "crates.md", "DECISIONS.md", "derivations.md", "search.md"}
 SPAN = r"(?<!`)`([^`\n]+)`(?!`)"
 WORD = re.compile(r"[A-Za-z_]\w*(?:::[A-Za-z_]\w*)*(?:\(\))?")
 PATH = re.compile(r"\.?[\w.*-]+(?:/[\w.*-]+)+/?|[\w*-]+\.(?:rt|antt|py|sh|md|edit|txt|svg|csv|formula|report|times|answer|json|jsonl)")

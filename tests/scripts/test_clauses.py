@@ -173,6 +173,20 @@ class Unreached(WithCrates):
         self.assertEqual(self.outcome("unreached"), (66, [], said))
 
 
+class Promised(WithCrates):
+    def test_calls_of_the_surface_and_laws(self):
+        self.promise("upper::twice", "low::Number::value")
+        self.write("crates.txt", "# base: numbers\nlow:\n\n# gate: tables\ntext_table: low\n")
+        status, lines, said = self.outcome("print", "--promised")
+        self.assertEqual((status, said), (0, ""))
+        self.assertEqual([line for line in lines[1:] if line], [
+            "== low",
+            "halves_are_even: Halves are even.", "    ensures { Even half }",
+            "twice: The double.", "    requires small { x < 10 }", "    ensures double { result ≡ x + x }",
+            "Number::value: Its value.", "    ensures value { result ≡ self.now }",
+        ])
+
+
 class Against(WithCrates):
     def setUp(self):
         super().setUp()
