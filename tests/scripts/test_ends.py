@@ -17,7 +17,7 @@ HEAD = f"import sys\nsys.path.insert(0, {str(ROOT / 'tests')!r})\nimport ends\n"
 UNKNOWN = ["--no-such-option"]
 COMPARISONS = sorted(path.name for path in (ROOT / "tests" / "reference").glob("compare*.py") if path.stem != "compare_best")
 WITH_OPERANDS = [
-    "benches/inputs.py", "tests/examples/examples.py", "tests/hostile/hostile.py", "tests/hostile/limits.py",
+    "benches/inputs.py", "benches/keep.py", "tests/examples/examples.py", "tests/hostile/hostile.py", "tests/hostile/limits.py",
     "tests/hostile/timed.py", "tests/unittests.py",
     *(f"tests/reference/{name}" for name in ("demo_log.py", "derivations.py", "freshness.py", *COMPARISONS)),
 ]
