@@ -1,4 +1,4 @@
-"""Installing, removing and packing, each in a folder of its own; completions and the manual; the step of docs/usage.md."""
+"""Installing, removing and packing, each in a folder of its own; completions and the manual; the step of docs/installing.md."""
 
 import os
 import re
@@ -215,8 +215,8 @@ class Pages(WithRoom):
             self.assertIn(f"| `{' '.join(words)}` |", readme)
 
     def test_step(self):
-        page = (ROOT / "docs" / "usage.md").read_text()
-        step = re.search(r"### In a job of continuous integration.*?```sh\n(.*?)```", page, re.S)[1]
+        page = (ROOT / "docs" / "installing.md").read_text()
+        step = re.search(r"## In a job of continuous integration.*?```sh\n(.*?)```", page, re.S)[1]
         self.put()
         asking = self.prefix / "bin" / "skewask"
         if not asking.exists():
