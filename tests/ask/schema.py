@@ -1,11 +1,11 @@
-"""The keys and types of answers in JSON by the tables of docs/asking-json.md, and what of an answer isn't so."""
+"""The keys and types of answers in JSON by the lists of docs/asking-json.md, and what of an answer isn't so."""
 
 import re
 
 from common import ROOT
 
 PAGE = ROOT / "docs" / "asking-json.md"
-ROW = re.compile(r"^\| (\w+) \| (.+?) \| (.+?) \| .*\|$")
+ITEM = re.compile(r"^- (\w+) \(((?:\"[^\"]*\"|[^,)])+)(?:, (.+?))?\)(?:: .*)?$")  # a key, its type, and when it is there
 MOST_EXACT = 2**53
 
 
@@ -15,10 +15,10 @@ def tables():
     for line in PAGE.read_text().splitlines():
         if line.startswith("#"):
             heading = line.lstrip("# ")
-        row = ROW.match(line)
-        if row and row.group(1) != "Key":
-            key, kind, there = row.groups()
-            found.setdefault(heading, {})[key] = (kind, there == "always")
+        item = ITEM.match(line)
+        if item:
+            key, kind, there = item.groups()
+            found.setdefault(heading, {})[key] = (kind, there is None)
     return found
 
 
@@ -26,7 +26,7 @@ TABLES = tables()
 
 
 def table_of(words):
-    """The name of the table that the answer to words has."""
+    """The name of the list that the answer to words has."""
     name = words.split()[0] if words else ""
     if "--formula" in words and name != "draw":
         return "--formula"
@@ -34,7 +34,7 @@ def table_of(words):
 
 
 def complaint(name, value, place=""):
-    """The first place at which a value isn't of the table of a name, or nothing."""
+    """The first place at which a value isn't of the list of a name, or nothing."""
     if not isinstance(value, dict):
         return f"{place}: no object {name}"
     table = TABLES[name]
