@@ -72,7 +72,7 @@ class Installed(unittest.TestCase):
                 done = run(["bash", "-c", command], self.bin, self.about)
                 self.assertEqual(done.stdout.decode().replace("skewask: ", "ask: "), shown, f"{page.name}: {command}")
                 count += 1
-        self.assertGreater(count, 100)
+        self.assertGreater(count, 80)
         self.assertEqual(tree(self.prefix), earlier)
 
     def test_links_of_pages(self):
