@@ -4,7 +4,7 @@ from __future__ import annotations
 
 from dataclasses import dataclass
 from itertools import islice
-from typing import Callable, Iterator, List, Optional, Sequence, Set, Tuple
+from typing import Callable, Iterator, List, NamedTuple, Optional, Sequence, Set, Tuple
 
 from ask.formulas import NO_BOUND, Tree, chained, enclosed, interval_text, propositions, text_of
 from ask.logs import Log, change_rows, pulse_rows
@@ -15,6 +15,20 @@ from ask.words import lines_words, shortened
 DEEPEST = 5  # operators of time within one another that are explained
 MOST_SENTENCES = 12
 MOST_OF_ALL = 200  # sentences where all are wanted
+
+
+class Moment(NamedTuple):
+    """A moment at which the outermost part of a formula is decided, and whether what is looked for holds there."""
+
+    time: int
+    value: bool
+
+
+class Span(NamedTuple):
+    """The moments from a first to a last one; None where there is no first or no last one."""
+
+    first: Optional[int]
+    last: Optional[int]
 
 
 @dataclass
@@ -29,6 +43,8 @@ class Timing:
     def __post_init__(self) -> None:
         self.positions = sorted(set(self.times))
         self.named: Set[int] = set()  # the rows that sentences have named
+        self.moments: List[Moment] = []  # that decide the formula, or the parts of its outermost chain
+        self.spans: List[Span] = []  # of which sentences say that a part holds throughout, or nowhere
 
     def holds(self, text: str, place: int) -> bool:
         """Whether a text is true at a position."""
@@ -58,6 +74,11 @@ class Timing:
         return place + low if is_forward else place - low
 
 
+def reasons_of(timing: Timing, tree: Tree, value: bool, is_all: bool) -> List[str]:
+    """All that is said of why a formula has its value, with the propositions that are lost at an instant."""
+    return explained(timing, tree, value, is_all) + vanished_words(timing, tree)
+
+
 def explained(timing: Timing, tree: Tree, value: bool, is_all: bool) -> List[str]:
     """Sentences on why a formula has its value at the first position of a timing."""
     most = MOST_OF_ALL if is_all else MOST_SENTENCES
@@ -80,8 +101,11 @@ def steps(timing: Timing, tree: Tree, place: int, value: bool, depth: int) -> It
     """Sentences on why a part has its value at a position."""
     if depth >= DEEPEST:
         return
-    if not tree.parts:
+    if tree.form == "prop":
+        keep_moment(timing, place, value, depth)
         yield from state_words(timing, tree, place, value)
+    elif not tree.parts:
+        return
     elif tree.form == "!":
         yield from steps(timing, tree.parts[0], place, not value, depth)
     elif tree.form in ("&", "|"):
@@ -96,6 +120,13 @@ def steps(timing: Timing, tree: Tree, place: int, value: bool, depth: int) -> It
         yield from steps_of_until(timing, tree, place, value, depth)
 
 
+def keep_moment(timing: Timing, place: int, value: bool, depth: int) -> None:
+    """Keeps the moment of a position that decides a part, unless that stands within another operator of time."""
+    moment = Moment(timing.positions[place], value)
+    if depth == 0 and moment not in timing.moments:
+        timing.moments.append(moment)
+
+
 def is_some(tree: Tree, value: bool) -> bool:
     """Whether one position gives a formula its value: an `F` or `O` that holds, or a `G` or `H` that fails."""
     return tree.form in ("F", "O") and value or tree.form in ("G", "H") and not value
@@ -103,8 +134,6 @@ def is_some(tree: Tree, value: bool) -> bool:
 
 def state_words(timing: Timing, tree: Tree, place: int, value: bool) -> List[str]:
     """That a proposition has its value, and since which row, or by which pulse."""
-    if tree.form != "prop":
-        return []
     host = timing.log.host_numbered(tree.host) or 0
     moment = timing.positions[place]
     changes = [e for e in change_rows(timing.log, host, tree.name) if timing.times[e] <= moment]
@@ -199,6 +228,7 @@ def steps_of_some(timing: Timing, tree: Tree, place: int, depth: int) -> Iterato
     found = nearest(timing, sign, tree.interval[0], wanted, place)
     if found is None:
         return
+    keep_moment(timing, found, value, depth)
     line, part, part_value = at_place(timing, child, found, value)
     if place:
         away = f", {distance_words(timing, place, found)}" if found != place else ""
@@ -228,6 +258,8 @@ def steps_of_all(timing: Timing, tree: Tree, place: int, value: bool) -> List[st
     interval = interval_text(tree.interval)
     scale = timing.log.scale
     where = f"{interval_words(tree, scale)} {scale.moment(timing.positions[place])}"
+    if interval:
+        timing.spans.append(span_of(tree, timing.positions[place]))
     if value:
         return [f"{shown(tree.parts[0])} holds at each position {where}"]
     line = f"{shown(tree.parts[0])} holds at no position {where}"
@@ -238,6 +270,14 @@ def steps_of_all(timing: Timing, tree: Tree, place: int, value: bool) -> List[st
         way = "later" if sign == "F" else "earlier"
         return [f"{line}, nor {way} in {timing.where}{last_words(timing, child, sign, place)}"]
     return [f"{line}: next it holds {timing.place_words(found)}, {distance_words(timing, place, found)}"]
+
+
+def span_of(tree: Tree, moment: int) -> Span:
+    """The moments of which an interval speaks, counted from one."""
+    low, high = int(tree.interval[0]), None if tree.interval[1] == "inf" else int(tree.interval[1])
+    if is_forward(tree):
+        return Span(moment + low, None if high is None else moment + high)
+    return Span(None if high is None else moment - high, moment - low)
 
 
 def last_words(timing: Timing, child: str, sign: str, place: int) -> str:
@@ -281,11 +321,13 @@ def steps_of_until(timing: Timing, tree: Tree, place: int, value: bool, depth: i
             return distance >= int(low) and timing.holds(text, place)
 
         found = timing.least_place(place, is_there, is_forward(tree))
+        keep_moment(timing, found, True, depth)
         way = "before" if sign == "F" else "after"
         yield f"{shown(right)} holds {timing.place_words(found)}, and {shown(left)} at each position {way} that"
         return
     failing = nearest(timing, sign, "0", f"!({text_of(left)})", place)
     if failing is not None:
+        keep_moment(timing, failing, False, depth)
         line, part, part_value = at_place(timing, left, failing, False)
         yield line
         yield from steps(timing, part, failing, part_value, depth + 1)

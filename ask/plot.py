@@ -8,7 +8,7 @@ from __future__ import annotations
 
 import math
 from dataclasses import dataclass, field
-from typing import List, Tuple
+from typing import List, Sequence, Tuple
 
 from ask.stamps import UNITS
 from ask.texts import markup
@@ -17,10 +17,10 @@ from ask.units import Scale as Unit
 LEFT = 120  # where the plot begins
 PLOT = 980  # its width
 RIGHT = 40
-HEAD = 44  # the height of a panel's title
 LANE = 58  # the height of a lane without its propositions
 STRIP = 13  # the height of a proposition
 AXIS = 46
+MIDDLE = 36  # from the top of a lane to its rows
 LABEL_LEVELS = 3
 LETTER = 6.3  # the width of a letter of a label
 MOST_STRIPS = 8
@@ -35,6 +35,7 @@ text { font: 12px system-ui, sans-serif; fill: #222; }
 .small { font-size: 11px; fill: #555; }
 .label { font-size: 11px; }
 .shift { font-size: 10px; fill: #8a1c1c; }
+.label, .shift { paint-order: stroke; stroke: #f6f7f9; stroke-width: 3px; }
 .lane { fill: #f6f7f9; }
 .position { stroke: #c9ced6; stroke-width: 1; }
 .faint { stroke-opacity: .35; }
@@ -47,6 +48,19 @@ text { font: 12px system-ui, sans-serif; fill: #222; }
 .step { stroke: #c00; stroke-width: 2; fill: none; }
 .number { fill: #c00; font-weight: 700; paint-order: stroke; stroke: #fff; stroke-width: 3px; }
 .axis { stroke: #888; }
+.moment line { stroke-width: 2; }
+.ring { fill: none; stroke-width: 1.5; }
+.flag { font-weight: 600; }
+.span { fill-opacity: .09; }
+.fails line { stroke: #b3261e; }
+.holds line { stroke: #00704a; }
+.fails .row, .fails .flag, .span.fails { fill: #b3261e; }
+.holds .row, .holds .flag, .span.holds { fill: #00704a; }
+.fails .ring { stroke: #b3261e; }
+.holds .ring { stroke: #00704a; }
+.why { font-weight: 600; font-size: 12px; }
+.why.fails { fill: #b3261e; }
+.why.holds { fill: #00704a; }
 .off { visibility: hidden; }
 """
 
@@ -73,6 +87,12 @@ class Canvas:
     def text(self, x: float, y: float, words: str, kind: str = "", anchor: str = "start") -> None:
         self.parts.append(f'<text class="{kind}" x="{x:g}" y="{y:g}" text-anchor="{anchor}">{markup(words)}</text>')
 
+    def lines(self, x: float, lines: Sequence[str], kind: str, step: int) -> None:
+        """Lines of text below what is there, so far from one another."""
+        for line in lines:
+            self.height += step
+            self.text(x, self.height, line, kind)
+
     def line(
         self, kind: str, ends: Tuple[float, float], heights: Tuple[float, float], title: str = "", more: str = ""
     ) -> None:
@@ -86,13 +106,14 @@ class Canvas:
 
 def data(**places: float) -> str:
     """Places in the plot as data, with digits enough for the greatest zoom."""
-    return " ".join(f'data-{name}="{place:.10g}"' for name, place in places.items())
+    return " ".join(f'data-{name}="{place:.12g}"' for name, place in places.items())
 
 
-def mark(at: float, height: float, parts: str) -> str:
+def mark(at: float, height: float, parts: str, kind: str = "", more: str = "") -> str:
     """Parts at a moment, which keep their size."""
     move = f"translate({LEFT + at:g},{height:g})"
-    return f'<g class="x" {data(x=at, y=height)} transform="{move}">{parts}</g>'
+    kinds = f"x {kind}" if kind else "x"
+    return f'<g class="{kinds}" {data(x=at, y=height)}{more} transform="{move}">{parts}</g>'
 
 
 def curve(a: float, y: float, b: float, z: float) -> Tuple[str, Tuple[float, float]]:
@@ -111,22 +132,22 @@ def curve(a: float, y: float, b: float, z: float) -> Tuple[str, Tuple[float, flo
 
 def draw_axis(canvas: Canvas, scale: Scale, height: float, unit: Unit) -> None:
     """The axis with its ticks, in the unit of the log where it is known; large moments are counted from the first."""
-    canvas.parts.append(f'<line class="axis" x1="{LEFT}" x2="{LEFT + PLOT}" y1="{height}" y2="{height}"/>')
     base = scale.first if max(abs(scale.first), abs(scale.last)) >= 10**7 else 0
     words = [f"in {unit.unit}"] * bool(unit.unit) + [f"counted from {unit.moment(base)}"] * bool(base)
+    canvas.parts.append(f'<g class="below" transform="translate(0,{height:g})">')
+    canvas.parts.append(f'<line class="axis" x1="{LEFT}" x2="{LEFT + PLOT}"/>')
     if words:
-        canvas.text(LEFT, height + 32, ", ".join(words), "small")
+        canvas.text(LEFT, 32, ", ".join(words), "small")
     canvas.parts.append(
         f'<g class="ticks" data-base="{base}" data-offset="{scale.first - base}" '
-        f'data-span="{scale.last - scale.first}" data-y="{height}"{dates(unit)}>'
+        f'data-span="{scale.last - scale.first}"{dates(unit)}>'
     )
     for moment in ticks(scale.first, scale.last):
-        at = scale.at(moment)
         canvas.parts.append(
-            f'<g transform="translate({LEFT + at:g},{height:g})"><line class="axis" y2="4"/>'
+            f'<g transform="translate({LEFT + scale.at(moment):g},0)"><line class="axis" y2="4"/>'
             f'<text class="small" y="16" text-anchor="middle">{moment - base}</text></g>'
         )
-    canvas.parts.append("</g>")
+    canvas.parts.append("</g></g>")
 
 
 def dates(unit: Unit) -> str:

@@ -261,3 +261,31 @@ def place_of(data: bytes, offset: int) -> Place:
 def shown_text(data: bytes, most: Optional[int] = None) -> str:
     """Bytes as a message shows them, on one line; the first of them where there are many."""
     return "".join(c if c.isprintable() else " " for c in data[:most].decode("utf-8", "backslashreplace")).strip()
+
+
+def wrapped(text: str, most: int) -> List[str]:
+    """The lines of a text of which none takes more columns, broken at blanks, and within words that are longer."""
+    lines, line = [], ""
+    for word in escaped(text).split(" "):
+        while width_of(word) > most:
+            room = most - width_of(line) - 1 if line else most
+            if room < most // 4:
+                lines.append(line)
+                line, room = "", most
+            head = beginning(word, room)
+            lines.append(f"{line} {head}" if line else head)
+            line, word = "", word[len(head):]
+        if line and width_of(line) + 1 + width_of(word) > most:
+            lines.append(line)
+            line = word
+        else:
+            line = f"{line} {word}" if line else word
+    return [*lines, line] if line or not lines else lines
+
+
+def beginning(word: str, most: int) -> str:
+    """As many letters from the beginning of a word as so many columns have room for, and one at least."""
+    count = 1
+    while count < len(word) and width_of(word[: count + 1]) <= most:
+        count += 1
+    return word[:count]

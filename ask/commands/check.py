@@ -275,8 +275,7 @@ class Reading:
         for value, times in timings.items():
             timing = explain.Timing(self.question, self.log, times)
             try:
-                why = explain.explained(timing, self.tree, value, self.arguments.all)
-                reasons[str(value).lower()] = why + explain.vanished_words(timing, self.tree)
+                reasons[str(value).lower()] = explain.reasons_of(timing, self.tree, value, self.arguments.all)
             except (Trouble, Stopped):
                 continue  # a part of the formula was refused, or took too long: the table stands without it
             named |= timing.named

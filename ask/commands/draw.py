@@ -6,11 +6,13 @@ import argparse
 from typing import List, Optional, Sequence
 
 from ask.cautions import Caution, add_strict_words, caution_facts, caution_lines, cautions_wanted, strict_status
+from ask.focus import Focus, focus_of
 from ask.logs import Log
 from ask.macros import written_out
 from ask.nearer import Nearer, brought_nearer
 from ask.page import page_of
-from ask.picture import Panel, picture
+from ask.panels import Panel
+from ask.picture import picture
 from ask.program import NOT_THERE, Run, program_of
 from ask.question import (
     Question, accepted_log, accepted_tree, answered, formula_source, log_source, report_of_run, run_facts, shown_formula,
@@ -70,8 +72,7 @@ def do(arguments: argparse.Namespace) -> Answer:
         for line in [*caution_lines(cautions), *dict.fromkeys(drawing.remarks)]:
             say(f"ask: {line}")
     heading = drawing.question.log_source.name + (f": {shown_formula(formula)}" if formula else "")
-    svg = picture(log, panels, heading if arguments.svg else "")
-    text = svg if arguments.svg else page_of(heading, svg, log.scale.epoch is not None)
+    text = picture(log, panels, heading) if arguments.svg else page_of(heading, log, panels)
     titles = [{"title": panel.title, "times": list(panel.times)} for panel in panels]
     facts = {
         "panels": titles, "picture": text, "remarks": list(dict.fromkeys(drawing.remarks)),
@@ -137,8 +138,10 @@ class Drawing:
         numbers = [int(line) for line in times.data.decode("ascii").split("\n") if line.strip()]
         if run.status == 6:
             return [Panel(f"No admissible timing: {self.broken(run, numbers)}", numbers)]
-        value = f", where the formula is {run.line()}" if self.formula else ""
-        return [Panel(f"The timing of {times.name}{value}", numbers)]
+        title = f"The timing of {times.name}"
+        if not self.formula:
+            return [Panel(title, numbers)]
+        return [Panel(f"{title}, where the formula is {run.line()}", numbers, focus=self.focus(numbers, run.status == 0))]
 
     def panels_of_report(self, source: Source) -> List[Panel]:
         """The timings of a report that the program accepts; without a formula, those that are admissible."""
@@ -204,8 +207,17 @@ class Drawing:
                     timing = brought_nearer(nearer, self.log(), section.times, value)
                 self.remarks += [timing.remark] * bool(timing.remark)
                 self.values.append(value)
-                panels.append(Panel(self.title(report, value), timing.times))
+                panels.append(Panel(self.title(report, value), timing.times, focus=self.focus(timing.times, value)))
         return panels or [Panel("By the stamps", self.log().stamps())]
+
+    def focus(self, times: Sequence[int], value: bool) -> Optional[Focus]:
+        """What gives the formula its value in a timing; nothing where none is asked about."""
+        if not self.formula:
+            return None
+        focus = focus_of(self.question, self.log(), accepted_tree(self.formula), times, value)
+        if focus is None:
+            self.remarks.append(f"why the formula is {str(value).lower()} isn't shown: a run was refused, or took too long")
+        return focus
 
     def title(self, report: Report, value: bool) -> str:
         """What a timing of a report shows; without a formula that is the report's own word."""

@@ -286,7 +286,7 @@ class LongReading:
         is_at_end = all(end == len(events) for (_, end), events in zip(shown.window.ranges, self.asked.log.of))
         timing = explain.Timing(shown.question, shown.log, witness, "the log" if is_at_end else "the window")
         try:
-            why = explain.explained(timing, tree, value, self.arguments.all) + explain.vanished_words(timing, tree)
+            why = explain.reasons_of(timing, tree, value, self.arguments.all)
         except (Trouble, Stopped):
             return {}, set()
         named = {event for event in map(shown.event, timing.named) if event is not None}

@@ -1,0 +1,146 @@
+"""The script of a page that shows what is at the pointer, and takes the wheel, the pointer and the keys."""
+
+POINTER = r"""
+const tip = document.querySelector("#tip"), mostTitles = 6, reach = 7;
+
+// Titles are shown at once, and those of all that is at one place.
+const titles = new Map([...document.querySelectorAll("svg.panel title")].map(title => [title.parentNode, title.textContent]));
+for (const title of document.querySelectorAll("svg.panel title")) title.remove();
+
+// What is at a point, or just beside it, by its titles.
+function titlesAt(svg, x, y) {
+  const found = new Set();
+  for (const [across, down] of [[0, 0], [-4, 0], [4, 0], [0, -4], [0, 4]]) {
+    for (let element of document.elementsFromPoint(x + across, y + down)) {
+      while (element && element !== svg && !titles.has(element)) element = element.parentNode;
+      if (titles.has(element)) found.add(titles.get(element));
+    }
+  }
+  return [...found];
+}
+
+// A moment as an ISO 8601 time in the zone of the log's source, where that is known.
+function shownMoment(moment) {
+  const {digits, epoch, ahead, zone} = panels[0].ticks.dataset;
+  if (epoch === undefined) return moment;
+  const whole = 10n ** BigInt(digits), local = moment + BigInt(epoch) + BigInt(ahead) * whole;
+  const rest = (local % whole + whole) % whole, date = new Date(Number((local - rest) / whole) * 1000);
+  if (isNaN(date)) return moment;
+  return date.toISOString().slice(0, -5) + (digits > 0 ? `.${String(rest).padStart(digits, "0")}` : "") + zone;
+}
+
+// Shows the moment at a point, and what is there.
+function showTip(panel, x, y) {
+  const across = x - panel.svg.getBoundingClientRect().left, {offset, span} = numbers(panel.ticks.dataset);
+  const found = titlesAt(panel.svg, x, y), more = found.length - mostTitles;
+  const isInPlot = across >= left && across <= left + width;
+  const moment = BigInt(panel.ticks.dataset.base) + BigInt(Math.round(offset + placeAt(across) / plot * span));
+  const lines = [...(isInPlot ? [`at ${shownMoment(moment)}`] : []), ...found.slice(0, mostTitles), ...(more > 0 ? [`and ${more} more`] : [])];
+  tip.style.visibility = lines.length ? "visible" : "hidden";
+  tip.textContent = lines.join("\n");
+  tip.style.left = `${Math.max(0, Math.min(x + 14, page.clientWidth - tip.offsetWidth - 2))}px`;
+  tip.style.top = `${y + 18 + tip.offsetHeight > page.clientHeight ? Math.max(y - 8 - tip.offsetHeight, 0) : y + 18}px`;
+}
+
+// The row of the lane at a point that is nearest to it, or none.
+function rowAt(panel, x, y) {
+  const box = panel.svg.getBoundingClientRect(), lane = laneAt(panel, y);
+  const across = x - box.left - (anchor - moved) * width / plot, down = y - box.top - panel.tops[lane] - middle;
+  if (Math.abs(down) > 12 || lane === undefined) return null;
+  let nearest = null, least = reach;
+  for (const item of panel.rows) {
+    const far = item.lane === lane && item.isShown ? Math.abs(local(item.x) - across) : Infinity;
+    if (far <= least) { least = far; nearest = item.row; }
+  }
+  return nearest;
+}
+
+let pointed = null, hold = null;  // where the pointer is, and whether it drags the picture
+
+function point() {
+  if (!pointed || hold || laneHold) return;
+  const {panel, x, y} = pointed;
+  pointed = null;
+  light(rowAt(panel, x, y), true);
+  showTip(panel, x, y);
+}
+
+function isOverNames(panel, x) { return x - panel.svg.getBoundingClientRect().left < left - 12; }
+
+for (const panel of panels) {
+  const {svg} = panel;
+  svg.addEventListener("wheel", event => {
+    if (isOverNames(panel, event.clientX) || event.ctrlKey) return;
+    event.preventDefault();
+    zoomBy(event.deltaY < 0 ? 1.2 : 1 / 1.2, event.clientX - svg.getBoundingClientRect().left);
+  }, {passive: false});
+  svg.addEventListener("pointerdown", event => {
+    if (event.button !== 0) return;
+    const head = event.target.closest(".head");
+    if (event.target.closest(".hide")) { setHidden(Number(head.dataset.lane), true); return; }
+    svg.setPointerCapture(event.pointerId);
+    tip.style.visibility = "hidden";
+    if (head && isOverNames(panel, event.clientX)) holdLane(panel, Number(head.dataset.lane));
+    else hold = {x: event.clientX, y: event.clientY};
+  });
+  svg.addEventListener("pointermove", event => {
+    if (laneHold) dragLane(event.clientY);
+    else if (hold) dragTo(event.clientX, event.clientY);
+    else { pointed = {panel, x: event.clientX, y: event.clientY}; requestAnimationFrame(point); }
+  });
+  for (const end of ["pointerup", "pointercancel"]) svg.addEventListener(end, () => { hold = null; dropLane(); });
+  svg.addEventListener("pointerleave", () => { pointed = null; tip.style.visibility = "hidden"; light(null, false); });
+  svg.addEventListener("dblclick", showWhole);
+}
+
+function dragTo(x, y) {
+  moveBy(x - hold.x);
+  if (y !== hold.y) scrollBy(0, hold.y - y);
+  hold = {x, y};
+}
+
+// Buttons and keys
+
+const zoomIn = () => zoomBy(1.5, left + width / 2), zoomOut = () => zoomBy(1 / 1.5, left + width / 2);
+const marked = facts.openings.map((opening, number) => opening && number).filter(number => number !== null);
+let nextMarked = 0;
+
+// Shows what is marked; of several panels with marks one after another.
+function showNextMarked() {
+  if (marked.length) showMarked(marked[nextMarked++ % marked.length]);
+}
+
+const acts = {out: zoomOut, in: zoomIn, whole: showWhole, marked: showNextMarked};
+for (const button of document.querySelectorAll("[data-act]")) button.addEventListener("click", acts[button.dataset.act]);
+for (const button of document.querySelectorAll("[data-panel]")) {
+  button.addEventListener("click", () => showMarked(Number(button.dataset.panel)));
+}
+
+const keys = {
+  "+": zoomIn, "=": zoomIn, "-": zoomOut, 0: showWhole, m: showNextMarked, n: () => goOn(1), p: () => goOn(-1),
+  ArrowLeft: () => moveBy(width / 8), ArrowRight: () => moveBy(-width / 8),
+  "/": () => { document.querySelector("#side").open = true; search.focus(); },
+};
+addEventListener("keydown", event => {
+  if (event.ctrlKey || event.metaKey || event.altKey || !keys[event.key]) return;
+  keys[event.key]();
+  event.preventDefault();
+});
+// A list that has opened above the picture closes with a click elsewhere, or with Escape.
+const opened = () => [...document.querySelectorAll("#tools details[open]")];
+addEventListener("pointerdown", event => {
+  for (const details of opened()) if (!details.contains(event.target)) details.open = false;
+});
+addEventListener("keydown", event => {
+  if (event.key === "Escape") for (const details of opened()) { details.open = false; details.querySelector("summary").focus(); }
+});
+
+for (const part of document.querySelectorAll(".scripted-only")) part.hidden = false;
+page.classList.add("scripted");
+document.querySelector("#side").open = innerWidth > 820;
+addEventListener("resize", fit);
+find();
+fit();
+placeLanes();
+showMarked(facts.first);
+"""

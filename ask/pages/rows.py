@@ -1,0 +1,125 @@
+"""The script of a page that lists the rows, searches them, and lights up the one that is pointed at."""
+
+ROWS = r"""
+const list = document.querySelector("#rows"), search = document.querySelector("#search"), count = document.querySelector("#count");
+const marksOf = facts.rows.map(() => []);  // of each row the parts of all panels
+for (const panel of panels) for (const item of panel.rows) marksOf[item.row].push(item);
+const hits = new Set(facts.rows.keys());  // the rows that the search has found
+let lit = null;
+
+const entries = facts.rows.map(entryOf);
+list.append(...entries);
+const texts = facts.rows.map(row => [`line ${row.line}`, facts.hosts[row.host], row.kind, row.name, row.stamp].join(" ").toLowerCase());
+
+function entryOf(row, number) {
+  const entry = makeHtml("li", {role: "option", id: `row${number}`, "aria-selected": "false", "data-row": number});
+  entry.append(
+    makeHtml("span", {class: "line"}, row.line), makeHtml("span", {class: "what"}, `${facts.hosts[row.host]} ${row.kind} ${row.name}`),
+    makeHtml("span", {class: "stamp"}, row.stamp),
+  );
+  const named = marksOf[number].find(item => item.isNamed);
+  if (named) entry.classList.add("named", named.element.classList.contains("fails") ? "fails" : "holds");
+  return entry;
+}
+
+// Lights up a row in the list and in all panels, and no other one.
+function light(number, isScrolled) {
+  if (number === lit) return;
+  for (const [row, isLit] of [[lit, false], [number, true]]) {
+    if (row === null) continue;
+    entries[row].classList.toggle("lit", isLit);
+    entries[row].setAttribute("aria-selected", isLit);
+    for (const item of marksOf[row]) item.element.classList.toggle("lit", isLit);
+  }
+  lit = number;
+  if (number === null) list.removeAttribute("aria-activedescendant");
+  else list.setAttribute("aria-activedescendant", `row${number}`);
+  if (number !== null && isScrolled) scrollListTo(entries[number]);
+}
+
+// Scrolls the list alone, and not the page.
+function scrollListTo(entry) {
+  const top = entry.offsetTop - list.offsetTop;
+  if (top < list.scrollTop) list.scrollTop = top;
+  else if (top + entry.offsetHeight > list.scrollTop + list.clientHeight) list.scrollTop = top + entry.offsetHeight - list.clientHeight;
+}
+
+const isSearching = () => search.value.trim() !== "";
+
+// Shows the rows alone that have all words of the search.
+function find() {
+  const words = search.value.toLowerCase().split(/\s+/).filter(Boolean);
+  hits.clear();
+  texts.forEach((text, row) => { if (words.every(word => text.includes(word))) hits.add(row); });
+  entries.forEach((entry, row) => { entry.hidden = !hits.has(row); });
+  marksOf.forEach((items, row) => {
+    const isFound = isSearching() && hits.has(row);
+    for (const item of items) item.element.classList.toggle("found", isFound);
+  });
+  count.textContent = isSearching() ? `${hits.size} of ${facts.rows.length} rows` : `${facts.rows.length} rows`;
+  markHits();
+}
+
+// Goes on to the next row that was found, or back to the one before.
+function goOn(by) {
+  const found = [...hits].sort((one, other) => one - other);
+  if (!found.length) return;
+  const at = found.indexOf(lit);
+  showRow(found[at < 0 ? (by > 0 ? 0 : found.length - 1) : (at + by + found.length) % found.length]);
+}
+
+// Moves the picture to a row, and zooms in where it couldn't be told from others.
+function showRow(number) {
+  const item = marksOf[number].find(one => one.panel.number === facts.first), {host} = facts.rows[number];
+  if (hiddenLanes.has(host)) setHidden(host, false);
+  light(number, true);
+  const places = item.panel.places, at = firstFrom(places, item.x), few = 12;
+  const reach = Math.max(item.x - places[Math.max(at - few, 0)], places[Math.min(at + few, places.length - 1)] - item.x);
+  const wanted = Math.max(zoom, zoomed(plot / Math.max(2 * reach, plot / mostZoom)));
+  if (wanted === zoom) glideTo(item.x * zoom - plot / 2);
+  else showFrom(item.x - plot / wanted / 2, wanted);
+  scrollToLane(host);
+}
+
+// Scrolls the page where the lane of a host is in none of the panels in view.
+function scrollToLane(lane) {
+  const first = document.querySelector("#tools").getBoundingClientRect().bottom;
+  const tops = panels.map(panel => panel.svg.getBoundingClientRect().top + panel.tops[lane]);
+  if (tops.some(top => top >= first && top + 60 <= innerHeight)) return;
+  scrollBy(0, tops[facts.first] - first - 30);
+}
+
+list.addEventListener("pointermove", event => {
+  const entry = event.target.closest("[data-row]");
+  if (entry) light(Number(entry.dataset.row), false);
+});
+list.addEventListener("click", event => {
+  const entry = event.target.closest("[data-row]");
+  if (entry) showRow(Number(entry.dataset.row));
+});
+const listKeys = {
+  ArrowDown: () => step(1), ArrowUp: () => step(-1), PageDown: () => step(15), PageUp: () => step(-15),
+  Home: () => step(-Infinity), End: () => step(Infinity), Enter: () => { if (lit !== null) showRow(lit); },
+};
+
+// Lights up the row of the list so many after the one that is lit.
+function step(by) {
+  const found = [...hits].sort((one, other) => one - other);
+  const at = lit === null ? -1 : found.indexOf(lit);
+  if (found.length) light(found[Math.min(Math.max(at + by, 0), found.length - 1)], true);
+}
+
+list.addEventListener("keydown", event => {
+  if (!listKeys[event.key]) return;
+  listKeys[event.key]();
+  event.preventDefault();
+  event.stopPropagation();
+});
+search.addEventListener("input", find);
+search.addEventListener("keydown", event => {
+  if (event.key === "Enter") goOn(event.shiftKey ? -1 : 1);
+  else if (event.key === "ArrowDown") { list.focus(); step(0); event.preventDefault(); }
+  else if (event.key === "Escape") { search.value = ""; find(); search.blur(); }
+  event.stopPropagation();
+});
+"""
