@@ -46,7 +46,7 @@ PAGE = """<!doctype html>
 <dt>names at the left</dt><dd>dragging moves a lane, &times; hides it</dd>
 </dl></div></details>
 </div>
-<svg id="strip" role="img" aria-label="the whole log, and what of it is shown"></svg>
+<div id="strip" role="img" aria-label="the whole log, and what of it is shown"><svg></svg><div class="window"></div></div>
 </div>
 <main>
 <div id="panels">

@@ -16,17 +16,16 @@ function placeLanes() {
       top += panel.heights[lane] + gap;
     }
     panel.bottom = top;
-    for (const group of panel.svg.querySelectorAll("g[data-lane]")) {
+    for (const group of panel.box.querySelectorAll("g[data-lane]")) {
       const laneTop = panel.tops[group.dataset.lane];
       group.style.display = laneTop === null ? "none" : "";
       if (laneTop !== null) group.setAttribute("transform", `translate(0,${laneTop})`);
     }
     panel.items.filter(item => item.from !== undefined).forEach(item => placeBetween(panel, item));
-    for (const line of panel.svg.querySelectorAll(".moment line")) line.setAttribute("y2", panel.bottom);
-    for (const span of panel.svg.querySelectorAll(".span")) span.setAttribute("height", panel.bottom + 4 - panel.top);
-    panel.svg.querySelector(".below").setAttribute("transform", `translate(0,${panel.bottom + 6})`);
+    for (const line of panel.moving.querySelectorAll(".moment line")) line.setAttribute("y2", panel.bottom);
+    for (const span of panel.moving.querySelectorAll(".span")) span.setAttribute("height", panel.bottom + 4 - panel.top);
+    for (const part of [panel.svg.querySelector(".below"), panel.ticks]) part.setAttribute("transform", `translate(0,${panel.bottom + 6})`);
     panel.svg.setAttribute("height", panel.bottom + facts.below);
-    panel.svg.querySelector(".clip").setAttribute("height", panel.bottom + facts.below);
   }
   placed.zoom = 0;  // so that all is placed anew
   drawStrip();

@@ -4,15 +4,15 @@ POINTER = r"""
 const tip = document.querySelector("#tip"), mostTitles = 6, reach = 7;
 
 // Titles are shown at once, and those of all that is at one place.
-const titles = new Map([...document.querySelectorAll("svg.panel title")].map(title => [title.parentNode, title.textContent]));
-for (const title of document.querySelectorAll("svg.panel title")) title.remove();
+const titles = new Map([...document.querySelectorAll(".box title")].map(title => [title.parentNode, title.textContent]));
+for (const title of document.querySelectorAll(".box title")) title.remove();
 
 // What is at a point, or just beside it, by its titles.
-function titlesAt(svg, x, y) {
+function titlesAt(x, y) {
   const found = new Set();
   for (const [across, down] of [[0, 0], [-4, 0], [4, 0], [0, -4], [0, 4]]) {
     for (let element of document.elementsFromPoint(x + across, y + down)) {
-      while (element && element !== svg && !titles.has(element)) element = element.parentNode;
+      while (element && !titles.has(element)) element = element.parentNode;
       if (titles.has(element)) found.add(titles.get(element));
     }
   }
@@ -32,7 +32,7 @@ function shownMoment(moment) {
 // Shows the moment at a point, and what is there.
 function showTip(panel, x, y) {
   const across = x - panel.svg.getBoundingClientRect().left, {offset, span} = numbers(panel.ticks.dataset);
-  const found = titlesAt(panel.svg, x, y), more = found.length - mostTitles;
+  const found = titlesAt(x, y), more = found.length - mostTitles;
   const isInPlot = across >= left && across <= left + width;
   const moment = BigInt(panel.ticks.dataset.base) + BigInt(Math.round(offset + placeAt(across) / plot * span));
   const lines = [...(isInPlot ? [`at ${shownMoment(moment)}`] : []), ...found.slice(0, mostTitles), ...(more > 0 ? [`and ${more} more`] : [])];
@@ -45,7 +45,7 @@ function showTip(panel, x, y) {
 // The row of the lane at a point that is nearest to it, or none.
 function rowAt(panel, x, y) {
   const box = panel.svg.getBoundingClientRect(), lane = laneAt(panel, y);
-  const across = x - box.left - (anchor - moved) * width / plot, down = y - box.top - panel.tops[lane] - middle;
+  const across = x - box.left - shift(), down = y - box.top - panel.tops[lane] - middle;
   if (Math.abs(down) > 12 || lane === undefined) return null;
   let nearest = null, least = reach;
   for (const item of panel.rows) {
@@ -68,29 +68,29 @@ function point() {
 function isOverNames(panel, x) { return x - panel.svg.getBoundingClientRect().left < left - 12; }
 
 for (const panel of panels) {
-  const {svg} = panel;
-  svg.addEventListener("wheel", event => {
+  const {box, svg} = panel;
+  box.addEventListener("wheel", event => {
     if (isOverNames(panel, event.clientX) || event.ctrlKey) return;
     event.preventDefault();
     zoomBy(event.deltaY < 0 ? 1.2 : 1 / 1.2, event.clientX - svg.getBoundingClientRect().left);
   }, {passive: false});
-  svg.addEventListener("pointerdown", event => {
+  box.addEventListener("pointerdown", event => {
     if (event.button !== 0) return;
     const head = event.target.closest(".head");
     if (event.target.closest(".hide")) { setHidden(Number(head.dataset.lane), true); return; }
-    svg.setPointerCapture(event.pointerId);
+    box.setPointerCapture(event.pointerId);
     tip.style.visibility = "hidden";
     if (head && isOverNames(panel, event.clientX)) holdLane(panel, Number(head.dataset.lane));
     else hold = {x: event.clientX, y: event.clientY};
   });
-  svg.addEventListener("pointermove", event => {
+  box.addEventListener("pointermove", event => {
     if (laneHold) dragLane(event.clientY);
     else if (hold) dragTo(event.clientX, event.clientY);
     else { pointed = {panel, x: event.clientX, y: event.clientY}; requestAnimationFrame(point); }
   });
-  for (const end of ["pointerup", "pointercancel"]) svg.addEventListener(end, () => { hold = null; dropLane(); });
-  svg.addEventListener("pointerleave", () => { pointed = null; tip.style.visibility = "hidden"; light(null, false); });
-  svg.addEventListener("dblclick", showWhole);
+  for (const end of ["pointerup", "pointercancel"]) box.addEventListener(end, () => { hold = null; dropLane(); });
+  box.addEventListener("pointerleave", () => { pointed = null; tip.style.visibility = "hidden"; light(null, false); });
+  box.addEventListener("dblclick", showWhole);
 }
 
 function dragTo(x, y) {

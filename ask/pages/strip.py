@@ -1,21 +1,17 @@
 """The script of a page that shows the whole log in a strip above, and in it what is shown below."""
 
 STRIP = r"""
-const strip = document.querySelector("#strip"), stripHeight = 40, stripEdge = 5;
-const stripParts = {
-  moments: make("g"), all: make("path", {class: "all"}), hits: make("path", {class: "hits"}),
-  window: make("rect", {class: "window", y: 1, height: stripHeight - 2}),
-  first: make("rect", {class: "edge", y: 8, width: 4, height: stripHeight - 16, rx: 2}),
-  last: make("rect", {class: "edge", y: 8, width: 4, height: stripHeight - 16, rx: 2}),
-};
-strip.append(make("text", {x: 12, y: 24}, "the whole log"), ...Object.values(stripParts));
+const strip = document.querySelector("#strip"), stripPicture = strip.querySelector("svg"), stripWindow = strip.querySelector(".window");
+const stripHeight = 40, stripEdge = 5;
+const stripParts = {moments: make("g"), all: make("path", {class: "all"}), hits: make("path", {class: "hits"})};
+stripPicture.append(make("text", {x: 12, y: 24}, "the whole log"), ...Object.values(stripParts));
 
 const stripAt = place => left + place * width / plot;
 
 // Draws all rows, each at the height of its lane, and the moments that are marked.
 function drawStrip() {
-  strip.setAttribute("width", left + width + right);
-  strip.setAttribute("height", stripHeight);
+  stripPicture.setAttribute("width", left + width + right);
+  stripPicture.setAttribute("height", stripHeight);
   stripParts.all.setAttribute("d", stripPath(panels[facts.first].rows));
   stripParts.moments.replaceChildren(...facts.moments.flat().map(({x, kind}) => {
     const line = make("g", {class: kind});
@@ -39,11 +35,9 @@ function markHits() {
 }
 
 function placeWindow() {
-  const first = left + moved * width / plot / zoom, wide = Math.max(width / zoom, 3);
-  stripParts.window.setAttribute("x", first);
-  stripParts.window.setAttribute("width", wide);
-  stripParts.first.setAttribute("x", first - 2);
-  stripParts.last.setAttribute("x", first + wide - 2);
+  const wide = `${Math.max(width / zoom, 3)}px`;
+  stripWindow.style.transform = `translateX(${left + moved * width / plot / zoom}px)`;
+  if (stripWindow.style.width !== wide) stripWindow.style.width = wide;
 }
 
 // What a pointer has hold of in the strip: an end of what is shown, or the middle.

@@ -11,9 +11,11 @@ button, summary, input { font: inherit; }
 button { min-width: 30px; padding: 2px 8px; border: 1px solid #b5bcc7; border-radius: 4px; background: #f6f7f9; cursor: pointer; }
 button:hover { background: #e9ecf1; }
 :focus-visible { outline: 2px solid #0072b2; outline-offset: 1px; }
-svg.panel { display: block; user-select: none; -webkit-user-select: none; }
-.scripted svg.panel { touch-action: none; cursor: grab; }
-.scripted svg.panel:active { cursor: grabbing; }
+svg.panel { display: block; }
+.box { position: relative; touch-action: none; cursor: grab; user-select: none; -webkit-user-select: none; }
+.box:active { cursor: grabbing; }
+.view { position: absolute; inset: 0 0 0 108px; overflow: hidden; pointer-events: none; }
+svg.moving { position: absolute; left: -108px; width: 100%; height: 100%; overflow: visible; will-change: transform; }
 .heads { position: absolute; }
 .caption { padding: 8px 12px 4px; }
 .caption p { margin: 4px 0 0; }
@@ -38,11 +40,13 @@ p.why.holds { color: #00704a; }
 #keys dl { display: grid; grid-template-columns: auto 1fr; gap: 2px 12px; margin: 0; font-size: 13px; }
 #keys dt { font-weight: 600; }
 #keys dd { margin: 0; }
-#strip { display: block; margin: 2px -12px 0; touch-action: none; cursor: pointer; }
+#strip { position: relative; height: 40px; margin: 2px -12px 0; overflow: hidden; touch-action: none; cursor: pointer; }
 #strip .all { stroke: #66707f; stroke-width: 1; fill: none; }
 #strip .hits { stroke: #0072b2; stroke-width: 2; fill: none; }
-#strip .window { fill: #0072b2; fill-opacity: .14; stroke: #0072b2; cursor: grab; }
-#strip .edge { fill: #0072b2; cursor: ew-resize; }
+#strip svg { position: absolute; }
+#strip .window {
+  position: absolute; top: 0; height: 40px; background: #0072b224; border: solid #0072b2; border-width: 1px 3px; will-change: transform;
+}
 #strip text { font-size: 11px; fill: #555; }
 
 .scripted main { display: grid; grid-template-columns: minmax(0, 1fr) 300px; }
@@ -56,7 +60,7 @@ p.why.holds { color: #00704a; }
 #rows { margin: 0; padding: 0; max-height: calc(100vh - var(--tools, 0px) - 130px); overflow: auto; list-style: none; border: 1px solid #d8dce2; }
 #rows li {
   display: grid; grid-template-columns: 4.5ch 1fr auto; gap: 0 8px; padding: 2px 6px; font-size: 12px; cursor: pointer;
-  border-left: 4px solid transparent; content-visibility: auto; contain-intrinsic-size: auto 19px;
+  border-left: 4px solid transparent;
 }
 #rows .line { text-align: right; color: #555; }
 #rows .what { overflow-wrap: anywhere; }

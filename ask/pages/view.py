@@ -1,7 +1,8 @@
 """The script of a page that zooms and moves what is shown.
 
-What doesn't change its distance from the rest is moved as one group. A part is placed when the zoom has changed and it
-is within or near to what is shown; what is farther away isn't drawn.
+What goes with the time is a picture of its own above the lanes, which is moved as a whole, and which the browser needn't
+paint anew for that. A part of it is placed when the zoom has changed and it is within or near to what is shown; what is
+farther away isn't drawn.
 """
 
 VIEW = r"""
@@ -85,14 +86,21 @@ function itemOf(element) {
   return item;
 }
 
+// What goes with the time is taken out of the picture of a panel, and laid above it.
 function panelOf(svg, number) {
-  const moving = svg.querySelector(".moving"), positions = moving.querySelector(".position");
-  const items = [...moving.querySelectorAll(".x, .l, .w, .c, .m")].map(itemOf);
+  const box = makeHtml("div", {class: "box"}), view = makeHtml("div", {class: "view"}), moving = make("svg", {class: "moving"});
+  svg.replaceWith(box);
+  const ticks = svg.querySelector(".ticks");
+  moving.append(svg.querySelector("g.moving"), ticks);
+  svg.querySelector("[clip-path]").remove();
+  view.append(moving);
+  box.append(svg, view);
+  const positions = moving.querySelector(".position"), items = [...moving.querySelectorAll(".x, .l, .w, .c, .m")].map(itemOf);
   return {
-    svg, number, moving, items, positions,
+    box, svg, number, moving, items, positions,
     places: positions.dataset.places.split(" ").map(Number),
     top: Number(svg.dataset.top), heights: svg.dataset.heights.split(" ").map(Number),
-    ticks: svg.querySelector(".ticks"), rows: items.filter(item => item.row !== undefined),
+    ticks, rows: items.filter(item => item.row !== undefined),
     buckets: new Map(), bottom: 0, tops: [],
   };
 }
@@ -117,15 +125,15 @@ function ask() { if (!waits) { waits = true; requestAnimationFrame(draw); } }
 function draw() {
   waits = false;
   moved = Math.min(Math.max(moved, 0), plot * (zoom - 1));
-  const shift = () => (anchor - moved) * width / plot, room = slack * plot / width;
+  const room = slack * plot / width;
   if (zoom !== placed.zoom || width !== placed.width || Math.abs(shift()) > farthest) placeAll();
   else if (moved < placed.low + room || moved + plot > placed.high - room) placeNear();
-  for (const panel of panels) {
-    panel.moving.setAttribute("transform", `translate(${shift()},0)`);
-    placeTicks(panel);
-  }
+  for (const panel of panels) panel.moving.style.transform = `translateX(${shift()}px)`;
   placeWindow();
 }
+
+// By how many pixels what was placed is moved; whole ones keep letters sharp.
+function shift() { return Math.round((anchor - moved) * width / plot); }
 
 // Places all that is in view or near to it anew.
 function placeAll() {
@@ -137,7 +145,7 @@ function placeAll() {
 
 // Draws what is in view or near to it, and nothing else.
 function placeNear() {
-  const margin = Math.max(width / 3, slack + 100) * plot / width;
+  const margin = (width + slack) * plot / width;
   placed.low = moved - margin;
   placed.high = moved + plot + margin;
   const low = placed.low / zoom, high = placed.high / zoom;
@@ -148,6 +156,7 @@ function placeNear() {
       if (isShown !== item.isShown) { item.isShown = isShown; item.element.style.display = isShown ? "" : "none"; }
     }
     placePositions(panel, low, high);
+    placeTicks(panel, low, high);
     if (panel.loop.length) placeLoopWords(panel);
   }
 }
@@ -174,29 +183,19 @@ function firstFrom(places, wanted) {
   return low;
 }
 
-// Round moments along an axis, about a hundred points apart. As long as they are the same ones they are moved alone.
-function placeTicks(panel) {
+// Round moments along an axis, about a hundred points apart.
+function placeTicks(panel, low, high) {
   const {offset, span} = numbers(panel.ticks.dataset), most = Math.max(2, width / 100), shown = span / zoom;
   let step = 1;
   for (let power = 1; shown / step > most; power *= 10)
     step = [power, 2 * power, 5 * power].find(size => shown / size <= most) ?? 10 * power;
-  const first = moved / plot / zoom * span, moments = [];
-  for (let moment = Math.ceil((first + offset) / step) * step; moment - offset <= first + shown; moment += step) moments.push(moment);
-  const key = moments.join(" ");
-  if (key !== panel.tickKey) {
-    panel.tickKey = key;
-    panel.ticks.replaceChildren(...moments.map(tickOf));
+  const first = Math.max(low / plot, 0) * span + offset, last = Math.min(high / plot, 1) * span + offset, ticks = [];
+  for (let moment = Math.ceil(first / step) * step; moment <= last; moment += step) {
+    const tick = make("g", {transform: `translate(${local((moment - offset) / span * plot)},0)`});
+    tick.append(make("line", {class: "axis", y2: 4}), make("text", {class: "small", y: 16, "text-anchor": "middle"}, String(moment)));
+    ticks.push(tick);
   }
-  moments.forEach((moment, number) => {
-    const x = left + ((moment - offset) / span * plot * zoom - moved) * width / plot;
-    panel.ticks.children[number].setAttribute("transform", `translate(${x},0)`);
-  });
-}
-
-function tickOf(moment) {
-  const tick = make("g");
-  tick.append(make("line", {class: "axis", y2: 4}), make("text", {class: "small", y: 16, "text-anchor": "middle"}, String(moment)));
-  return tick;
+  panel.ticks.replaceChildren(...ticks);
 }
 
 // Zoom and place
@@ -258,8 +257,7 @@ function fit() {
   for (const {svg} of panels) {
     svg.removeAttribute("viewBox");
     svg.setAttribute("width", whole);
-    svg.querySelector(".clip").setAttribute("width", width + 12 + right);
-    svg.querySelector(".below > .axis").setAttribute("x2", left + width);
+    svg.querySelector(".below > .axis").setAttribute("x2", whole);
   }
   drawStrip();
   page.style.setProperty("--tools", `${document.querySelector("#tools").offsetHeight}px`);
