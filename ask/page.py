@@ -10,6 +10,7 @@ from ask.focus import flag_words
 from ask.logs import Log
 from ask.pages.labels import LABELS
 from ask.pages.lanes import LANES
+from ask.pages.parts import PARTS
 from ask.pages.pointer import POINTER
 from ask.pages.rows import ROWS
 from ask.pages.strip import STRIP
@@ -27,7 +28,7 @@ PAGE = """<!doctype html>
 <meta name="viewport" content="width=device-width, initial-scale=1">
 <title>@TITLE@</title>
 <style>@STYLE@</style>
-<svg class="heads" width="0" height="0" aria-hidden="true">@HEADS@</svg>
+<svg id="heads" width="0" height="0" aria-hidden="true">@HEADS@</svg>
 <header><h1>@TITLE@</h1></header>
 <div id="tools" class="scripted-only" hidden>
 <div id="buttons">
@@ -67,7 +68,7 @@ PAGE = """<!doctype html>
 </script>
 </html>"""
 
-SCRIPT = "\n".join(part.strip() for part in (VIEW, LABELS, STRIP, LANES, ROWS, POINTER))
+SCRIPT = "\n".join(part.strip() for part in (VIEW, PARTS, LABELS, STRIP, LANES, ROWS, POINTER))
 MARKED = '<button type="button" data-act="marked">What is marked</button>\n'
 CLOCK = 10  # the height of the time itself in a loop of bounds
 

@@ -13,97 +13,108 @@ function leastPixels() { return 2 ** (Math.floor(Math.log2(pixels()) * stepsOfDo
 // Where the words of each part of a panel have room, for the step of the zoom.
 function roomsOf(panel) {
   const least = leastPixels();
-  if (!panel.buckets.has(least)) panel.buckets.set(least, decided(panel, least));
-  return panel.buckets.get(least);
+  if (!panel.rooms.has(least)) panel.rooms.set(least, decided(panel, least));
+  return panel.rooms.get(least);
 }
 
 // Rows that are named take their room first, and the others from left to right.
 function decided(panel, least) {
   const rooms = new Map(), taken = new Map(), free = new Map();
-  const inOrder = [...panel.rows].sort((one, other) => other.isNamed - one.isNamed || one.x - other.x);
-  for (const item of inOrder) rooms.set(item, {...labelRoom(item, least, taken), hasShift: false});
-  for (const item of [...panel.rows].sort((one, other) => one.x - other.x)) {
-    if (item.shift) rooms.get(item).hasShift = hasShiftRoom(item, least, free);
-  }
+  const across = [...panel.rows].sort((one, other) => one.x - other.x);
+  for (const part of [...across.filter(part => part.isNamed), ...across.filter(part => !part.isNamed)])
+    rooms.set(part, labelRoom(part, least, taken));
+  for (const part of across) if (part.shift) rooms.get(part).hasShift = hasShiftRoom(part, least, free);
   let end = -Infinity;
-  for (const item of panel.items.filter(item => item.flag)) {
-    const wide = Number(item.flag.dataset.wide), x = item.x * least, isLeft = x + wide > plot * least + right;
+  for (const part of panel.parts.single.filter(part => part.flag)) {
+    const wide = Number(part.flag.dataset.wide), x = part.x * least, isLeft = x + wide > plot * least + right;
     const begin = isLeft ? x - wide : x, hasRoom = begin >= end;
     if (hasRoom) end = begin + wide + 12;
-    rooms.set(item, {level: hasRoom ? 0 : -1, isLeft});
+    rooms.set(part, {hasRoom, isLeft});
   }
   return rooms;
 }
 
 // The lowest height at which a label has room in its lane, -1 where it has at none.
-function labelRoom(item, least, taken) {
-  const wide = Number(item.label.dataset.wide), x = item.x * least, isLeft = x + wide > plot * least + right;
+function labelRoom(part, least, taken) {
+  const wide = Number(part.label.dataset.wide), x = part.x * least, isLeft = x + wide > plot * least + right;
   const begin = isLeft ? x + 3 - wide : x - 3, end = begin + wide + 7;
   for (let level = 0; level < levels; level++) {
-    const key = `${item.lane} ${level}`, boxes = taken.get(key) ?? [];
-    const place = firstFrom(boxes.map(box => box.begin), begin);
-    if ((place === 0 || boxes[place - 1].end <= begin) && (place === boxes.length || end <= boxes[place].begin)) {
-      boxes.splice(place, 0, {begin, end});
+    const key = `${part.lane} ${level}`, boxes = taken.get(key) ?? {begins: [], ends: []};
+    const place = firstFrom(boxes.begins, begin), {begins, ends} = boxes;
+    if ((place === 0 || ends[place - 1] <= begin) && (place === begins.length || end <= begins[place])) {
+      begins.splice(place, 0, begin);
+      ends.splice(place, 0, end);
       taken.set(key, boxes);
-      return {level, isLeft};
+      return {level, isLeft, hasShift: false};
     }
   }
-  return {level: -1, isLeft};
+  return {level: -1, isLeft, hasShift: false};
 }
 
-function hasShiftRoom(item, least, free) {
-  const half = letter * item.shift.textContent.length / 2, x = item.x * least;
-  if (x - half < (free.get(item.lane) ?? -Infinity)) return false;
-  free.set(item.lane, x + half + 3);
+function hasShiftRoom(part, least, free) {
+  const half = letter * part.shift.textContent.length / 2, x = part.x * least;
+  if (x - half < (free.get(part.lane) ?? -Infinity)) return false;
+  free.set(part.lane, x + half + 3);
   return true;
 }
 
-// Shows the words of a part where they have room.
-function placeWords(item) {
-  const room = roomsOf(item.panel).get(item);
-  if (item.room === room) return;
-  item.room = room;
-  const words = item.label ?? item.flag;
-  if (words) {
-    words.classList.toggle("off", room.level < 0);
-    words.setAttribute("text-anchor", room.isLeft ? "end" : "start");
-    words.setAttribute("x", (room.isLeft ? 1 : -1) * (item.label ? 3 : -6));
-    if (item.label) words.setAttribute("y", -8 - 11 * Math.max(room.level, 0));
+// Shows the words of the rows that are between two places and have room, and no others.
+function placeWords(panel, low, high) {
+  const rooms = roomsOf(panel);
+  for (const part of panel.rows) {
+    const {level, isLeft, hasShift} = rooms.get(part), isDrawn = part.x >= low && part.x <= high && !isHidden(panel, part.lane);
+    part.level = isDrawn ? level : -1;
+    part.isLeft = isLeft;
+    const x = digits(local(part.x)), y = panel.tops[part.lane] + middle;
+    if (attach(panel, part.label, part.level >= 0)) placeText(part.label, x + (isLeft ? 3 : -3), y - 8 - 11 * level, isLeft ? "end" : "start");
+    if (part.shift && attach(panel, part.shift, isDrawn && hasShift))
+      placeText(part.shift, x, y + 15, part.x * pixels() > 12 ? "middle" : "start");
   }
-  if (item.shift) {
-    item.shift.classList.toggle("off", !room.hasShift);
-    item.shift.setAttribute("text-anchor", item.x * pixels() > 12 ? "middle" : "start");
-  }
+  if (panel.parts.loop.length) placeLoopWords(panel);
+}
+
+// Has a text be there or not, and tells which.
+function attach(panel, text, isThere) {
+  if (isThere && !text.parentNode) {
+    text.classList.remove("off");
+    panel.words.append(text);
+  } else if (!isThere && text.parentNode) text.remove();
+  return isThere;
+}
+
+function placeText(text, x, y, anchor) {
+  text.setAttribute("x", x);
+  text.setAttribute("y", y);
+  text.setAttribute("text-anchor", anchor);
+}
+
+function placeFlag(panel, part) {
+  const {hasRoom, isLeft} = roomsOf(panel).get(part);
+  part.flag.classList.toggle("off", !hasRoom);
+  placeText(part.flag, isLeft ? -6 : 6, 11, isLeft ? "end" : "start");
 }
 
 // The figures of a loop of bounds: each where it lies on no other words, or not at all.
 function placeLoopWords(panel) {
-  const boxes = panel.rows.filter(item => item.isShown && item.room && item.room.level >= 0).map(labelBox(panel));
-  for (const item of panel.loop) {
-    if (!item.isShown) continue;
-    const wide = 7.4 * item.element.textContent.length, {x, y} = item.spot;
+  const boxes = panel.rows.filter(part => part.level >= 0).map(part => labelBox(panel, part));
+  for (const part of panel.parts.loop.filter(part => part.isShown)) {
+    const wide = 7.4 * part.element.textContent.length, {x, y} = part.spot;
     const places = [[0, 0], [0, -14], [0, 14], [-wide - 8, 0], [8, 24], [-wide - 8, -14], [-wide - 8, 14]];
     const free = places.map(([across, down]) => ({left: x + across, right: x + across + wide, top: y + down - 11, bottom: y + down + 3}))
       .find(box => !boxes.some(other => isOver(box, other)));
-    item.element.classList.toggle("off", !free);
+    part.element.classList.toggle("off", !free);
     if (!free) continue;
     boxes.push(free);
-    item.element.setAttribute("x", free.left);
-    item.element.setAttribute("y", free.bottom - 3);
+    placeText(part.element, free.left, free.bottom - 3, "start");
   }
 }
 
-const labelBox = panel => item => {
-  const wide = Number(item.label.dataset.wide), x = local(item.x), bottom = panel.tops[item.lane] + item.y - 6 - 11 * item.room.level;
-  const begin = item.room.isLeft ? x + 3 - wide : x - 3;
+function labelBox(panel, part) {
+  const wide = Number(part.label.dataset.wide), x = local(part.x), bottom = panel.tops[part.lane] + middle - 6 - 11 * part.level;
+  const begin = part.isLeft ? x + 3 - wide : x - 3;
   return {left: begin, right: begin + wide, top: bottom - 12, bottom};
-};
+}
 
 const isOver = (one, other) =>
   one.left < other.right && other.left < one.right && one.top < other.bottom && other.top < one.bottom;
-
-for (const panel of panels) {
-  for (const item of panel.items) item.panel = panel;
-  panel.loop = panel.items.filter(item => item.kind === "m");
-}
 """

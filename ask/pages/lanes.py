@@ -16,33 +16,23 @@ function placeLanes() {
       top += panel.heights[lane] + gap;
     }
     panel.bottom = top;
-    for (const group of panel.box.querySelectorAll("g[data-lane]")) {
-      const laneTop = panel.tops[group.dataset.lane];
-      group.style.display = laneTop === null ? "none" : "";
-      if (laneTop !== null) group.setAttribute("transform", `translate(0,${laneTop})`);
+    for (const head of panel.svg.querySelectorAll(".head")) {
+      const laneTop = panel.tops[head.dataset.lane];
+      head.style.display = laneTop === null ? "none" : "";
+      if (laneTop !== null) head.setAttribute("transform", `translate(0,${laneTop})`);
     }
-    panel.items.filter(item => item.from !== undefined).forEach(item => placeBetween(panel, item));
     for (const line of panel.moving.querySelectorAll(".moment line")) line.setAttribute("y2", panel.bottom);
     for (const span of panel.moving.querySelectorAll(".span")) span.setAttribute("height", panel.bottom + 4 - panel.top);
     for (const part of [panel.svg.querySelector(".below"), panel.ticks]) part.setAttribute("transform", `translate(0,${panel.bottom + 6})`);
     panel.svg.setAttribute("height", panel.bottom + facts.below);
   }
-  placed.zoom = 0;  // so that all is placed anew
   drawStrip();
-  ask();
+  drawAnew();
 }
 
-// The heights of a message or a bound, which isn't shown where a lane of it is hidden.
-function placeBetween(panel, item) {
-  const heightOf = lane => lane < 0 ? facts.clock : panel.tops[lane] + middle;
-  item.isOut = [item.from, item.to].some(lane => lane >= 0 && panel.tops[lane] === null);
-  item.y1 = heightOf(item.from);
-  item.y2 = heightOf(item.to);
-}
-
-function setHidden(lane, isHidden) {
-  if (isHidden) hiddenLanes.add(lane); else hiddenLanes.delete(lane);
-  laneList.querySelector(`[data-lane="${lane}"] input`).checked = !isHidden;
+function setHidden(lane, isOut) {
+  if (isOut) hiddenLanes.add(lane); else hiddenLanes.delete(lane);
+  laneList.querySelector(`[data-lane="${lane}"] input`).checked = !isOut;
   tellHidden();
   placeLanes();
 }

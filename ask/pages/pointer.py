@@ -1,22 +1,32 @@
 """The script of a page that shows what is at the pointer, and takes the wheel, the pointer and the keys."""
 
 POINTER = r"""
-const tip = document.querySelector("#tip"), mostTitles = 6, reach = 7;
+const tip = document.querySelector("#tip"), mostTitles = 6, near = 7;  // pixels from a row
 
-// Titles are shown at once, and those of all that is at one place.
-const titles = new Map([...document.querySelectorAll(".box title")].map(title => [title.parentNode, title.textContent]));
-for (const title of document.querySelectorAll(".box title")) title.remove();
+// What is at a point of a panel, by its titles: rows first, and then what is under them.
+function titlesAt(panel, x, y) {
+  const box = panel.svg.getBoundingClientRect(), across = x - box.left - shift(), down = y - box.top, {parts} = panel;
+  const isNear = (part, height, far) => !isHidden(panel, part.lane) && Math.abs(down - panel.tops[part.lane] - height) <= far;
+  const isAt = part => Math.abs(local(part.x) - across) <= near;
+  const isIn = part => local(part.a) - 3 <= across && across <= Math.max(local(part.b), local(part.a) + 2) + 3;
+  const isOnBend = part => part.kind === "bend" && [0, -3, 3].some(off => part.element.isPointInStroke(new DOMPoint(across, down + off)));
+  return [...new Set([
+    ...parts.rows.filter(part => isNear(part, middle, 9) && isAt(part)),
+    ...parts.readings.filter(part => isNear(part, middle, 7) && isIn(part)),
+    ...parts.skews.filter(part => isNear(part, middle, 4) && isIn(part)),
+    ...parts.pulses.filter(part => isNear(part, part.y, 7) && isAt(part)),
+    ...parts.states.filter(part => isNear(part, part.y + 4.5, 6) && isIn(part)),
+    ...parts.messages.filter(part => isOnMessage(panel, part, across, down)),
+    ...parts.single.filter(part => part.isShown && (part.kind === "span" ? isIn(part) : part.kind === "moment" ? isAt(part) : isOnBend(part))),
+  ].map(part => part.title).filter(Boolean))];
+}
 
-// What is at a point, or just beside it, by its titles.
-function titlesAt(x, y) {
-  const found = new Set();
-  for (const [across, down] of [[0, 0], [-4, 0], [4, 0], [0, -4], [0, 4]]) {
-    for (let element of document.elementsFromPoint(x + across, y + down)) {
-      while (element && !titles.has(element)) element = element.parentNode;
-      if (titles.has(element)) found.add(titles.get(element));
-    }
-  }
-  return [...found];
+// Whether a point is on the arrow of a message, or just beside it.
+function isOnMessage(panel, part, across, down) {
+  if (isHidden(panel, part.from) || isHidden(panel, part.to)) return false;
+  const [a, y, b, z] = [local(part.a), heightOf(panel, part.from), local(part.b), heightOf(panel, part.to)];
+  const length = (b - a) ** 2 + (z - y) ** 2, along = Math.min(Math.max(((across - a) * (b - a) + (down - y) * (z - y)) / (length || 1), 0), 1);
+  return Math.hypot(a + along * (b - a) - across, y + along * (z - y) - down) <= 4;
 }
 
 // A moment as an ISO 8601 time in the zone of the log's source, where that is known.
@@ -32,7 +42,7 @@ function shownMoment(moment) {
 // Shows the moment at a point, and what is there.
 function showTip(panel, x, y) {
   const across = x - panel.svg.getBoundingClientRect().left, {offset, span} = numbers(panel.ticks.dataset);
-  const found = titlesAt(x, y), more = found.length - mostTitles;
+  const found = titlesAt(panel, x, y), more = found.length - mostTitles;
   const isInPlot = across >= left && across <= left + width;
   const moment = BigInt(panel.ticks.dataset.base) + BigInt(Math.round(offset + placeAt(across) / plot * span));
   const lines = [...(isInPlot ? [`at ${shownMoment(moment)}`] : []), ...found.slice(0, mostTitles), ...(more > 0 ? [`and ${more} more`] : [])];
@@ -46,11 +56,11 @@ function showTip(panel, x, y) {
 function rowAt(panel, x, y) {
   const box = panel.svg.getBoundingClientRect(), lane = laneAt(panel, y);
   const across = x - box.left - shift(), down = y - box.top - panel.tops[lane] - middle;
-  if (Math.abs(down) > 12 || lane === undefined) return null;
-  let nearest = null, least = reach;
-  for (const item of panel.rows) {
-    const far = item.lane === lane && item.isShown ? Math.abs(local(item.x) - across) : Infinity;
-    if (far <= least) { least = far; nearest = item.row; }
+  if (lane === undefined || Math.abs(down) > 12 || isOverNames(panel, x)) return null;
+  let nearest = null, least = near;
+  for (const part of panel.rows) {
+    const far = part.lane === lane ? Math.abs(local(part.x) - across) : Infinity;
+    if (far <= least) { least = far; nearest = part.row; }
   }
   return nearest;
 }

@@ -3,7 +3,7 @@
 ROWS = r"""
 const list = document.querySelector("#rows"), search = document.querySelector("#search"), count = document.querySelector("#count");
 const marksOf = facts.rows.map(() => []);  // of each row the parts of all panels
-for (const panel of panels) for (const item of panel.rows) marksOf[item.row].push(item);
+for (const panel of panels) for (const part of panel.rows) marksOf[part.row].push(Object.assign(part, {panel}));
 const hits = new Set(facts.rows.keys());  // the rows that the search has found
 let lit = null;
 
@@ -17,7 +17,7 @@ function entryOf(row, number) {
     makeHtml("span", {class: "line"}, row.line), makeHtml("span", {class: "what"}, `${facts.hosts[row.host]} ${row.kind} ${row.name}`),
     makeHtml("span", {class: "stamp"}, row.stamp),
   );
-  const named = marksOf[number].find(item => item.isNamed);
+  const named = marksOf[number].find(part => part.isNamed);
   if (named) entry.classList.add("named", named.element.classList.contains("fails") ? "fails" : "holds");
   return entry;
 }
@@ -29,9 +29,9 @@ function light(number, isScrolled) {
     if (row === null) continue;
     entries[row].classList.toggle("lit", isLit);
     entries[row].setAttribute("aria-selected", isLit);
-    for (const item of marksOf[row]) item.element.classList.toggle("lit", isLit);
   }
   lit = number;
+  panels.forEach(placeLit);
   if (number === null) list.removeAttribute("aria-activedescendant");
   else list.setAttribute("aria-activedescendant", `row${number}`);
   if (number !== null && isScrolled) scrollListTo(entries[number]);
@@ -52,12 +52,9 @@ function find() {
   hits.clear();
   texts.forEach((text, row) => { if (words.every(word => text.includes(word))) hits.add(row); });
   entries.forEach((entry, row) => { entry.hidden = !hits.has(row); });
-  marksOf.forEach((items, row) => {
-    const isFound = isSearching() && hits.has(row);
-    for (const item of items) item.element.classList.toggle("found", isFound);
-  });
   count.textContent = isSearching() ? `${hits.size} of ${facts.rows.length} rows` : `${facts.rows.length} rows`;
   markHits();
+  drawAnew();
 }
 
 // Goes on to the next row that was found, or back to the one before.
@@ -70,14 +67,14 @@ function goOn(by) {
 
 // Moves the picture to a row, and zooms in where it couldn't be told from others.
 function showRow(number) {
-  const item = marksOf[number].find(one => one.panel.number === facts.first), {host} = facts.rows[number];
+  const {panel, x} = marksOf[number][facts.first], {host} = facts.rows[number];
   if (hiddenLanes.has(host)) setHidden(host, false);
   light(number, true);
-  const places = item.panel.places, at = firstFrom(places, item.x), few = 12;
-  const reach = Math.max(item.x - places[Math.max(at - few, 0)], places[Math.min(at + few, places.length - 1)] - item.x);
-  const wanted = Math.max(zoom, zoomed(plot / Math.max(2 * reach, plot / mostZoom)));
-  if (wanted === zoom) glideTo(item.x * zoom - plot / 2);
-  else showFrom(item.x - plot / wanted / 2, wanted);
+  const {places} = panel, at = firstFrom(places, x), few = 12;
+  const around = Math.max(x - places[Math.max(at - few, 0)], places[Math.min(at + few, places.length - 1)] - x);
+  const wanted = Math.max(zoom, zoomed(plot / Math.max(2 * around, plot / mostZoom)));
+  if (wanted === zoom) glideTo(x * zoom - plot / 2);
+  else showFrom(x - plot / wanted / 2, wanted);
   scrollToLane(host);
 }
 

@@ -25,13 +25,13 @@ function stripPath(rows) {
   const shown = order.filter(lane => !hiddenLanes.has(lane)), heights = new Map();
   shown.forEach((lane, number) => heights.set(lane, 4 + (stripHeight - 8) * number / shown.length));
   const tall = Math.max((stripHeight - 8) / Math.max(shown.length, 1) - 1, 1);
-  return rows.filter(item => heights.has(item.lane))
-    .map(item => `M${stripAt(item.x).toFixed(1)} ${heights.get(item.lane).toFixed(1)}v${tall.toFixed(1)}`).join("");
+  return rows.filter(row => heights.has(row.lane))
+    .map(row => `M${digits(stripAt(row.x))} ${digits(heights.get(row.lane))}v${digits(tall)}`).join("");
 }
 
 // Marks the rows that the search has found.
 function markHits() {
-  stripParts.hits.setAttribute("d", isSearching() ? stripPath(panels[facts.first].rows.filter(item => hits.has(item.row))) : "");
+  stripParts.hits.setAttribute("d", isSearching() ? stripPath(panels[facts.first].rows.filter(part => hits.has(part.row))) : "");
 }
 
 function placeWindow() {

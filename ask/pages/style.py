@@ -16,7 +16,7 @@ svg.panel { display: block; }
 .box:active { cursor: grabbing; }
 .view { position: absolute; inset: 0 0 0 108px; overflow: hidden; pointer-events: none; }
 svg.moving { position: absolute; left: -108px; width: 100%; height: 100%; overflow: visible; will-change: transform; }
-.heads { position: absolute; }
+#heads { position: absolute; }
 .caption { padding: 8px 12px 4px; }
 .caption p { margin: 4px 0 0; }
 .caption ul, .loop { margin: 2px 0 0; padding-left: 20px; color: #444; font-size: 13px; }
@@ -72,8 +72,18 @@ p.why.holds { color: #00704a; }
 .head:hover .hide { opacity: 1; }
 .scripted .head { cursor: ns-resize; }
 .dragged .lane { stroke: #0072b2; }
-.found .row { stroke: #56b4e9; stroke-width: 5; paint-order: stroke; }
-.lit .row { stroke: #f5b301; stroke-width: 6; paint-order: stroke; }
+.layer { fill: none; }
+.states { stroke-width: 9; }
+.skews { stroke: #9aa4b2; stroke-width: 5; stroke-opacity: .38; }
+.readings { stroke: #7a5195; stroke-width: 3; stroke-opacity: .6; }
+.messages { stroke: #44546a; stroke-width: 1.3; }
+.layer.moved { stroke: #8a1c1c; stroke-dasharray: 2 2; }
+.stamps { fill: #fff; stroke: #8a1c1c; }
+.layer.pulses { stroke: #fff; }
+.layer.heads { fill: #44546a; }
+.found { fill: #56b4e9; }
+.dots { fill: #222; }
+.lit { fill: none; stroke: #f5b301; stroke-width: 4; }
 #tip {
   position: fixed; z-index: 4; visibility: hidden; pointer-events: none; max-width: 60ch; padding: 4px 7px; white-space: pre-wrap;
   font-size: 12px; background: #fffff2; border: 1px solid #999; border-radius: 3px; overflow-wrap: anywhere;
