@@ -66,19 +66,30 @@ function placeWords(panel, low, high) {
     part.level = isDrawn ? level : -1;
     part.isLeft = isLeft;
     const x = digits(local(part.x)), y = panel.tops[part.lane] + middle;
+    part.label.classList.remove("off");
     if (attach(panel, part.label, part.level >= 0)) placeText(part.label, x + (isLeft ? 3 : -3), y - 8 - 11 * level, isLeft ? "end" : "start");
+    if (part.shift) part.shift.classList.remove("off");
     if (part.shift && attach(panel, part.shift, isDrawn && hasShift))
       placeText(part.shift, x, y + 15, part.x * pixels() > 12 ? "middle" : "start");
   }
   if (panel.parts.loop.length) placeLoopWords(panel);
 }
 
+// Hides the labels that the edges of the view cut, once it is at rest.
+function hideCut() {
+  const first = -shift() + left - 12, last = first + width + 12 + right;
+  for (const panel of panels) {
+    for (const part of panel.rows.filter(part => part.level >= 0)) {
+      const box = labelBox(panel, part);
+      part.label.classList.toggle("off", box.left < first || box.right > last);
+    }
+  }
+}
+
 // Has a text be there or not, and tells which.
 function attach(panel, text, isThere) {
-  if (isThere && !text.parentNode) {
-    text.classList.remove("off");
-    panel.words.append(text);
-  } else if (!isThere && text.parentNode) text.remove();
+  if (isThere && !text.parentNode) panel.words.append(text);
+  else if (!isThere && text.parentNode) text.remove();
   return isThere;
 }
 

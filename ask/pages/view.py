@@ -13,7 +13,7 @@ const farthest = 100000;  // pixels that what is drawn may be moved
 const mostZoom = Math.min(Math.max(facts.span / 20, 16), 1e7);
 
 let width = plot, zoom = 1, moved = 0;  // the pixels of the plot, and how far what is shown is from its left, in zoomed places
-let anchor = 0, waits = false, glide = null;
+let anchor = 0, waits = false, glide = null, rest = 0;
 const placed = {zoom: 0, width: 0, low: 0, high: 0};  // what was last drawn
 
 const pixels = () => zoom * width / plot;  // of a place
@@ -55,6 +55,8 @@ function draw() {
   if (!isSame || moved < placed.low + room || moved + plot > placed.high - room) drawNear();
   for (const panel of panels) panel.moving.style.transform = `translateX(${shift()}px)`;
   placeWindow();
+  clearTimeout(rest);
+  rest = setTimeout(hideCut, 150);
 }
 
 // By how many pixels what was drawn is moved; whole ones keep letters sharp.
