@@ -47,7 +47,7 @@ PAGE = """<!doctype html>
 <dt>names at the left</dt><dd>dragging moves a lane, &times; hides it</dd>
 </dl></div></details>
 </div>
-<div id="strip" role="img" aria-label="the whole log, and what of it is shown"><svg></svg><div class="window"></div></div>
+<div id="strip" role="img" aria-label="the whole log, and what of it is shown"><svg></svg><div class="window"></div><svg></svg></div>
 </div>
 <main>
 <div id="panels">
@@ -70,6 +70,7 @@ PAGE = """<!doctype html>
 
 SCRIPT = "\n".join(part.strip() for part in (VIEW, PARTS, LABELS, STRIP, LANES, ROWS, POINTER))
 MARKED = '<button type="button" data-act="marked">What is marked</button>\n'
+MOST_SENTENCES = 4  # that a caption shows at once
 CLOCK = 10  # the height of the time itself in a loop of bounds
 
 
@@ -110,8 +111,12 @@ def why(section: Section) -> str:
     if not focus or not focus.sentences:
         return ""
     heading = f'<p class="why {focus.kind()}">{markup(focus.heading())}</p>'
+    lines = focus.lines()
+    words = listed(lines[:MOST_SENTENCES], "")
+    if len(lines) > MOST_SENTENCES:
+        words += f"<details><summary>{len(lines) - MOST_SENTENCES} more</summary>{listed(lines[MOST_SENTENCES:], '')}</details>"
     button = f'<button type="button" class="scripted-only" data-panel="{section.drawing.number}" hidden>Show the moment</button>'
-    return heading + listed(focus.lines(), "") + (button if section.opening else "")
+    return heading + words + (button if section.opening else "")
 
 
 def listed(lines: Sequence[str], kind: str) -> str:

@@ -8,7 +8,7 @@ from __future__ import annotations
 
 from bisect import bisect_left, bisect_right
 from dataclasses import dataclass, field
-from typing import Dict, List, NamedTuple, Optional, Sequence, Set, Tuple
+from typing import Callable, Dict, List, NamedTuple, Optional, Sequence, Set, Tuple
 
 from ask.explain import Span
 from ask.focus import Focus, flag_words
@@ -258,7 +258,7 @@ class PanelDrawing:
 
     # What is in a lane
 
-    def in_lane(self, place: int, draw) -> None:
+    def in_lane(self, place: int, draw: Callable[[int], None]) -> None:
         """Draws a part of a lane, within which heights count from its top."""
         self.canvas.parts.append(f'<g data-lane="{place}" transform="translate(0,{self.lanes[place].top})">')
         draw(place)

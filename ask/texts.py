@@ -269,7 +269,7 @@ def wrapped(text: str, most: int) -> List[str]:
     for word in escaped(text).split(" "):
         while width_of(word) > most:
             room = most - width_of(line) - 1 if line else most
-            if room < most // 4:
+            if room < max(most // 4, 1):
                 lines.append(line)
                 line, room = "", most
             head = beginning(word, room)

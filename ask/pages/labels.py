@@ -75,13 +75,18 @@ function placeWords(panel, low, high) {
   if (panel.parts.loop.length) placeLoopWords(panel);
 }
 
-// Hides the labels that the edges of the view cut, once it is at rest.
+// Hides the words that the edges of the view cut, once it is at rest.
 function hideCut() {
   const first = -shift() + left - 12, last = first + width + 12 + right;
+  const hide = (text, begin, end) => text.classList.toggle("off", begin < first || end > last);
   for (const panel of panels) {
     for (const part of panel.rows.filter(part => part.level >= 0)) {
       const box = labelBox(panel, part);
-      part.label.classList.toggle("off", box.left < first || box.right > last);
+      hide(part.label, box.left, box.right);
+    }
+    for (const tick of panel.ticks.children) {
+      const x = Number(tick.dataset.x), half = letter * tick.textContent.length / 2;
+      hide(tick.lastChild, x - half, x + half);
     }
   }
 }

@@ -213,7 +213,7 @@ function placeTicks(panel, low, high) {
     step = [power, 2 * power, 5 * power].find(size => shown / size <= most) ?? 10 * power;
   const first = Math.max(low / plot, 0) * span + offset, last = Math.min(high / plot, 1) * span + offset, ticks = [];
   for (let moment = Math.ceil(first / step) * step; moment <= last; moment += step) {
-    const tick = make("g", {transform: `translate(${local((moment - offset) / span * plot)},0)`});
+    const x = local((moment - offset) / span * plot), tick = make("g", {transform: `translate(${x},0)`, "data-x": x});
     tick.append(make("line", {class: "axis", y2: 4}), make("text", {class: "small", y: 16, "text-anchor": "middle"}, String(moment)));
     ticks.push(tick);
   }

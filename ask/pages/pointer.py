@@ -75,6 +75,12 @@ function point() {
   showTip(panel, x, y);
 }
 
+// By how much a turn of the wheel zooms: some turn by pixels, and others by lines.
+function wheelFactor(event) {
+  const turned = event.deltaY * (event.deltaMode === 0 ? 1 : 40);
+  return Math.exp(-Math.min(Math.max(turned, -240), 240) * 0.0015);
+}
+
 function isOverNames(panel, x) { return x - panel.svg.getBoundingClientRect().left < left - 12; }
 
 for (const panel of panels) {
@@ -82,7 +88,8 @@ for (const panel of panels) {
   box.addEventListener("wheel", event => {
     if (isOverNames(panel, event.clientX) || event.ctrlKey) return;
     event.preventDefault();
-    zoomBy(event.deltaY < 0 ? 1.2 : 1 / 1.2, event.clientX - svg.getBoundingClientRect().left);
+    if (Math.abs(event.deltaX) > Math.abs(event.deltaY)) moveBy(-event.deltaX);
+    else zoomBy(wheelFactor(event), event.clientX - svg.getBoundingClientRect().left);
   }, {passive: false});
   box.addEventListener("pointerdown", event => {
     if (event.button !== 0) return;
@@ -153,4 +160,6 @@ find();
 fit();
 placeLanes();
 showMarked(facts.first);
+const firstNamed = entries.find(entry => entry.classList.contains("named"));
+if (firstNamed) list.scrollTop = firstNamed.offsetTop - list.offsetTop - list.clientHeight / 3;
 """

@@ -1,19 +1,22 @@
 """The script of a page that shows the whole log in a strip above, and in it what is shown below."""
 
 STRIP = r"""
-const strip = document.querySelector("#strip"), stripPicture = strip.querySelector("svg"), stripWindow = strip.querySelector(".window");
+const strip = document.querySelector("#strip"), stripWindow = strip.querySelector(".window");
+const [stripRows, stripMoments] = strip.querySelectorAll("svg");  // below and above what is shown
 const stripHeight = 40, stripEdge = 5;
-const stripParts = {moments: make("g"), all: make("path", {class: "all"}), hits: make("path", {class: "hits"})};
-stripPicture.append(make("text", {x: 12, y: 24}, "the whole log"), ...Object.values(stripParts));
+const stripParts = {all: make("path", {class: "all"}), hits: make("path", {class: "hits"})};
+stripRows.append(make("text", {x: 12, y: 24}, "the whole log"), ...Object.values(stripParts));
 
 const stripAt = place => left + place * width / plot;
 
 // Draws all rows, each at the height of its lane, and the moments that are marked.
 function drawStrip() {
-  stripPicture.setAttribute("width", left + width + right);
-  stripPicture.setAttribute("height", stripHeight);
+  for (const part of [stripRows, stripMoments]) {
+    part.setAttribute("width", left + width + right);
+    part.setAttribute("height", stripHeight);
+  }
   stripParts.all.setAttribute("d", stripPath(panels[facts.first].rows));
-  stripParts.moments.replaceChildren(...facts.moments.flat().map(({x, kind}) => {
+  stripMoments.replaceChildren(...facts.moments.flat().map(({x, kind}) => {
     const line = make("g", {class: kind});
     line.append(make("line", {x1: stripAt(x), x2: stripAt(x), y1: 0, y2: stripHeight, "stroke-width": 2}));
     return line;
@@ -71,7 +74,7 @@ strip.addEventListener("pointermove", event => { if (stripHold) dragStrip(event)
 for (const end of ["pointerup", "pointercancel"]) strip.addEventListener(end, () => { stripHold = null; });
 strip.addEventListener("wheel", event => {
   event.preventDefault();
-  const place = stripPlace(event), factor = zoomed(zoom * (event.deltaY < 0 ? 1.2 : 1 / 1.2));
+  const place = stripPlace(event), factor = zoomed(zoom * wheelFactor(event));
   showFrom(place - plot / factor / 2, factor);
 }, {passive: false});
 """

@@ -22,6 +22,7 @@ svg.moving { position: absolute; left: -108px; width: 100%; height: 100%; overfl
 .caption ul, .loop { margin: 2px 0 0; padding-left: 20px; color: #444; font-size: 13px; }
 .caption li, .loop li { overflow-wrap: anywhere; }
 .caption button { margin-top: 4px; }
+.caption summary { margin-top: 2px; color: #444; font-size: 13px; cursor: pointer; }
 p.why.fails { color: #b3261e; }
 p.why.holds { color: #00704a; }
 .loop { margin: 0 12px 12px; list-style: none; }
@@ -43,7 +44,7 @@ p.why.holds { color: #00704a; }
 #strip { position: relative; height: 40px; margin: 2px -12px 0; overflow: hidden; touch-action: none; cursor: pointer; }
 #strip .all { stroke: #66707f; stroke-width: 1; fill: none; }
 #strip .hits { stroke: #0072b2; stroke-width: 2; fill: none; }
-#strip svg { position: absolute; }
+#strip svg { position: absolute; pointer-events: none; }
 #strip .window {
   position: absolute; top: 0; height: 40px; background: #0072b224; border: solid #0072b2; border-width: 1px 3px; will-change: transform;
 }
@@ -65,8 +66,10 @@ p.why.holds { color: #00704a; }
 #rows .line { text-align: right; color: #555; }
 #rows .what { overflow-wrap: anywhere; }
 #rows .stamp { color: #555; }
-#rows .named.fails { border-left-color: #b3261e; background: #fdf0ef; }
-#rows .named.holds { border-left-color: #00704a; background: #edf7f2; }
+#rows .named.fails { border-left-color: #b3261e; }
+#rows .named.holds { border-left-color: #00704a; }
+#rows .named.fails:not(.lit) { background: #fdf0ef; }
+#rows .named.holds:not(.lit) { background: #edf7f2; }
 #rows .lit { background: #ffe9a8; }
 .head .hide { cursor: pointer; opacity: 0; fill: #555; }
 .head:hover .hide { opacity: 1; }

@@ -182,13 +182,15 @@ class Browser:
         first, top, last, bottom = self.box(selector)
         self.click((first + last) / 2, (top + bottom) / 2)
 
-    def picture(self, path=None):
-        """A picture of what is shown, which is kept in a file where one is named."""
-        data = base64.b64decode(self.ask("Page.captureScreenshot", format="png")["data"])
-        if path:
-            with open(path, "wb") as file:
-                file.write(data)
-        return Picture(data)
+    def keep(self, path):
+        """Keeps a picture of the window in a file."""
+        with open(path, "wb") as file:
+            file.write(base64.b64decode(self.ask("Page.captureScreenshot", format="png")["data"]))
+
+    def picture(self, left, top, right, bottom):
+        """The pixels of a part of the window."""
+        clip = {"x": left, "y": top, "width": right - left, "height": bottom - top, "scale": 1}
+        return Picture(base64.b64decode(self.ask("Page.captureScreenshot", format="png", clip=clip)["data"]))
 
 
 class Picture:

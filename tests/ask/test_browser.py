@@ -121,7 +121,7 @@ class InBrowser(unittest.TestCase):
     def middle_of_plot(self):
         """A point in the first lane, away from its rows."""
         first, top, *_ = self.browser.box("svg.panel")
-        return first + self.value("left + width / 2"), top + 75
+        return round(first + self.value("left + width / 2")), round(top) + 75
 
     def row_point(self, row):
         """Where a row is in the window."""
@@ -135,9 +135,9 @@ class InBrowser(unittest.TestCase):
         return self.value("entries.filter(entry => entry.offsetParent).map(entry => Number(entry.dataset.row))")
 
     def keep(self, name):
-        """A picture of the window, kept where that is wanted."""
-        kept = os.environ.get("PICTURES")
-        return self.browser.picture(Path(kept, f"{name}.png") if kept else None)
+        """Keeps a picture of the window where that is wanted."""
+        if os.environ.get("PICTURES"):
+            self.browser.keep(Path(os.environ["PICTURES"], f"{name}.png"))
 
 
 class Marks(InBrowser):
@@ -163,13 +163,12 @@ class Marks(InBrowser):
             for size in SIZES:
                 with self.subTest(rows=rows, size=size):
                     self.show(rows, size)
-                    picture = self.keep(f"{rows}_rows_{size[0]}")
-                    first, top, last, bottom = self.browser.box(".moment line")
-                    heights = range(int(top) + 3, min(int(bottom), picture.tall) - 3)
-                    across = range(max(int(first) - 2, 0), int(last) + 3)
-                    painted = [height for height in heights if any(picture.at(x, height) == RED for x in across)]
-                    self.assertGreater(len(heights), 100)
-                    self.assertGreater(len(painted), len(heights) * 0.6)  # the rest is under rows and labels
+                    self.keep(f"{rows}_rows_{size[0]}")
+                    first, top, last, bottom = map(int, self.browser.box(".moment line"))
+                    picture = self.browser.picture(first - 3, top + 3, last + 4, min(bottom, size[1]) - 3)
+                    painted = [y for y in range(picture.tall) if any(picture.at(x, y) == RED for x in range(picture.wide))]
+                    self.assertGreater(picture.tall, 100)
+                    self.assertGreater(len(painted), picture.tall * 0.6)  # the rest is under rows and labels
 
     def test_rows_are_coloured(self):
         self.show(144)
@@ -179,6 +178,8 @@ class Marks(InBrowser):
         lines = self.value("[...document.querySelectorAll('#rows .named .line')].map(line => line.textContent)")
         self.assertIn(str(4 + 4 * (late_moment(144) // 100)), lines)
         self.assertEqual(len(lines), len(colours))
+        entry, rows = self.browser.box("#rows .named"), self.browser.box("#rows")
+        self.assertTrue(rows[1] <= entry[1] and entry[3] <= rows[3], "the list shows the first of them")
         self.assertEqual(self.value("document.querySelectorAll('.ring').length"), 1)
 
     def test_the_caption_is_that_of_check(self):
@@ -298,7 +299,7 @@ class Moving(InBrowser):
     def test_smooth(self):
         page = self.folder.page("lanes", many_lanes())
         for name, show in (("requests", lambda: self.show(1024)), ("lanes", lambda: self.show_page(page))):
-            for zoom in (1.3, 3, 12):
+            for zoom in (1.3, 12):
                 with self.subTest(page=name, zoom=zoom):
                     show()
                     self.value(f"showFrom(plot / 2 - plot / {zoom} / 2, {zoom})")
@@ -380,7 +381,7 @@ class Labels(InBrowser):
                 for selector in ("h1", ".caption li"):
                     first, top, last, bottom = self.browser.box(selector)
                     self.assertTrue(0 <= first and last <= size[0])
-                    self.assertGreater(bottom - top, 30)
+                    self.assertGreaterEqual(bottom - top, 30)  # two lines at least
 
     def test_hostile_names(self):
         name = "<img src=x onerror=hacked=1> \"' & <script>hacked=1<:script>\u202e.csv"
