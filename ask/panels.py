@@ -8,7 +8,7 @@ from __future__ import annotations
 
 from bisect import bisect_left, bisect_right
 from dataclasses import dataclass, field
-from typing import Callable, Dict, List, NamedTuple, Optional, Sequence, Set, Tuple
+from typing import Callable, Dict, Iterator, List, NamedTuple, Optional, Sequence, Set, Tuple
 
 from ask.explain import Span
 from ask.focus import Focus, flag_words
@@ -16,7 +16,7 @@ from ask.logs import Log, is_set_at, proposition_names
 from ask.offsets import Offset, offsets_of
 from ask.plot import (
     AXIS, BEYOND, COLOURS, LABEL_LEVELS, LANE, LEFT, LETTER, MIDDLE, MOST_CLEAR_POSITIONS, MOST_STRIPS, PLOT, RIGHT,
-    STRIP, Canvas, Scale, curve, data, draw_axis, mark,
+    STRIP, Box, Canvas, Scale, curve, data, draw_axis, mark,
 )
 from ask.reports import Step
 from ask.texts import markup
@@ -30,6 +30,8 @@ MOST_NAME = 14  # letters of the name of a host that have room beside its lane
 MOST_LIMITS = 19  # letters of what stands below it
 READING = ' stroke="#7a5195" stroke-width="3" stroke-opacity=".6"'
 DIAMOND = "M0 -6 L5 0 L0 6 L-5 0 z"  # the mark of a pulse
+BOLD_LETTER = 7.4  # the width of a letter of a figure of a loop
+ASIDE = ((0, 0), (0, -14), (0, 14), (8, 24), (0, -28), (0, 30))  # where such a figure may stand, from the middle of its arrow
 FEW_ROWS = 60  # that a page may open with
 CONTEXT = 4  # rows before and behind what is marked that it opens with
 
@@ -69,6 +71,17 @@ class Place(NamedTuple):
 
     level: int
     is_left: bool
+
+
+class Bend(NamedTuple):
+    """A bound of a loop: its ends as data, the path of its arrow, where its figure would stand, and its words."""
+
+    ends: str
+    path: str
+    x: float
+    y: float
+    figure: str
+    title: str
 
 
 class Stretch(NamedTuple):
@@ -129,6 +142,7 @@ class PanelDrawing:
         self.offsets = {} if self.panel.walk else offsets_of(self.log, self.panel.times)
         self.positions = sorted(set(self.panel.times))
         self.colours = colours_of(self.log)
+        self.words: List[Box] = []  # where words stand that figures of a loop may not lie on
         self.rows_of_hosts: List[List[int]] = [[] for _ in self.log.hosts]
         for event, row in enumerate(self.log.rows):
             self.rows_of_hosts[row.host].append(event)
@@ -157,9 +171,10 @@ class PanelDrawing:
         for place in range(len(self.lanes)):
             self.in_lane(place, self.draw_states)
         self.draw_messages()
+        self.draw_loop()
         for place in range(len(self.lanes)):
             self.in_lane(place, self.draw_rows)
-        self.draw_walk()
+        self.draw_figures()
         self.canvas.parts.append("</g></g>")
         draw_axis(self.canvas, self.scale, self.bottom + 6, self.log.scale)
         return self.canvas.parts
@@ -229,26 +244,46 @@ class PanelDrawing:
                 f' data-from="{hosts[0]}" data-to="{hosts[1]}" marker-end="url(#head)"',
             )
 
-    def draw_walk(self) -> None:
-        """The loop of a contradiction: an arrow for each bound, with its number; the zero moment is the clock above."""
+    def draw_loop(self) -> None:
+        """The loop of a contradiction: an arrow for each bound; the zero moment is the time itself, above the lanes."""
         if any(step.kind in ("low", "high") for step in self.panel.walk):
             box = '<rect x="-5" y="-5" width="10" height="10" fill="#c00"/>'
-            words = '<text class="number" x="9" y="4">the time itself</text>'
-            self.canvas.parts.append(f'<g class="clock">{mark(*self.point_of(None), box + words)}</g>')
+            words = "the time itself"
+            at, height = self.point_of(None)
+            self.words.append(Box(LEFT + at - 9 - BOLD_LETTER * len(words), height - 8, LEFT + at + 5, height + 8))
+            shown = mark(at, height, f'{box}<text class="number" x="-9" y="4" text-anchor="end">{words}</text>')
+            self.canvas.parts.append(f'<g class="clock">{shown}</g>')
+        for bend in self.bends():
+            self.canvas.parts.append(
+                f'<path class="step c" {bend.ends} d="{bend.path}" marker-end="url(#redhead)">'
+                f"<title>{markup(bend.title)}</title></path>"
+            )
+
+    def draw_figures(self) -> None:
+        """The number of each bound of a loop and what it allows, each where it lies on no other words, or unseen."""
+        for bend in self.bends():
+            wide = BOLD_LETTER * len(bend.figure)
+            box = Box(bend.x, bend.y - 11, bend.x + wide, bend.y + 3)
+            tried = [box.moved(across, down) for across, down in (*ASIDE, (-wide - 8, 0), (-wide - 8, -14), (-wide - 8, 14))]
+            free = next((one for one in tried if not any(one.is_over(other) for other in self.words)), None)
+            self.words += [free] if free else []
+            at, off = free or box, "" if free else " off"
+            self.canvas.parts.append(
+                f'<text class="number m{off}" {bend.ends} x="{at.left:g}" y="{at.bottom - 3:g}">{bend.figure}</text>'
+            )
+
+    def bends(self) -> Iterator[Bend]:
+        """The bounds of a loop as bent arrows."""
         for number, ground in enumerate(grounds_of(self.panel.walk), start=1):
             bound = bound_between(self.log, ground)
             if bound is None:
                 continue
             (a, y), (b, z) = self.point_of(bound.start), self.point_of(bound.end)
             most = self.log.scale.span(bound.most)
-            words = f"{number}. {ground_words(self.log, ground)}: {most}"
             hosts = [-1 if end is None else self.log.rows[end].host for end in (bound.start, bound.end)]
-            ends = f'{data(a=a, b=b)} data-from="{hosts[0]}" data-to="{hosts[1]}"'
             path, (x, height) = curve(LEFT + a, y, LEFT + b, z)
-            self.canvas.parts.append(
-                f'<path class="step c" {ends} d="{path}" marker-end="url(#redhead)"><title>{markup(words)}</title></path>'
-            )
-            self.canvas.parts.append(f'<text class="number m" {ends} x="{x:g}" y="{height:g}">{number}: {most}</text>')
+            ends = f'{data(a=a, b=b)} data-from="{hosts[0]}" data-to="{hosts[1]}"'
+            yield Bend(ends, path, x, height, f"{number}: {most}", f"{number}. {ground_words(self.log, ground)}: {most}")
 
     def point_of(self, event: Optional[int]) -> Tuple[float, float]:
         """Where a row stands, or the zero moment."""
@@ -345,11 +380,21 @@ class PanelDrawing:
         """The kind and the name of a row, unseen where there is no room."""
         shown = place or Place(0, False)
         words = label_words(self.log, event)
+        if place:
+            self.words.append(self.label_box(event, place))
         return (
             f'<text class="label{"" if place else " off"}" data-wide="{LETTER * len(words):g}" '
             f'x="{3 if shown.is_left else -3}" y="{-8 - 11 * shown.level}" '
             f'text-anchor="{"end" if shown.is_left else "start"}">{markup(words)}</text>'
         )
+
+    def label_box(self, event: int, place: Place) -> Box:
+        """Where the label of a row stands in the panel."""
+        wide = LETTER * len(label_words(self.log, event))
+        at = LEFT + self.scale.at(self.panel.times[event])
+        begin = at + 3 - wide if place.is_left else at - 3
+        bottom = self.lanes[self.log.rows[event].host].middle() - 6 - 11 * place.level
+        return Box(begin, bottom - 12, begin + wide, bottom)
 
     def label_places(self, rows: Sequence[int], named: Set[int]) -> Dict[int, Place]:
         """Where the labels of the rows of a lane have room; rows that are named take it first."""

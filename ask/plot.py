@@ -8,7 +8,7 @@ from __future__ import annotations
 
 import math
 from dataclasses import dataclass, field
-from typing import List, Sequence, Tuple
+from typing import List, NamedTuple, Sequence, Tuple
 
 from ask.stamps import UNITS
 from ask.texts import markup
@@ -102,6 +102,23 @@ class Canvas:
             f'<line class="{kind} l" {data(a=ends[0], b=ends[1])} x1="{LEFT + ends[0]:g}" '
             f'x2="{LEFT + ends[1]:g}" y1="{heights[0]:g}" y2="{heights[1]:g}"{more}>{hover}</line>'
         )
+
+
+class Box(NamedTuple):
+    """Where words stand."""
+
+    left: float
+    top: float
+    right: float
+    bottom: float
+
+    def is_over(self, other: Box) -> bool:
+        """Whether two have a place in common."""
+        is_beside = self.right <= other.left or other.right <= self.left
+        return not is_beside and self.top < other.bottom and other.top < self.bottom
+
+    def moved(self, across: float, down: float) -> Box:
+        return Box(self.left + across, self.top + down, self.right + across, self.bottom + down)
 
 
 def data(**places: float) -> str:

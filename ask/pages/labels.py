@@ -113,9 +113,11 @@ function placeFlag(panel, part) {
 // The figures of a loop of bounds: each where it lies on no other words, or not at all.
 function placeLoopWords(panel) {
   const boxes = panel.rows.filter(part => part.level >= 0).map(part => labelBox(panel, part));
+  for (const part of panel.parts.single.filter(part => part.kind === "clock" && part.isShown))
+    boxes.push({left: local(part.x) - 125, right: local(part.x) + 5, top: facts.clock - 8, bottom: facts.clock + 8});
   for (const part of panel.parts.loop.filter(part => part.isShown)) {
     const wide = 7.4 * part.element.textContent.length, {x, y} = part.spot;
-    const places = [[0, 0], [0, -14], [0, 14], [-wide - 8, 0], [8, 24], [-wide - 8, -14], [-wide - 8, 14]];
+    const places = [[0, 0], [0, -14], [0, 14], [8, 24], [0, -28], [0, 30], [-wide - 8, 0], [-wide - 8, -14], [-wide - 8, 14]];
     const free = places.map(([across, down]) => ({left: x + across, right: x + across + wide, top: y + down - 11, bottom: y + down + 3}))
       .find(box => !boxes.some(other => isOver(box, other)));
     part.element.classList.toggle("off", !free);

@@ -42,7 +42,7 @@ function partsOfPanel(moving) {
     ...partsOf(moving, ".span", () => ({kind: "span"})),
     ...partsOf(moving, ".moment > .x", element => ({kind: "moment", flag: element.querySelector(".flag")})),
     ...partsOf(moving, ".c", () => ({kind: "bend"})), ...parts.loop.map(part => Object.assign(part, {kind: "figure"})),
-    ...partsOf(moving, ".clock > .x", () => ({kind: "mark"})),
+    ...partsOf(moving, ".clock > .x", () => ({kind: "clock"})),
     ...parts.rows.filter(part => part.isNamed).map(part => ({...part, kind: "mark", label: null, shift: null})),
   ];
   for (const kind of ["states", "pulses", "messages", "skews", "moved", "readings", "strokes", "stamps"])
@@ -163,10 +163,8 @@ const placers = {
     part.element.setAttribute("transform", `translate(${local(part.x)},0)`);
     placeFlag(panel, part);
   },
-  mark: (panel, part) => {
-    const y = part.lane < 0 ? facts.clock : panel.tops[part.lane] + part.y;
-    part.element.setAttribute("transform", `translate(${local(part.x)},${y})`);
-  },
+  clock: (panel, part) => part.element.setAttribute("transform", `translate(${local(part.x)},${facts.clock})`),
+  mark: (panel, part) => part.element.setAttribute("transform", `translate(${local(part.x)},${panel.tops[part.lane] + part.y})`),
   bend: (panel, part) => part.element.setAttribute("d", bentOf(panel, part).path),
   figure: (panel, part) => { part.spot = bentOf(panel, part); },
 };
