@@ -127,7 +127,15 @@ function glideTo(wanted) {
 // Shows what is marked of a panel.
 function showMarked(number) {
   const opening = facts.openings[number];
-  if (opening) showBetween(...opening);
+  if (!opening) return;
+  showBetween(...opening);
+  scrollToPanel(panels[number]);
+}
+
+// Scrolls the page to the caption of a panel, unless the first lanes of the panel are in view.
+function scrollToPanel({box}) {
+  const first = document.querySelector("#tools").getBoundingClientRect().bottom, {top} = box.getBoundingClientRect();
+  if (top < first || top + 120 > innerHeight) scrollBy(0, box.previousElementSibling.getBoundingClientRect().top - first);
 }
 
 function fit() {

@@ -206,6 +206,22 @@ class Marks(InBrowser):
         self.browser.press(".caption button")
         self.assertEqual(self.value("[zoom, moved]"), opened)
 
+    def test_opens_with_the_panel_that_is_marked(self):
+        hosts = "".join(f"host,h{host},5,0\n" for host in range(12))
+        rows = "".join(f"set,h{host},{20 * host},p\nclear,h{host},{20 * host + 15},p\n" for host in range(12))
+        page = self.folder.page("either", f"kind,host,time,name\n{hosts}{rows}", "--formula", "G !(h3.p & h4.p)")
+        for size in SIZES:
+            with self.subTest(size=size):
+                self.show_page(page, size)
+                self.assertEqual(self.value("panels.length"), 2)
+                self.keep(f"either_{size[0]}")
+                top = self.browser.box("#tools")[3]
+                flag = self.browser.box(".flag")
+                self.assertTrue(top <= flag[1] and flag[3] <= size[1], "the flag is in view")
+                self.value("scrollTo(0, 0)")
+                self.browser.key("m")
+                self.assertTrue(top <= self.browser.box(".flag")[1] <= size[1], "and it is again")
+
     def test_a_contradiction_is_opened(self):
         text = log_of(1024).replace("host,web,1,0", "host,web,1,50")  # so far apart its rows can't be
         self.show_page(self.folder.page("contradicting", text))
