@@ -26,7 +26,7 @@ from ask.words import error_words, ground_words, shortened
 EDGE = 12  # within which figures begin at their row
 FLAGS = 20  # the height above the lanes in which the moments that are marked are named
 LOOP = 26  # the height above the lanes of a loop of bounds, where the time itself stands
-MOST_NAME = 14  # letters of the name of a host that have room beside its lane
+MOST_NAME = 12  # letters of the name of a host that have room beside its lane
 MOST_LIMITS = 19  # letters of what stands below it
 READING = ' stroke="#7a5195" stroke-width="3" stroke-opacity=".6"'
 DIAMOND = "M0 -6 L5 0 L0 6 L-5 0 z"  # the mark of a pulse

@@ -73,7 +73,7 @@ document.querySelector("#every").addEventListener("click", () => {
 
 for (const {svg} of panels) {
   for (const head of svg.querySelectorAll(".head")) {
-    const hide = make("text", {class: "hide", x: left - 22, y: 20, "text-anchor": "middle"}, "\u00d7");
+    const hide = make("text", {class: "hide", x: left - 16, y: 20, "text-anchor": "middle"}, "\u00d7");
     hide.append(make("title", {}, `hide ${facts.hosts[head.dataset.lane]}`));
     head.append(hide);
   }

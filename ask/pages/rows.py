@@ -13,10 +13,11 @@ const texts = facts.rows.map(row => [`line ${row.line}`, facts.hosts[row.host], 
 
 function entryOf(row, number) {
   const entry = makeHtml("li", {role: "option", id: `row${number}`, "aria-selected": "false", "data-row": number});
-  entry.append(
-    makeHtml("span", {class: "line"}, row.line), makeHtml("span", {class: "what"}, `${facts.hosts[row.host]} ${row.kind} ${row.name}`),
-    makeHtml("span", {class: "stamp"}, row.stamp),
+  const words = makeHtml("span", {class: "words"});
+  words.append(
+    makeHtml("span", {class: "what"}, `${facts.hosts[row.host]} ${row.kind} ${row.name}`), makeHtml("span", {class: "stamp"}, row.stamp),
   );
+  entry.append(makeHtml("span", {class: "line"}, row.line), words);
   const named = marksOf[number].find(part => part.isNamed);
   if (named) entry.classList.add("named", named.element.classList.contains("fails") ? "fails" : "holds");
   return entry;

@@ -27,7 +27,7 @@ function drawStrip() {
 function stripPath(rows) {
   const shown = order.filter(lane => !hiddenLanes.has(lane)), heights = new Map();
   shown.forEach((lane, number) => heights.set(lane, 4 + (stripHeight - 8) * number / shown.length));
-  const tall = Math.max((stripHeight - 8) / Math.max(shown.length, 1) - 1, 1);
+  const tall = Math.max((stripHeight - 8) / Math.max(shown.length, 1) - 1, 3);
   return rows.filter(row => heights.has(row.lane))
     .map(row => `M${digits(stripAt(row.x))} ${digits(heights.get(row.lane))}v${digits(tall)}`).join("");
 }

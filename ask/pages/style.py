@@ -42,15 +42,15 @@ p.why.holds { color: #00704a; }
 #keys dt { font-weight: 600; }
 #keys dd { margin: 0; }
 #strip { position: relative; height: 40px; margin: 2px -12px 0; overflow: hidden; touch-action: none; cursor: pointer; }
-#strip .all { stroke: #66707f; stroke-width: 1; fill: none; }
+#strip .all { stroke: #66707f; stroke-width: 1.2; fill: none; }
 #strip .hits { stroke: #0072b2; stroke-width: 2; fill: none; }
-#strip svg { position: absolute; pointer-events: none; }
+#strip svg { position: absolute; top: 0; left: 0; pointer-events: none; }
 #strip .window {
-  position: absolute; top: 0; height: 40px; background: #0072b224; border: solid #0072b2; border-width: 1px 3px; will-change: transform;
+  position: absolute; top: 0; left: 0; height: 40px; background: #0072b224; border: solid #0072b2; border-width: 1px 3px; will-change: transform;
 }
 #strip text { font-size: 11px; fill: #555; }
 
-.scripted main { display: grid; grid-template-columns: minmax(0, 1fr) 300px; }
+.scripted main { display: grid; grid-template-columns: minmax(0, 1fr) 320px; }
 #panels { min-width: 0; overflow-x: auto; }
 .scripted #panels { overflow: hidden; }
 #side { align-self: start; position: sticky; top: var(--tools, 0); padding: 8px 10px; border-left: 1px solid #d8dce2; }
@@ -58,14 +58,15 @@ p.why.holds { color: #00704a; }
 #side label { display: block; margin: 6px 0 2px; font-size: 12px; color: #555; }
 #side input { width: 100%; padding: 4px 6px; border: 1px solid #b5bcc7; border-radius: 4px; }
 #count { margin: 4px 0; font-size: 12px; color: #555; }
-#rows { margin: 0; padding: 0; max-height: calc(100vh - var(--tools, 0px) - 130px); overflow: auto; list-style: none; border: 1px solid #d8dce2; }
+#rows { margin: 0; padding: 0; max-height: calc(100vh - var(--tools, 0px) - 130px); overflow: hidden auto; list-style: none; border: 1px solid #d8dce2; }
 #rows li {
-  display: grid; grid-template-columns: 4.5ch 1fr auto; gap: 0 8px; padding: 2px 6px; font-size: 12px; cursor: pointer;
+  display: grid; grid-template-columns: 4.5ch minmax(0, 1fr); gap: 0 8px; padding: 2px 6px; font-size: 12px; cursor: pointer;
   border-left: 4px solid transparent;
 }
+#rows .words { display: flex; flex-wrap: wrap; justify-content: space-between; gap: 0 8px; }
 #rows .line { text-align: right; color: #555; }
 #rows .what { overflow-wrap: anywhere; }
-#rows .stamp { color: #555; }
+#rows .stamp { color: #555; font-size: 11px; white-space: nowrap; }
 #rows .named.fails { border-left-color: #b3261e; }
 #rows .named.holds { border-left-color: #00704a; }
 #rows .named.fails:not(.lit) { background: #fdf0ef; }
