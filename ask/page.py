@@ -6,7 +6,6 @@ import json
 import re
 from typing import Any, Dict, List, Optional, Sequence
 
-from ask.focus import flag_words
 from ask.logs import Log
 from ask.pages.labels import LABELS
 from ask.pages.lanes import LANES
@@ -16,7 +15,7 @@ from ask.pages.rows import ROWS
 from ask.pages.strip import STRIP
 from ask.pages.style import STYLE
 from ask.pages.view import VIEW
-from ask.panels import Panel
+from ask.panels import TIME_ITSELF, Panel
 from ask.picture import HEADS, Section, loop_lines, sections_of
 from ask.plot import AXIS, LABEL_LEVELS, LEFT, LETTER, MIDDLE, PLOT, RIGHT
 from ask.plot import STYLE as STYLE_OF_PICTURE
@@ -71,7 +70,6 @@ PAGE = """<!doctype html>
 SCRIPT = "\n".join(part.strip() for part in (VIEW, PARTS, LABELS, STRIP, LANES, ROWS, POINTER))
 MARKED = '<button type="button" data-act="marked">What is marked</button>\n'
 MOST_SENTENCES = 4  # that a caption shows at once
-CLOCK = 10  # the height of the time itself in a loop of bounds
 
 
 def page_of(title: str, log: Log, panels: Sequence[Panel]) -> str:
@@ -133,7 +131,7 @@ def facts_of(log: Log, sections: Sequence[Section]) -> Dict[str, Any]:
     openings = [opening_facts(section) for section in sections]
     return {
         "left": LEFT, "plot": PLOT, "right": RIGHT, "levels": LABEL_LEVELS, "letter": LETTER, "middle": MIDDLE,
-        "clock": CLOCK, "below": AXIS + 6, "span": float(scale.last - scale.first),
+        "clock": TIME_ITSELF, "below": AXIS + 6, "span": float(scale.last - scale.first),
         "hosts": [host.name for host in log.hosts],
         "rows": [
             {"line": row.line, "host": row.host, "kind": row.kind, "name": row.name, "stamp": log.scale.moment(row.stamp)}
@@ -141,7 +139,7 @@ def facts_of(log: Log, sections: Sequence[Section]) -> Dict[str, Any]:
         ],
         "openings": openings,
         "first": first_shown(sections),
-        "moments": [moment_facts(log, section) for section in sections],
+        "moments": [moment_facts(section) for section in sections],
     }
 
 
@@ -160,10 +158,7 @@ def first_shown(sections: Sequence[Section]) -> int:
     return (failing or marked or [0])[0]
 
 
-def moment_facts(log: Log, section: Section) -> List[Dict[str, Any]]:
+def moment_facts(section: Section) -> List[Dict[str, Any]]:
     """The moments of a panel that are marked, for the strip above."""
     focus, scale = section.panel.focus, section.drawing.scale
-    return [
-        {"x": scale.at(moment.time), "kind": focus.kind(), "words": flag_words(moment, log.scale)}
-        for moment in (focus.moments if focus else ())
-    ]
+    return [{"x": scale.at(moment.time), "kind": focus.kind()} for moment in focus.moments] if focus else []

@@ -26,6 +26,7 @@ from ask.words import error_words, ground_words, shortened
 EDGE = 12  # within which figures begin at their row
 FLAGS = 20  # the height above the lanes in which the moments that are marked are named
 LOOP = 26  # the height above the lanes of a loop of bounds, where the time itself stands
+TIME_ITSELF = 10  # the height of that
 MOST_NAME = 12  # letters of the name of a host that have room beside its lane
 MOST_LIMITS = 19  # letters of what stands below it
 READING = ' stroke="#7a5195" stroke-width="3" stroke-opacity=".6"'
@@ -288,7 +289,7 @@ class PanelDrawing:
     def point_of(self, event: Optional[int]) -> Tuple[float, float]:
         """Where a row stands, or the zero moment."""
         if event is None:
-            return PLOT / 5, 10
+            return PLOT / 5, TIME_ITSELF
         return self.scale.at(self.panel.times[event]), self.lanes[self.log.rows[event].host].middle()
 
     # What is in a lane

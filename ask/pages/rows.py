@@ -5,7 +5,7 @@ const list = document.querySelector("#rows"), search = document.querySelector("#
 const marksOf = facts.rows.map(() => []);  // of each row the parts of all panels
 for (const panel of panels) for (const part of panel.rows) marksOf[part.row].push(Object.assign(part, {panel}));
 const hits = new Set(facts.rows.keys());  // the rows that the search has found
-let lit = null;
+let lit = null, gone = null;  // the row that is pointed at, and the one that was gone to last
 
 const entries = facts.rows.map(entryOf);
 list.append(...entries);
@@ -62,7 +62,7 @@ function find() {
 function goOn(by) {
   const found = [...hits].sort((one, other) => one - other);
   if (!found.length) return;
-  const at = found.indexOf(lit);
+  const at = found.indexOf(gone);
   showRow(found[at < 0 ? (by > 0 ? 0 : found.length - 1) : (at + by + found.length) % found.length]);
 }
 
@@ -70,6 +70,7 @@ function goOn(by) {
 function showRow(number) {
   const {panel, x} = marksOf[number][facts.first], {host} = facts.rows[number];
   if (hiddenLanes.has(host)) setHidden(host, false);
+  gone = number;
   light(number, true);
   const {places} = panel, at = firstFrom(places, x), few = 12;
   const around = Math.max(x - places[Math.max(at - few, 0)], places[Math.min(at + few, places.length - 1)] - x);

@@ -10,7 +10,7 @@ import unittest
 from pathlib import Path
 
 from browser import Browser, browser_path
-from common import asked
+from common import ROOT, asked
 
 SIZES = ((1280, 800), (420, 800))  # of the window: wide and narrow
 GROUPS = {6: 1, 144: 36, 1024: 256}  # groups of four rows of each log, by its rows
@@ -511,6 +511,19 @@ class Rows(InBrowser):
         self.browser.settle()
         self.assertIn("message m6: h6 line 16 to h7 line 17, takes 10", self.value("tip.textContent"))
         self.assertIn("at 1700000000065", self.value("tip.textContent"))
+
+
+    def test_moments_are_told_as_dates_where_they_have_some(self):
+        log = ROOT / "tests" / "ask" / "logs" / "checkout_us.csv"
+        (self.folder.path / "dated.notes").write_bytes(log.with_name("checkout_us.csv.notes").read_bytes())
+        self.show_page(self.folder.page("dated", log.read_text()))
+        self.browser.move(*self.row_point(0))
+        self.browser.settle()
+        self.assertIn("at 2023-11-14T23:13:20.00", self.value("tip.textContent"))
+        self.assertIn("stamp 2023-11-14T23:13:20.000000+01:00", self.value("tip.textContent"))
+        self.browser.press("#search")
+        self.browser.type("20.0015")
+        self.assertEqual(self.shown_rows(), [2])
 
 
 class Lanes(InBrowser):

@@ -19,7 +19,8 @@ from ask.events import filled, name_map
 from ask.formulas import read_formula
 from ask.making import Line
 from ask.page import page_of
-from ask.picture import Panel, picture
+from ask.panels import Panel
+from ask.picture import picture
 from ask.refusals import shown_place
 from ask.reports import verdict_of
 from ask.stamps import iso_moment
@@ -31,23 +32,28 @@ MOST_SECONDS = 5  # of processor time, which beside other work is up to twice wh
 
 
 class Page(HTMLParser):
-    """The text of each title and heading of a page, and how often it has a picture."""
+    """The text of the title and of each heading of a page, and how many panels it has."""
 
     def __init__(self):
         super().__init__()
-        self.pictures, self.titles, self.open = 0, [], ""
+        self.panels, self.scripts, self.titles, self.open = 0, 0, [], ""
 
     def handle_starttag(self, tag, attrs):
-        self.pictures += tag == "svg"
+        self.panels += tag == "svg" and ("class", "panel") in attrs
+        self.scripts += tag == "script"
         self.open = tag
-        self.titles += [""] * (tag in ("title", "strong"))
+        self.titles += [""] * self.is_heading()
 
     def handle_data(self, text):
-        if self.open in ("title", "strong"):
+        if self.is_heading():
             self.titles[-1] += text
 
     def handle_endtag(self, tag):
         self.open = ""
+
+    def is_heading(self):
+        """Whether a title of the page or of a panel is open, and not one within a picture."""
+        return self.open in ("h1", "h2") or self.open == "title" and not self.panels
 
 
 class Escapes(unittest.TestCase):
@@ -139,7 +145,7 @@ class Shown(unittest.TestCase):
 
 
 class Pictures(unittest.TestCase):
-    NAMES = (*CONTROLS, "<", "&", "]]>", "<\u0338script>", "@SVG@", "@TITLE@", "\"'", "-->", "\u202e", "\x85", "\udcfe", "</title><script>alert(1)<")
+    NAMES = (*CONTROLS, "<", "&", "]]>", "<\u0338script>", "@SECTIONS@", "@TITLE@", "\"'", "-->", "\u202e", "\x85", "\udcfe", "</title><script>alert(1)<")
 
     def test_pictures_are_xml_and_pages_have_one(self):
         log = logs.read_log((EXAMPLES / "lease.csv").read_bytes())
@@ -148,23 +154,26 @@ class Pictures(unittest.TestCase):
             elements = minidom.parseString(svg.encode()).getElementsByTagName("text")
             self.assertEqual([element.firstChild.data for element in elements[:2]], [escaped(name)] * 2)
             page = Page()
-            page.feed(page_of(name, svg))
-            self.assertEqual((page.pictures, page.titles[:2]), (1, [escaped(name)] * 2))
+            page.feed(page_of(name, log, [Panel(name, log.stamps())]))
+            self.assertEqual((page.panels, page.scripts, page.titles), (1, 2, [escaped(name)] * 3))
 
     def test_names_of_files(self):
         text = (EXAMPLES / "lease.csv").read_bytes()
         with tempfile.TemporaryDirectory() as folder:
-            for name in ("a\x01", "@SVG@", "]]><&", "\udcfe"):
+            for name in ("a\x01", "@SECTIONS@", "]]><&", "\udcfe"):
                 Path(folder, name).write_bytes(text)
                 ended, svg, said = asked(["draw", name, "--svg"], folder)
                 self.assertEqual((ended, said), (0, ""))
                 self.assertEqual(minidom.parseString(svg).getElementsByTagName("text")[0].firstChild.data, escaped(name))
                 ended, html, _ = asked(["draw", name], folder)
-                self.assertEqual((ended, html.count("<svg "), html.count(f"<title>{markup(name)}</title>")), (0, 1, 1))
+                titles = html.count(f"<title>{markup(name)}</title>")
+                self.assertEqual((ended, html.count('<svg class="panel"'), titles), (0, 1, 1))
 
     def test_a_page_is_put_together_in_one_pass(self):
-        page = page_of("@SVG@ @TITLE@", "<svg>@TITLE@</svg>")
-        self.assertEqual((page.count("<title>@SVG@ @TITLE@</title>"), page.count("<svg>@TITLE@</svg>"), page.count("<svg>")), (1, 1, 1))
+        log = logs.read_log((EXAMPLES / "lease.csv").read_bytes())
+        page = page_of("@SECTIONS@ @TITLE@", log, [Panel("@TITLE@ @FACTS@", log.stamps())])
+        counts = [page.count(text) for text in ("<title>@SECTIONS@ @TITLE@</title>", "<h2>@TITLE@ @FACTS@</h2>", '<svg class="panel"')]
+        self.assertEqual(counts, [1, 1, 1])
 
 
 class Records(unittest.TestCase):

@@ -199,8 +199,8 @@ class Answers(Room):
             (["check", "true", "one_clock.csv", "--unit", "ms"], "Together they ask for 1 ms more than there is."),
             (["draw", CHECKOUT, "--svg"], "in us, counted from 2023-11-14T23:13:19.998000+01:00"),
             (["draw", CHECKOUT, "--svg"], "skew 2 ms: 2023-11-14T23:13:20.002000+01:00 to 2023-11-14T23:13:20.006000+01:00"),
-            (["draw", CHECKOUT], "[`at ${dated(moment)}`"),
-            (["draw", "checkout.csv"], "[`at ${moment}`"),
+            (["draw", CHECKOUT], 'data-span="13100" data-digits="6" data-epoch="0" data-ahead="3600" data-zone="+01:00">'),
+            (["draw", "checkout.csv"], 'data-span="13100">'),
         ):
             _, text, said = asked(words, EXAMPLES)
             self.assertIn(part, text, said)
