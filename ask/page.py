@@ -34,7 +34,8 @@ PAGE = """<!doctype html>
 <button type="button" data-act="out" aria-label="zoom out">&minus;</button>
 <button type="button" data-act="in" aria-label="zoom in">+</button>
 <button type="button" data-act="whole">Whole</button>
-@MARKED@<details id="lanes"><summary>Lanes</summary><div><ol></ol><button type="button" id="every">Show all</button></div></details>
+@MARKED@<details id="lanes"><summary>Lanes</summary>
+<div><ol></ol><button type="button" id="every">Show all</button></div></details>
 <details id="keys"><summary>Keys</summary><div><dl>
 <dt>wheel, + and -</dt><dd>zoom; over the names at the left the wheel scrolls</dd>
 <dt>dragging, &larr; and &rarr;</dt><dd>move; in the strip too, whose ends zoom</dd>
@@ -46,7 +47,9 @@ PAGE = """<!doctype html>
 <dt>names at the left</dt><dd>dragging moves a lane, &times; hides it</dd>
 </dl></div></details>
 </div>
-<div id="strip" role="img" aria-label="the whole log, and what of it is shown"><svg></svg><div class="window"></div><svg></svg></div>
+<div id="strip" role="img" aria-label="the whole log, and what of it is shown">
+<svg></svg><div class="window"></div><svg></svg>
+</div>
 </div>
 <main>
 <div id="panels">
@@ -100,7 +103,8 @@ def section_markup(log: Log, section: Section) -> str:
     """A panel under its title, with why the formula has its value there, and what a contradiction is made of."""
     loop = loop_lines(log, section.panel)
     shown = listed(loop, "loop") if loop else ""
-    return f'<section>\n<div class="caption"><h2>{markup(section.panel.title)}</h2>{why(section)}</div>\n{section.picture()}\n{shown}</section>'
+    caption = f'<div class="caption"><h2>{markup(section.panel.title)}</h2>{why(section)}</div>'
+    return "\n".join(["<section>", caption, section.picture(), f"{shown}</section>"])
 
 
 def why(section: Section) -> str:
@@ -111,9 +115,11 @@ def why(section: Section) -> str:
     heading = f'<p class="why {focus.kind()}">{markup(focus.heading())}</p>'
     lines = focus.lines()
     words = listed(lines[:MOST_SENTENCES], "")
-    if len(lines) > MOST_SENTENCES:
-        words += f"<details><summary>{len(lines) - MOST_SENTENCES} more</summary>{listed(lines[MOST_SENTENCES:], '')}</details>"
-    button = f'<button type="button" class="scripted-only" data-panel="{section.drawing.number}" hidden>Show the moment</button>'
+    rest = lines[MOST_SENTENCES:]
+    if rest:
+        words += f"<details><summary>{len(rest)} more</summary>{listed(rest, '')}</details>"
+    number = f'data-panel="{section.drawing.number}"'
+    button = f'<button type="button" class="scripted-only" {number} hidden>Show the moment</button>'
     return heading + words + (button if section.opening else "")
 
 

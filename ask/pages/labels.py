@@ -67,7 +67,8 @@ function placeWords(panel, low, high) {
     part.isLeft = isLeft;
     const x = digits(local(part.x)), y = panel.tops[part.lane] + middle;
     part.label.classList.remove("off");
-    if (attach(panel, part.label, part.level >= 0)) placeText(part.label, x + (isLeft ? 3 : -3), y - 8 - 11 * level, isLeft ? "end" : "start");
+    if (attach(panel, part.label, part.level >= 0))
+      placeText(part.label, x + (isLeft ? 3 : -3), y - 8 - 11 * level, isLeft ? "end" : "start");
     if (part.shift) part.shift.classList.remove("off");
     if (part.shift && attach(panel, part.shift, isDrawn && hasShift))
       placeText(part.shift, x, y + 15, part.x * pixels() > 12 ? "middle" : "start");
@@ -118,7 +119,8 @@ function placeLoopWords(panel) {
   for (const part of panel.parts.loop.filter(part => part.isShown)) {
     const wide = 7.4 * part.element.textContent.length, {x, y} = part.spot;
     const places = [[0, 0], [0, -14], [0, 14], [8, 24], [0, -28], [0, 30], [-wide - 8, 0], [-wide - 8, -14], [-wide - 8, 14]];
-    const free = places.map(([across, down]) => ({left: x + across, right: x + across + wide, top: y + down - 11, bottom: y + down + 3}))
+    const free = places.map(([across, down]) => [x + across, y + down])
+      .map(([begin, line]) => ({left: begin, right: begin + wide, top: line - 11, bottom: line + 3}))
       .find(box => !boxes.some(other => isOver(box, other)));
     part.element.classList.toggle("off", !free);
     if (!free) continue;
@@ -128,7 +130,8 @@ function placeLoopWords(panel) {
 }
 
 function labelBox(panel, part) {
-  const wide = Number(part.label.dataset.wide), x = local(part.x), bottom = panel.tops[part.lane] + middle - 6 - 11 * part.level;
+  const wide = Number(part.label.dataset.wide), x = local(part.x);
+  const bottom = panel.tops[part.lane] + middle - 6 - 11 * part.level;
   const begin = part.isLeft ? x + 3 - wide : x - 3;
   return {left: begin, right: begin + wide, top: bottom - 12, bottom};
 }

@@ -23,7 +23,8 @@ function placeLanes() {
     }
     for (const line of panel.moving.querySelectorAll(".moment line")) line.setAttribute("y2", panel.bottom);
     for (const span of panel.moving.querySelectorAll(".span")) span.setAttribute("height", panel.bottom + 4 - panel.top);
-    for (const part of [panel.svg.querySelector(".below"), panel.ticks]) part.setAttribute("transform", `translate(0,${panel.bottom + 6})`);
+    for (const part of [panel.svg.querySelector(".below"), panel.ticks])
+      part.setAttribute("transform", `translate(0,${panel.bottom + 6})`);
     panel.svg.setAttribute("height", panel.bottom + facts.below);
   }
   drawStrip();

@@ -12,8 +12,8 @@ const layers = ["states", "pulses", "messages", "heads", "skews", "readings", "m
 // Reading
 
 function partsOf(moving, selector, more = () => ({}), inner = null) {
-  const elements = [...moving.querySelectorAll(selector)].filter(element => !inner || element.querySelector(`:scope > ${inner}`));
-  return elements.map(element => {
+  const has = element => !inner || element.querySelector(`:scope > ${inner}`);
+  return [...moving.querySelectorAll(selector)].filter(has).map(element => {
     const lane = Number(element.closest("[data-lane]")?.dataset.lane ?? -1);
     const title = element.querySelector(":scope > title")?.textContent;
     return {...numbers(element.dataset), lane, title, element, ...more(element)};
@@ -24,16 +24,19 @@ const marksWith = (moving, inner, more) => partsOf(moving, "[data-lane] > .x", m
 
 function rowOf(element) {
   return {
-    label: element.querySelector(".label"), shift: element.querySelector(".shift"), isNamed: element.classList.contains("named"),
-    shape: element.querySelector("path.row") ? "diamond" : "dot",
+    label: element.querySelector(".label"), shift: element.querySelector(".shift"),
+    isNamed: element.classList.contains("named"), shape: element.querySelector("path.row") ? "diamond" : "dot",
   };
 }
+
+function stateOf(element) { return {y: Number(element.getAttribute("y")), fill: element.getAttribute("fill")}; }
+
+function pulseOf(element) { return {fill: element.querySelector(".pulse").getAttribute("fill")}; }
 
 // The parts of a panel by their kinds, of which none but the last are elements any more.
 function partsOfPanel(moving) {
   const parts = {
-    states: partsOf(moving, "[data-lane] > .w", element => ({y: Number(element.getAttribute("y")), fill: element.getAttribute("fill")})),
-    pulses: marksWith(moving, ".pulse", element => ({fill: element.querySelector(".pulse").getAttribute("fill")})),
+    states: partsOf(moving, "[data-lane] > .w", stateOf), pulses: marksWith(moving, ".pulse", pulseOf),
     messages: partsOf(moving, ".message"), skews: partsOf(moving, ".skew"), moved: partsOf(moving, ".moved"),
     readings: partsOf(moving, "line.reading"), strokes: marksWith(moving, ".reading"), stamps: marksWith(moving, ".stamp"),
     rows: marksWith(moving, ".row", rowOf), loop: partsOf(moving, ".m"),
@@ -54,7 +57,8 @@ function partsOfPanel(moving) {
 // What goes with the time is taken out of the picture of a panel, and laid above it.
 function panelOf(svg, number) {
   const box = makeHtml("div", {class: "box"}), view = makeHtml("div", {class: "view"}), moving = make("svg", {class: "moving"});
-  const ticks = svg.querySelector(".ticks"), inner = svg.querySelector("g.moving"), words = make("g"), lit = make("circle", {class: "lit", r: 8});
+  const ticks = svg.querySelector(".ticks"), inner = svg.querySelector("g.moving");
+  const words = make("g"), lit = make("circle", {class: "lit", r: 8});
   svg.replaceWith(box);
   moving.append(inner, ticks);
   svg.querySelector("[clip-path]").remove();
@@ -85,7 +89,10 @@ const isHidden = (panel, lane) => lane >= 0 && panel.tops[lane] === null;
 const cut = x => Math.min(Math.max(x, local(placed.low / zoom) - reach), local(placed.high / zoom) + reach);
 const shapes = {
   dot: (x, y, size) => `M${x - size} ${y}a${size} ${size} 0 1 0 ${2 * size} 0a${size} ${size} 0 1 0 ${-2 * size} 0`,
-  diamond: (x, y, size) => `M${x} ${y - 1.5 * size}l${1.25 * size} ${1.5 * size}l${-1.25 * size} ${1.5 * size}l${-1.25 * size} ${-1.5 * size}z`,
+  diamond: (x, y, size) => {
+    const [wide, tall] = [1.25 * size, 1.5 * size];
+    return `M${x} ${y - tall}l${wide} ${tall}l${-wide} ${tall}l${-wide} ${-tall}z`;
+  },
 };
 const digits = number => Math.round(number * 10) / 10;
 
@@ -97,7 +104,8 @@ function drawParts(panel, low, high) {
     texts.set(key, (texts.get(key) ?? "") + text);
   };
   const {parts} = panel;
-  const visible = kind => parts[kind].filter(part => (part.b ?? part.x) >= low && (part.a ?? part.x) <= high && !isHidden(panel, part.lane));
+  const isBetween = part => Math.max(part.x ?? part.a, part.x ?? part.b) >= low && Math.min(part.x ?? part.a, part.x ?? part.b) <= high;
+  const visible = kind => parts[kind].filter(part => isBetween(part) && !isHidden(panel, part.lane));
   const bar = (layer, height) => part => {
     const a = digits(cut(local(part.a))), y = panel.tops[part.lane] + height(part);
     add(layer, part.lane, `M${a} ${y}H${Math.max(digits(cut(local(part.b))), a + 2)}`, part.fill);
@@ -105,14 +113,13 @@ function drawParts(panel, low, high) {
   visible("states").forEach(bar("states", part => part.y + 4.5));
   visible("skews").forEach(bar("skews", () => middle));
   visible("readings").forEach(bar("readings", () => middle));
-  for (const {lane, x, y, fill} of visible("pulses")) add("pulses", lane, shapes.diamond(digits(local(x)), panel.tops[lane] + y, 4), fill);
+  for (const {lane, x, y, fill} of visible("pulses"))
+    add("pulses", lane, shapes.diamond(digits(local(x)), panel.tops[lane] + y, 4), fill);
   for (const {lane, x} of visible("strokes")) add("readings", lane, `M${digits(local(x))} ${panel.tops[lane] + middle - 7}v14`);
-  for (const {lane, a, b} of parts.moved) {
-    if (Math.max(a, b) < low || Math.min(a, b) > high || isHidden(panel, lane)) continue;
+  for (const {lane, a, b} of visible("moved"))
     add("moved", lane, `M${digits(cut(local(a)))} ${panel.tops[lane] + middle}H${digits(cut(local(b)))}`);
-  }
   for (const {lane, x} of visible("stamps")) add("stamps", lane, shapes.dot(digits(local(x)), panel.tops[lane] + middle, 2.6));
-  drawMessages(panel, low, high, add);
+  drawMessages(panel, parts.messages.filter(isBetween), add);
   drawDots(panel, visible("rows"), add);
   for (const [key, path] of panel.paths) if (!texts.has(key)) path.setAttribute("d", "");
   for (const [key, text] of texts) pathOf(panel, key).setAttribute("d", text);
@@ -140,9 +147,9 @@ function drawDots(panel, rows, add) {
   }
 }
 
-function drawMessages(panel, low, high, add) {
-  for (const part of panel.parts.messages) {
-    if (Math.max(part.a, part.b) < low || Math.min(part.a, part.b) > high || isHidden(panel, part.from) || isHidden(panel, part.to)) continue;
+function drawMessages(panel, messages, add) {
+  for (const part of messages) {
+    if (isHidden(panel, part.from) || isHidden(panel, part.to)) continue;
     const [a, y, b, z] = [local(part.a), heightOf(panel, part.from), local(part.b), heightOf(panel, part.to)];
     const first = cut(a), last = cut(b), heightAt = x => digits(a === b ? z : y + (z - y) * (x - a) / (b - a));
     add("messages", -1, `M${digits(first)} ${a === b ? y : heightAt(first)}L${digits(last)} ${heightAt(last)}`);
@@ -164,7 +171,9 @@ const placers = {
     placeFlag(panel, part);
   },
   clock: (panel, part) => part.element.setAttribute("transform", `translate(${local(part.x)},${facts.clock})`),
-  mark: (panel, part) => part.element.setAttribute("transform", `translate(${local(part.x)},${panel.tops[part.lane] + part.y})`),
+  mark: (panel, part) => {
+    part.element.setAttribute("transform", `translate(${local(part.x)},${panel.tops[part.lane] + part.y})`);
+  },
   bend: (panel, part) => part.element.setAttribute("d", bentOf(panel, part).path),
   figure: (panel, part) => { part.spot = bentOf(panel, part); },
 };
@@ -172,7 +181,8 @@ const placers = {
 function placeSingle(panel, low, high) {
   for (const part of panel.parts.single) {
     const [first, last] = part.x === undefined ? [Math.min(part.a, part.b), Math.max(part.a, part.b)] : [part.x, part.x];
-    part.isShown = last >= low && first <= high && ![part.lane, part.from ?? -1, part.to ?? -1].some(lane => isHidden(panel, lane));
+    const lanes = [part.lane, part.from ?? -1, part.to ?? -1];
+    part.isShown = last >= low && first <= high && !lanes.some(lane => isHidden(panel, lane));
     part.element.style.display = part.isShown ? "" : "none";
     if (part.isShown) placers[part.kind](panel, part);
   }
@@ -212,7 +222,8 @@ function placeTicks(panel, low, high) {
   const first = Math.max(low / plot, 0) * span + offset, last = Math.min(high / plot, 1) * span + offset, ticks = [];
   for (let moment = Math.ceil(first / step) * step; moment <= last; moment += step) {
     const x = local((moment - offset) / span * plot), tick = make("g", {transform: `translate(${x},0)`, "data-x": x});
-    tick.append(make("line", {class: "axis", y2: 4}), make("text", {class: "small", y: 16, "text-anchor": "middle"}, String(moment)));
+    const words = make("text", {class: "small", y: 16, "text-anchor": "middle"}, String(moment));
+    tick.append(make("line", {class: "axis", y2: 4}), words);
     ticks.push(tick);
   }
   panel.ticks.replaceChildren(...ticks);

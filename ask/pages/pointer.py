@@ -9,7 +9,10 @@ function titlesAt(panel, x, y) {
   const isNear = (part, height, far) => !isHidden(panel, part.lane) && Math.abs(down - panel.tops[part.lane] - height) <= far;
   const isAt = part => Math.abs(local(part.x) - across) <= near;
   const isIn = part => local(part.a) - 3 <= across && across <= Math.max(local(part.b), local(part.a) + 2) + 3;
-  const isOnBend = part => part.kind === "bend" && [0, -3, 3].some(off => part.element.isPointInStroke(new DOMPoint(across, down + off)));
+  const isOn = {
+    span: isIn, moment: isAt,
+    bend: part => [0, -3, 3].some(off => part.element.isPointInStroke(new DOMPoint(across, down + off))),
+  };
   return [...new Set([
     ...parts.rows.filter(part => isNear(part, middle, 9) && isAt(part)),
     ...parts.readings.filter(part => isNear(part, middle, 7) && isIn(part)),
@@ -17,7 +20,7 @@ function titlesAt(panel, x, y) {
     ...parts.pulses.filter(part => isNear(part, part.y, 7) && isAt(part)),
     ...parts.states.filter(part => isNear(part, part.y + 4.5, 6) && isIn(part)),
     ...parts.messages.filter(part => isOnMessage(panel, part, across, down)),
-    ...parts.single.filter(part => part.isShown && (part.kind === "span" ? isIn(part) : part.kind === "moment" ? isAt(part) : isOnBend(part))),
+    ...parts.single.filter(part => part.isShown && isOn[part.kind]?.(part)),
   ].map(part => part.title).filter(Boolean))];
 }
 
@@ -25,7 +28,8 @@ function titlesAt(panel, x, y) {
 function isOnMessage(panel, part, across, down) {
   if (isHidden(panel, part.from) || isHidden(panel, part.to)) return false;
   const [a, y, b, z] = [local(part.a), heightOf(panel, part.from), local(part.b), heightOf(panel, part.to)];
-  const length = (b - a) ** 2 + (z - y) ** 2, along = Math.min(Math.max(((across - a) * (b - a) + (down - y) * (z - y)) / (length || 1), 0), 1);
+  const square = (b - a) ** 2 + (z - y) ** 2 || 1, passed = ((across - a) * (b - a) + (down - y) * (z - y)) / square;
+  const along = Math.min(Math.max(passed, 0), 1);
   return Math.hypot(a + along * (b - a) - across, y + along * (z - y) - down) <= 4;
 }
 
@@ -45,7 +49,9 @@ function showTip(panel, x, y) {
   const found = titlesAt(panel, x, y), more = found.length - mostTitles;
   const isInPlot = across >= left && across <= left + width;
   const moment = BigInt(panel.ticks.dataset.base) + BigInt(Math.round(offset + placeAt(across) / plot * span));
-  const lines = [...(isInPlot ? [`at ${shownMoment(moment)}`] : []), ...found.slice(0, mostTitles), ...(more > 0 ? [`and ${more} more`] : [])];
+  const lines = [
+    ...(isInPlot ? [`at ${shownMoment(moment)}`] : []), ...found.slice(0, mostTitles), ...(more > 0 ? [`and ${more} more`] : []),
+  ];
   tip.style.visibility = lines.length ? "visible" : "hidden";
   tip.textContent = lines.join("\n");
   tip.style.left = `${Math.max(0, Math.min(x + 14, page.clientWidth - tip.offsetWidth - 2))}px`;
@@ -149,7 +155,11 @@ addEventListener("pointerdown", event => {
   for (const details of opened()) if (!details.contains(event.target)) details.open = false;
 });
 addEventListener("keydown", event => {
-  if (event.key === "Escape") for (const details of opened()) { details.open = false; details.querySelector("summary").focus(); }
+  if (event.key !== "Escape") return;
+  for (const details of opened()) {
+    details.open = false;
+    details.querySelector("summary").focus();
+  }
 });
 
 for (const part of document.querySelectorAll(".scripted-only")) part.hidden = false;

@@ -1,7 +1,7 @@
 """The script of a page that lists the rows, searches them, and lights up the one that is pointed at."""
 
 ROWS = r"""
-const list = document.querySelector("#rows"), search = document.querySelector("#search"), count = document.querySelector("#count");
+const [list, search, count] = ["#rows", "#search", "#count"].map(name => document.querySelector(name));
 const marksOf = facts.rows.map(() => []);  // of each row the parts of all panels
 for (const panel of panels) for (const part of panel.rows) marksOf[part.row].push(Object.assign(part, {panel}));
 const hits = new Set(facts.rows.keys());  // the rows that the search has found
@@ -9,14 +9,14 @@ let lit = null, gone = null;  // the row that is pointed at, and the one that wa
 
 const entries = facts.rows.map(entryOf);
 list.append(...entries);
-const texts = facts.rows.map(row => [`line ${row.line}`, facts.hosts[row.host], row.kind, row.name, row.stamp].join(" ").toLowerCase());
+const texts = facts.rows.map(row =>
+  `line ${row.line} ${facts.hosts[row.host]} ${row.kind} ${row.name} ${row.stamp}`.toLowerCase());
 
 function entryOf(row, number) {
   const entry = makeHtml("li", {role: "option", id: `row${number}`, "aria-selected": "false", "data-row": number});
   const words = makeHtml("span", {class: "words"});
-  words.append(
-    makeHtml("span", {class: "what"}, `${facts.hosts[row.host]} ${row.kind} ${row.name}`), makeHtml("span", {class: "stamp"}, row.stamp),
-  );
+  const what = `${facts.hosts[row.host]} ${row.kind} ${row.name}`;
+  words.append(makeHtml("span", {class: "what"}, what), makeHtml("span", {class: "stamp"}, row.stamp));
   entry.append(makeHtml("span", {class: "line"}, row.line), words);
   const named = marksOf[number].find(part => part.isNamed);
   if (named) entry.classList.add("named", named.element.classList.contains("fails") ? "fails" : "holds");
@@ -40,9 +40,9 @@ function light(number, isScrolled) {
 
 // Scrolls the list alone, and not the page.
 function scrollListTo(entry) {
-  const top = entry.offsetTop - list.offsetTop;
+  const top = entry.offsetTop - list.offsetTop, least = top + entry.offsetHeight - list.clientHeight;
   if (top < list.scrollTop) list.scrollTop = top;
-  else if (top + entry.offsetHeight > list.scrollTop + list.clientHeight) list.scrollTop = top + entry.offsetHeight - list.clientHeight;
+  else if (least > list.scrollTop) list.scrollTop = least;
 }
 
 const isSearching = () => search.value.trim() !== "";

@@ -34,7 +34,8 @@ function stripPath(rows) {
 
 // Marks the rows that the search has found.
 function markHits() {
-  stripParts.hits.setAttribute("d", isSearching() ? stripPath(panels[facts.first].rows.filter(part => hits.has(part.row))) : "");
+  const found = panels[facts.first].rows.filter(part => isSearching() && hits.has(part.row));
+  stripParts.hits.setAttribute("d", stripPath(found));
 }
 
 function placeWindow() {

@@ -8,7 +8,9 @@ header { padding: 10px 12px 4px; }
 h1, h2 { margin: 0; font-size: 16px; overflow-wrap: anywhere; }
 h2 { font-size: 14px; }
 button, summary, input { font: inherit; }
-button { min-width: 30px; padding: 2px 8px; border: 1px solid #b5bcc7; border-radius: 4px; background: #f6f7f9; cursor: pointer; }
+button {
+  min-width: 30px; padding: 2px 8px; border: 1px solid #b5bcc7; border-radius: 4px; background: #f6f7f9; cursor: pointer;
+}
 button:hover { background: #e9ecf1; }
 :focus-visible { outline: 2px solid #0072b2; outline-offset: 1px; }
 svg.panel { display: block; }
@@ -32,7 +34,8 @@ p.why.holds { color: #00704a; }
 #tools details { position: relative; }
 #tools summary { padding: 2px 8px; border: 1px solid #b5bcc7; border-radius: 4px; background: #f6f7f9; cursor: pointer; }
 #tools details > div {
-  position: absolute; z-index: 3; max-height: 60vh; width: max-content; max-width: 86vw; margin-top: 2px; padding: 6px 8px; overflow: auto;
+  position: absolute; z-index: 3; max-height: 60vh; width: max-content; max-width: 86vw; margin-top: 2px; overflow: auto;
+  padding: 6px 8px;
   background: #fff; border: 1px solid #b5bcc7; border-radius: 4px; box-shadow: 0 3px 10px #0003;
 }
 #lanes ol { margin: 0 0 6px; padding: 0; list-style: none; }
@@ -46,7 +49,8 @@ p.why.holds { color: #00704a; }
 #strip .hits { stroke: #0072b2; stroke-width: 2; fill: none; }
 #strip svg { position: absolute; top: 0; left: 0; pointer-events: none; }
 #strip .window {
-  position: absolute; top: 0; left: 0; height: 40px; background: #0072b224; border: solid #0072b2; border-width: 1px 3px; will-change: transform;
+  position: absolute; top: 0; left: 0; height: 40px; background: #0072b224; border: solid #0072b2; border-width: 1px 3px;
+  will-change: transform;
 }
 #strip text { font-size: 11px; fill: #555; }
 
@@ -58,7 +62,10 @@ p.why.holds { color: #00704a; }
 #side label { display: block; margin: 6px 0 2px; font-size: 12px; color: #555; }
 #side input { width: 100%; padding: 4px 6px; border: 1px solid #b5bcc7; border-radius: 4px; }
 #count { margin: 4px 0; font-size: 12px; color: #555; }
-#rows { margin: 0; padding: 0; max-height: calc(100vh - var(--tools, 0px) - 130px); overflow: hidden auto; list-style: none; border: 1px solid #d8dce2; }
+#rows {
+  margin: 0; padding: 0; max-height: calc(100vh - var(--tools, 0px) - 130px); overflow: hidden auto; list-style: none;
+  border: 1px solid #d8dce2;
+}
 #rows li {
   display: grid; grid-template-columns: 4.5ch minmax(0, 1fr); gap: 0 8px; padding: 2px 6px; font-size: 12px; cursor: pointer;
   border-left: 4px solid transparent;
