@@ -268,9 +268,12 @@ class Moving(InBrowser):
             self.browser.wheel(x, y, -120)
         for _ in range(5):  # farther than what was drawn at first
             self.browser.drag((x + 300, y), (x - 300, y))
-            low, high = self.value("[placeAt(left), placeAt(left + width)]")
-            expected = self.value(f"panels[0].rows.filter(row => row.x > {low} && row.x < {high} && row.lane == 0).length")
-            self.assertGreaterEqual(self.value(drawn), expected)
+            expected = self.value("""panels[0].rows.filter(row => row.lane === 0 && !row.isNamed)
+              .map(row => local(row.x) + shift()).filter(x => x > left + 5 && x < left + width - 5).map(Math.round)""")
+            dots = self.value("""document.querySelector(".dots path").getAttribute("d").split("M").slice(1)
+              .map(dot => Math.round(parseFloat(dot) + 4 + shift()))""")
+            self.assertTrue(expected)
+            self.assertEqual([x for x in expected if not {x - 1, x, x + 1} & set(dots)], [])
 
     def test_keys(self):
         self.show(1024)
@@ -621,6 +624,9 @@ class WithoutScript(InBrowser):
             self.assertTrue(deadline)
             self.assertFalse(self.value("document.documentElement.classList.contains('scripted')"))
             self.assertEqual(self.value("document.querySelector('.flag').textContent"), f"fails at {late_moment(144)}")
+            first, top, last, bottom = self.browser.box(".moment line")
+            lanes = self.value("[...document.querySelectorAll('.lane')].map(lane => lane.getBoundingClientRect().bottom)")
+            self.assertTrue(all(top < lane <= bottom + 1 for lane in lanes))
             tools = self.value("[...document.querySelectorAll('.scripted-only')].filter(part => part.offsetParent).length")
             self.assertEqual(tools, 0)
             self.keep("without_script")
