@@ -11,7 +11,7 @@ import tempfile
 import threading
 import zlib
 
-PATIENCE = 300  # seconds after which the browser is ended
+PATIENCE = 600  # seconds after which the browser is ended
 NAMES = ("chromium", "chromium-browser", "google-chrome")
 KEYS = {"ArrowLeft": 37, "ArrowUp": 38, "ArrowRight": 39, "ArrowDown": 40, "Escape": 27, "Enter": 13, "Home": 36, "End": 35}
 
