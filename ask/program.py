@@ -82,7 +82,7 @@ class Program:
 
     def run(self, command: str, sources: Sequence[Source], options: Sequence[str] = ()) -> Run:
         """Runs a command on files whose bytes are handed over as they were read."""
-        shown = escaped(" ".join(" ".join([command, *options, *(source.name for source in sources)]).split()))
+        shown = words_whole(command, options, sources)
         seconds = self.time_for_run()
         with ExitStack() as stack:
             files = [stack.enter_context(handed(source.data)) for source in sources]
@@ -91,9 +91,20 @@ class Program:
             status, output = finish(words, numbers, shown, seconds, not self.is_quiet)
         if status < 0:
             raise Trouble(NOT_THERE, f"{escaped(self.path)} was ended by signal {-status}, at: {shown}")
-        run = Run(shown if len(shown) <= MOST_SHOWN else shown[: MOST_SHOWN - 2] + "..", status, output)
+        run = Run(words_shown(command, options, sources), status, output)
         self.runs.append(run)
         return run
+
+
+def words_whole(command: str, options: Sequence[str], sources: Sequence[Source]) -> str:
+    """The words of a run on files, by the names of these."""
+    return escaped(" ".join(" ".join([command, *options, *(source.name for source in sources)]).split()))
+
+
+def words_shown(command: str, options: Sequence[str], sources: Sequence[Source]) -> str:
+    """The same as answers show them: their beginning where they are long."""
+    shown = words_whole(command, options, sources)
+    return shown if len(shown) <= MOST_SHOWN else shown[: MOST_SHOWN - 2] + ".."
 
 
 def finish(

@@ -33,10 +33,7 @@ class Question:
     def check(self, text: Optional[str] = None, options: Optional[Sequence[str]] = None) -> Run:
         """Runs `check` on the formula, or on another text in its place."""
         formula = self.formula if text is None else Source(f"'{text}'", text.encode())
-        run = self.program.run("check", [formula, self.log_source], self.options if options is None else options)
-        if run.status in VERDICTS and verdict_of(run.output) != run.status:
-            raise unreadable("report", run)
-        return run
+        return with_report(self.program.run("check", [formula, self.log_source], self.options if options is None else options))
 
     def replay(self, text: str, times: Sequence[int]) -> Run:
         """Runs `replay` of a text on a timing."""
@@ -131,6 +128,13 @@ def report_of_run(run: Run) -> Report:
         return read_report(run.output)
     except Unreadable:
         raise unreadable("report", run) from None
+
+
+def with_report(run: Run) -> Run:
+    """A run of `check`, which with a verdict has to have written the report of it."""
+    if run.status in VERDICTS and verdict_of(run.output) != run.status:
+        raise unreadable("report", run)
+    return run
 
 
 def step_of_run(run: Run) -> Step:

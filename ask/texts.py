@@ -13,12 +13,14 @@ import unicodedata
 from bisect import bisect_right
 from functools import lru_cache
 from html import escape
+from pathlib import Path
 from typing import IO, List, NamedTuple, Optional, Union
 
 LINE_END = re.compile(rb"\r\n|\n|\r")
 BYTE_ORDER_MARK = b"\xef\xbb\xbf"
 WRITER_PATIENCE = 5.0  # seconds in which somebody has to begin to write to a FIFO
 CANNOT_READ, CANNOT_WRITE, TOO_LONG = 74, 75, 67  # statuses
+NO_ROOM = 73  # the status where a folder can't be made, or isn't empty
 MOST_SAID = 4000  # letters of one line on the standard error
 
 
@@ -231,6 +233,17 @@ def open_to_write(name: str, flags: int) -> int:
     descriptor = os.open(name, flags | os.O_NONBLOCK | os.O_NOCTTY, 0o666)
     os.set_blocking(descriptor, True)
     return descriptor
+
+
+def make_empty_folder(folder: Path, option: str) -> None:
+    """Makes a folder that an option names, or takes one that is empty."""
+    try:
+        folder.mkdir(parents=True, exist_ok=True)
+        is_empty = not any(folder.iterdir())
+    except (OSError, ValueError) as error:
+        raise Trouble(NO_ROOM, f"{escaped(str(folder))} can't be made: {reason_of(error)}") from None
+    if not is_empty:
+        raise Trouble(NO_ROOM, f"{escaped(str(folder))} isn't empty: name another folder by {option}")
 
 
 def is_existing_file(name: str) -> bool:

@@ -18,12 +18,11 @@ from ask.limits import LogHost, hosts_of, limit_words_of
 from ask.logs import MOST_HOSTS, MOST_ROWS
 from ask.making import Line, Making, settle_messages, spread_carried
 from ask.stamps import UNITS
-from ask.texts import Trouble, escaped, reason_of, write_text
+from ask.texts import Trouble, escaped, make_empty_folder, write_text
 from ask.units import Scale, scale_of_making, write_with_notes
 from ask.words import USAGE, Answer, counted, listed, shortened
 
 TRACE = "trace"  # the key of the parts of traces
-NO_ROOM = 73  # the status where a folder isn't empty or can't be made
 MOST_NAME = 200  # letters of a value in the name of a file
 UNSAFE = re.compile(r"[^A-Za-z0-9_.-]")
 
@@ -148,12 +147,6 @@ def file_name(value: str, taken: Dict[str, str]) -> str:
 
 def write_logs(folder: Path, logs: Dict[str, str], scale: Scale) -> None:
     """Writes logs into a folder that is made for them, or empty, each with notes on its unit beside it."""
-    try:
-        folder.mkdir(parents=True, exist_ok=True)
-        is_empty = not any(folder.iterdir())
-    except OSError as error:
-        raise Trouble(NO_ROOM, f"{escaped(str(folder))} can't be made: {reason_of(error)}") from None
-    if not is_empty:
-        raise Trouble(NO_ROOM, f"{escaped(str(folder))} isn't empty: name another folder by --into")
+    make_empty_folder(folder, "--into")
     for name, text in logs.items():
         write_with_notes(str(folder / name), text, scale)

@@ -3,11 +3,13 @@
 from __future__ import annotations
 
 import argparse
+import functools
 from dataclasses import replace
 from typing import Any, Dict, List, Optional
 
 from ask.cautions import add_strict_words, cautions_wanted, with_cautions
 from ask.commands.check import refuse_wrong_conflicts
+from ask.decide import decide_answer
 from ask.grounds import ground_facts, ground_lines
 from ask.logs import MOST_SKEW, Log, number, records_of
 from ask.macros import add_formula_words, formula_answer, written_out
@@ -19,6 +21,7 @@ from ask.question import (
 from ask.reports import Best
 from ask.texts import Source, Trouble
 from ask.units import Scale, add_unit_words, scale_of_source, unit_facts
+from ask.windows.opening import number_of_jobs
 from ask.words import USAGE, Answer, bold, table, walk_facts, walk_words
 
 MOST_ROWS_SHOWN = 40
@@ -31,12 +34,26 @@ def add_words(commands: "argparse._SubParsersAction[argparse.ArgumentParser]", c
         description="The least number by which all skews of the log have to be greater for some timing to give the "
         "formula the value, with that timing and the bounds that exclude it with one less. The status is 0 where there "
         "is such a number, 1 where there is none up to MAX, 3 where even then there is no timing, and 4 where it wasn't "
-        "found within the conflicts.",
+        "found within the conflicts. With --decide, and without VALUE, the other way round: for the skew of each host "
+        "alone, and for all together, the greatest number with which the log decides the formula, where each skew that "
+        "is greater is that number instead. The status is 0 where there is such a number or the log decides it already, "
+        "1 where there is none, 3 where the log admits no timing, and 4 where a number wasn't found within the conflicts.",
     )
-    words.add_argument("value", metavar="VALUE", choices=("true", "false"), help="true or false: what the formula is to be")
-    words.add_argument("formula", metavar="FORMULA", help="a file, or the formula itself")
-    words.add_argument("log", metavar="LOG")
-    words.add_argument("--up-to", dest="most", metavar="MAX", help="the greatest number that is tried, else 10^18")
+    value = words.add_argument("value", metavar="VALUE", help="true or false: what the formula is to be; not with --decide")
+    formula = words.add_argument("formula", metavar="FORMULA", help="a file, or the formula itself")
+    log = words.add_argument("log", metavar="LOG")
+    words.add_argument(
+        "--decide", action=functools.partial(Decide, value, formula, log), default=False,
+        help="how small skews have to be for the log to decide the formula: `tolerance --decide FORMULA LOG`",
+    )
+    words.add_argument(
+        "--up-to", dest="most", metavar="MAX",
+        help="the greatest number that is tried, else 10^18; with --decide where the log decides the formula already",
+    )
+    words.add_argument("--keep", metavar="FOLDER", help="with --decide, keep the formula and the log of each check in a folder")
+    words.add_argument(
+        "--jobs", type=number_of_jobs, metavar="N", help="with --decide, runs of the program at a time; else one a core",
+    )
     words.add_argument("--conflicts", metavar="N", help="of each search, as for the program")
     add_strict_words(words)
     add_unit_words(words)
@@ -46,8 +63,37 @@ def add_words(commands: "argparse._SubParsersAction[argparse.ArgumentParser]", c
     words.set_defaults(do=do)
 
 
+class Decide(argparse.Action):
+    """Has the words be a formula and a log, though these are taken for the value and the formula."""
+
+    def __init__(self, value: argparse.Action, formula: argparse.Action, log: argparse.Action, **named: Any):
+        super().__init__(nargs=0, **named)
+        self.value, self.formula, self.log = value, formula, log
+
+    def __call__(self, parser: Any, namespace: argparse.Namespace, values: Any, option: Optional[str] = None) -> None:
+        setattr(namespace, self.dest, True)
+        self.value.metavar, self.formula.metavar, self.log.required = self.formula.metavar, self.log.metavar, False
+
+
+def settle_words(arguments: argparse.Namespace) -> None:
+    """Has each word be what it is for, and refuses those that don't go together."""
+    if not arguments.decide:
+        odd = next((option for option in ("keep", "jobs") if getattr(arguments, option) is not None), None)
+        if odd:
+            raise Trouble(USAGE, f"--{odd} is for --decide")
+        if arguments.value not in ("true", "false"):
+            raise Trouble(USAGE, f"VALUE is true or false, and not {arguments.value!r}; without one --decide asks for both")
+        return
+    if arguments.log is not None:
+        raise Trouble(USAGE, "--decide asks for both values: beside it stand FORMULA and LOG alone")
+    if arguments.all:
+        raise Trouble(USAGE, "--all is for a VALUE: --decide shows no timing")
+    arguments.value, arguments.formula, arguments.log = None, arguments.value, arguments.formula
+
+
 def do(arguments: argparse.Namespace) -> Answer:
     """The answer of the command."""
+    settle_words(arguments)
     refuse_wrong_conflicts(arguments.conflicts)
     options = ["--conflicts", arguments.conflicts] if arguments.conflicts else []
     asked, source = sources_of(arguments.formula, arguments.log, arguments.unit)
@@ -56,8 +102,14 @@ def do(arguments: argparse.Namespace) -> Answer:
         return formula_answer(formula)
     program = program_of(arguments)
     question = Question(program, formula, source, options)
-    log = log_with_rows(program, question.log_source)
     most = most_of(arguments.most)
+    return decide_answer(question, most, arguments) if arguments.decide else tolerance_answer(question, most, arguments)
+
+
+def tolerance_answer(question: Question, most: int, arguments: argparse.Namespace) -> Answer:
+    """How much greater all skews have to be, at least and up to a number."""
+    program, options = question.program, question.options
+    log = log_with_rows(program, question.log_source)
     words = [*options, arguments.value, str(most)]
     run = program.run("tolerance", [question.formula, question.log_source], words)
     try:

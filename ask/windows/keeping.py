@@ -13,14 +13,13 @@ from pathlib import Path
 from typing import Any, Dict, Iterator, List, NamedTuple, Optional, Sequence, Tuple
 
 from ask.reports import verdict_of
-from ask.texts import CANNOT_READ, CANNOT_WRITE, Trouble, escaped, read_file, reason_of
+from ask.texts import CANNOT_READ, CANNOT_WRITE, NO_ROOM, Trouble, escaped, read_file, reason_of
 from ask.words import USAGE
 from ask.windows.asking import Keep, Said, View, Whole
 from ask.windows.cuts import Ranges, Slice
 from ask.windows.verdict import Verdict
 from ask.windows.window import Window
 
-NO_ROOM = 73  # the status where a folder is somebody else's or can't be made
 MARK, MARK_TEXT = "windows.mark", b"This folder has windows of a long log, by ask check --keep.\n"
 QUESTION, INDEX, VERDICT = "question.json", "index", "verdict.json"
 EMPTY = "-"  # in place of the name of a window, where no row can be in a slice

@@ -7,7 +7,7 @@ import selectors
 import subprocess
 import time
 from contextlib import suppress
-from dataclasses import dataclass, field
+from dataclasses import dataclass, field, replace
 from typing import Dict, Generic, Iterable, Iterator, List, Optional, Sequence, TypeVar
 
 from ask.ends import uninterrupted
@@ -109,7 +109,7 @@ class Pool(Generic[Key]):
         for number, run in list(self.running.items()):
             if run.ends is not None and now >= run.ends:
                 kill(run.process)
-                found.append(self.leave(number)._replace(status=STOPPED))
+                found.append(replace(self.leave(number), status=STOPPED))
         return found
 
     def end(self, number: int) -> Done[Key]:
