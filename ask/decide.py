@@ -3,6 +3,8 @@
 from __future__ import annotations
 
 import argparse
+import sys
+import time
 from dataclasses import dataclass
 from enum import Enum
 from pathlib import Path
@@ -10,15 +12,15 @@ from typing import Any, Dict, Iterator, List, NamedTuple, Optional, Sequence, Tu
 
 from ask.cautions import cautions_wanted, values_of_status, with_cautions
 from ask.logs import Log, records_of
-from ask.program import Run, words_shown
+from ask.program import PATIENCE, Run, words_shown
 from ask.question import (
     VERDICTS, Question, accepted_tree, answered, best_of_run, log_with_rows, report_of_run, run_facts, run_lines,
     shown_formula, text_of_source, unreadable, with_report,
 )
-from ask.texts import Source, Trouble, make_empty_folder, write_text
+from ask.texts import Source, make_empty_folder, say, write_text
 from ask.units import Scale, scale_of_source, unit_facts, write_with_notes
-from ask.windows.pool import Job, Pool, cores
-from ask.words import TYPED, Answer, bold, no_timing_words, walk_facts, walk_words
+from ask.windows.pool import Done, Job, Pool, cores
+from ask.words import TYPED, Answer, bold, counted, most_words, no_timing_words, walk_facts, walk_words
 
 TRUE, FALSE, EITHER, NO_TIMING, UNKNOWN = range(5)  # statuses of check
 TOO_LARGE = "refused size"  # how the program's refusal of a question for its size begins
@@ -155,28 +157,60 @@ def narrowed(fields: List[str], host: Optional[str], most: int) -> List[str]:
     return [kind, name, str(min(int(skew), most)), gap]
 
 
+class Progress:
+    """How many runs there were, which is told on a terminal."""
+
+    def __init__(self, is_wanted: bool):
+        self.is_wanted = is_wanted and sys.stderr.isatty()
+        self.told = self.began = time.monotonic()
+
+    def tell(self, count: int) -> None:
+        """Tells it, but not more than once a second."""
+        now = time.monotonic()
+        if self.is_wanted and now - self.told >= PATIENCE:
+            self.told = now
+            say(f"ask: {counted(count, 'run')} by now", "\r")
+
+    def end(self) -> None:
+        """Leaves the line."""
+        if self.told > self.began:
+            say("")
+
+
+def numbers_wanted(halvings: Sequence[Halving]) -> List[Tuple[Halving, int]]:
+    """The number that has to be tried next of each skew of which something isn't known yet."""
+    wanted = [(halving, halving.wanted()) for halving in halvings]
+    return [(halving, number) for halving, number in wanted if number is not None]
+
+
 class Asking:
     """Asks the program of logs with smaller skews, several at a time."""
 
     def __init__(self, question: Question, narrower: Narrower, formula: Source, jobs: int):
         self.question, self.narrower, self.formula, self.jobs = question, narrower, formula, jobs
+        self.progress = Progress(not question.program.is_quiet)
 
     def settle(self, halvings: Sequence[Halving]) -> None:
         """Tries numbers until nothing more is wanted."""
-        while True:
-            wanted = [(halving, number) for halving in halvings for number in [halving.wanted()] if number is not None]
-            if not wanted:
-                return
-            sources = [self.narrower.source_of(halving.host, number) for halving, number in wanted]
-            for (halving, number), run in zip(wanted, self.checks(sources)):
-                halving.runs[number] = run
+        wanted = numbers_wanted(halvings)
+        try:
+            while wanted:
+                sources = [self.narrower.source_of(halving.host, number) for halving, number in wanted]
+                for (halving, number), run in zip(wanted, self.checks(sources)):
+                    halving.runs[number] = run
+                wanted = numbers_wanted(halvings)
+        finally:
+            self.progress.end()
 
     def checks(self, sources: Sequence[Source]) -> List[Run]:
         """The checks of logs, in the order of these."""
         program, options = self.question.program, self.question.options
         jobs = [Job(place, ["check", *options], [self.formula.data, one.data]) for place, one in enumerate(sources)]
         pool: Pool[int] = Pool(program, self.jobs)
-        ended = {done.key: done for done in pool.run(jobs)}
+        ended: Dict[int, Done[int]] = {}
+        for done in pool.run(jobs):
+            ended[done.key] = done
+            self.progress.tell(len(program.runs) + len(ended))
         found = []
         for place, source in enumerate(sources):
             words = words_shown("check", options, [self.formula, source])
@@ -213,9 +247,13 @@ class Sayer:
         """What the check with a number says."""
         return f"  {self.scale.span(number)}: {SAID[run.status]} [{run.words}]"
 
+    def name_of(self, halving: Halving) -> Optional[str]:
+        """The host whose skew was tried, None for all."""
+        return None if halving.host is None else self.log.hosts[halving.host].name
+
     def skew(self, halving: Halving) -> str:
         """The skew that was tried."""
-        return "all skews" if halving.host is None else f"the skew of {self.log.hosts[halving.host].name} alone"
+        return "all skews" if halving.host is None else f"the skew of {self.name_of(halving)} alone"
 
     def as_it_is(self, halving: Halving) -> str:
         """How great it is in the log."""
@@ -237,11 +275,10 @@ class Sayer:
 
     def never(self, halving: Halving) -> str:
         """That it is decided with no number."""
-        if not halving.skews and halving.host is not None:
-            return f"{self.log.hosts[halving.host].name} has no row, so that its skew changes nothing"
+        if not halving.skews:
+            return f"No row is of {self.name_of(halving)}, so that its skew changes nothing"
         if halving.skews[-1] == 0:
-            are = "All skews are" if halving.host is None else f"The skew of {self.log.hosts[halving.host].name} is"
-            return f"{are} 0 already"
+            return f"The skew of {self.name_of(halving)} is 0 already"
         with_it = f"ith {self.skew(halving)} at most {self.scale.span(halving.least())} {self.as_it_is(halving)}"
         if halving.least() == 0:
             return f"Not even w{with_it} is it decided"
@@ -265,7 +302,7 @@ class Sayer:
     def facts(self, halving: Halving) -> Dict[str, Any]:
         """The same for programs."""
         return {
-            "host": None if halving.host is None else self.log.hosts[halving.host].name,
+            "host": self.name_of(halving),
             "skew": max(halving.skews, default=0), "answer": halving.outcome().value, "greatest": halving.greatest(),
             "verdict": halving.verdict(), "either_at": halving.either(), "least": halving.least(),
             "statuses": {str(number): halving.runs[number].status for number in halving.numbers_shown()},
@@ -293,6 +330,7 @@ def decide_answer(question: Question, most: int, arguments: argparse.Namespace) 
         narrower = Narrower(question.log_source, log, arguments.keep)
         answer = deciding.found(Asking(question, narrower, formula, arguments.jobs or cores()))
         answer.lines.append(keeping_words(arguments.keep))
+        answer.facts.update({} if arguments.keep is None else {"folder": arguments.keep})
     if first.status != NO_TIMING:
         tree, values = accepted_tree(question.formula), values_of_status(first.status)
         with_cautions(answer, cautions_wanted(arguments, question, log, tree, values), arguments)
@@ -376,7 +414,7 @@ class Deciding:
         less = "as they are" if least == 1 else f"where they are {span(least - 1)} greater"
         return {
             0: f"It can be {other} where all skews are {span(least)} greater, and not {less}.",
-            1: f"Even with all skews {span(most)} greater it can't be {other}.",
+            1: f"Even with all skews {most_words(self.log.scale, most)} greater it can't be {other}.",
             4: f"How much greater skews have to be for it to be {other} wasn't found within the conflicts.",
         }[status]
 

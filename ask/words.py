@@ -8,9 +8,10 @@ import sys
 from dataclasses import dataclass, field
 from typing import Any, Dict, List, Optional, Sequence
 
-from ask.logs import Bound, Log, Row, bound_of
+from ask.logs import MOST_SKEW, Bound, Log, Row, bound_of
 from ask.reports import Report, Step
 from ask.texts import escaped_json, escaped_lines, write_output
+from ask.units import Scale
 from ask.walks import Ground, bound_between, broken_ground, grounds_of
 
 USAGE = 64  # the status of words that are no command
@@ -83,6 +84,11 @@ def grouped(number: int) -> str:
 def counted(count: int, one: str, many: str = "") -> str:
     """A count with its noun."""
     return f"{grouped(count)} {one if count == 1 else many or one + 's'}"
+
+
+def most_words(scale: Scale, most: int) -> str:
+    """The greatest skew that was tried, in short."""
+    return "10^18" if most == MOST_SKEW else scale.span(most)
 
 
 def listed(words: Sequence[str], most: int = 12) -> str:

@@ -20,9 +20,9 @@ from ask.question import (
 )
 from ask.reports import Best
 from ask.texts import Source, Trouble
-from ask.units import Scale, add_unit_words, scale_of_source, unit_facts
+from ask.units import add_unit_words, scale_of_source, unit_facts
 from ask.windows.opening import number_of_jobs
-from ask.words import USAGE, Answer, bold, table, walk_facts, walk_words
+from ask.words import USAGE, Answer, bold, most_words, table, walk_facts, walk_words
 
 MOST_ROWS_SHOWN = 40
 
@@ -58,7 +58,7 @@ def add_words(commands: "argparse._SubParsersAction[argparse.ArgumentParser]", c
     add_strict_words(words)
     add_unit_words(words)
     add_formula_words(words)
-    words.add_argument("--all", action="store_true", help="show all rows, and all bounds")
+    words.add_argument("--all", action="store_true", help="show all rows, and all bounds; not with --decide")
     words.add_argument("--runs", action="store_true", help="name all runs of the program")
     words.set_defaults(do=do)
 
@@ -95,6 +95,7 @@ def do(arguments: argparse.Namespace) -> Answer:
     """The answer of the command."""
     settle_words(arguments)
     refuse_wrong_conflicts(arguments.conflicts)
+    most = most_of(arguments.most)
     options = ["--conflicts", arguments.conflicts] if arguments.conflicts else []
     asked, source = sources_of(arguments.formula, arguments.log, arguments.unit)
     formula = written_out(asked, source)
@@ -102,7 +103,6 @@ def do(arguments: argparse.Namespace) -> Answer:
         return formula_answer(formula)
     program = program_of(arguments)
     question = Question(program, formula, source, options)
-    most = most_of(arguments.most)
     return decide_answer(question, most, arguments) if arguments.decide else tolerance_answer(question, most, arguments)
 
 
@@ -137,11 +137,6 @@ def most_of(text: Optional[str]) -> int:
     if found is None:
         raise Trouble(USAGE, f"--up-to is a number from 0 to 10^18, and not {text!r}")
     return found
-
-
-def most_words(scale: Scale, most: int) -> str:
-    """The greatest number that was tried, in short."""
-    return "10^18" if most == MOST_SKEW else scale.span(most)
 
 
 class Tolerance:

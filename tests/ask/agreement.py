@@ -3,8 +3,8 @@
 
 Run as: tests/ask/agreement.py [--cases N] [--of COMMAND ..] [--seed N]
 
-Each of deadline, between, tolerance and each is asked N questions of small logs, and what it answers has to be so by
-all timings of the log, which the reference in tests/reference goes through. `ask check` is asked N questions of
+Each of deadline, between, tolerance, tolerance --decide and each is asked N questions of small logs, and what it answers
+has to be so by all timings of the log, which the reference in tests/reference goes through. `ask check` is asked N questions of
 generated files, some of them broken, and has to end with the status of the program. The end is 1 where one differs.
 """
 
@@ -14,7 +14,7 @@ import re
 import sys
 import tempfile
 from pathlib import Path
-from typing import NamedTuple
+from typing import NamedTuple, Optional
 
 sys.dont_write_bytecode = True  # leaves no compiled files beside the sources
 
@@ -27,6 +27,8 @@ import meanings
 import reference
 
 TIMINGS_MOST = 250  # ways to give each row a time of its window that are gone through for a question
+DECIDE_TIMINGS_MOST = 1000  # the same where skews are made smaller
+DECIDE_OPEN_SHARE = 0.97  # of logs that decide the formula or have no timing, in place of which another one is drawn
 WIDEST = 2  # by which skews are widened
 INTERVAL = re.compile(rb"\[([ \t\r\n]*)([0-9]+)([ \t\r\n]*,[ \t\r\n]*)([0-9]+|inf)([ \t\r\n]*\])")
 MARKED = re.compile(rb"\[[ \t\r\n]*([0-9]+|\?)[ \t\r\n]*,[ \t\r\n]*([0-9]+|inf|\?)[ \t\r\n]*\]")
@@ -185,6 +187,102 @@ def widenings(log, most):
     return [logs.widened(log, number) for number in range(most + 1)]
 
 
+# tolerance --decide
+
+
+class Narrowest(NamedTuple):
+    """What has to be said of a skew: the greatest number with which the verdict is decided, and the least with a timing."""
+
+    answer: str
+    greatest: Optional[int]
+    verdict: Optional[str]
+    least: int
+
+
+class Deciding(NamedTuple):
+    """What has to be said of all skews, by the names of hosts, and None for all of them; nothing where none is tried."""
+
+    status: int
+    lines: dict
+
+
+def decide_question(draw):
+    """A log with some greater skews that still has few timings, and a formula, which it seldom decides."""
+    log, formula = wider_question(draw)
+    while draw.random() < DECIDE_OPEN_SHARE and status_on(log, formula) != 2:
+        log, formula = wider_question(draw)
+    return log, formula
+
+
+def wider_question(draw):
+    """A log with some greater skews that still has few timings, and the text of a formula."""
+    while True:
+        log, formula = small_question(draw)
+        hosts, resyncs = (
+            [each._replace(skew=draw.choice((0, 1, 2, 3, 5, 8))) for each in given] for given in (log.hosts, log.resyncs)
+        )
+        log = log._replace(hosts=hosts, resyncs=resyncs)
+        ways = 1
+        for event in range(len(log.rows)):
+            ways *= 2 * reference.skew_of(log, event) + 1
+        if ways <= DECIDE_TIMINGS_MOST:
+            return log, formula
+
+
+def narrowed(log, host, most):
+    """The log with no skew of a host, or of all where that is None, above a number."""
+    hosts, resyncs = (
+        [each._replace(skew=min(each.skew, most)) if host in (None, number) else each for number, each in given]
+        for given in (enumerate(log.hosts), ((resync.host, resync) for resync in log.resyncs))
+    )
+    return log._replace(hosts=hosts, resyncs=resyncs)
+
+
+def decide_facts(log, formula):
+    """What `ask tolerance --decide` has to say, by trying every number of every skew."""
+    status = status_on(log, formula)
+    if status != 2:
+        return Deciding(3 if status == 3 else 0, {})
+    lines = {}
+    for host in [*range(len(log.hosts)), None]:
+        name = None if host is None else log.hosts[host].name.decode()
+        skews = [reference.skew_of(log, event) for event, row in enumerate(log.rows) if host in (None, row.host)]
+        lines[name] = narrowest([status_on(narrowed(log, host, most), formula) for most in range(max(skews, default=0) + 1)])
+    return Deciding(0 if any(line.answer == "decided" for line in lines.values()) else 1, lines)
+
+
+def narrowest(statuses):
+    """What has to be said of a skew by the statuses of check with each number from 0 on."""
+    decided = [most for most, status in enumerate(statuses) if status in (0, 1)]
+    least = next(most for most, status in enumerate(statuses) if status != 3)
+    if not decided:
+        return Narrowest("never", None, None, least)
+    return Narrowest("decided", decided[-1], ("true", "false")[statuses[decided[-1]]], least)
+
+
+def status_on(log, formula):
+    """The status that check has on a log."""
+    timings = Timings(log, list(meanings.admissible_timings(log)))
+    return status_of_values(timings, formula)
+
+
+def decide_said(folder, log, formula):
+    """The same of what `ask tolerance --decide` says."""
+    ended, facts = answer_of(folder, ["tolerance", "--decide", "f", "l"], formula, log)
+    lines = facts.get("lines", [])
+    return Deciding(ended, {line["host"]: Narrowest(*(line[key] for key in Narrowest._fields)) for line in lines})
+
+
+def decide_complaint(draw, folder):
+    """What `ask tolerance --decide` says that isn't so, or nothing."""
+    log, formula = decide_question(draw)
+    said, right = decide_said(folder, log, formula), decide_facts(log, formula)
+    return "" if said == right else f"{formula!r}: {said}, and right is {right}"
+
+
+# The others
+
+
 def each_complaint(draw, folder):
     """What `ask each` says that isn't so, or nothing."""
     log, formula = small_question(draw)
@@ -227,7 +325,7 @@ def check_complaint(draw, folder):
 
 COMPLAINTS = {
     "check": check_complaint, "deadline": deadline_complaint, "between": between_complaint,
-    "tolerance": tolerance_complaint, "each": each_complaint,
+    "tolerance": tolerance_complaint, "decide": decide_complaint, "each": each_complaint,
 }
 
 

@@ -30,7 +30,8 @@ def table_of(words):
     name = words.split()[0] if words else ""
     if "--formula" in words and name != "draw":
         return "--formula"
-    return f"{name} --properties" if "--properties" in words else name
+    option = next((option for option in (" --properties", " --decide") if option in words), "")
+    return f"{name}{option}"
 
 
 def complaint(name, value, place=""):

@@ -24,6 +24,9 @@ ANSWERED = (
     (0, "tolerance false within_9.formula answered.csv"), (0, "tolerance true within_5.formula answered.csv"),
     (1, "tolerance false lease.formula handover_stamps.csv --up-to 1000"), (3, "tolerance true p.formula received_first.csv"),
     (4, "tolerance false either.formula apart.csv --up-to 0 --conflicts 1"),
+    (0, "tolerance --decide lease.formula lease.csv --unit ms"), (0, "tolerance --decide within_9.formula answered.csv"),
+    (0, "tolerance --decide within_9.formula answered.csv --up-to 0"), (3, "tolerance --decide p.formula received_first.csv"),
+    (4, "tolerance --decide either.formula apart.csv --conflicts 1"), (65, "tolerance --decide G(a.hodls->F[0,1]b.holds) lease.csv --strict"),
     (2, r"each F[0,5]{1}.{2} answered.csv --over (\w+)\.(\w+)"), (3, "each Fa.{} received_first.csv --over .*"),
     (0, "log answered.csv"), (0, "log app_events.jsonl --host service --name event --skew 5"),
     (0, "draw answered.csv"), (0, "draw circle.csv --svg"), (0, "draw lease.csv --formula lease.formula"),
@@ -36,7 +39,8 @@ ANSWERED = (
 )
 REFUSED = (
     (64, ""), (64, "what"), (64, "check"), (64, "check a.p set.csv --nothing"), (64, "check a.p set.csv --seconds x"),
-    (64, "tolerance either a.p set.csv"), (64, "deadline F[0,5]a.p set.csv"), (64, "each F{} set.csv"), (64, "log"), (64, "--version x"),
+    (64, "tolerance either a.p set.csv"), (64, "tolerance --decide true a.p set.csv"), (73, "tolerance --decide lease.formula lease.csv --keep ."),
+    (64, "deadline F[0,5]a.p set.csv"), (64, "each F{} set.csv"), (64, "log"), (64, "--version x"),
     (74, "audit ."), (65, "check a. set.csv"), (65, "check c.p set.csv"), (65, "deadline a.p? set.csv"), (65, "draw set.csv --formula a."),
     (66, "check a.p p.formula"), (66, "log p.formula"), (68, "draw answered.csv --times overlap.times"), (72, "check a.p set.csv --program x"),
     (74, "check a.p missing.csv"), (75, "log set.csv --notes missing/x"), (75, "check a.p set.csv --report missing/x"),
@@ -78,6 +82,7 @@ class AgainstThePage(unittest.TestCase):
         ):
             self.assertEqual(set(TABLES[name]) - seen[name], set(), name)
         self.assertEqual(set(TABLES["deadline"]) - seen["deadline"], {"unknown_at"})
+        self.assertEqual(set(TABLES["tolerance --decide"]) - seen["tolerance --decide"], {"folder"})
 
     def test_great_numbers_are_strings(self):
         log = f"kind,host,time,name\nhost,a,2,0\nset,a,-{FAR},p\nset,a,9007199254740992,q\nset,a,9007199254740993,r\nset,a,{FAR},s\n"
