@@ -107,11 +107,16 @@ class Names:
         return any(value.name == name for value in self.propositions)
 
 
+def has_words(formula: Source) -> bool:
+    """Whether a formula has words that the program doesn't know, so that it depends on the log what it becomes."""
+    return HAS_WORDS.search(formula.data.decode("utf-8", "replace")) is not None
+
+
 def written_out(formula: Source, log: Source) -> Source:
     """A formula as the program takes it, of the hosts, the propositions and the unit that a log has."""
-    text = formula.data.decode("utf-8", "replace")
-    if not HAS_WORDS.search(text):
+    if not has_words(formula):
         return formula
+    text = formula.data.decode("utf-8", "replace")
     writer = Writer(formula, text, log)
     pieces = without_outer_parentheses(writer.written_out(), text)
     found = written(formula, pieces)

@@ -5,7 +5,8 @@ Run as: python3 many_logs.py [options] LOGS FORMULA..
 
 Each NAME.csv of the folder LOGS is checked for each formula. Questions go out in bundles, one job of
 parallel each; its joblog says what is done, so that a run that was broken off goes on where it was.
-The folder of answers has a report for each question, a line for each status, and what was asked. A folder
+The folder of answers has a report for each question, a line for each status, and what was asked. A formula in
+the words of ask, as `each{h in n*: ..}`, is written out for each log, and what it becomes lies beside the report. A folder
 that isn't empty has to have this script's mark, and of the files in it those alone are removed that the script
 has named itself.
 At the end stands a table, and the status is that of the whole: the greatest one from 64 on that some
@@ -35,13 +36,17 @@ sys.path.insert(0, str(Path(__file__).resolve().parent.parent))
 
 from ask.ends import refuse_as, run_script, uninterrupted
 from ask.logs import number
+from ask.macros import has_words, written_out
 from ask.reports import verdict_of
-from ask.texts import CANNOT_READ, CANNOT_WRITE, LIMITS, Trouble, escaped, read_file, reason_of, say, width_of, write_output
+from ask.texts import (
+    CANNOT_READ, CANNOT_WRITE, LIMITS, TOO_LONG, Source, Trouble, escaped, read_file, reason_of, say, width_of, write_output,
+)
+from ask.units import UNITS, scaled
 
 BUILT = Path(__file__).resolve().parent.parent / "crates" / "skewcheck" / "out" / "skewcheck"
 WORDS = {0: "true", 1: "false", 2: "either", 3: "no timing", 4: "unknown"}
 ORDER = (3, 1, 2, 4, 0)  # of answers: the first that some question has is the status of the whole
-TROUBLES = 10  # lines of them that are told
+TROUBLES = 10  # lines of them that are told, and refusals of formulas
 REFUSED = 64  # the least status that is no answer
 WRONG_WORDS, UNAVAILABLE, NO_ROOM, NOT_ASKED = 64, 72, 73, 125
 MOST_TO_END = 10  # seconds that parallel has to end its jobs
@@ -57,9 +62,9 @@ room=$(mktemp -d) || exit 74
 trap 'rm -rf "$room"' EXIT
 trap 'exit 130' INT TERM
 tar -C "$room" -xf {{}} && cd "$room" && mkdir answers || exit 74
-while IFS='\t' read -r formula log; do
+while IFS='\t' read -r formula log ending; do
   mkdir -p "answers/$formula"
-  {command} "formulas/$formula" "logs/$log" >"answers/$formula/$log.report" </dev/null
+  {command} "formulas/$formula$ending" "logs/$log" >"answers/$formula/$log.report" </dev/null
   echo "$?" >"answers/$formula/$log.status"
 done <questions
 tar -C answers -cf - .
@@ -137,13 +142,22 @@ class Question(NamedTuple):
     log: int
     text: bytes
     data: bytes
+    is_written_out: bool  # for this log alone
+
+    def ending(self):
+        """What stands in a bundle behind the number of the formula, so that each log has its own."""
+        return f"-{self.log}" if self.is_written_out else ""
+
+    def line(self):
+        """The question as a job reads it."""
+        return "\t".join([str(self.formula), str(self.log), *[self.ending()] * self.is_written_out]) + "\n"
 
 
 def bundle(questions):
     """An archive of some questions with their files, the same bytes each time. A file is named by its number."""
-    parts = {"questions": "".join(f"{question.formula}\t{question.log}\n" for question in questions).encode()}
+    parts = {"questions": "".join(question.line() for question in questions).encode()}
     for question in questions:
-        parts[f"formulas/{question.formula}"] = question.text
+        parts[f"formulas/{question.formula}{question.ending()}"] = question.text
         parts[f"logs/{question.log}"] = question.data
     whole = io.BytesIO()
     with tarfile.open(fileobj=whole, mode="w") as archive:
@@ -154,20 +168,60 @@ def bundle(questions):
     return whole.getvalue()
 
 
-def bundles_of(options, logs, formulas):
-    """The bundles of all questions, and the status of each question as far as it is known."""
-    texts = [bytes_of(path, "formula") for path in formulas.values()]
-    statuses, bundles, waiting = {}, [], []
-    for log, path in enumerate(logs.values(), 1):
-        data = log_of(path)
-        for formula, text in enumerate(texts, 1):
-            statuses[formula, log] = CANNOT_READ if data is None else NOT_ASKED
-            if data is not None:
-                waiting.append(Question(formula, log, text, data))
-            if len(waiting) == options.bundle:
-                bundles.append(bundle(waiting))
-                waiting = []
-    return bundles + [bundle(waiting)] * bool(waiting), statuses
+class Gathering:
+    """The bundles of the questions that can be asked, the statuses of all, and why those are refused that can't be."""
+
+    def __init__(self, options, logs, formulas):
+        self.sources = [Source(shown(name), bytes_of(path, "formula")) for name, path in formulas.items()]
+        self.unit, self.size = options.unit, options.bundle
+        self.statuses, self.written, self.refusals = {}, {}, []
+        self.bundles, self.waiting = [], []
+        for log, path in enumerate(logs.values(), 1):
+            data = log_of(path)
+            for formula in range(1, len(self.sources) + 1):
+                self.take(formula, log, path, data)
+        self.bundles += [bundle(self.waiting)] * bool(self.waiting)
+
+    def take(self, formula, log, path, data):
+        """Takes the question of a formula and a log, whose bytes are None where it can't be read."""
+        if data is None:
+            self.statuses[formula, log] = CANNOT_READ
+            return
+        source = self.sources[formula - 1]
+        try:
+            text = self.written_for(source, path, data)
+        except Trouble as trouble:
+            self.statuses[formula, log] = trouble.status
+            self.refusals.append(refusal_words(shown(path.name), trouble))
+            return
+        if text is not source:
+            self.written[formula, log] = text.data
+        self.statuses[formula, log] = NOT_ASKED
+        self.waiting.append(Question(formula, log, text.data, data, text is not source))
+        if len(self.waiting) == self.size:
+            self.bundles.append(bundle(self.waiting))
+            self.waiting = []
+
+    def written_for(self, formula, path, data):
+        """A formula as the program takes it, written out for a log where it has words of ask."""
+        if not has_words(formula):
+            return formula
+        if len(data) > LIMITS["log"].most:
+            raise Trouble(TOO_LONG, LIMITS["log"].words)
+        return written_out(formula, scaled(Source(shown(path.name), data), str(path), self.unit))
+
+    def tell_refusals(self):
+        """Says why questions aren't asked, of the first of them."""
+        for refusal in self.refusals[:TROUBLES]:
+            tell(refusal)
+        if len(self.refusals) > TROUBLES:
+            tell(f"{len(self.refusals) - TROUBLES} questions more are refused so")
+
+
+def refusal_words(log, trouble):
+    """Why a formula isn't asked of a log, on one line, with the name of the log."""
+    said = trouble.message.splitlines()[0]
+    return said if said.startswith(log) else f"{log}: {said}"
 
 
 def refuse_folder(folder):
@@ -199,13 +253,15 @@ class Questions:
         refuse_folder(Path(options.to))
         logs, formulas = files_of(options)
         self.logs, self.formulas = list(logs), list(formulas)
-        bundles, self.statuses = bundles_of(options, logs, formulas)
+        gathered = Gathering(options, logs, formulas)
+        bundles, self.statuses, self.written = gathered.bundles, gathered.statuses, gathered.written
         names = [os.fsencode(name) for name in [command, *self.logs, "", *self.formulas]]
         digest = sha256(b"\0".join([*names, *(sha256(data).digest() for data in bundles)])).hexdigest()
         self.top = Path(options.to)
         self.folder = self.top / f"questions-{digest[:12]}"
         self.bundles = [f"{number:05}.tar" for number in range(1, len(bundles) + 1)]
         self.write(bundles)
+        gathered.tell_refusals()
 
     def write(self, bundles):
         """Writes the bundles into a folder named by what is asked."""
@@ -330,8 +386,10 @@ def collect(questions):
         for formula, log, kind in found:
             if kind == "report" and (formula, log) in questions.statuses:
                 formula_name, log_name = questions.name_of(formula, log)
-                report = found[formula, log, kind]
-                write(questions.top / "reports" / formula_name / report_name(log_name), report)
+                report, reports = found[formula, log, kind], questions.top / "reports" / formula_name
+                write(reports / name_beside(log_name, "report"), report)
+                if (formula, log) in questions.written:
+                    write(reports / name_beside(log_name, "formula"), questions.written[formula, log])
                 status = found.get((formula, log, "status"), b"").strip()
                 questions.statuses[formula, log] = status_of_answer(status, report)
     count = sum(status == UNAVAILABLE for status in questions.statuses.values())
@@ -344,11 +402,12 @@ def collect(questions):
     write(questions.top / "statuses", "".join(lines).encode())
 
 
-def report_name(log):
-    """The name of the report on a log: that of the log and `.report`, cut where it would be too long for a file."""
-    name = os.fsencode(log) + b".report"
+def name_beside(log, kind):
+    """The name of the report on a log, or of its formula: that of the log and the kind, cut where it would be too long."""
+    ending = b"." + kind.encode()
+    name = os.fsencode(log) + ending
     if len(name) > MOST_NAME:
-        name = name[: MOST_NAME - 40] + b"-" + sha256(name).hexdigest()[:16].encode() + b".report"
+        name = name[: MOST_NAME - 40] + b"-" + sha256(name).hexdigest()[:16].encode() + ending
     return os.fsdecode(name)
 
 
@@ -423,7 +482,7 @@ def options_of(words):
     """What is asked for."""
     parser = Parser(prog="many_logs.py", description="ask formulas of each log of a folder", allow_abbrev=False)
     parser.add_argument("logs", metavar="LOGS", help="the folder of the logs, each a file NAME.csv")
-    parser.add_argument("formulas", metavar="FORMULA", nargs="+")
+    parser.add_argument("formulas", metavar="FORMULA", nargs="+", help="files, also in the words of ask (docs/asking.md#formulas)")
     parser.add_argument("--to", metavar="FOLDER", help="where the answers go (LOGS.answers)")
     parser.add_argument(
         "--jobs", metavar="N", type=number_of_jobs, default="100%", help="jobs at a time on each machine (one a core)",
@@ -433,6 +492,9 @@ def options_of(words):
     parser.add_argument("--conflicts", metavar="N", type=number_of_conflicts, help="as of check")
     parser.add_argument(
         "--seconds", metavar="S", type=number_of_seconds, help="stop a question that takes longer; its status is 124",
+    )
+    parser.add_argument(
+        "--unit", choices=list(UNITS), help="of logs without LOG.notes, for intervals with units, as F[0,250ms]",
     )
     parser.add_argument("--bundle", metavar="N", type=int, default=16, help="questions of one job (16)")
     options = parser.parse_intermixed_args(words)

@@ -102,6 +102,84 @@ class Answers(WithRoom):
         return program
 
 
+class WordsOfAsk(WithRoom):
+    """Formulas that are written out for each log."""
+
+    # The leaders of `two` come one after the other, those of `both` at once; `other` has no n0, and `faulty` no skew.
+    LOGS = {
+        "two": "host,n0,1,0\nhost,n1,1,0\nset,n0,10,leader\nclear,n0,20,leader\nset,n1,30,leader\n",
+        "both": "host,n0,1,0\nhost,n1,1,0\nset,n0,10,leader\nset,n1,30,leader\n",
+        "three": "host,n0,1,0\nhost,n1,1,0\nhost,n2,1,0\nset,n0,10,leader\nset,n1,30,leader\nset,n2,31,leader\n",
+        "other": "host,web,1,0\nset,web,10,leader\n", "faulty": "host,web\n",
+    }
+
+    def setUp(self):
+        super().setUp()
+        self.logs = self.room / "logs"
+        self.logs.mkdir()
+        for name, text in self.LOGS.items():
+            (self.logs / f"{name}.csv").write_text(f"kind,host,time,name\n{text}")
+
+    def formula(self, text):
+        """A formula in a file."""
+        path = self.room / "asked.formula"
+        path.write_text(text)
+        return path
+
+    def statuses(self, *words):
+        """The statuses by the names of logs, with what was said."""
+        done = asked([self.logs, *words, "--to", self.to, "--program", PROGRAM])
+        fields = [line.split("\t") for line in (self.to / "statuses").read_text().splitlines()]
+        statuses = {log[:-4]: int(status) for status, _, log in fields}
+        self.assertEqual(done.returncode, max(statuses.values()))
+        return statuses, done.stderr
+
+    def test_each_log_has_its_own_formula(self):
+        statuses, said = self.statuses(self.formula("G at most one of n*.leader"))
+        self.assertEqual(statuses, {"two": 0, "both": 1, "three": 1, "other": 65, "faulty": 66})
+        self.assertIn("many_logs: other.csv: asked.formula, line 1, column 18: no proposition that a row sets or pulses matches n*.leader.", said)
+        self.assertIn("many_logs: faulty.csv, line 2, column 1: a record has four fields", said)
+        kept = {path.name: path.read_text() for path in self.to.rglob("*.csv.formula")}
+        pair, third = "G !(n0.leader & n1.leader)", "G (!(n0.leader & n1.leader) & !((n0.leader | n1.leader) & n2.leader))"
+        self.assertEqual(kept, {"two.csv.formula": pair, "both.csv.formula": pair, "three.csv.formula": third})
+        for name in kept:
+            formula = self.to / "reports" / "asked.formula" / name
+            words = ["audit", formula, self.logs / formula.stem, formula.with_suffix(".report")]
+            self.assertEqual(subprocess.run([PROGRAM, *words], capture_output=True).stdout, b"accepted\n", name)
+        self.assertEqual(self.statuses(self.formula("G at most one of n*.leader"), "--jobs", "1")[0], statuses)  # goes on
+
+    def test_beside_a_formula_of_the_program(self):
+        formula = self.formula("G at most one of n*.leader")
+        done = asked([self.logs, formula, FORMULAS[0], "--to", self.to, "--program", PROGRAM, "--bundle", "2"])
+        self.assertEqual(done.stdout.splitlines()[1:], ["asked.formula        1      2       0          0        0     2",
+                                                        "within_5.formula     0      0       0          0        0     5"])
+        self.assertEqual({path.name for path in self.to.rglob("*.formula") if path.is_file()}, {f"{name}.csv.formula" for name in ("two", "both", "three")})
+
+    def test_units(self):
+        formula = self.formula("F[0,0.02s] n1.leader")
+        statuses, said = self.statuses(formula)
+        self.assertEqual(set(statuses.values()), {65})
+        self.assertIn("two.csv.notes, which ask log -o writes, doesn't say it: --unit states it", said)
+        shutil.rmtree(self.to)
+        self.assertEqual(self.statuses(formula, "--unit", "ms")[0], {"two": 2, "both": 2, "three": 2, "other": 65, "faulty": 66})
+        shutil.rmtree(self.to)
+        (self.logs / "two.csv.notes").write_text('{"unit": "us"}\n')
+        self.assertEqual(self.statuses(formula)[0]["two"], 0)  # within 20,000 of them
+
+    def test_many_refusals(self):
+        for place in range(20):
+            shutil.copy(self.logs / "other.csv", self.logs / f"other_{place}.csv")
+        _, said = self.statuses(self.formula("G at most one of n*.leader"))
+        self.assertEqual(len(said.splitlines()), 11)
+        self.assertIn("many_logs: 12 questions more are refused so\n", said)
+
+    def test_logs_that_are_too_long(self):
+        (self.logs / "two.csv").write_text("\n" * 1_048_577)
+        statuses, said = self.statuses(self.formula("G at most one of n*.leader"))
+        self.assertEqual(statuses["two"], 67)
+        self.assertIn("two.csv: the log is longer than 1,048,576 bytes", said)
+
+
 class GoingOn(WithRoom):
     def test_what_is_done_is_not_asked_again(self):
         words = self.words("--bundle", "1", "--jobs", "1")
