@@ -38,6 +38,8 @@ def complaint(name, value, place=""):
     """The first place at which a value isn't of the list of a name, or nothing."""
     if not isinstance(value, dict):
         return f"{place}: no object {name}"
+    if name not in TABLES:
+        return f"{place}: {PAGE.name} has no table {name}"
     table = TABLES[name]
     missing = [key for key, (_, is_always) in table.items() if is_always and key not in value]
     strange = [key for key in value if key not in table]

@@ -7,7 +7,7 @@ import unittest
 
 from room import PATIENCE, ROOT, WithRoom
 
-CHECKS = ("names", "examples", "reference", "ask", "many_logs", "install", "scripts")
+CHECKS = ("names", "examples", "edge", "reference", "ask", "many_logs", "install", "scripts")
 
 
 class WithRepository(WithRoom):
@@ -55,24 +55,24 @@ class WithRepository(WithRoom):
 class Counting(WithRepository):
     def test_all(self):
         status, lines = self.outcome()
-        self.assertEqual((status, lines[-1], self.calls()), (0, "55 passed, 0 failed", ["rt ci"]))
+        self.assertEqual((status, lines[-1], self.calls()), (0, "57 passed, 0 failed", ["rt ci"]))
         self.assertEqual([line for line in lines if line.startswith("== ")], ["== rt ci", *(f"== tests/{name}" for name in CHECKS)])
 
     def test_quick(self):
         status, lines = self.outcome("--quick")
-        self.assertEqual((status, lines[-1], self.calls()), (0, "14 passed, 0 failed", []))
+        self.assertEqual((status, lines[-1], self.calls()), (0, "16 passed, 0 failed", []))
 
     def test_failures_are_counted_and_named(self):
         self.check("ask", "echo 5 passed, 3 failed; exit 1")
         status, lines = self.outcome("--quick")
-        self.assertEqual((status, lines[-2:]), (1, ["failed: tests/ask", "17 passed, 3 failed"]))
+        self.assertEqual((status, lines[-2:]), (1, ["failed: tests/ask", "19 passed, 3 failed"]))
 
     def test_no_check_passes_without_a_word(self):
         for script in ("exit 0", "echo 4 passed, 0 failed; exit 3", "kill -9 $$"):
             self.check("install", script)
             status, lines = self.outcome("--quick")
             self.assertEqual(status, 1, script)
-            self.assertRegex(lines[-1], "^1[26] passed, 1 failed$")
+            self.assertRegex(lines[-1], "^1[48] passed, 1 failed$")
 
     def test_a_gate_that_fails(self):
         self.command("rt", "echo 40 passed, 1 failed; exit 1")
@@ -92,12 +92,12 @@ class LeftOut(WithRepository):
 
     def test_is_said(self):
         status, lines = self.outcome("--quick")
-        self.assertEqual((status, lines[-1]), (0, "19 passed, 0 failed"))
+        self.assertEqual((status, lines[-1]), (0, "21 passed, 0 failed"))
         self.assertEqual(lines[lines.index("== left out") + 1], "left out: tests/ask, a page: for want of the package chromium")
 
     def test_is_a_failure_where_packages_could_be_installed(self):
         status, lines = self.outcome("--quick", CI="true")
-        self.assertEqual((status, lines[-1]), (1, "19 passed, 1 failed"))
+        self.assertEqual((status, lines[-1]), (1, "21 passed, 1 failed"))
 
     def test_packages_are_installed(self):
         bare = self.room / "bare"
