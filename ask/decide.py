@@ -28,6 +28,7 @@ SAID = {
     TRUE: "true by every timing", FALSE: "false by every timing", EITHER: "true by some timings and false by others",
     NO_TIMING: "no timing", UNKNOWN: "not found within the conflicts",
 }
+CLOCKS_STAY = "The errors of clocks are as in the log: a smaller skew is none of them."
 ALL_HOSTS = "all-hosts"  # in the names of files, where it is the name of no host
 
 
@@ -329,7 +330,7 @@ def decide_answer(question: Question, most: int, arguments: argparse.Namespace) 
             formula = kept_formula(question.formula, arguments.keep)
         narrower = Narrower(question.log_source, log, arguments.keep)
         answer = deciding.found(Asking(question, narrower, formula, arguments.jobs or cores()))
-        answer.lines.append(keeping_words(arguments.keep))
+        answer.lines += [*[CLOCKS_STAY] * bool(log.clocks), keeping_words(arguments.keep)]
         answer.facts.update({} if arguments.keep is None else {"folder": arguments.keep})
     if first.status != NO_TIMING:
         tree, values = accepted_tree(question.formula), values_of_status(first.status)

@@ -125,7 +125,7 @@ class ByHand(Rooms):
             )),
             (DISTANT, "G (b.q -> O[3,9] a.p)", 0, ("Not even with the skew of a alone at most 0 (it is 5) is it decided.\n",)),
             (empty, "G (a.p -> F[0,13] b.q)", 0, ("No row is of none, so that its skew changes nothing.\n",)),
-            (CLOCKED, "F[0,3] a.r", 0, ("The skew of c is 0 already.\n", "it is false.\n")),
+            (CLOCKED, "F[0,3] a.r", 0, ("The skew of c is 0 already.\n", "it is false.\n", "The errors of clocks are as in the log")),
             (LATE, "G (a.p -> F[0,2] b.q)", 0, (
                 "With the skew of b alone at most 7 (it is 9) it is true, and below 6 no timing is admissible.\n",
                 "  5: no timing [check 'G (a.p -> F[0,2] b.q)' 'l, skew of b at most 5']\n",
@@ -383,9 +383,13 @@ class Programs(Rooms):
             self.assertEqual((ended, text, part in said), (status, "", True), said)
 
     def test_time_that_is_over(self):
-        program = self.program("exec sleep 20\n")
-        words = ["tolerance", "--decide", "lease.formula", "lease.csv", "--seconds", "0.3", "--program", program]
-        self.assertEqual(asked(words, EXAMPLES)[0], 124)
+        first = f'if grep -q "^host,a,5," "$3" && grep -q "^host,b,5," "$3"; then exec {find_program(None)} "$@"; fi\n'
+        for before in ("", first):
+            program = self.program(f"{before}exec sleep 20\n")
+            words = ["tolerance", "--decide", "lease.formula", "lease.csv", "--seconds", "0.5", "--program", program]
+            ended, text, said = asked(words, EXAMPLES)
+            self.assertEqual((ended, text), (124, ""))
+            self.assertIn("a run took longer than --seconds allows", said)
 
     def test_a_pool_ends_what_takes_too_long(self):
         pool = Pool(Program(self.program("exec sleep 20\n")), 2, 0.2)
