@@ -314,8 +314,12 @@ class Sayer:
 # The answer
 
 
-def decide_answer(question: Question, most: int, arguments: argparse.Namespace) -> Answer:
-    """With which smaller skews the verdict is decided, or that it is with those that there are."""
+def decide_answer(question: Question, most: Optional[int], arguments: argparse.Namespace) -> Answer:
+    """With which smaller skews the verdict is decided, or that it is with those that there are.
+
+    Then it is asked by how much these may be greater, up to a number that is stated, or up to the greatest skew, since
+    with wide skews that may take long.
+    """
     program = question.program
     log = log_with_rows(program, question.log_source)
     formula = shown_source(question.formula)
@@ -324,7 +328,7 @@ def decide_answer(question: Question, most: int, arguments: argparse.Namespace) 
     if first.status == NO_TIMING:
         answer = deciding.contradiction()
     elif first.status in (TRUE, FALSE):
-        answer = deciding.already(most)
+        answer = deciding.already(max(1, *(row.skew for row in log.rows)) if most is None else most)
     else:
         if arguments.keep is not None:
             formula = kept_formula(question.formula, arguments.keep)

@@ -48,7 +48,8 @@ def add_words(commands: "argparse._SubParsersAction[argparse.ArgumentParser]", c
     )
     words.add_argument(
         "--up-to", dest="most", metavar="MAX",
-        help="the greatest number that is tried, else 10^18; with --decide where the log decides the formula already",
+        help="the greatest number that is tried, else 10^18; with --decide, where the log decides the formula already, "
+        "of how much greater skews may be, else the greatest skew",
     )
     words.add_argument("--keep", metavar="FOLDER", help="with --decide, keep the formula and the log of each check in a folder")
     words.add_argument(
@@ -103,7 +104,9 @@ def do(arguments: argparse.Namespace) -> Answer:
         return formula_answer(formula)
     program = program_of(arguments)
     question = Question(program, formula, source, options)
-    return decide_answer(question, most, arguments) if arguments.decide else tolerance_answer(question, most, arguments)
+    if arguments.decide:
+        return decide_answer(question, None if arguments.most is None else most, arguments)
+    return tolerance_answer(question, most, arguments)
 
 
 def tolerance_answer(question: Question, most: int, arguments: argparse.Namespace) -> Answer:

@@ -143,9 +143,10 @@ class ByHand(Rooms):
         for formula, words, least, status, sentence in (
             ("within_9.formula", [], 1, 0, "It can be false where all skews are 1 greater, and not as they are."),
             ("within_0.formula", [], 1, 0, "It can be true where all skews are 1 greater, and not as they are."),
-            ("G (a.req -> F[0,21] b.ack)", [], 7, 0, "It can be false where all skews are 7 greater, and not where they are 6 greater."),
+            ("G (a.req -> F[0,21] b.ack)", [], None, 1, "Even with all skews 2 greater it can't be false."),
             ("G (a.req -> F[0,21] b.ack)", ["--up-to", "6"], None, 1, "Even with all skews 6 greater it can't be false."),
-            ("true", [], None, 1, "Even with all skews 10^18 greater it can't be false."),
+            ("G (a.req -> F[0,21] b.ack)", ["--up-to", "9"], 7, 0, "It can be false where all skews are 7 greater, and not where they are 6 greater."),
+            ("true", ["--up-to", str(10**18)], None, 1, "Even with all skews 10^18 greater it can't be false."),
         ):
             facts = self.facts([formula, "answered.csv", *words], 0, EXAMPLES)
             self.assertEqual((facts["wider"], facts["wider_status"], facts["lines"]), (least, status, []))
@@ -156,9 +157,11 @@ class ByHand(Rooms):
     def test_what_is_too_large_where_skews_are_greater(self):
         notes = "".join(f"note,a,{10 * place},n\n" for place in range(200))
         log = self.put("l", f"{FIRST}host,a,0,0\n{notes}")
-        self.assertIn("With much greater skews it is too large to ask", self.decided(["a.p U[0,2] a.q", log], 0))
-        self.assertEqual(self.facts(["a.p U[0,2] a.q", log], 0)["wider_status"], 67)
-        self.assertEqual(self.facts(["a.p U[0,2] a.q", log, "--up-to", "1"], 0)["wider_status"], 1)
+        words = ["a.p U[0,2] a.q", log, "--up-to", str(10**18)]
+        self.assertIn("With much greater skews it is too large to ask", self.decided(words, 0))
+        self.assertEqual(self.facts(words, 0)["wider_status"], 67)
+        facts = self.facts(["a.p U[0,2] a.q", log], 0)
+        self.assertEqual((facts["wider_status"], facts["most"]), (1, 1))
 
     def test_no_timing(self):
         facts = self.facts(["p.formula", "received_first.csv"], 3, EXAMPLES)
