@@ -5,14 +5,13 @@ from __future__ import annotations
 import argparse
 import sys
 import time
-from dataclasses import dataclass
-from enum import Enum
 from pathlib import Path
-from typing import Any, Dict, Iterator, List, NamedTuple, Optional, Sequence, Tuple
+from typing import Any, Dict, List, NamedTuple, Optional, Sequence, Tuple
 
 from ask.cautions import cautions_wanted, values_of_status, with_cautions
+from ask.halving import EITHER, FALSE, NO_TIMING, TRUE, UNKNOWN, Halving, Outcome, halvings_of
 from ask.logs import Log, records_of
-from ask.program import PATIENCE, Run, words_shown
+from ask.program import PATIENCE, STOPPED, Run, Stopped, words_shown
 from ask.question import (
     VERDICTS, Question, accepted_tree, answered, best_of_run, log_with_rows, report_of_run, run_facts, run_lines,
     shown_formula, text_of_source, unreadable, with_report,
@@ -22,103 +21,13 @@ from ask.units import Scale, scale_of_source, unit_facts, write_with_notes
 from ask.windows.pool import Done, Job, Pool, cores
 from ask.words import TYPED, Answer, bold, counted, most_words, no_timing_words, walk_facts, walk_words
 
-TRUE, FALSE, EITHER, NO_TIMING, UNKNOWN = range(5)  # statuses of check
 TOO_LARGE = "refused size"  # how the program's refusal of a question for its size begins
 SAID = {
     TRUE: "true by every timing", FALSE: "false by every timing", EITHER: "true by some timings and false by others",
     NO_TIMING: "no timing", UNKNOWN: "not found within the conflicts",
 }
-CLOCKS_STAY = "The errors of clocks are as in the log: a smaller skew is none of them."
+CLOCKS_STAY = "The errors of clock records stay as they are."
 ALL_HOSTS = "all-hosts"  # in the names of files, where it is the name of no host
-
-
-class Outcome(Enum):
-    """What was found of one skew: a number with which the verdict is decided, that there is none, or not which."""
-
-    DECIDED = "decided"
-    NEVER = "never"
-    UNKNOWN = "unknown"
-
-
-@dataclass
-class Halving:
-    """The numbers that were tried as the greatest skew, of one host alone or of all, with the checks of each.
-
-    A smaller skew excludes timings and adds none. So from the greatest number down both values are possible at first,
-    then one of them, and then there is no timing; the second may be missing, and so may the third. Where a check left
-    a value unknown, it is one of the first two.
-    """
-
-    host: Optional[int]  # None for all hosts
-    skews: List[int]  # those of its rows, each once and in order
-    runs: Dict[int, Run]
-
-    def wanted(self) -> Optional[int]:
-        """The number that has to be tried next, or None where no other one tells more."""
-        if 0 not in self.runs:
-            return 0
-        return next(((below + above) // 2 for below, above in self.gaps() if above - below > 1), None)
-
-    def gaps(self) -> Iterator[Tuple[int, int]]:
-        """The numbers between which something changes, with all between them not tried yet."""
-        least, beside, either = self.least(), self.beside(), self.either()
-        yield max(self.tried(NO_TIMING), default=least - 1), least
-        yield self.greatest_or(least - 1), beside
-        if either is not None:
-            yield max((number for number in self.tried(UNKNOWN) if beside <= number < either), default=either - 1), either
-
-    def tried(self, *statuses: int) -> List[int]:
-        """The numbers whose checks have one of these statuses."""
-        return [number for number, run in self.runs.items() if run.status in statuses]
-
-    def least(self) -> int:
-        """The least number that was tried with which there is a timing."""
-        return min(self.tried(TRUE, FALSE, EITHER, UNKNOWN))
-
-    def greatest(self) -> Optional[int]:
-        """The greatest number that was tried with which the verdict is decided."""
-        return max(self.tried(TRUE, FALSE), default=None)
-
-    def greatest_or(self, other: int) -> int:
-        """The same, or another number where there is none."""
-        found = self.greatest()
-        return other if found is None else found
-
-    def beside(self) -> int:
-        """The least number above those, with which the verdict isn't decided, or left unknown."""
-        above = self.greatest_or(-1)
-        return min(number for number in self.tried(EITHER, UNKNOWN) if number > above)
-
-    def either(self) -> Optional[int]:
-        """The least number with which both values are known to be possible."""
-        return min(self.tried(EITHER), default=None)
-
-    def outcome(self) -> Outcome:
-        """What was found, once nothing more is wanted."""
-        if self.runs[self.beside()].status == UNKNOWN:
-            return Outcome.UNKNOWN
-        return Outcome.NEVER if self.greatest() is None else Outcome.DECIDED
-
-    def numbers_shown(self) -> List[int]:
-        """The numbers whose checks show what was found."""
-        excluded = self.least() - 1
-        shown = [self.greatest(), self.beside(), self.either(), excluded if excluded >= 0 else None]
-        return [number for number in dict.fromkeys(shown) if number is not None]
-
-    def verdict(self) -> Optional[str]:
-        """The value that the formula has where it is decided."""
-        greatest = self.greatest()
-        return None if greatest is None else VERDICTS[self.runs[greatest].status]
-
-
-def halvings_of(log: Log, first: Run) -> List[Halving]:
-    """What is to be found of each host alone and of all together; as they are, all skews have the same check."""
-    of_hosts: List[Optional[int]] = [*range(len(log.hosts)), None]
-    found = []
-    for host in of_hosts:
-        skews = sorted({row.skew for row in log.rows if host in (None, row.host)})
-        found.append(Halving(host, skews, {max(skews, default=0): first}))
-    return found
 
 
 class Narrower:
@@ -322,21 +231,14 @@ def decide_answer(question: Question, most: Optional[int], arguments: argparse.N
     """
     program = question.program
     log = log_with_rows(program, question.log_source)
-    formula = shown_source(question.formula)
     first = answered(question.check(named_text(question.formula)), question)
     deciding = Deciding(question, log, first)
     if first.status == NO_TIMING:
         answer = deciding.contradiction()
-    elif first.status in (TRUE, FALSE):
-        answer = deciding.already(max(1, *(row.skew for row in log.rows)) if most is None else most)
     else:
-        if arguments.keep is not None:
-            formula = kept_formula(question.formula, arguments.keep)
-        narrower = Narrower(question.log_source, log, arguments.keep)
-        answer = deciding.found(Asking(question, narrower, formula, arguments.jobs or cores()))
-        answer.lines += [*[CLOCKS_STAY] * bool(log.clocks), keeping_words(arguments.keep)]
-        answer.facts.update({} if arguments.keep is None else {"folder": arguments.keep})
-    if first.status != NO_TIMING:
+        is_decided = first.status in (TRUE, FALSE)
+        widest = max(1, *(row.skew for row in log.rows)) if most is None else most
+        answer = deciding.already(widest) if is_decided else deciding.found(arguments.keep, arguments.jobs or cores())
         tree, values = accepted_tree(question.formula), values_of_status(first.status)
         with_cautions(answer, cautions_wanted(arguments, question, log, tree, values), arguments)
     answer.facts.update(unit_facts(log.scale), runs=run_facts(program.runs))
@@ -403,8 +305,12 @@ class Deciding:
         """By how much all skews have to be greater for the other value to be possible."""
         formula = shown_source(self.question.formula)
         words = [*self.question.options, other, str(most)]
-        run = self.question.program.run("tolerance", [formula, self.question.log_source], words)
-        self.facts.update(wider=None, wider_status=run.status, most=most)
+        self.facts.update(wider=None, wider_status=STOPPED, most=most)
+        try:
+            run = self.question.program.run("tolerance", [formula, self.question.log_source], words)
+        except Stopped:
+            return "How much greater skews may be wasn't found in time; a smaller --up-to takes less."
+        self.facts["wider_status"] = run.status
         if run.line().startswith(TOO_LARGE):
             return f"With much greater skews it is too large to ask; a smaller --up-to may do. [{run.words}]"
         least = best_of_run(run, self.question, self.log, other).number
@@ -423,22 +329,29 @@ class Deciding:
             4: f"How much greater skews have to be for it to be {other} wasn't found within the conflicts.",
         }[status]
 
-    def found(self, asking: Asking) -> Answer:
-        """The answer where smaller skews are tried."""
+    def found(self, folder: Optional[str], jobs: int) -> Answer:
+        """The answer where smaller skews are tried, so many runs at a time, of logs that a folder may keep."""
+        formula = shown_source(self.question.formula) if folder is None else kept_formula(self.question.formula, folder)
         halvings = halvings_of(self.log, self.first)
-        asking.settle(halvings)
+        Asking(self.question, Narrower(self.question.log_source, self.log, folder), formula, jobs).settle(halvings)
         sayer = Sayer(self.log)
         lines: List[str] = []
         for halving in halvings:
             said = sayer.said(halving)
             lines += [said.sentence, *said.checks]
+        lines += [*[CLOCKS_STAY] * bool(self.log.clocks), keeping_words(folder)]
         self.facts["lines"] = [sayer.facts(halving) for halving in halvings]
+        self.facts.update({} if folder is None else {"folder": folder})
         outcomes = {halving.outcome() for halving in halvings}
-        if Outcome.UNKNOWN in outcomes:
-            said_of_all = f"Unknown: how small each skew has to be for {self.name} to decide {self.formula} wasn't found"
-            return self.answer(UNKNOWN, f"{said_of_all} within the conflicts.", lines)
-        if Outcome.DECIDED in outcomes:
-            said_of_all = f"{self.formula} is decided where skews of {self.name} are smaller, and not as they are."
-            return self.answer(0, said_of_all, lines)
-        never = "with no smaller skew of one host alone, nor with all of them smaller,"
-        return self.answer(1, f"Never: {never} does {self.name} decide {self.formula}.", lines)
+        status = UNKNOWN if Outcome.UNKNOWN in outcomes else 0 if Outcome.DECIDED in outcomes else 1
+        return self.answer(status, self.sentence_of_all(status), lines)
+
+    def sentence_of_all(self, status: int) -> str:
+        """What was found of all skews, by the status of the answer."""
+        return {
+            0: f"{self.formula} is decided where skews of {self.name} are smaller, and not as they are.",
+            1: f"Never: with no smaller skew of one host alone, nor with all of them smaller, does {self.name} decide "
+               f"{self.formula}.",
+            UNKNOWN: f"Unknown: how small each skew has to be for {self.name} to decide {self.formula} wasn't found within "
+                     f"the conflicts.",
+        }[status]

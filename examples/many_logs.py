@@ -482,7 +482,9 @@ def options_of(words):
     """What is asked for."""
     parser = Parser(prog="many_logs.py", description="ask formulas of each log of a folder", allow_abbrev=False)
     parser.add_argument("logs", metavar="LOGS", help="the folder of the logs, each a file NAME.csv")
-    parser.add_argument("formulas", metavar="FORMULA", nargs="+", help="files, also in the words of ask (docs/asking.md#formulas)")
+    parser.add_argument(
+        "formulas", metavar="FORMULA", nargs="+", help="files, also in the words of ask (docs/asking.md#formulas)",
+    )
     parser.add_argument("--to", metavar="FOLDER", help="where the answers go (LOGS.answers)")
     parser.add_argument(
         "--jobs", metavar="N", type=number_of_jobs, default="100%", help="jobs at a time on each machine (one a core)",

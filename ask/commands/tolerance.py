@@ -30,7 +30,8 @@ MOST_ROWS_SHOWN = 40
 def add_words(commands: "argparse._SubParsersAction[argparse.ArgumentParser]", common: argparse.ArgumentParser) -> None:
     """Adds the words of the command."""
     words = commands.add_parser(
-        "tolerance", parents=[common], allow_abbrev=False, help="how far off clocks would be for a formula to hold, or how near for a log to decide it",
+        "tolerance", parents=[common], allow_abbrev=False,
+        help="how far off clocks would be for a formula to hold, or how near for a log to decide it",
         description="The least number by which all skews of the log have to be greater for some timing to give the "
         "formula the value, with that timing and the bounds that exclude it with one less. The status is 0 where there "
         "is such a number, 1 where there is none up to MAX, 3 where even then there is no timing, and 4 where it wasn't "

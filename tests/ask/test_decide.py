@@ -2,7 +2,6 @@
 
 import json
 import random
-import subprocess
 import tempfile
 import unittest
 from collections import Counter
@@ -10,10 +9,11 @@ from pathlib import Path
 from unittest import mock
 
 import agreement
-from common import PATIENCE, ROOT, asked, facts_of_text, status_of
+from common import ROOT, asked, facts_of_text, status_of
 from test_words import Terminal
 
-from ask.decide import Halving, Outcome, Progress
+from ask.decide import Progress
+from ask.halving import Halving, Outcome
 from ask.logs import read_log
 from ask.program import Program, Run, find_program
 from ask.windows.pool import Job, Pool
@@ -125,7 +125,7 @@ class ByHand(Rooms):
             )),
             (DISTANT, "G (b.q -> O[3,9] a.p)", 0, ("Not even with the skew of a alone at most 0 (it is 5) is it decided.\n",)),
             (empty, "G (a.p -> F[0,13] b.q)", 0, ("No row is of none, so that its skew changes nothing.\n",)),
-            (CLOCKED, "F[0,3] a.r", 0, ("The skew of c is 0 already.\n", "it is false.\n", "The errors of clocks are as in the log")),
+            (CLOCKED, "F[0,3] a.r", 0, ("The skew of c is 0 already.\n", "it is false.\n", "The errors of clock records stay as they are.\n")),
             (LATE, "G (a.p -> F[0,2] b.q)", 0, (
                 "With the skew of b alone at most 7 (it is 9) it is true, and below 6 no timing is admissible.\n",
                 "  5: no timing [check 'G (a.p -> F[0,2] b.q)' 'l, skew of b at most 5']\n",
@@ -393,6 +393,15 @@ class Programs(Rooms):
             ended, text, said = asked(words, EXAMPLES)
             self.assertEqual((ended, text), (124, ""))
             self.assertIn("a run took longer than --seconds allows", said)
+
+    def test_time_that_is_over_behind_the_verdict(self):
+        program = self.program(f'if [ "$1" = check ]; then exec {find_program(None)} "$@"; fi\nexec sleep 20\n')
+        words = ["true", "answered.csv", "--seconds", "2", "--program", program]
+        said = self.decided(words, 0, EXAMPLES)
+        self.assertIn("True already: true is true", said)
+        self.assertIn("How much greater skews may be wasn't found in time", said)
+        facts = self.facts(words, 0, EXAMPLES)
+        self.assertEqual((facts["wider"], facts["wider_status"]), (None, 124))
 
     def test_a_pool_ends_what_takes_too_long(self):
         pool = Pool(Program(self.program("exec sleep 20\n")), 2, 0.2)
