@@ -4,6 +4,7 @@ pub mod EdgeLists
 pub mod KnownSpans
 pub mod Entries
 pub mod Near
+pub mod Beginnings
 pub mod Reached
 pub mod RowTables
 pub mod Ranges

@@ -1,5 +1,5 @@
 -- A search for the greatest numbers that meet edges: how it begins, goes on from a node that waited, and ends.
-use Rattle.std.proofs.Common.{◌≡◌, ◌≢◌, ◌∙◌, sym, ap, ℕ, ◌<◌, ◌⊎◌, inl, inr, arith, List, [], ◌∷◌, length, All, ℤ, pos, ◌+ℤ◌, ◌-ℤ◌, ◌≤ℤ◌, refl}
+use Rattle.std.proofs.Common.{◌≡◌, ◌≢◌, ◌∙◌, sym, ap, ℕ, ◌<◌, ◌⊎◌, inl, inr, arith, List, [], ◌∷◌, length, All, ℤ, pos, refl}
 use Rattle.std.specs.Prelude.{IsPermutation, slice_index_or}
 use Rattle.std.proofs.lemmas.Bool.{cases_eq}
 use Rattle.std.proofs.lemmas.Int.{ints}
@@ -12,7 +12,6 @@ use Rattle.neg_cycle.specs.Systems.{Meets, number_of}
 use Rattle.skew_bounds.specs.Beginning.{IsBeginning}
 use Rattle.skew_bounds.specs.Incoming.{IsLatest, IsNear, IsNetwork, ending_at}
 use Rattle.skew_bounds.specs.Lowering.{AreNodes, IsFloor, IsLowered, IsSearch, Waits, ahead_of, entry_of}
-use Rattle.skew_bounds.specs.declared.latest.TheConstants.{UNREACHED}
 use Rattle.skew_bounds.specs.declared.lowering.Waiting.{Waiting}
 use Rattle.std.proofs.lemmas.Map.Made.{Contains-tail}
 
@@ -35,64 +34,26 @@ module _ (incoming : List (List Edge)) (potential : List ℤ) (node : ℕ) (netw
   near-at : (y : List ℤ) → IsNear incoming y → (v : ℕ) → v < length incoming → IsWithin MAX_TIME (number_of y v)
   near-at y is v below = is.near v (pos 0) (rw is.solution.count below)
 
-  module _ (numbers : List ℤ) (begins : IsBeginning potential node numbers) where
-    -- no near solution is further above the node than the beginning
-    begin-floor : (y : List ℤ) → IsNear incoming y → IsFloor y (number_of y node) numbers
-    begin-floor y is v below =
-        let in-v : v < length incoming = rw (begins.count ∙ count) at below in
-        elim (cases_eq v node) [
-          | inl same ↦ rw (same, begins.own) (omega (arith, ints))
-          | inr apart ↦
-              let a = near-at y is v in-v in
-              let b = near-at y is node within in
-              let c = near-at potential near v in-v in
-              let d = near-at potential near node within in
-              rw (begins.others v (rw count in-v) apart) (omega (arith, ints, a.low, a.high, b.low, b.high, c.low, c.high, d.low, d.high))
-        ]
-
-    begin-high : (v : ℕ) → v < length potential → number_of numbers v ≤ℤ (pos 60000000000000000000)
-    begin-high v below =
-        let in-v : v < length incoming = rw count at below in
-        elim (cases_eq v node) [
-          | inl same ↦ rw (same, begins.own) (omega (arith, ints))
-          | inr apart ↦
-              let c = near-at potential near v in-v in
-              let d = near-at potential near node within in
-              rw (begins.others v below apart) (omega (arith, ints, c.low, c.high, d.low, d.high))
-        ]
-
-    -- an edge that ends elsewhere is met, since the potential meets it
-    begin-met : (v : ℕ) → v < length incoming → v ≢ node → All (Meets numbers) (ending_at incoming v)
-    begin-met v below apart k d place =
-        let edge = network.edges v below k d place in
-        let end = network.ends v below k d place in
-        let met = near.solution.meets v below k d place in
-        by (slice_index_or (ending_at incoming v) k d) (rw count edge.from) end met
-      where
-        by : (e : Edge) → e.from < length potential → e.to ≡ v → Meets potential e → Meets numbers e
-        by e from end met =
-            let to : number_of numbers e.to ≡ number_of potential e.to -ℤ number_of potential node +ℤ UNREACHED = rw end (begins.others v (rw count below) apart) in
-            elim (cases_eq e.from node) [
-              | inl same ↦ let own = begins.own in let m = rw same at met in rw (same) (omega (arith, ints, own, to, m))
-              | inr other ↦ let start = begins.others e.from from other in omega (arith, ints, start, to, met)
-            ]
+  module _ (numbers : List ℤ) (begins : IsBeginning incoming node numbers) where
+    in-network : (v : ℕ) → v < length numbers → v < length incoming
+    in-network v below = rw begins.count at below
 
     pub reached-first : (waiting : List Waiting) → IsPermutation (entry_of potential node (pos 0) ∷ []) waiting → IsReached incoming potential node numbers waiting
     reached-first waiting first = record {
       search = record {
-        count = begins.count;
+        count = begins.count ∙ sym count;
         near = near.near;
         least = number_of potential node;
         least_near = near-at potential near node within;
-        floor = begin-floor potential near;
-        high = λ v below. begin-high v (rw begins.count at below);
+        floor = λ v below. begins.most v (in-network v below) potential near;
+        high = λ v below. begins.high v (in-network v below);
       };
       nodes = All-permutation (λ w. w.node < length potential) _ waiting first (All-cons (λ w. w.node < length potential) _ [] (rw count within) (All-nil (λ w. w.node < length potential)));
       own = begins.own;
-      greatest = begin-floor;
+      greatest = λ y is v below. begins.most v (in-network v below) y is;
       settled = λ v below. elim (cases_eq v node) [
         | inl same ↦ inr (rw (same, begins.own) (Contains-permutation _ waiting _ first (Contains-get_or (entry_of potential node (pos 0) ∷ []) 0 (entry_of potential node (pos 0)) (omega arith))))
-        | inr apart ↦ inl (begin-met v below apart)
+        | inr apart ↦ inl (begins.met v below apart)
       ];
     }
 

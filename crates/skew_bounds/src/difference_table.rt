@@ -11,6 +11,7 @@ ghost use Rattle.skew_bounds.specs.System.{IsSystemOf};
 ghost use Rattle.skew_bounds.specs.Table.{IsTableOf};
 ghost use Rattle.skew_bounds.specs.Tight.{IsTight};
 
+use crate::beginning::are_near;
 use crate::edges::node_count;
 use crate::incoming::incoming_of;
 use crate::latest::latest;
@@ -40,14 +41,21 @@ fn table_by(
     potential: &[i128],
 ) -> Result<Matrix, AllocError>
     requires nodes { nodes ≤ length incoming.now }
+    requires zero_moment { 0 < length incoming.now }
     requires few { length incoming.now < 2 ^ 32 }
     requires network { IsNetwork (lists_of incoming.now) }
     requires potential { IsNear (lists_of incoming.now) potential.now }
     ensures { IfOk result (IsTableOf nodes (lists_of incoming.now)) }
 {
+    let zero = latest(alloc, incoming, potential, None, 0)?;
+    let zero = if are_near(&zero) {
+        Some(zero.as_slice())
+    } else {
+        None
+    };
     let mut table = Matrix::new(alloc, nodes)?;
     for node in 0..nodes {
-        let numbers = latest(alloc, incoming, potential, node as u32)?;
+        let numbers = latest(alloc, incoming, potential, zero, node as u32)?;
         set_column(&mut table, node, &numbers[..nodes]);
     }
     Ok(table)

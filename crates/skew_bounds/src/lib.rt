@@ -6,6 +6,7 @@
 //! negative sum (Bellman, On a routing problem, 1958). Times and bounds are in the log's unit of time.
 #![tactic(auto)]
 
+mod beginning;
 mod bound_list;
 mod broken;
 mod consistency;

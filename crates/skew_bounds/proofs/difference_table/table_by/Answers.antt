@@ -7,4 +7,4 @@ loop-node-preserved c =
     let incoming = c.args.incoming.now in
     table-more c.args.nodes (lists_of incoming) c.loop-node.node c.in_ok-numbers.numbers.items c.loop-node.table c.set_column.new.table
     c.loop-node-test.true c.loop-node.invariant c.in_ok-numbers.ensures.latest
-    (rw c.deref.ensures.value at c.set_column.ensures)
+    (rw c.deref-in-loop-node.ensures.value at c.set_column.ensures)
