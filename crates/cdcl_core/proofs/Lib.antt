@@ -4,6 +4,7 @@ pub mod Lessons
 pub mod Reading
 pub mod Counts
 pub mod Spelling
+pub mod Closing
 pub mod Conflicts
 pub mod Cycles
 pub mod Denied

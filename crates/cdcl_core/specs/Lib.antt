@@ -5,6 +5,7 @@ pub mod Assignments
 pub mod Recording
 pub mod Founds
 pub mod Deciding
+pub mod Closing
 pub mod Running
 pub mod Extending
 pub mod Spending

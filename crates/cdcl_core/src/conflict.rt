@@ -69,7 +69,7 @@ impl SearchState {
         }
     }
 
-    // Writes the lines of assumed orders that lines are to cite which cite these clauses: whether the bounds give all of them.
+    // Writes the lines of the assumed orders among these clauses, which a line is to cite: whether the bounds give all of them.
     fn settle(
         &mut self,
         alloc: Global,

@@ -4,22 +4,14 @@ ghost use Rattle.std.specs.Prelude.{◌≤◌, ◌<◌, length, All, IfOk};
 
 use axiom_rules::{Atom, AtomTable};
 use clause_db::{Lit, Var};
-use question::{greatest_between, least_between};
+use mtl_encode::order_value;
 use skew_bounds::Tight;
 use std::alloc::{AllocError, Global};
 
 // The value that an atom has in every timing, if it is an order and has one. That it is so is tested where a line says it.
 fn value_by_bounds(tight: &Tight, atom: Atom) -> Option<bool> {
     match atom {
-        Atom::Order { e, f, c } => {
-            if greatest_between(tight, f, e) <= c {
-                Some(true)
-            } else if least_between(tight, f, e) > c {
-                Some(false)
-            } else {
-                None
-            }
-        }
+        Atom::Order { e, f, c } => order_value(tight, e, f, c),
         Atom::Node { .. } | Atom::First { .. } | Atom::Same { .. } => None,
         Atom::Wit { .. } | Atom::Span { .. } | Atom::Gap { .. } => None,
     }

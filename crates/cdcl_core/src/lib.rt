@@ -12,6 +12,7 @@ mod derived;
 mod descent;
 mod difference;
 mod found;
+mod ground;
 mod heads;
 mod lines;
 mod linked;

@@ -10,7 +10,7 @@ use crate::decided::decided_by;
 use crate::main_loop::search_by;
 use crate::{Budget, Found, Searched};
 use mt_model::{Times, bounds_are_admissible, log_is_valid};
-use mtl_encode::encode_asked;
+use mtl_encode::{Part, encode_asked};
 use question::{Question, question_is_asked};
 use skew_bounds::{Tight, times_of};
 use std::alloc::{AllocError, Global};
@@ -37,6 +37,67 @@ fn replayed(
     }
 }
 
+/// What is found in instances that a value asks for, and whether some were left out.
+#[derive(Drop)]
+struct Turn {
+    found: Option<Searched>,
+    is_cut: bool,
+}
+
+// What is found in the instances that a value asks for, so many of which may name all rows as witnesses.
+fn search_within(
+    alloc: Global,
+    question: Question,
+    tight: &Tight,
+    value: bool,
+    budget: Budget,
+    most: u32,
+) -> Result<Turn, AllocError>
+    requires tight { IsTight question.log tight.now }
+    ensures found { IfOk result (λ turn. IfSome turn.found (IsSearched question.entry.log question.entry.form value budget)) }
+{
+    bounds_are_admissible();
+    // What a log and a formula are, their parts are known with.
+    log_is_valid(question.log());
+    let _ = question.formula().tree();
+    question_is_asked(&question);
+    let (log, nodes) = (question.log(), question.nodes());
+    let Part { problem, is_cut } = encode_asked(alloc, question, value, tight, most)?;
+    let assumed = decided_by(alloc, &problem.atoms, tight)?;
+    match search_by(alloc, problem, &assumed, budget.get())? {
+        Some(
+            Found::Model {
+                values: _,
+                potentials,
+            },
+        ) => {
+            let again = Question::new(alloc, log, nodes)?;
+            match replayed(alloc, &again, value, potentials.as_slice())? {
+                Some(times) => Ok(Turn {
+                    found: Some(Searched::Timing(times)),
+                    is_cut,
+                }),
+                None => Ok(Turn {
+                    found: None,
+                    is_cut,
+                }),
+            }
+        }
+        Some(Found::Refuted(lines)) => Ok(Turn {
+            found: Some(Searched::Refuted(lines)),
+            is_cut,
+        }),
+        Some(Found::Spent(_)) | None => Ok(Turn {
+            found: None,
+            is_cut,
+        }),
+    }
+}
+
+// How many instances may name all rows as witnesses, turn by turn: most values are refuted by few, and where one isn't, the
+// turns before cost little beside the next.
+const TURNS: [u32; 4] = [32, 128, 512, u32::MAX];
+
 /// What is found of a value in the instances that it asks for: lines that refute it, or a timing in which the formula has it,
 /// which is replayed. None where the search finds another timing, spends the budget, or comes to nothing. An error is want of
 /// memory.
@@ -50,28 +111,14 @@ pub fn search_part(
     requires tight { IsTight question.log tight.now }
     ensures found { IfOk result (λ o. IfSome o (IsSearched question.entry.log question.entry.form value budget)) }
 {
-    bounds_are_admissible();
-    // What a log and a formula are, their parts are known with.
-    log_is_valid(question.log());
-    let _ = question.formula().tree();
     question_is_asked(&question);
     let (log, nodes) = (question.log(), question.nodes());
-    let part = encode_asked(alloc, question, value, tight)?;
-    let assumed = decided_by(alloc, &part.atoms, tight)?;
-    match search_by(alloc, part, &assumed, budget.get())? {
-        Some(
-            Found::Model {
-                values: _,
-                potentials,
-            },
-        ) => {
-            let again = Question::new(alloc, log, nodes)?;
-            match replayed(alloc, &again, value, potentials.as_slice())? {
-                Some(times) => Ok(Some(Searched::Timing(times))),
-                None => Ok(None),
-            }
+    for most in TURNS {
+        let again = Question::new(alloc, log, nodes)?;
+        let Turn { found, is_cut } = search_within(alloc, again, tight, value, budget, most)?;
+        if found.is_some() || !is_cut {
+            return Ok(found);
         }
-        Some(Found::Refuted(lines)) => Ok(Some(Searched::Refuted(lines))),
-        Some(Found::Spent(_)) | None => Ok(None),
     }
+    Ok(None)
 }

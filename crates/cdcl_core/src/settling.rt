@@ -15,10 +15,10 @@ ghost use Rattle.propagate.specs.Links.{edge_in};
 use crate::conflict::Theory;
 use crate::derived::Derived;
 use crate::difference::order_edges;
+use crate::ground::{Ground, grounds_are_solved};
 use crate::walk::{denied, steps_of};
 use axiom_rules::Atom;
 use clause_db::{ClauseRef, Lit};
-use difference_graph::{Graph, Push, graphs_are_solved};
 use neg_cycle::Edge;
 use proof_log::Line;
 use std::alloc::{AllocError, Global};
@@ -62,7 +62,7 @@ fn is_only(lits: &[Lit], lit: Lit) -> bool
 fn record(
     alloc: Global,
     theory: &Theory,
-    ground: &Graph,
+    ground: &Ground,
     derived: &mut Derived,
     clause: ClauseRef,
     lit: Lit,
@@ -78,7 +78,7 @@ fn record(
     ensures done { IfOk result (λ done. IsTrue done → IsSettled (cite_at derived.new.cites clause)) }
 {
     // The held edges have a solution, and each atom has one variable.
-    graphs_are_solved(ground);
+    grounds_are_solved(ground);
     let _ = theory.atoms.len();
     let orders = [lit.negated()];
     let bounds = theory.bounds.as_slice();
@@ -97,7 +97,7 @@ fn record(
 fn settle(
     alloc: Global,
     theory: &Theory,
-    ground: &mut Graph,
+    ground: &mut Ground,
     derived: &mut Derived,
     clause: ClauseRef,
 ) -> Result<bool, AllocError>
@@ -123,14 +123,10 @@ fn settle(
     let Some(edge) = edge_of(theory.atoms.atom(lit.var()), lit.negated().positive()) else {
         return Ok(false);
     };
-    let mark = ground.mark();
-    match ground.push(edge) {
-        Push::Kept => {
-            ground.pop_to(mark);
-            Ok(false)
-        }
-        Push::Cycle => record(alloc, theory, ground, derived, clause, lit),
+    if !ground.refuses(edge)? {
+        return Ok(false);
     }
+    record(alloc, theory, ground, derived, clause, lit)
 }
 
 /// Writes the lines of the assumed orders among these clauses that have none yet: whether the edges of the bounds give all
@@ -138,7 +134,7 @@ fn settle(
 pub fn settle_all(
     alloc: Global,
     theory: &Theory,
-    ground: &mut Graph,
+    ground: &mut Ground,
     derived: &mut Derived,
     clauses: &[ClauseRef],
 ) -> Result<bool, AllocError>

@@ -10,6 +10,7 @@ ghost use Rattle.cdcl_core.specs.Searching.{IsGround, IsSearch};
 use crate::conflict::Theory;
 use crate::derived::Derived;
 use crate::difference::{graph_of, links_of};
+use crate::ground::Ground;
 use crate::linked::LinkedLits;
 use crate::state::SearchState;
 use crate::strategy::Strategy;
@@ -27,7 +28,7 @@ struct Start {
     links: Links,
     trail: Trail,
     graph: Graph,
-    ground: Graph,
+    ground: Ground,
     strategy: Strategy,
 }
 
@@ -51,7 +52,8 @@ impl Start {
         let trail = Trail::new(alloc, vars)?;
         trails_are_in_order(&trail);
         let graph = graph_of(alloc, problem.nodes, problem.edges.as_slice(), vars)?;
-        let ground = graph_of(alloc, problem.nodes, problem.edges.as_slice(), 1)?;
+        let bounds = graph_of(alloc, problem.nodes, problem.edges.as_slice(), 1)?;
+        let ground = Ground::new(alloc, problem.nodes, bounds)?;
         let strategy = Strategy::new(alloc, problem)?;
         Ok(Start {
             links,

@@ -2,6 +2,7 @@
 
 use crate::conflict::Theory;
 use crate::derived::Derived;
+use crate::ground::Ground;
 use crate::linked::LinkedLits;
 use crate::strategy::Strategy;
 use difference_graph::Graph;
@@ -14,7 +15,7 @@ pub struct SearchState {
     pub theory: Theory,
     pub trail: Trail,
     pub graph: Graph,
-    pub ground: Graph,
+    pub ground: Ground,
     pub linked: LinkedLits,
     pub derived: Derived,
     pub strategy: Strategy,

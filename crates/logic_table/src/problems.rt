@@ -117,7 +117,8 @@ fn asked_of(alloc: Global, case: &LogicCase) -> Option<Problem> {
     let nodes = Nodes::asked(alloc, &log, &f).ok()?;
     let question = Question::new(alloc, &log, &nodes).ok()?;
     let tight = tight(alloc, &log).ok()?;
-    encode_asked(alloc, question, case.value(), &tight).ok()
+    let part = encode_asked(alloc, question, case.value(), &tight, u32::MAX).ok()?;
+    Some(part.problem)
 }
 
 // Adds the parts of that problem.

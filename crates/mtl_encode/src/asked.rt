@@ -4,7 +4,7 @@ ghost use Rattle.std.specs.Prelude.{◌≡◌, IfOk, OnOk};
 ghost use Rattle.mtl_encode.specs.Asked.{AreAsked, IsHeld};
 
 use crate::clauses::Clauses;
-use crate::demands::demands_of;
+use crate::demands::{SOME_WITNESS, demands_of};
 use crate::held::Held;
 use crate::scene::Scene;
 use crate::workspace::Workspace;
@@ -74,6 +74,17 @@ struct Asked {
     held: Held,
     wanted: Wanted,
     workspace: Workspace,
+    // How many more of them may name all rows as witnesses.
+    left: u32,
+    is_cut: bool,
+}
+
+/// The clauses of instances that a value sought asks for, and whether some were left out for there being too many of their
+/// kind.
+#[derive(Drop)]
+pub struct AskedClauses {
+    pub clauses: Clauses,
+    pub is_cut: bool,
 }
 
 impl Asked {
@@ -88,7 +99,7 @@ impl Asked {
             Err(RuleFault::Memory) => return Err(AllocError),
             Err(_) => return Ok(()),
         }
-        if scene.is_met(self.workspace.clause.as_slice(), head) {
+        if scene.is_met(self.workspace.clause.as_slice(), head) || self.is_too_much(rule) {
             return Ok(());
         }
         if self.held.add(&mut self.workspace, scene.rules, rule)? {
@@ -97,6 +108,22 @@ impl Asked {
                 .take(&workspace.lits, workspace.clause.as_slice(), head)?;
         }
         Ok(())
+    }
+
+    // Whether an instance names all rows as witnesses, and as many as may do so are there.
+    fn is_too_much(&mut self, rule: Rule) -> bool
+        ensures held { self.new.held ≡ self.old.held }
+        ensures workspace { self.new.workspace ≡ self.old.workspace }
+    {
+        if rule.number != SOME_WITNESS {
+            return false;
+        }
+        if self.left == 0 {
+            self.is_cut = true;
+            return true;
+        }
+        self.left -= 1;
+        false
     }
 
     // The same of several.
@@ -149,17 +176,19 @@ impl Asked {
     }
 }
 
-/// The clauses of the instances that the value sought asks for.
-pub fn asked_of(alloc: Global, scene: Scene<'_>) -> Result<Clauses, AllocError>
-    ensures { IfOk result (AreAsked scene.entry.rules.now) }
+/// The clauses of the instances that the value sought asks for, so many of which may name all rows as witnesses.
+pub fn asked_of(alloc: Global, scene: Scene<'_>, most: u32) -> Result<AskedClauses, AllocError>
+    ensures { IfOk result (λ asked. AreAsked scene.entry.rules.now asked.clauses) }
 {
     let mut asked = Asked {
         held: Held::new(alloc),
         wanted: Wanted::new(alloc),
         workspace: Workspace::new(alloc),
+        left: most,
+        is_cut: false,
     };
     asked.ask(alloc, scene)?;
-    let Asked { held, .. } = asked;
+    let Asked { held, is_cut, .. } = asked;
     let Held { clauses, .. } = held;
-    Ok(clauses)
+    Ok(AskedClauses { clauses, is_cut })
 }

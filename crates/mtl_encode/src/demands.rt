@@ -1,11 +1,15 @@
 //! What a literal asks for: the instances that say what follows from it.
 
+use crate::needless::is_dead;
 use crate::scene::Scene;
 use axiom_rules::{Atom, Literal, Rule};
 use formula_arena::{Core, Direction};
 use mt_model::NodeId;
 use question::greatest_between;
 use std::alloc::AllocError;
+
+/// The number of the rule that a true until or since has a witness, which names all rows.
+pub const SOME_WITNESS: u8 = 17;
 
 // Where demands go, and what is known of the question.
 #[derive(Drop)]
@@ -44,13 +48,13 @@ impl Asking<'_> {
     // An until or a since.
     fn ask_reach(&mut self, k: u32, e: u32, positive: bool) -> Result<(), AllocError> {
         if positive {
-            return self.add(17, [k, e, 0, 0]);
+            return self.add(SOME_WITNESS, [k, e, 0, 0]);
         }
         let Some(u) = self.scene.rules.reach_at(k) else {
             return Ok(());
         };
         for placed in self.scene.reached(&u, e) {
-            if !self.scene.is_dead(&u, e, placed.row) {
+            if !is_dead(self.scene.tight, &u, e, placed.row) {
                 self.add(18, [k, e, placed.row, 0])?;
             }
         }
@@ -144,7 +148,7 @@ impl Asking<'_> {
         let Some(u) = self.scene.rules.reach_at(k) else {
             return Ok(());
         };
-        if self.scene.is_never_up_to(&u, i, m) {
+        if self.scene.is_too_far(&u, i, m) {
             return Ok(());
         }
         self.add(22, args)?;
@@ -200,9 +204,9 @@ impl Asking<'_> {
         };
         let number = if self.scene.known.value(u.right, j) == Some(false) {
             14
-        } else if self.scene.is_never_from(&u, i, j) {
+        } else if self.scene.is_too_near(&u, i, j) {
             12
-        } else if self.scene.is_never_up_to(&u, i, j) {
+        } else if self.scene.is_too_far(&u, i, j) {
             13
         } else {
             15

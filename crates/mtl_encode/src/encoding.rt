@@ -16,13 +16,13 @@ ghost use Rattle.mtl_encode.specs.Listing.{ListsRules};
 ghost use Rattle.mtl_encode.specs.Models.{IsModel};
 ghost use Rattle.mtl_encode.specs.Problems.{Fits};
 
-use crate::asked::asked_of;
+use crate::asked::{AskedClauses, asked_of};
 use crate::changes::told_by;
 use crate::clauses::Clauses;
 use crate::known::known_by;
 use crate::scene::Scene;
 use crate::windows::Windows;
-use crate::{Problem, rules_are_exact};
+use crate::{Part, Problem, rules_are_exact};
 use axiom_rules::Rules;
 use formula_arena::{Arena, cores_are_cores};
 use mt_model::{Log, NodeId, bounds_are_admissible, conflict_excludes_timings, log_is_valid};
@@ -132,17 +132,19 @@ pub fn encode(
 
 /// The problem of the instances that a value sought of a question's formula can ask for: of each literal that has to be true
 /// those that say what follows, from the rows on that can be first, by windows over the rows' least times. An instance is left
-/// out where the bounds make its clause true. An error is want of memory.
+/// out where the bounds make its clause true, and where `most` instances are there that name all rows as witnesses each
+/// further one of that kind. An error is want of memory.
 pub fn encode_asked(
     alloc: Global,
     question: Question,
     value: bool,
     tight: &Tight,
-) -> Result<Problem, AllocError>
-    ensures fits { IfOk result (Fits (sought_of question.entry.log question.entry.form value)) }
+    most: u32,
+) -> Result<Part, AllocError>
+    ensures fits { IfOk result (λ part. Fits (sought_of question.entry.log question.entry.form value) part.problem) }
 
     // Each rule is there once.
-    ensures once { IfOk result (λ p. AllPairs (λ q r. q ≢ r) p.rules) }
+    ensures once { IfOk result (λ part. AllPairs (λ q r. q ≢ r) part.problem.rules) }
 {
     log_is_valid(question.log());
     let (log, nodes) = (question.log(), question.nodes());
@@ -158,8 +160,8 @@ pub fn encode_asked(
         told: &told,
         known: &known,
     };
-    let asked = asked_of(alloc, scene)?;
-    let ordered = asked.in_order(alloc, &rules)?;
+    let AskedClauses { clauses, is_cut } = asked_of(alloc, scene, most)?;
+    let ordered = clauses.in_order(alloc, &rules)?;
     let Clauses {
         db,
         rules: listed,
@@ -167,12 +169,13 @@ pub fn encode_asked(
     } = ordered;
     let system = question.into_system();
     let (bounds, edges) = (system.bounds, system.edges);
-    Ok(Problem {
+    let problem = Problem {
         db,
         rules: listed,
         atoms,
         bounds,
         edges,
         nodes: node_count(log),
-    })
+    };
+    Ok(Part { problem, is_cut })
 }

@@ -1,6 +1,12 @@
 //! What the bounds of a log decide by themselves: nodes at events, and literals.
 
+ghost use Rattle.std.specs.Prelude.{◌≡◌, ◌↔◌, ◌≤ℤ◌, ◌<ℤ◌, true, false, None, Some};
+ghost use Rattle.question.specs.Extremes.{extremes_of};
+
 use crate::changes::Told;
+use crate::needless::{
+    is_always_before, is_always_from, is_always_up_to, is_dead, is_never_before,
+};
 use crate::scene::Scene;
 use crate::windows::Windows;
 use axiom_rules::{Atom, Literal, Reach, Rules};
@@ -104,6 +110,21 @@ fn negated(value: Option<bool>) -> Option<bool> {
     }
 }
 
+/// Whether event e comes at most so long after event f, where the least and the greatest differences say so of all timings.
+pub fn order_value(tight: &Tight, e: u32, f: u32, c: i128) -> Option<bool>
+    ensures always { (result ≡ Some true) ↔ ((extremes_of tight.now).greatest f e ≤ℤ c) }
+    ensures never { result ≡ Some false → c <ℤ (extremes_of tight.now).least f e }
+    ensures open { result ≡ None → (extremes_of tight.now).least f e ≤ℤ c }
+{
+    if greatest_between(tight, f, e) <= c {
+        Some(true)
+    } else if least_between(tight, f, e) > c {
+        Some(false)
+    } else {
+        None
+    }
+}
+
 impl Scene<'_> {
     // The value of a node by those of its parts.
     fn node_value(self, k: u32, e: u32) -> Option<bool> {
@@ -175,7 +196,7 @@ impl Scene<'_> {
 
     /// Whether event j is a witness of event i.
     pub fn witness_value(self, u: &Reach, i: u32, j: u32) -> Option<bool> {
-        if self.is_dead(u, i, j) {
+        if is_dead(self.tight, u, i, j) {
             return Some(false);
         }
         let right = self.known.value(u.right, j);
@@ -194,12 +215,8 @@ impl Scene<'_> {
 
     // Whether the distance of two events is always in the interval.
     fn is_always_within(self, u: &Reach, i: u32, j: u32) -> bool {
-        let low = u.interval.low as i128;
-        let is_near = match u.interval.high {
-            Some(high) => farthest(self.tight, u.direction, i, j) <= high as i128,
-            None => true,
-        };
-        is_near && low <= nearest(self.tight, u.direction, i, j)
+        is_always_from(u, nearest(self.tight, u.direction, i, j))
+            && is_always_up_to(u, farthest(self.tight, u.direction, i, j))
     }
 
     /// Whether the left side is true from event i on, before event j.
@@ -210,12 +227,11 @@ impl Scene<'_> {
         let mut value = Some(true);
         for placed in self.between(u, i, j) {
             let m = placed.row;
-            let left = self.known.value(u.left, m);
-            if left != Some(true) && self.can_be_within(u, i, j, m) {
-                if left == Some(false) && self.is_within(u, i, j, m) {
-                    return Some(false);
-                }
-                value = None;
+            match self.known.value(u.left, m) {
+                Some(true) => {}
+                Some(false) if self.is_within(u, i, j, m) => return Some(false),
+                _ if value.is_some() && self.can_be_within(u, i, j, m) => value = None,
+                _ => {}
             }
         }
         value
@@ -223,14 +239,12 @@ impl Scene<'_> {
 
     // Whether event m can be from event i on, before event j.
     fn can_be_within(self, u: &Reach, i: u32, j: u32, m: u32) -> bool {
-        m != j
-            && 0 <= farthest(self.tight, u.direction, i, m)
-            && 0 < farthest(self.tight, u.direction, m, j)
+        m != j && !is_always_before(self.tight, u, m, i) && !is_never_before(self.tight, u, m, j)
     }
 
     /// Whether event m always is from event i on, before event j.
     pub fn is_within(self, u: &Reach, i: u32, j: u32, m: u32) -> bool {
-        0 <= nearest(self.tight, u.direction, i, m) && 0 < nearest(self.tight, u.direction, m, j)
+        is_never_before(self.tight, u, m, i) && is_always_before(self.tight, u, m, j)
     }
 
     // Whether two events are at one instant.
@@ -250,20 +264,9 @@ impl Scene<'_> {
 
     /// Whether there is a gap at event m: there is none before event i, and none where the left side is true.
     pub fn gap_value(self, u: &Reach, i: u32, m: u32) -> Option<bool> {
-        let is_none = farthest(self.tight, u.direction, i, m) < 0
+        let is_none = is_always_before(self.tight, u, m, i)
             || self.known.value(u.left, m) == Some(true);
         if is_none { Some(false) } else { None }
-    }
-
-    // The value of an order.
-    fn order_value(self, e: u32, f: u32, c: i128) -> Option<bool> {
-        if greatest_between(self.tight, f, e) <= c {
-            Some(true)
-        } else if least_between(self.tight, f, e) > c {
-            Some(false)
-        } else {
-            None
-        }
     }
 
     // What is known of an atom of an until or a since.
@@ -280,7 +283,7 @@ impl Scene<'_> {
     // What is known of an atom.
     fn atom_value(self, atom: Atom) -> Option<bool> {
         match atom {
-            Atom::Order { e, f, c } => self.order_value(e, f, c),
+            Atom::Order { e, f, c } => order_value(self.tight, e, f, c),
             Atom::Node { k, e } => self.known.value(k, e),
             Atom::Wit { k, .. } | Atom::Span { k, .. } | Atom::Gap { k, .. } => {
                 self.part_value(atom, k)

@@ -20,6 +20,7 @@ mod windows;
 mod workspace;
 
 pub use encoding::{encode, encode_asked, encode_by};
+pub use known::order_value;
 pub use laws::{meanings_satisfy_rules, rules_are_exact};
-pub use problem::Problem;
+pub use problem::{Part, Problem};
 pub use question::{MAX_SIZE, size_of};

@@ -18,15 +18,15 @@ fn is_never_first(tight: &Tight, events: u32, e: u32) -> bool
     (0..events).any(|f| greatest_between(tight, e, f) < 0)
 }
 
-// What the least and the greatest distance of two events say of an interval.
-
-fn is_always_from(u: &Reach, nearest: i128) -> bool
+/// Whether the least distance of two events is from the interval on.
+pub fn is_always_from(u: &Reach, nearest: i128) -> bool
     ensures { result ≡ int_le (pos u.now.interval.low) nearest }
 {
     u.interval.low as i128 <= nearest
 }
 
-fn is_never_from(u: &Reach, farthest: i128) -> bool
+/// Whether their greatest distance comes before the interval.
+pub fn is_never_from(u: &Reach, farthest: i128) -> bool
     ensures { result ≡ int_lt farthest (pos u.now.interval.low) }
 {
     farthest < u.interval.low as i128
@@ -38,7 +38,8 @@ fn may_be_from(u: &Reach, farthest: i128) -> bool
     u.interval.low as i128 <= farthest
 }
 
-fn is_always_up_to(u: &Reach, farthest: i128) -> bool
+/// Whether their greatest distance is no further than the interval.
+pub fn is_always_up_to(u: &Reach, farthest: i128) -> bool
     ensures { result ≡ option_map_or (λ b. int_le farthest (pos b)) u.now.interval.high true }
 {
     match u.interval.high {
@@ -47,7 +48,8 @@ fn is_always_up_to(u: &Reach, farthest: i128) -> bool
     }
 }
 
-fn is_never_up_to(u: &Reach, nearest: i128) -> bool
+/// Whether their least distance is further.
+pub fn is_never_up_to(u: &Reach, nearest: i128) -> bool
     ensures { result ≡ option_map_or (λ b. int_lt (pos b) nearest) u.now.interval.high false }
 {
     match u.interval.high {
@@ -63,8 +65,8 @@ fn is_out(u: &Reach, nearest: i128, farthest: i128) -> bool
     is_never_from(u, farthest) || is_never_up_to(u, nearest)
 }
 
-// Whether the distance of two events is never in the interval.
-fn is_dead(tight: &Tight, u: &Reach, i: u32, j: u32) -> bool
+/// Whether the distance of two events is never in the interval.
+pub fn is_dead(tight: &Tight, u: &Reach, i: u32, j: u32) -> bool
     ensures { result ≡ needless.is_dead (extremes.extremes_of tight.now) u.now i j }
 {
     is_out(
@@ -74,15 +76,15 @@ fn is_dead(tight: &Tight, u: &Reach, i: u32, j: u32) -> bool
     )
 }
 
-// Whether event m is always before event i, as the node looks.
-fn is_always_before(tight: &Tight, u: &Reach, m: u32, i: u32) -> bool
+/// Whether event m is always before event i, as the node looks.
+pub fn is_always_before(tight: &Tight, u: &Reach, m: u32, i: u32) -> bool
     ensures { result ≡ needless.is_always_before (extremes.extremes_of tight.now) u.now m i }
 {
     farthest(tight, u.direction, i, m) < 0
 }
 
-// And never.
-fn is_never_before(tight: &Tight, u: &Reach, m: u32, i: u32) -> bool
+/// Whether it never is.
+pub fn is_never_before(tight: &Tight, u: &Reach, m: u32, i: u32) -> bool
     ensures { result ≡ needless.is_never_before (extremes.extremes_of tight.now) u.now m i }
 {
     0 <= nearest(tight, u.direction, i, m)

@@ -22,3 +22,12 @@ pub struct Problem {
     /// The number of nodes of the edges: node 0 is the zero moment, and node e + 1 is event e.
     pub nodes: u32,
 }
+
+/// The problem of instances that a value asks for.
+#[derive(Drop)]
+pub struct Part {
+    /// Their clauses.
+    pub problem: Problem,
+    /// Whether some that name all rows as witnesses were left out for there being too many of them.
+    pub is_cut: bool,
+}

@@ -2,6 +2,7 @@
 
 use crate::changes::Told;
 use crate::known::Known;
+use crate::needless::{is_never_from, is_never_up_to};
 use crate::windows::{Placed, Windows, passing};
 use axiom_rules::{Literal, Reach, Rules};
 use formula_arena::{Arena, Direction};
@@ -78,21 +79,13 @@ impl<'a> Scene<'a> {
     }
 
     /// Whether event j is always nearer to event i than the interval.
-    pub fn is_never_from(self, u: &Reach, i: u32, j: u32) -> bool {
-        farthest(self.tight, u.direction, i, j) < u.interval.low as i128
+    pub fn is_too_near(self, u: &Reach, i: u32, j: u32) -> bool {
+        is_never_from(u, farthest(self.tight, u.direction, i, j))
     }
 
     /// Whether it always is further.
-    pub fn is_never_up_to(self, u: &Reach, i: u32, j: u32) -> bool {
-        match u.interval.high {
-            Some(high) => (high as i128) < nearest(self.tight, u.direction, i, j),
-            None => false,
-        }
-    }
-
-    /// Whether its distance is never in the interval.
-    pub fn is_dead(self, u: &Reach, i: u32, j: u32) -> bool {
-        self.is_never_from(u, i, j) || self.is_never_up_to(u, i, j)
+    pub fn is_too_far(self, u: &Reach, i: u32, j: u32) -> bool {
+        is_never_up_to(u, nearest(self.tight, u.direction, i, j))
     }
 
     // Whether a row is never after an event.

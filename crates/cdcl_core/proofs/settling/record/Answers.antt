@@ -40,7 +40,7 @@ returns-in_ok-settle-clause-settled c =
       few = inr (rw made.line (omega (arith, c.if-len.true, c.len-then-is_only.ensures.count, length_push d.lines (line.Cycle steps))));
       lesson_count = rw made.line (no_lesson d.lines steps);
       derives = λ log f v are old. rw (made.clauses, made.cite, made.line)
-          (order_settled log f v theory.atoms d.db d.cites d.lines theory.bounds g c.args.lit edge steps c.args.clause old c.graphs_are_solved.ensures.solution are
+          (order_settled log f v theory.atoms d.db d.cites d.lines theory.bounds g c.args.lit edge steps c.args.clause old c.grounds_are_solved.ensures.solution are
           c.requires.low of_literal is_edge cycle visits same said (omega (arith, c.requires.within, old.cited.count)) c.requires.literal (omega (arith, c.if-len.true, c.len-then-is_only.ensures.count)));
       spending = λ log f v rules table known old. rw (made.cite, made.line) (spending_settled log f v rules table known d.cites d.lines steps c.args.clause (length d.lines + 1) old);
     }

@@ -19,8 +19,8 @@ fits nodes atoms v a b e among here is =
     let order = subst (IsOrderAmong nodes) (get_or_from_slice_get atoms v a a here) (among v a (slice_get_within atoms v a here)) in
     rw (← is) at (edges_fit nodes a b order)
 
-pub push-requires-clause-edge : goal.push-requires-clause-edge
-push-requires-clause-edge c =
+pub refuses-requires-clause-edge : goal.refuses-requires-clause-edge
+refuses-requires-clause-edge c =
     fits c.args.ground.now.nodes c.args.theory.now.atoms c.var.result c.atom.result c.positive.result c.in-Some-edge_of.edge c.requires.among c.atom.ensures.atom
     (sym c.in-Some-edge_of.is ∙ c.edge_of.ensures.edge)
 
@@ -33,7 +33,7 @@ record-requires-clause-refused c =
     let sense : c.positive.result ≡ (negation c.in-Some.lit).positive = c.positive.ensures.sense ∙ ap (λ (l : Lit). l.positive) c.negated.ensures.other in
     let literal : sensed_edge (order_edges c.atom.result) c.positive.result ≡ Some edge = sym c.edge_of.ensures.edge ∙ c.in-Some-edge_of.is in
     let is_edge : IsEdge c.args.ground.now.nodes edge = fits c.args.ground.now.nodes atoms c.var.result c.atom.result c.positive.result edge c.requires.among here (sym literal) in
-    (edge, rw (atom, sense) at literal, rw c.in-Cycle.ensures.limits.nodes is_edge, rw c.in-Cycle.ensures.same c.in-Cycle.ensures.cycle, rw c.in-Cycle.ensures.same c.in-Cycle.ensures.once)
+    (edge, rw (atom, sense) at literal, rw c.refuses.ensures.limits.nodes is_edge, rw c.refuses.ensures.edges (c.in_ok-refuses.ensures.cycle c.if-not-branch.false), rw c.refuses.ensures.edges (c.in_ok-refuses.ensures.once c.if-not-branch.false))
 
-pub returns-in-Cycle-clause-settled : goal.returns-in-Cycle-clause-settled
-returns-in-Cycle-clause-settled c = rw c.in-Cycle.ensures.same at c.record.ensures.settled
+pub returns-clause-settled : goal.returns-clause-settled
+returns-clause-settled c = rw c.refuses.ensures.edges at c.record.ensures.settled

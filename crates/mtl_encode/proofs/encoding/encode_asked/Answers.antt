@@ -9,6 +9,6 @@ returns-clause-fits c =
     let last = rw c.nodes-nodes.ensures.form at c.root.ensures.last in
     let is = rw c.log-log.ensures.log at (c.in_ok-rules.ensures.formula c.args.question.form nodes (rw nodes last)) in
     let system = c.into_system-system.ensures.system in
-    fits-asked (sought_of c.args.question.log c.args.question.form c.args.value) c.in_ok-asked.asked c.in_ok-ordered.ordered _ _ _ (rw is at c.in_ok-asked.ensures) (rw is at c.in_ok-ordered.ensures.clauses)
+    fits-asked (sought_of c.args.question.log c.args.question.form c.args.value) c.in_ok-clauses.field-0.clauses c.in_ok-ordered.ordered _ _ _ (rw is at c.in_ok-clauses.ensures) (rw is at c.in_ok-ordered.ensures.clauses)
     c.in_ok-ordered.ensures.rules c.in_ok-ordered.ensures.atoms (rw c.log.ensures.log at c.log_is_valid.ensures.valid) system.bounds system.edges system.within
     (rw c.log-log.ensures.log at c.node_count.ensures.count)

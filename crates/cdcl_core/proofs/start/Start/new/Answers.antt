@@ -48,9 +48,14 @@ returns c =
       nodes = c.in_ok-graph.ensures.nodes;
       room = let room = c.in_ok-graph.ensures.capacity in omega (arith, rw (c.as_slice.ensures.items, atoms) at room);
       ground =
-          let made = c.in_ok-ground.ensures in
+          let made = c.in_ok-bounds.ensures in
+          let taken = c.in_ok-ground.ensures in
           let items = c.as_slice-2.ensures.items in
-          record { nodes = made.nodes; edges = made.edges ∙ items; room = let capacity = made.capacity in let same = ap length items in omega (arith, capacity, same) };
+          record {
+            nodes = taken.nodes ∙ made.nodes;
+            edges = taken.edges ∙ made.edges ∙ items;
+            room = let capacity = made.capacity in let whole = taken.capacity in let same = ap length items in omega (arith, capacity, whole, same);
+          };
       run = run_begun c.cores_are_cores.ensures c.nodes_are_subtrees.ensures p c.requires.posed c.new_trail_is_in_step.ensures.law
           c.in_ok-links.links c.in_ok-trail.trail c.in_ok-graph.graph c.in_ok-links.ensures.links (rw (vars, atoms) refl)
           c.in_ok-trail.ensures.none c.in_ok-trail.ensures.level c.in_ok-trail.ensures.unwatched c.trails_are_in_order.ensures.trail
