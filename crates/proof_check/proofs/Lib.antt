@@ -4,6 +4,8 @@ mod TakeLemmas
 mod AtomLemmas
 mod GivenLemmas
 pub mod StepLemmas
+mod AssumedLemmas
+mod SpanLemmas
 mod KeptPieces
 mod PlaceLemmas
 mod OnceLemmas

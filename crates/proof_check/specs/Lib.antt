@@ -4,6 +4,7 @@ pub mod Walking
 pub mod Refutation
 pub mod Keeping
 pub mod Places
+pub mod Standing
 pub mod Judging
 pub mod Answering
 pub mod WordsOf

@@ -1,23 +1,29 @@
 //! Whether the next line is right by its words, given the clauses of the lines before it.
 
-ghost use Rattle.std.specs.Prelude.{◌≡◌, ◌↔◌, ◌+◌, ◌<◌, ◌^◌, ◌∷◌, [], ◌++◌, if◌then◌else◌, List, length, IfOk, IsTrue, MatchOption, None, Some};
+ghost use Rattle.std.specs.Prelude.{◌≡◌, ◌↔◌, ◌+◌, ◌<◌, ◌^◌, ◌∷◌, [], ◌++◌, if◌then◌else◌, List, length, IfOk, IfSome, IsTrue, MatchOption, None, Some};
 ghost use Rattle.std.specs.Result.{result_ok};
 ghost use Rattle.axiom_rules.specs.declared.literal.Literal.{Literal};
 ghost use Rattle.axiom_rules.specs.Clauses.{clause_of as clause_of_rule};
 ghost use Rattle.proof_log.specs.declared.line.Hint.{Hint};
 ghost use Rattle.proof_check.specs.Judging.{IsHintTaken, IsNextLearnt, NextRefutes};
 ghost use Rattle.proof_check.specs.Keeping.{ArePending, closed_only, lines_with, with_closed};
+ghost use Rattle.proof_check.specs.Refutation.{IsTaken};
+ghost use Rattle.proof_check.specs.Standing.{IsSpanOrGap};
 ghost use Rattle.proof_check.specs.WordsOf.{OfCountedHints, OfHints, OfLearn, OfLiterals};
 
 use crate::clauses::cited_clause;
+use crate::guesses::{Guesses, SHORT};
 use crate::kept::Clauses;
 use crate::range::are_in_range;
 use crate::refutation::{Assumed, Taken};
-use axiom_rules::{Literal, Rule, RuleFault, Rules};
+use axiom_rules::{Atom, Literal, Rule, RuleFault, Rules};
 use hint_refutation::{assumed_is_set, refuters_give, steps_are_forced};
 use proof_log::{Hint, read_count, read_hint, read_literal};
 use smallvec::SmallVec;
 use std::alloc::{AllocError, Global};
+
+// The number of the rule that there is a span or a gap.
+const SPAN_OR_GAP: u8 = 20;
 
 /// Room for the clause of a rule.
 pub type Clause = SmallVec<Literal, 8, Global>;
@@ -33,6 +39,64 @@ fn writes_clause(rules: &Rules, rule: &Rule, clause: &mut Clause) -> Result<bool
     }
 }
 
+// The literal of its span, where a rule says that there is a span or a gap.
+fn span_in(rules: &Rules, rule: &Rule) -> Option<Literal>
+    ensures { IfSome result (IsSpanOrGap rules.now rule.now) }
+{
+    let [k, i, j, unused] = rule.args;
+    let events = rules.events();
+    if rule.number == SPAN_OR_GAP && rules.is_reach(k) && i < events && j < events && unused == 0 {
+        Some(Literal {
+            atom: Atom::Span { k, i, j },
+            positive: true,
+        })
+    } else {
+        None
+    }
+}
+
+// Takes the clause of a rule.
+fn take_rule(
+    rules: &Rules,
+    rule: &Rule,
+    clause: &mut Clause,
+    assumed: &mut Assumed,
+) -> Result<Taken, AllocError>
+    ensures { IfOk result (λ taken. MatchOption (result_ok (clause_of_rule rules.now rule.now)) (taken ≡ Taken.Stuck) (λ clause. IsTaken assumed.old clause assumed.new taken)) }
+{
+    // So that such clauses aren't walked over for each of their spans.
+    if let Some(span) = span_in(rules, rule) {
+        if !assumed.has(&span.negated())
+            && assumed.find_no_gaps(rule.args[0], rule.args[1], rules.events())?
+        {
+            return assumed.take(&[span]);
+        }
+    }
+    if writes_clause(rules, rule, clause)? {
+        assumed.take(clause.as_slice())
+    } else {
+        Ok(Taken::Stuck)
+    }
+}
+
+// Takes the clause of line m.
+fn take_cited(
+    kept: &Clauses,
+    m: u32,
+    clause: &[Literal],
+    assumed: &mut Assumed,
+    guesses: &mut Guesses,
+) -> Result<Taken, AllocError>
+    ensures { IfOk result (λ taken. IsTaken assumed.old clause.now assumed.new taken) }
+{
+    if clause.len() <= SHORT {
+        return assumed.take(clause);
+    }
+    let start = kept.start((m as usize).saturating_sub(1));
+    guesses.make(kept.literals(), start, clause.len(), assumed)?;
+    assumed.take_by(clause, start, guesses)
+}
+
 // Takes the clause of a hint of the line after those whose clauses are closed.
 fn take_hint(
     rules: &Rules,
@@ -40,21 +104,16 @@ fn take_hint(
     hint: Hint,
     clause: &mut Clause,
     assumed: &mut Assumed,
+    guesses: &mut Guesses,
 ) -> Result<Taken, AllocError>
     ensures { IfOk result (λ taken. IsHintTaken rules.now (lines_with kept.now.closed) (length kept.now.closed + 1) hint assumed.old assumed.new taken) }
 {
     match hint {
         Hint::Line(m) => match cited_clause(kept, m) {
-            Some(lits) => assumed.take(lits),
+            Some(lits) => take_cited(kept, m, lits, assumed, guesses),
             None => Ok(Taken::Stuck),
         },
-        Hint::Rule(rule) => {
-            if writes_clause(rules, &rule, clause)? {
-                assumed.take(clause.as_slice())
-            } else {
-                Ok(Taken::Stuck)
-            }
-        }
+        Hint::Rule(rule) => take_rule(rules, &rule, clause, assumed),
     }
 }
 
@@ -66,6 +125,7 @@ fn are_refuting(
     words: &[u8],
     clause: &mut Clause,
     assumed: &mut Assumed,
+    guesses: &mut Guesses,
 ) -> Result<bool, AllocError>
     ensures { IfOk result (λ b. OfHints count words.now (λ hints. IsTrue b ↔ NextRefutes rules.now kept.now.closed assumed.old hints)) }
 {
@@ -77,7 +137,7 @@ fn are_refuting(
         let Some((hint, after)) = read_hint(rest) else {
             return Ok(false);
         };
-        match take_hint(rules, kept, hint, clause, assumed)? {
+        match take_hint(rules, kept, hint, clause, assumed, guesses)? {
             Taken::Gives => rest = after,
             Taken::False => return Ok(i + 1 == count),
             Taken::Stuck => return Ok(false),
@@ -93,6 +153,7 @@ fn is_learnt(
     kept: &Clauses,
     words: &[u8],
     clause: &mut Clause,
+    guesses: &mut Guesses,
 ) -> Result<bool, AllocError>
     requires few { length kept.now.pending < 2 ^ 32 }
     ensures { IfOk result (λ b. OfCountedHints words.now (λ hints. IsTrue b ↔ IsNextLearnt rules.now kept.now.closed kept.now.pending hints)) }
@@ -104,9 +165,9 @@ fn is_learnt(
     if !are_in_range(rules, lits) {
         return Ok(false);
     }
-    let mut assumed = Assumed::denying(alloc, lits)?;
+    let mut assumed = Assumed::denying(alloc, lits, guesses.is_any_long())?;
     let (count, hints) = read_count(words);
-    are_refuting(rules, kept, count, hints, clause, &mut assumed)
+    are_refuting(rules, kept, count, hints, clause, &mut assumed, guesses)
 }
 
 // Adds the literals, the words of which follow their number, to the pending clause. The words after them.
@@ -133,6 +194,7 @@ pub fn takes_learn(
     rules: &Rules,
     kept: &mut Clauses,
     clause: &mut Clause,
+    guesses: &mut Guesses,
     words: &[u8],
 ) -> Result<bool, AllocError>
     requires open { kept.old.pending ≡ [] }
@@ -143,7 +205,7 @@ pub fn takes_learn(
     let Some(hints) = push_literals(kept, words)? else {
         return Ok(false);
     };
-    if !is_learnt(alloc, rules, kept, hints, clause)? {
+    if !is_learnt(alloc, rules, kept, hints, clause, guesses)? {
         return Ok(false);
     }
     kept.close()?;

@@ -107,6 +107,20 @@ impl Clauses {
         self.get(self.len().saturating_sub(1))
     }
 
+    /// The literals of all clauses.
+    pub fn literals(&self) -> &[Literal] {
+        &self.literals
+    }
+
+    /// Where the clause at a place starts among the literals of all clauses; past the last clause 0.
+    pub fn start(&self, place: usize) -> usize {
+        if place < self.ends.len() {
+            start_of(&self.ends, place)
+        } else {
+            0
+        }
+    }
+
     /// How many clauses are closed.
     pub fn len(&self) -> usize
         ensures count { result ≡ length self.now.closed }

@@ -9,6 +9,7 @@ mod conflict;
 mod cycle;
 mod cycle_walk;
 mod given;
+mod guesses;
 mod judge;
 mod kept;
 mod laws;

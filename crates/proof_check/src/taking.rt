@@ -15,6 +15,7 @@ ghost use Rattle.proof_check.specs.Keeping.{closed_only, lines_with, with_closed
 use crate::check::{Check, TextCheck};
 use crate::clauses::ends_empty;
 use crate::conflict::takes_cycle;
+use crate::guesses::Guesses;
 use crate::judge::{Clause, takes_learn};
 use crate::kept::Clauses;
 use axiom_rules::Rules;
@@ -32,6 +33,7 @@ fn takes(
     table: &EdgeTable,
     kept: &mut Clauses,
     clause: &mut Clause,
+    guesses: &mut Guesses,
     words: LineWords,
 ) -> Result<bool, AllocError>
     requires table { IsEdgeTableOf rules.now.log table.now }
@@ -43,9 +45,10 @@ fn takes(
     if ends_empty(kept) {
         return Ok(false);
     }
+    guesses.begin(kept);
     match words {
         LineWords::Cycle(words) => takes_cycle(alloc, rules, table, kept, words),
-        LineWords::Learn(words) => takes_learn(alloc, rules, kept, clause, words),
+        LineWords::Learn(words) => takes_learn(alloc, rules, kept, clause, guesses, words),
     }
 }
 
@@ -97,11 +100,12 @@ pub fn check_lines_of(
 {
     let table = EdgeTable::of(alloc, rules.log())?;
     let mut kept = Clauses::new(alloc);
+    let mut guesses = Guesses::new(alloc);
     let mut learn_lines = 0;
     let mut rest = text;
     while let Some((words, after)) = first_words(rest) {
         let number = kept.len() as u32 + 1;
-        if !takes(alloc, rules, &table, &mut kept, clause, words)? {
+        if !takes(alloc, rules, &table, &mut kept, clause, &mut guesses, words)? {
             let check = Check::Wrong(number);
             return Ok(TextCheck { check, learn_lines });
         }

@@ -1,0 +1,212 @@
+//! Where the literals of long clauses may be found among those that are assumed.
+//!
+//! A guess is compared with what stands at its place by who asks for it, so that judging is right whatever is guessed here,
+//! and quick where it is guessed right.
+
+ghost use Rattle.std.specs.Prelude.{◌<◌, ◌^◌};
+
+use crate::kept::Clauses;
+use crate::refutation::Assumed;
+use axiom_rules::{Atom, Literal};
+use std::alloc::{AllocError, Global};
+use std::cmp::Ordering;
+use std::collections::BTreeMap;
+
+/// No guesses are made for clauses with at most so many literals.
+pub const SHORT: usize = 8;
+
+// As many atoms stand in the map before the list of places gets any.
+const FEW: usize = 1_024;
+
+// No guesses are made for places from this one on.
+const FAR: usize = 1 << 31;
+
+/// For each literal of the long clauses that were cited the first place of its atom, and for each of these places where a
+/// literal of its atom is assumed.
+///
+/// Where there are many first places, all but an eighth are found by a list of them, since the map takes several times its
+/// room. Atoms are compared, not hashed, since atoms could be chosen that share a hash.
+#[derive(Drop)]
+pub struct Guesses {
+    alloc: Global,
+    // By the place of a literal, one more than the first place of its atom; 0 where that isn't known.
+    firsts: Vec<u32>,
+    // First places, in the order of their atoms.
+    sorted: Vec<u32>,
+    // The other first places.
+    recent: BTreeMap<Atom, u32>,
+    // By the first place of an atom, where a literal of it was last seen among those that are assumed.
+    assumed: Vec<u32>,
+    // How many of the literals that are assumed were seen.
+    seen: usize,
+    is_any_long: bool,
+}
+
+impl Guesses {
+    /// No guess, which takes no memory.
+    pub fn new(alloc: Global) -> Guesses {
+        Guesses {
+            alloc,
+            firsts: Vec::new(alloc),
+            sorted: Vec::new(alloc),
+            recent: BTreeMap::new(alloc),
+            assumed: Vec::new(alloc),
+            seen: 0,
+            is_any_long: false,
+        }
+    }
+
+    /// Begins with the literals that are assumed for the line after those whose clauses are closed.
+    pub fn begin(&mut self, kept: &Clauses) {
+        self.seen = 0;
+        if let Some(clause) = kept.last() {
+            if clause.len() > SHORT {
+                self.is_any_long = true;
+            }
+        }
+    }
+
+    /// Whether there is a clause that guesses are made for.
+    pub fn is_any_long(&self) -> bool {
+        self.is_any_long
+    }
+
+    // The first place of an atom, where it has one.
+    fn first(&self, literals: &[Literal], atom: &Atom) -> Option<u32> {
+        match place_among(literals, &self.sorted, atom) {
+            Some(place) => Some(place),
+            None => self.recent.get(atom).copied(),
+        }
+    }
+
+    // Moves the first places of the map into the list.
+    fn merge(&mut self, literals: &[Literal]) -> Result<(), AllocError> {
+        move_all(&mut self.sorted, &mut self.recent)?;
+        self.sorted.sort_by_key(|place| atom_at(literals, *place))
+    }
+
+    // The first place of the atom of the literal at a place, which is this one where there is none yet.
+    fn first_from(&mut self, literals: &[Literal], place: u32) -> Result<u32, AllocError> {
+        let atom = atom_at(literals, place);
+        if let Some(first) = self.first(literals, &atom) {
+            return Ok(first);
+        }
+        self.recent.insert(atom, place)?;
+        if are_many(self.recent.len(), self.sorted.len()) {
+            self.merge(literals)?;
+        }
+        Ok(place)
+    }
+
+    // Finds the first place of each literal of a clause.
+    fn find_firsts(
+        &mut self,
+        literals: &[Literal],
+        start: usize,
+        end: usize,
+    ) -> Result<(), AllocError>
+        requires { end < 2 ^ 32 }
+    {
+        if self.firsts.len() < end {
+            self.firsts.resize(end, 0)?;
+            self.assumed.resize(end, 0)?;
+        }
+        for place in start..end {
+            let first = self.first_from(literals, place as u32)?;
+            if let Some(known) = self.firsts.get_mut(place) {
+                *known = first.saturating_add(1);
+            }
+        }
+        Ok(())
+    }
+
+    // Notes where a literal of an atom is assumed.
+    fn note(&mut self, literals: &[Literal], atom: &Atom, at: usize)
+        requires { at < 2 ^ 31 }
+    {
+        let Some(first) = self.first(literals, atom) else {
+            return;
+        };
+        if let Some(known) = self.assumed.get_mut(first as usize) {
+            *known = at as u32;
+        }
+    }
+
+    /// Makes guesses for the clause whose literals begin at a place among all literals of clauses.
+    pub fn make(
+        &mut self,
+        literals: &[Literal],
+        start: usize,
+        count: usize,
+        assumed: &Assumed,
+    ) -> Result<(), AllocError> {
+        if start >= FAR || count >= FAR {
+            return Ok(());
+        }
+        let is_new = match self.firsts.get(start) {
+            Some(first) => *first == 0,
+            None => true,
+        };
+        if is_new {
+            self.find_firsts(literals, start, start + count)?;
+        }
+        for at in self.seen..FAR {
+            let Some(literal) = assumed.listed(at) else {
+                self.seen = at;
+                return Ok(());
+            };
+            self.note(literals, &literal.atom, at);
+        }
+        Ok(())
+    }
+
+    /// Where the literal of a place may be found among those that are assumed.
+    pub fn at(&self, place: usize) -> usize {
+        let first = match self.firsts.get(place) {
+            Some(first) if *first > 0 => *first as usize - 1,
+            _ => return 0,
+        };
+        match self.assumed.get(first) {
+            Some(at) => *at as usize,
+            None => 0,
+        }
+    }
+}
+
+// Moves the places of a map to the end of a list, with no more room than they take.
+fn move_all(places: &mut Vec<u32>, map: &mut BTreeMap<Atom, u32>) -> Result<(), AllocError> {
+    places.reserve_exact(map.len())?;
+    'each: while let Some((_, place)) = map.pop_first() {
+        places.push(place)?;
+    }
+    Ok(())
+}
+
+// Whether so many places stand in the map that they should move into the list.
+fn are_many(recent: usize, sorted: usize) -> bool {
+    recent > FEW && recent > sorted / 8
+}
+
+// The atom at a place; past the end any other.
+fn atom_at(literals: &[Literal], place: u32) -> Atom {
+    match literals.get(place as usize) {
+        Some(literal) => literal.atom,
+        None => Atom::First { e: 0 },
+    }
+}
+
+// Whether the atom at a place comes before another.
+fn comes_before(literals: &[Literal], place: u32, atom: &Atom) -> bool {
+    atom_at(literals, place).cmp(atom) == Ordering::Less
+}
+
+// The place of an atom among places in the order of their atoms.
+fn place_among(literals: &[Literal], places: &[u32], atom: &Atom) -> Option<u32> {
+    let at = places.partition_point(|place| comes_before(literals, *place, atom));
+    let place = *places.get(at)?;
+    if atom_at(literals, place) == *atom {
+        Some(place)
+    } else {
+        None
+    }
+}
