@@ -1,23 +1,23 @@
 -- What is known of the literals that are assumed stays so when there are more.
-use Rattle.std.proofs.Common.{◌≡◌, ◌∙◌, sym, ap, subst, ℕ, zero, suc, ◌+◌, ◌<◌, ◌≤◌, ◌⊎◌, inl, inr, List, [], ◌∷◌, ◌++◌, get_or, length, map, Ok, Err, arith}
+use Rattle.std.proofs.Common.{◌≡◌, ◌∙◌, sym, subst, ℕ, ◌+◌, ◌<◌, ◌⊎◌, inl, inr, List, [], ◌∷◌, ◌++◌, length, map, Ok, Err, arith}
 use Rattle.std.specs.Prelude.{All, Contains, IfOk, MatchOption, Result}
 use Rattle.std.specs.Result.{result_ok}
 use Rattle.std.specs.declared.alloc.AllocError.{AllocError}
 use Rattle.std.proofs.lemmas.Bool.{cases_lt}
-use Rattle.std.proofs.lemmas.List.Elements.{All-contains, Contains-append_cases, Contains-append_left, Contains-append_right, Contains-get_or}
+use Rattle.std.proofs.lemmas.List.Elements.{All-contains, Contains-append_cases, Contains-append_left, Contains-append_right}
 use Rattle.hint_refutation.specs.Hints.{Gives, IsFalseUnder}
-use Rattle.hint_refutation.proofs.Hinted.{is_false, left_or_false}
-use Rattle.hint_refutation.proofs.Lists.{all_from, contains_cases, contains_first, contains_later, contains_map, contains_none}
+use Rattle.hint_refutation.proofs.Hinted.{is_false}
+use Rattle.hint_refutation.proofs.Lists.{all_from, contains_cases, contains_first, contains_later, contains_none}
 use Rattle.axiom_rules.specs.declared.literal.Atom.{Atom}
 use Rattle.axiom_rules.specs.declared.literal.Atom.TheVariants.{Gap}
 use Rattle.axiom_rules.specs.declared.literal.Literal.{Literal}
-use Rattle.axiom_rules.specs.Literals.{negated, no, yes}
+use Rattle.axiom_rules.specs.Literals.{negated, no}
 use Rattle.axiom_rules.specs.Sought.{Sought}
 use Rattle.axiom_rules.specs.declared.rule.Rule.{Rule}
 use Rattle.axiom_rules.specs.Clauses.{arg, clause_of}
 use Rattle.proof_check.specs.declared.refutation.Taken.{Taken}
 use Rattle.proof_check.specs.declared.refutation.Taken.TheVariants as taken
-use Rattle.proof_check.specs.Refutation.{AreThose, IsNeither, IsTaken}
+use Rattle.proof_check.specs.Refutation.{AreThose, IsTaken}
 use Rattle.proof_check.specs.Standing.{AreNoGaps, IsAssumedRight, IsGapAmong, IsGapless, IsSpanOrGap}
 use Rattle.proof_check.proofs.ThoseLemmas.{there_too}
 

@@ -1,6 +1,6 @@
 -- The clause of the rule that there is a span or a gap.
-use Rattle.std.proofs.Common.{◌≡◌, ◌∙◌, sym, ap, refl, subst, ℕ, zero, suc, ◌+◌, ◌<◌, ◌≤◌, ◌⊎◌, inl, inr, Bool, true, false, not, ◌&&◌, ◌||◌, if◌then◌else◌, List, [], ◌∷◌, length, map, Option, Some, None, Ok, arith, true≢false}
-use Rattle.std.specs.Prelude.{All, Contains, is_some, slice_index_or}
+use Rattle.std.proofs.Common.{◌≡◌, ◌∙◌, sym, ap, refl, subst, ℕ, zero, suc, ◌+◌, ◌<◌, ◌⊎◌, inl, inr, true, false, not, List, [], ◌∷◌, length, map, Option, Some, None, Ok, arith, true≢false}
+use Rattle.std.specs.Prelude.{Contains, is_some, slice_index_or}
 use Rattle.std.specs.List.{list_any, range_with_len}
 use Rattle.std.proofs.lemmas.Bool.{cases_Bool, cases_lt, lt-ltb}
 use Rattle.std.proofs.lemmas.Option.{slice_get_past}
@@ -9,11 +9,9 @@ use Rattle.hint_refutation.proofs.Lists.{all_from, contains_cases, contains_firs
 use Rattle.axiom_rules.specs.declared.literal.Atom.TheVariants.{Gap, Span}
 use Rattle.axiom_rules.specs.declared.literal.Literal.{Literal}
 use Rattle.axiom_rules.specs.declared.part.Part.{Part}
-use Rattle.axiom_rules.specs.declared.part.Part.TheVariants.{Says, Known}
 use Rattle.axiom_rules.specs.declared.reach.Reach.{Reach}
 use Rattle.axiom_rules.specs.declared.rule.Rule.{Rule}
-use Rattle.axiom_rules.specs.Clauses.{arg, clause_of}
-use Rattle.axiom_rules.specs.Literals.{has_literal, negated, same_literal, yes}
+use Rattle.axiom_rules.specs.Literals.{has_literal, negated, yes}
 use Rattle.axiom_rules.specs.NodeShapes.{reach_in, shape_at}
 use Rattle.axiom_rules.specs.Parts.{clause_of_parts, clause_of_written, each_once, is_true, literals_in, opposes_itself}
 use Rattle.axiom_rules.specs.Rules.{is, for_each_event, of_kind}

@@ -3,7 +3,7 @@ use Rattle.std.proofs.lemmas.List.Elements.{All-contains}
 use Rattle.axiom_rules.specs.declared.literal.Atom.TheVariants.{Gap}
 use Rattle.axiom_rules.specs.Literals.{negated}
 use Rattle.proof_check.specs.Standing.{AreNoGaps, IsGapless}
-use Rattle.proof_check.proofs.AssumedLemmas.{right_forgot, right_found}
+use Rattle.proof_check.proofs.AssumedLemmas.{right_found}
 use Rattle.proof_check.proofs.refutation.Assumed.find_no_gaps.Goals as goal
 
 pub returns-then-has-clause-none : goal.returns-then-has-clause-none
