@@ -24,6 +24,7 @@ class Case(NamedTuple):
     statuses: tuple  # each of them is right
     line: Optional[bytes]  # the first line, or None where several may be right
     most: Optional[int] = None  # the most memory that it may take, in lengths of the hostile file
+    seconds: Optional[int] = None  # the most processor time that it may take
     text: Optional[bytes] = None  # all that has to be written, or None where the first line is enough
     judged: bool = False  # whether tests/reference judges all that is written
     is_search: bool = False  # whether it may take long, and be stopped
@@ -63,12 +64,12 @@ def timing(title, given, status, line, log=ONE_ROW):
     return Case("times", title, ["replay", "f", "l", "t"], files, (status,), line)
 
 
-def audit(title, report, status, line, formula=TRUE, log=ONE_ROW, option=(), most=None):
+def audit(title, report, status, line, formula=TRUE, log=ONE_ROW, option=(), most=None, seconds=None):
     """A report that `audit` is asked about."""
     files = {"f": formula, "l": log, "r": report}
-    return Case("report", title, ["audit", *option, "f", "l", "r"], files, (status,), line, most)
+    return Case("report", title, ["audit", *option, "f", "l", "r"], files, (status,), line, most, seconds)
 
 
-def trim(title, report, status, line, most=None):
+def trim(title, report, status, line, most=None, seconds=None):
     """A report that `trim` is asked about."""
-    return Case("report", title, ["trim", "r"], {"r": report}, (status,), line, most)
+    return Case("report", title, ["trim", "r"], {"r": report}, (status,), line, most, seconds)

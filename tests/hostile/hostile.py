@@ -114,6 +114,8 @@ def complaint(case, outcome):
         return f"it writes {outcome.line[:200]!r}, not {case.line[:200]!r}"
     if case.most is not None and outcome.bytes > case.most * case.size():
         return f"it takes {outcome.bytes} bytes, more than {case.most} times the file's {case.size()}"
+    if case.seconds is not None and outcome.seconds > case.seconds:
+        return f"it takes {outcome.seconds:.3f} seconds, more than {case.seconds}"
     return ""
 
 

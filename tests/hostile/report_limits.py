@@ -16,6 +16,7 @@ TIME = 10**19
 TITLE = b"skewcheck 1\n"
 EMPTY_CLAUSE = b"learn 0 3 rule 3 0 0 rule 11 rule 24 0\n"
 ACCEPTED = b"accepted"
+HEADER_2 = b"skewlog2,host,time,name\n"
 ROWS = log_of(b"host,a,0,1", *[b"note,a,%d,n" % time for time in range(1024)])
 
 
@@ -239,6 +240,55 @@ def giving_hints():
         yield audit(title, report, 5, at(b"false", 0), b"F[0,1] a.p", log, most=6)
 
 
+def naming_many_literals():
+    """Reports whose hints name clauses with some hundred million literals, more than ten for each byte."""
+    for title, hinted in (("spans without a gap", spans()), ("pulses", pulses()), ("long lines", long_lines())):
+        formula, log, report = hinted
+        size = f"{len(report) / MEBIBYTE:.1f} MiB"
+        yield audit(f"{size} of hints to clauses of {title}", report, 5, at(b"false", 0), formula, log, most=6, seconds=5)
+        yield trim(f"{size} of hints to clauses of {title}, to trim", report, 0, TITLE[:-1], most=6, seconds=5)
+
+
+def spans():
+    """A line on 1,024 rows that denies the gaps from some events on, and gives each span from there."""
+    rows, starts = range(1_024), range(145)
+    log = log_of(b"host,a,0,0", *[b"%s,a,%d,p" % (b"set" if time % 2 else b"clear", time) for time in rows])
+    gaps = b"".join(b" +gap 2 %d %d" % (start, row) for start in starts for row in rows)
+    hints = b"".join(b" rule 20 2 %d %d" % (start, row) for start in starts for row in rows)
+    number = len(starts) * len(rows)
+    line = b"learn %d +node 0 0%s %d%s rule 3 0 0" % (number + 1, gaps, number + 1, hints)
+    times = b"\n".join(b"%d" % time for time in rows)
+    return b"F[0,1] a.p", log, report_of(line, events=b"%d" % len(rows), time=times)
+
+
+def pulses():
+    """A line on 512 changes and 512 pulses that denies that the first rows are at the instant of a pulse, and gives from
+    the last change on that each change is after them."""
+    half, rows = 512, range(340)
+    changes = [b"clear,a,%d,p" % time for time in range(half)]
+    log = HEADER_2 + b"host,a,0,0\n" + b"".join(
+        record + b"\n" for record in (*changes, *[b"pulse,a,%d,p" % time for time in range(half, 2 * half)]))
+    literals = b"".join(
+        b" -node 1 %d" % row + b"".join(b" +same %d %d" % (row, pulse) for pulse in range(half, 2 * half)) for row in rows)
+    hints = [b" rule 2 1 %d %d" % (row, change) for row in rows for change in range(half - 1, row, -1)]
+    number = len(rows) * (half + 1) + 1
+    line = b"learn %d +node 0 0%s %d%s rule 3 0 0" % (number, literals, len(hints) + 1, b"".join(hints))
+    times = b"\n".join(b"%d" % time for time in range(2 * half))
+    return b"F a.p", log, report_of(line, events=b"%d" % (2 * half), time=times)
+
+
+def long_lines(width=700, turns=486):
+    """Lines on two rows with as many literals as there are of them, and then one line again and again that cites each."""
+    orders = b"".join(b" order 0 1 %d" % number for number in range(width))
+    first = b"cycle 3 low 1 order 1 0 0 high 0"
+    many = [b"learn %d order 0 1 %d order 0 1 -1%s 1 line 1" % (width + 2, 1_000 + number, orders) for number in range(width)]
+    cited = b"".join(b" line %d" % (number + 2) for number in range(width))
+    citing = b"learn %d order 0 1 -1%s %d%s line 1" % (width + 1, orders, width + 1, cited)
+    lines = [first, *many, *[citing] * turns]
+    report = TITLE + b"events 2\ntrue witness\n10\n15\nfalse refuted %d\n" % len(lines) + b"\n".join(lines) + b"\nend\n"
+    return b"a.req", TWO_ROWS, report
+
+
 def distinct_lists():
     """A walk of distinct steps, and lines of distinct literals that would share a hash."""
     pairs = 33_000
@@ -310,5 +360,5 @@ def longest():
 def cases():
     """All cases of reports but those of a gibibyte."""
     for some in (numbers_of_lists, numbers_in_lines, times_of_witnesses, long_lists, many_lines, many_lines_to_trim,
-                 one_line, giving_hints, distinct_lists, odd_bytes):
+                 one_line, giving_hints, naming_many_literals, distinct_lists, odd_bytes):
         yield from some()

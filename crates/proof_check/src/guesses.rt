@@ -1,4 +1,4 @@
-//! Where the literals of long clauses may be found among those that are assumed.
+//! Where the literals of long clauses may stand among those that are assumed.
 //!
 //! A guess is compared with what stands at its place by who asks for it, so that judging is right whatever is guessed here,
 //! and quick where it is guessed right.
@@ -7,7 +7,7 @@ ghost use Rattle.std.specs.Prelude.{◌<◌, ◌^◌};
 
 use crate::kept::Clauses;
 use crate::refutation::Assumed;
-use axiom_rules::{Atom, Literal};
+use axiom_rules::{Atom, Literal, Rules};
 use std::alloc::{AllocError, Global};
 use std::cmp::Ordering;
 use std::collections::BTreeMap;
@@ -20,6 +20,9 @@ const FEW: usize = 1_024;
 
 // No guesses are made for places from this one on.
 const FAR: usize = 1 << 31;
+
+// No guesses are made for instants where there are more events.
+const MANY_EVENTS: u32 = 4_096;
 
 /// For each literal of the long clauses that were cited the first place of its atom, and for each of these places where a
 /// literal of its atom is assumed.
@@ -39,12 +42,17 @@ pub struct Guesses {
     assumed: Vec<u32>,
     // How many of the literals that are assumed were seen.
     seen: usize,
+    // By two events, where a literal of their one instant was last seen among those that are assumed.
+    instants: Vec<u32>,
+    // How many were seen for that.
+    seen_instants: usize,
+    events: u32,
     is_any_long: bool,
 }
 
 impl Guesses {
     /// No guess, which takes no memory.
-    pub fn new(alloc: Global) -> Guesses {
+    pub fn new(alloc: Global, rules: &Rules) -> Guesses {
         Guesses {
             alloc,
             firsts: Vec::new(alloc),
@@ -52,13 +60,17 @@ impl Guesses {
             recent: BTreeMap::new(alloc),
             assumed: Vec::new(alloc),
             seen: 0,
-            is_any_long: false,
+            instants: Vec::new(alloc),
+            seen_instants: 0,
+            events: rules.events(),
+            is_any_long: has_many_pulses(rules),
         }
     }
 
     /// Begins with the literals that are assumed for the line after those whose clauses are closed.
     pub fn begin(&mut self, kept: &Clauses) {
         self.seen = 0;
+        self.seen_instants = 0;
         if let Some(clause) = kept.last() {
             if clause.len() > SHORT {
                 self.is_any_long = true;
@@ -160,17 +172,96 @@ impl Guesses {
         Ok(())
     }
 
-    /// Where the literal of a place may be found among those that are assumed.
-    pub fn at(&self, place: usize) -> usize {
-        let first = match self.firsts.get(place) {
-            Some(first) if *first > 0 => *first as usize - 1,
-            _ => return 0,
+    /// Makes guesses for the literals of instants.
+    pub fn make_instants(&mut self, assumed: &Assumed) -> Result<(), AllocError> {
+        if self.events > MANY_EVENTS {
+            return Ok(());
+        }
+        if self.instants.is_empty() {
+            let pairs = self.events as usize * self.events as usize;
+            self.instants.resize(pairs, 0)?;
+        }
+        for at in self.seen_instants..FAR {
+            let Some(literal) = assumed.listed(at) else {
+                self.seen_instants = at;
+                return Ok(());
+            };
+            self.note_instant(&literal.atom, at);
+        }
+        Ok(())
+    }
+
+    // Notes where a literal of an atom is assumed, if it is that of an instant.
+    fn note_instant(&mut self, atom: &Atom, at: usize)
+        requires { at < 2 ^ 31 }
+    {
+        let Some(pair) = self.pair(atom) else {
+            return;
         };
-        match self.assumed.get(first) {
-            Some(at) => *at as usize,
-            None => 0,
+        if let Some(known) = self.instants.get_mut(pair) {
+            *known = at as u32;
         }
     }
+
+    // The place of two events at one instant among all pairs.
+    fn pair(&self, atom: &Atom) -> Option<usize> {
+        match atom {
+            Atom::Same { e, x } => Some(*e as usize * self.events as usize + *x as usize),
+            _ => None,
+        }
+    }
+
+    // Where the literal of a place may stand among those that are assumed.
+    fn at_place(&self, place: usize) -> Option<&u32> {
+        let first = *self.firsts.get(place)?;
+        self.assumed.get(first.checked_sub(1)? as usize)
+    }
+
+    // Where a literal of an instant may stand among those that are assumed.
+    fn at_instant(&self, atom: &Atom) -> Option<&u32> {
+        self.instants.get(self.pair(atom)?)
+    }
+}
+
+/// By what it is guessed where the next literal of a clause stands among those that are assumed.
+#[derive(Clone, Copy)]
+pub enum Clue<'a> {
+    /// By nothing: it isn't guessed.
+    Nothing,
+    /// By its place among the literals of all clauses.
+    Place(&'a Guesses, usize),
+    /// By its atom, where that is of an instant.
+    Instant(&'a Guesses),
+}
+
+impl<'a> Clue<'a> {
+    /// Where the next literal, which this is, may stand among those that are assumed.
+    pub fn at(self, literal: &Literal) -> Option<usize> {
+        let at = match self {
+            Clue::Nothing => None,
+            Clue::Place(guesses, place) => guesses.at_place(place),
+            Clue::Instant(guesses) => guesses.at_instant(&literal.atom),
+        };
+        Some(*at? as usize)
+    }
+
+    /// What is known of the literal after the next one.
+    pub fn after(self) -> Clue<'a> {
+        match self {
+            Clue::Place(guesses, place) => Clue::Place(guesses, place.saturating_add(1)),
+            _ => self,
+        }
+    }
+}
+
+// Whether there is a proposition with so many pulses that their clauses are long.
+fn has_many_pulses(rules: &Rules) -> bool {
+    for k in 0..rules.nodes() {
+        if k < FAR && rules.pulse_count(k as u32) as usize > SHORT {
+            return true;
+        }
+    }
+    false
 }
 
 // Moves the places of a map to the end of a list, with no more room than they take.

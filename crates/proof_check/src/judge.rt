@@ -12,7 +12,7 @@ ghost use Rattle.proof_check.specs.Standing.{IsSpanOrGap};
 ghost use Rattle.proof_check.specs.WordsOf.{OfCountedHints, OfHints, OfLearn, OfLiterals};
 
 use crate::clauses::cited_clause;
-use crate::guesses::{Guesses, SHORT};
+use crate::guesses::{Clue, Guesses, SHORT};
 use crate::kept::Clauses;
 use crate::range::are_in_range;
 use crate::refutation::{Assumed, Taken};
@@ -61,6 +61,7 @@ fn take_rule(
     rule: &Rule,
     clause: &mut Clause,
     assumed: &mut Assumed,
+    guesses: &mut Guesses,
 ) -> Result<Taken, AllocError>
     ensures { IfOk result (λ taken. MatchOption (result_ok (clause_of_rule rules.now rule.now)) (taken ≡ Taken.Stuck) (λ clause. IsTaken assumed.old clause assumed.new taken)) }
 {
@@ -69,13 +70,37 @@ fn take_rule(
         if !assumed.has(&span.negated())
             && assumed.find_no_gaps(rule.args[0], rule.args[1], rules.events())?
         {
-            return assumed.take(&[span]);
+            return assumed.take(&[span], Clue::Nothing);
         }
     }
     if writes_clause(rules, rule, clause)? {
-        assumed.take(clause.as_slice())
+        take_written(clause.as_slice(), assumed, guesses)
     } else {
         Ok(Taken::Stuck)
+    }
+}
+
+// Takes a clause that was written.
+fn take_written(
+    clause: &[Literal],
+    assumed: &mut Assumed,
+    guesses: &mut Guesses,
+) -> Result<Taken, AllocError>
+    ensures { IfOk result (λ taken. IsTaken assumed.old clause.now assumed.new taken) }
+{
+    if clause.len() > SHORT && is_of_instants(clause) {
+        guesses.make_instants(assumed)?;
+        assumed.take(clause, Clue::Instant(guesses))
+    } else {
+        assumed.take(clause, Clue::Nothing)
+    }
+}
+
+// Whether the last literal of a clause is that of an instant.
+fn is_of_instants(clause: &[Literal]) -> bool {
+    match clause.last() {
+        Some(literal) => matches!(literal.atom, Atom::Same { .. }),
+        None => false,
     }
 }
 
@@ -90,11 +115,11 @@ fn take_cited(
     ensures { IfOk result (λ taken. IsTaken assumed.old clause.now assumed.new taken) }
 {
     if clause.len() <= SHORT {
-        return assumed.take(clause);
+        return assumed.take(clause, Clue::Nothing);
     }
     let start = kept.start((m as usize).saturating_sub(1));
     guesses.make(kept.literals(), start, clause.len(), assumed)?;
-    assumed.take_by(clause, start, guesses)
+    assumed.take(clause, Clue::Place(guesses, start))
 }
 
 // Takes the clause of a hint of the line after those whose clauses are closed.
@@ -113,7 +138,7 @@ fn take_hint(
             Some(lits) => take_cited(kept, m, lits, assumed, guesses),
             None => Ok(Taken::Stuck),
         },
-        Hint::Rule(rule) => take_rule(rules, &rule, clause, assumed),
+        Hint::Rule(rule) => take_rule(rules, &rule, clause, assumed, guesses),
     }
 }
 

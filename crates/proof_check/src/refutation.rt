@@ -9,7 +9,7 @@ ghost use Rattle.proof_check.specs.Standing.{AreNoGaps};
 
 use crate::atoms::Atoms;
 use crate::given::Given;
-use crate::guesses::Guesses;
+use crate::guesses::Clue;
 use crate::places::{first_place, sorted_places};
 use axiom_rules::{Atom, Literal};
 use std::alloc::{AllocError, Global};
@@ -105,10 +105,13 @@ impl<'a> Assumed<'a> {
         self.list.get(place - self.denied.len()).copied()
     }
 
-    // Whether a literal is false by the one that was assumed at a place.
-    fn denies_at(&self, place: usize, literal: &Literal) -> bool
+    // Whether a literal is false by the one that was assumed at a place, if one is told.
+    fn denies_at(&self, told: Option<usize>, literal: &Literal) -> bool
         ensures { IsTrue result → Contains self.now (negated literal.now) }
     {
+        let Some(place) = told else {
+            return false;
+        };
         if place < self.denied.len() {
             is_at(self.denied, place, literal)
         } else {
@@ -183,33 +186,26 @@ impl<'a> Assumed<'a> {
         }
     }
 
-    /// Takes the next clause, and assumes the literal that it gives. After want of memory nothing is known of what is
-    /// assumed.
-    pub fn take(&mut self, clause: &[Literal]) -> Result<Taken, AllocError>
+    /// Takes the next clause, and assumes the literal that it gives. A clue makes it quick, whatever it tells. After want of
+    /// memory nothing is known of what is assumed.
+    pub fn take(&mut self, clause: &[Literal], clue: Clue) -> Result<Taken, AllocError>
         ensures taken { IfOk result (λ taken. IsTaken self.old clause.now self.new taken) }
     {
-        let left = left_of(self, clause);
-        self.take_left(left)
-    }
-
-    /// The same for a clause whose literals begin at a place for which guesses were made.
-    pub fn take_by(
-        &mut self,
-        clause: &[Literal],
-        start: usize,
-        guesses: &Guesses,
-    ) -> Result<Taken, AllocError>
-        ensures taken { IfOk result (λ taken. IsTaken self.old clause.now self.new taken) }
-    {
-        let left = left_of_by(self, clause, start, guesses);
+        let left = left_of(self, clause, clue);
         self.take_left(left)
     }
 }
 
+// Whether two literals are one. Those of orders, of which there can be most, are compared at once.
 fn are_same(literal: &Literal, other: &Literal) -> bool
     ensures { IsTrue result → literal.now ≡ other.now }
 {
-    literal == other
+    match (&literal.atom, &other.atom) {
+        (Atom::Order { e, f, c }, Atom::Order { e: g, f: h, c: d }) => {
+            *c == *d && *e == *g && *f == *h && literal.positive == other.positive
+        }
+        _ => literal == other,
+    }
 }
 
 // Whether a literal stands at a place.
@@ -246,42 +242,15 @@ fn is_denied(denied: &[Literal], places: &[u32], literal: &Literal) -> bool
 }
 
 // What is left of a clause.
-fn left_of(assumed: &Assumed, clause: &[Literal]) -> Left
+fn left_of(assumed: &Assumed, clause: &[Literal], clue: Clue) -> Left
     ensures { IsLeft assumed.now clause.now result }
 {
     let mut open = None;
+    let mut next = clue;
     for literal in clause {
-        if assumed.has(&literal.negated()) {
-            continue;
-        }
-        if assumed.has(literal) {
-            return Left::More;
-        }
-        match open {
-            None => open = Some(*literal),
-            Some(other) => {
-                if other != *literal {
-                    return Left::More;
-                }
-            }
-        }
-    }
-    match open {
-        None => Left::Nothing,
-        Some(literal) => Left::Only(literal),
-    }
-}
-
-// The same by guesses for the literals from a place on.
-fn left_of_by(assumed: &Assumed, clause: &[Literal], start: usize, guesses: &Guesses) -> Left
-    ensures { IsLeft assumed.now clause.now result }
-{
-    let mut open = None;
-    let mut place = start;
-    for literal in clause {
-        let guess = guesses.at(place);
-        place = place.saturating_add(1);
-        if assumed.denies_at(guess, literal) {
+        let told = next.at(literal);
+        next = next.after();
+        if assumed.denies_at(told, literal) {
             continue;
         }
         if assumed.has(&literal.negated()) {

@@ -100,7 +100,7 @@ pub fn check_lines_of(
 {
     let table = EdgeTable::of(alloc, rules.log())?;
     let mut kept = Clauses::new(alloc);
-    let mut guesses = Guesses::new(alloc);
+    let mut guesses = Guesses::new(alloc, rules);
     let mut learn_lines = 0;
     let mut rest = text;
     while let Some((words, after)) = first_words(rest) {

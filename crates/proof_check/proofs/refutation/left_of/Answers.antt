@@ -1,8 +1,12 @@
-use Rattle.std.proofs.Common.{subst, take, None}
+use Rattle.std.proofs.Common.{refl, subst, take, None}
 use Rattle.std.proofs.lemmas.Bool.{iff_false}
 use Rattle.proof_check.proofs.TakeLemmas.{IsOpen, next_other, next_true, open_again, open_all, open_first, open_past}
 use Rattle.proof_check.proofs.refutation.left_of.Goals.{in-None, in-Some+else-ne}
 use Rattle.proof_check.proofs.refutation.left_of.Goals as goal
+
+pub loop-literal-preserved-then-denies_at : goal.loop-literal-preserved-then-denies_at
+loop-literal-preserved-then-denies_at c =
+    open_past c.args.assumed.now c.args.clause.now c.loop-literal.literal-index _ _ c.loop-literal-test.true refl c.loop-literal.open c.loop-literal.invariant (c.denies_at.ensures c.if-denies_at.true)
 
 pub loop-literal-preserved-then-has : goal.loop-literal-preserved-then-has
 loop-literal-preserved-then-has c = open_past c.args.assumed.now c.args.clause.now c.loop-literal.literal-index _ c.negated.result c.loop-literal-test.true c.negated.ensures.literal
