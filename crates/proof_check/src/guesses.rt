@@ -38,7 +38,7 @@ pub struct Guesses {
     sorted: Vec<u32>,
     // The other first places.
     recent: BTreeMap<Atom, u32>,
-    // By the first place of an atom, where a literal of it was last seen among those that are assumed.
+    // By one more than the first place of an atom, where a literal of it was last seen among those that are assumed.
     assumed: Vec<u32>,
     // How many of the literals that are assumed were seen.
     seen: usize,
@@ -121,7 +121,7 @@ impl Guesses {
     {
         if self.firsts.len() < end {
             self.firsts.resize(end, 0)?;
-            self.assumed.resize(end, 0)?;
+            self.assumed.resize(end.saturating_add(1), 0)?;
         }
         for place in start..end {
             let first = self.first_from(literals, place as u32)?;
@@ -139,7 +139,7 @@ impl Guesses {
         let Some(first) = self.first(literals, atom) else {
             return;
         };
-        if let Some(known) = self.assumed.get_mut(first as usize) {
+        if let Some(known) = self.assumed.get_mut(first as usize + 1) {
             *known = at as u32;
         }
     }
@@ -211,10 +211,12 @@ impl Guesses {
         }
     }
 
-    // Where the literal of a place may stand among those that are assumed.
-    fn at_place(&self, place: usize) -> Option<&u32> {
-        let first = *self.firsts.get(place)?;
-        self.assumed.get(first.checked_sub(1)? as usize)
+    /// What is known of the literals of a clause, of which so many begin at a place among all literals of clauses.
+    pub fn clue(&self, start: usize, count: usize) -> Clue<'_> {
+        match self.firsts.get(start..start.saturating_add(count)) {
+            Some(firsts) => Clue::Firsts(firsts, &self.assumed),
+            None => Clue::Nothing,
+        }
     }
 
     // Where a literal of an instant may stand among those that are assumed.
@@ -228,8 +230,8 @@ impl Guesses {
 pub enum Clue<'a> {
     /// By nothing: it isn't guessed.
     Nothing,
-    /// By its place among the literals of all clauses.
-    Place(&'a Guesses, usize),
+    /// By one more than the first place of its atom, the next one of these, and by where literals are assumed, by that number.
+    Firsts(&'a [u32], &'a [u32]),
     /// By its atom, where that is of an instant.
     Instant(&'a Guesses),
 }
@@ -239,7 +241,8 @@ impl<'a> Clue<'a> {
     pub fn at(self, literal: &Literal) -> Option<usize> {
         let at = match self {
             Clue::Nothing => None,
-            Clue::Place(guesses, place) => guesses.at_place(place),
+            Clue::Firsts([first, ..], assumed) => assumed.get(*first as usize),
+            Clue::Firsts([], _) => None,
             Clue::Instant(guesses) => guesses.at_instant(&literal.atom),
         };
         Some(*at? as usize)
@@ -248,7 +251,7 @@ impl<'a> Clue<'a> {
     /// What is known of the literal after the next one.
     pub fn after(self) -> Clue<'a> {
         match self {
-            Clue::Place(guesses, place) => Clue::Place(guesses, place.saturating_add(1)),
+            Clue::Firsts([_, firsts @ ..], assumed) => Clue::Firsts(firsts, assumed),
             _ => self,
         }
     }

@@ -119,7 +119,7 @@ fn take_cited(
     }
     let start = kept.start((m as usize).saturating_sub(1));
     guesses.make(kept.literals(), start, clause.len(), assumed)?;
-    assumed.take(clause, Clue::Place(guesses, start))
+    assumed.take(clause, guesses.clue(start, clause.len()))
 }
 
 // Takes the clause of a hint of the line after those whose clauses are closed.

@@ -196,16 +196,10 @@ impl<'a> Assumed<'a> {
     }
 }
 
-// Whether two literals are one. Those of orders, of which there can be most, are compared at once.
 fn are_same(literal: &Literal, other: &Literal) -> bool
     ensures { IsTrue result → literal.now ≡ other.now }
 {
-    match (&literal.atom, &other.atom) {
-        (Atom::Order { e, f, c }, Atom::Order { e: g, f: h, c: d }) => {
-            *c == *d && *e == *g && *f == *h && literal.positive == other.positive
-        }
-        _ => literal == other,
-    }
+    literal == other
 }
 
 // Whether a literal stands at a place.
