@@ -277,7 +277,7 @@ def pulses():
     return b"F a.p", log, report_of(line, events=b"%d" % (2 * half), time=times)
 
 
-def long_lines(width=700, turns=486):
+def long_lines(width=700, turns=400):
     """Lines on two rows with as many literals as there are of them, and then one line again and again that cites each."""
     orders = b"".join(b" order 0 1 %d" % number for number in range(width))
     first = b"cycle 3 low 1 order 1 0 0 high 0"
