@@ -20,6 +20,7 @@ pub record Shelved : Type 0 where
   pub piece : ℕ
   pub fails : List ℕ
   pub calls : ℕ
+  pub openings : ℕ
   pub faults : ℕ
 
 -- a count after one more, which stays at its end
@@ -54,11 +55,11 @@ left_at files (Some i) place = drop place (bytes_of files i)
 
 -- the shelf after it opened a file of these bytes
 abbrev pub opened : Shelved → List ℕ → Shelved
-opened s bytes = record s { is_open = true; left = bytes; calls = one_more s.calls }
+opened s bytes = record s { is_open = true; left = bytes; calls = one_more s.calls; openings = one_more s.openings }
 
 -- the shelf after an opening that failed
 abbrev pub not_opened : Shelved → Shelved
-not_opened s = record s { is_open = false; left = []; calls = one_more s.calls; faults = one_more s.faults }
+not_opened s = record s { is_open = false; left = []; calls = one_more s.calls; openings = one_more s.openings; faults = one_more s.faults }
 
 -- the shelf after it gave this many bytes
 abbrev pub gave : Shelved → ℕ → Shelved

@@ -2,7 +2,7 @@
 
 ghost use Rattle.std.specs.Prelude.{◌≡◌, ◌⊎◌, ◌++◌, [], ◌<◌, ◌≤◌, ◌-◌, ◌^◌, IfOk, IsErr, IsOk, IsSome, IsNone, IfSome, Some, Contains, IsTrue, ◌↔◌, OnOk, OnErr, true, false, position, bytes_eq, string_bytes, drop, take, min, length, ◌+◌};
 ghost use Rattle.mt_port.specs.Port.{Gives, HasCause, file_of};
-ghost use Rattle.mt_port.specs.Memory.{AreDistinct, IsFullFor, IsSteady, IsToFail, Shelved, Sunk, bytes_of, gave, left_at, named, not_opened, not_read, not_written, opened, took};
+ghost use Rattle.mt_port.specs.Memory.{AreDistinct, IsFullFor, IsSteady, IsToFail, Shelved, Sunk, bytes_of, gave, left_at, named, not_opened, not_read, not_written, one_more, opened, took};
 
 use crate::{Failed, Shelf, Sink};
 use std::alloc::{AllocError, Global};
@@ -158,6 +158,7 @@ pub struct MemShelf {
     piece: usize,
     fails: Vec<u64>,
     calls: u64,
+    openings: u64,
     faults: u64,
     current: Option<usize>,
     place: usize,
@@ -170,7 +171,7 @@ impl Model for MemShelf {
 
     ghost Value = { Shelved };
 
-    ghost view = { λ s. record { files = named s.files.items; is_open = is_some s.current; left = left_at (named s.files.items) s.current s.place; piece = s.piece; fails = s.fails.items; calls = s.calls; faults = s.faults } };
+    ghost view = { λ s. record { files = named s.files.items; is_open = is_some s.current; left = left_at (named s.files.items) s.current s.place; piece = s.piece; fails = s.fails.items; calls = s.calls; openings = s.openings; faults = s.faults } };
 
     ghost invariant = { λ s. (0 < s.piece) × ForSome s.current (λ i. (i < vec_len s.files) × (s.place ≤ length (bytes_of (named s.files.items) i))) };
 }
@@ -183,17 +184,25 @@ impl MemShelf {
     pub fn new(files: Vec<(String, Vec<u8>)>, piece: usize, fails: Vec<u64>) -> MemShelf
         requires distinct { AreDistinct (named files.items) }
         requires some { 0 < piece }
-        ensures { result ≡ record { files = named files.items; is_open = false; left = []; piece = piece; fails = fails.items; calls = 0; faults = 0 } }
+        ensures { result ≡ record { files = named files.items; is_open = false; left = []; piece = piece; fails = fails.items; calls = 0; openings = 0; faults = 0 } }
     {
         MemShelf {
             files,
             piece,
             fails,
             calls: 0,
+            openings: 0,
             faults: 0,
             current: None,
             place: 0,
         }
+    }
+
+    /// How often a file was opened, or was to be opened.
+    pub fn openings(&self) -> u64
+        ensures { result ≡ self.now.openings }
+    {
+        self.openings
     }
 
     /// Whether no two of the files have one name, as `new` requires.
@@ -212,6 +221,8 @@ impl MemShelf {
 impl Shelf for MemShelf {
     ghost faults = { λ s. s.faults };
 
+    ghost openings = { λ s. Some s.openings };
+
     ghost is_open = { λ s. s.is_open };
 
     ghost tells = { λ s. true };
@@ -228,6 +239,7 @@ impl Shelf for MemShelf {
         ensures closed { OnErr result (self.new.is_open ≡ false) }
         ensures at_start { OnOk result (file_of self.old.files name.now ≡ Some self.new.left) }
         ensures files { self.new.files ≡ self.old.files }
+        ensures opening { self.new.openings ≡ one_more self.old.openings }
         ensures cause { HasCause self.old.faults self.new.faults result }
         ensures in_range { self.new.faults < 2 ^ 64 }
         ensures steady { IsSteady self.old.fails self.old.calls → IsSteady self.new.fails self.new.calls }
@@ -239,6 +251,7 @@ impl Shelf for MemShelf {
         ensures err { OnErr result (self.new ≡ not_opened self.old) }
     {
         self.calls = self.calls.saturating_add(1);
+        self.openings = self.openings.saturating_add(1);
         self.current = None;
         self.place = 0;
         if is_to_fail(&self.fails, self.calls) {
@@ -265,6 +278,7 @@ impl Shelf for MemShelf {
         ensures bytes { IfOk result (λ n. Gives self.old.left self.new.left (length buf.old) buf.new n) }
         ensures place { OnErr result (self.new.left ≡ self.old.left) }
         ensures files { self.new.files ≡ self.old.files }
+        ensures openings { self.new.openings ≡ self.old.openings }
         ensures cause { HasCause self.old.faults self.new.faults result }
         ensures in_range { self.new.faults < 2 ^ 64 }
         ensures steady { IsSteady self.old.fails self.old.calls → IsSteady self.new.fails self.new.calls }

@@ -1,29 +1,38 @@
 //! The real files and streams behind the traits, a few lines each.
 
-ghost use Rattle.std.specs.Prelude.{[], None, false, true, codes, bytes_eq, take, ◌≡◌, ◌↔◌, ◌||◌, ◌^◌, ◌<◌, ◌≤◌, IsErr, IfOk, OnErr, OnOk, length};
+ghost use Rattle.std.specs.Prelude.{[], false, true, codes, bytes_eq, take, ◌≡◌, ◌≢◌, ◌↔◌, ◌||◌, ◌^◌, ◌<◌, ◌≤◌, Some, IsErr, IfOk, OnErr, OnOk, length};
+ghost use Rattle.std.specs.Fs.{new_options, with_read};
 ghost use Rattle.std.specs.Io.KnownBytes.{Appends, Consumes, IsAtEnd, Keeps};
+ghost use Rattle.mt_port.specs.Calls.{ToldOfRead, ToldOfWrite};
+ghost use Rattle.mt_port.specs.Memory.{one_more};
+ghost use Rattle.mt_port.specs.Outside.{IsInput, IsOpened, ToldOfOpen, left_of, stands_open};
 ghost use Rattle.mt_port.specs.Port.{HasCause};
+ghost use Rattle.mt_port.specs.declared.outside.Source.TheVariants.{Nothing};
 
-use crate::{Failed, Shelf, Sink};
-use std::fs;
-use std::io::{self, ErrorKind, Read, Write};
+use crate::{Failed, Inlet, Outlet, Shelf, Sink, System};
+use std::fs::OpenOptions;
+use std::io::{self, ErrorKind, Printer};
 use std::marker::Model;
-use std::rt::Files;
 
-// Reads the next bytes that a reader has left to the front of a buffer.
+/// How often a call is made that signals break off.
+const TRIES: u32 = 65_536;
+
+// Reads the next bytes of an inlet to the front of a buffer.
 //
 // The system may break a call off for a signal, and asks for it again: that isn't a failure.
-fn read_next<R: Read>(reader: &mut R, buf: &mut [u8]) -> Result<usize, Failed>
+fn read_next<R: Inlet>(reader: &mut R, buf: &mut [u8]) -> Result<usize, Failed>
     ensures size { length buf.new ≡ length buf.old }
     ensures count { IfOk result (λ n. n ≤ length buf.new) }
-    ensures given { IfOk result (λ n. Consumes (R.remaining reader.old) (R.remaining reader.new) (take n buf.new)) }
-    ensures end { IfOk result (λ n. n ≡ 0 → 0 < length buf.new → IsAtEnd (R.remaining reader.new)) }
-    ensures place { OnErr result (Keeps (R.remaining reader.old) (R.remaining reader.new)) }
+    ensures given { IfOk result (λ n. Consumes (R.left reader.old) (R.left reader.new) (take n buf.new)) }
+    ensures end { IfOk result (λ n. n ≡ 0 → 0 < length buf.new → IsAtEnd (R.left reader.new)) }
+    ensures place { OnErr result (Keeps (R.left reader.old) (R.left reader.new)) }
+    ensures answer { ToldOfRead R.reads reader.old buf.old reader.new buf.new result }
 {
-    for _ in 0..u64::MAX {
-        match reader.read(buf) {
+    let mut broken_off = 0;
+    while broken_off < TRIES {
+        match reader.read_once(buf) {
             Ok(count) => return Ok(count),
-            Err(error) if error.kind() == ErrorKind::Interrupted => {}
+            Err(error) if error.kind() == ErrorKind::Interrupted => broken_off += 1,
             Err(_) => return Err(Failed),
         }
     }
@@ -31,16 +40,18 @@ fn read_next<R: Read>(reader: &mut R, buf: &mut [u8]) -> Result<usize, Failed>
 }
 
 // Writes the first bytes of a piece, at least one of a piece that isn't empty.
-fn write_next<W: Write>(writer: &mut W, piece: &[u8]) -> Result<usize, Failed>
+fn write_next<W: Outlet>(writer: &mut W, piece: &[u8]) -> Result<usize, Failed>
     ensures count { IfOk result (λ n. n ≤ length piece.now) }
     ensures some { IfOk result (λ n. 0 < length piece.now → 0 < n) }
-    ensures taken { IfOk result (λ n. Appends (W.contents writer.old) (W.contents writer.new) (take n piece.now)) }
-    ensures kept { OnErr result (Keeps (W.contents writer.old) (W.contents writer.new)) }
+    ensures taken { IfOk result (λ n. Appends (W.holds writer.old) (W.holds writer.new) (take n piece.now)) }
+    ensures kept { OnErr result (Keeps (W.holds writer.old) (W.holds writer.new)) }
+    ensures answer { ToldOfWrite W.writes piece.now writer.old writer.new result }
 {
-    for _ in 0..u64::MAX {
-        match writer.write(piece) {
+    let mut broken_off = 0;
+    while broken_off < TRIES {
+        match writer.write_once(piece) {
             Ok(count) if count > 0 || piece.is_empty() => return Ok(count),
-            Err(fault) if fault.kind() == ErrorKind::Interrupted => {}
+            Err(fault) if fault.kind() == ErrorKind::Interrupted => broken_off += 1,
             _ => return Err(Failed),
         }
     }
@@ -58,6 +69,13 @@ fn count_after<T>(answer: &Result<T, Failed>, faults: u64) -> u64
     }
 }
 
+// Opens the file of a path for reading, and for nothing else.
+fn open_to_read<R: System>(rt: &R, path: &str) -> io::Result<R::File>
+    ensures { R.opens (with_read new_options true) path.now result }
+{
+    rt.open_file(OpenOptions::new().read(true), path)
+}
+
 // What a shelf of real files reads from.
 #[derive(Drop)]
 enum Source<F, I> {
@@ -68,44 +86,48 @@ enum Source<F, I> {
 
 /// The real files by their paths, and the standard input under the name `-`.
 ///
-/// It tells no content. Contracts see what the open one has left, where its reader tells that.
+/// It tells no content. Contracts see its calls of the system, and what the open one has left, where that tells it.
 #[derive(Drop)]
-pub struct FileShelf<'a, R: Files + Input> {
+pub struct FileShelf<'a, R: System> {
     rt: &'a R,
-    source: Source<R::File, R::Reader>,
+    source: Source<R::File, R::Input>,
     input_taken: bool,
+    openings: u64,
     faults: u64,
 }
 
-impl<'a, R: Files + Input> Model for FileShelf<'a, R> {
+impl<'a, R: System> Model for FileShelf<'a, R> {
     ghost use Rattle.std.specs.Prelude.{◌<◌, ◌^◌};
-    ghost use Rattle.mt_port.specs.Outside.{Reached, left_of, stands_open};
+    ghost use Rattle.mt_port.specs.Outside.{Reached};
 
-    ghost Value = { Reached };
+    ghost Value = { Reached R.File R.Input };
 
-    ghost view = { λ s. record { faults = s.faults; is_open = stands_open s.source; input_taken = s.input_taken; left = left_of R.File.remaining R.Reader.remaining s.source } };
+    ghost view = { λ s. record { source = s.source; input_taken = s.input_taken; openings = s.openings; faults = s.faults } };
 
-    ghost invariant = { λ s. s.faults < 2 ^ 64 };
+    ghost invariant = { λ s. (s.openings < 2 ^ 64) × (s.faults < 2 ^ 64) };
 }
 
-impl<'a, R: Files + Input> FileShelf<'a, R> {
-    /// A shelf over what the program was given, with nothing open and no fault so far.
+impl<'a, R: System> FileShelf<'a, R> {
+    /// A shelf over what the program was given, with nothing open, and no opening and no fault so far.
     pub fn new(rt: &'a R) -> FileShelf<'a, R>
-        ensures { result ≡ record { faults = 0; is_open = false; input_taken = false; left = None } }
+        ensures { result ≡ record { source = Nothing; input_taken = false; openings = 0; faults = 0 } }
     {
         FileShelf {
             rt,
             source: Source::Nothing,
             input_taken: false,
+            openings: 0,
             faults: 0,
         }
     }
 }
 
-impl<R: Files + Input> Shelf for FileShelf<'_, R> {
+impl<R: System> Shelf for FileShelf<'_, R> {
     ghost faults = { λ s. s.faults };
 
-    ghost is_open = { λ s. s.is_open };
+    ghost openings = { λ s. Some s.openings };
+
+    ghost is_open = { λ s. stands_open s.source };
 
     ghost tells = { λ s. false };
 
@@ -117,23 +139,29 @@ impl<R: Files + Input> Shelf for FileShelf<'_, R> {
 
     /// Opens the file of this path, or the standard input, which can be opened once.
     fn open(&mut self, name: &str) -> Result<(), Failed>
-        ensures opened { OnOk result (self.new.is_open ≡ true) }
-        ensures closed { OnErr result (self.new.is_open ≡ false) }
+        ensures opened { OnOk result (stands_open self.new.source ≡ true) }
+        ensures closed { OnErr result (stands_open self.new.source ≡ false) }
+        ensures opening { self.new.openings ≡ one_more self.old.openings }
         ensures cause { HasCause self.old.faults self.new.faults result }
         ensures in_range { self.new.faults < 2 ^ 64 }
 
-        // The standard input opens at first, and never again.
+        // The standard input has the name `-`. It opens at first, and never again.
         ensures input { name.now ≡ codes "-" → (IsErr result ↔ (self.old.input_taken ≡ true)) }
+        ensures standard { name.now ≡ codes "-" → OnOk result (IsInput R.is_input self.new.source) }
         ensures taken { self.new.input_taken ≡ (self.old.input_taken || bytes_eq name.now (codes "-")) }
+
+        // Of any other name the system opens the file for reading, and what it answers is told.
+        ensures file { name.now ≢ codes "-" → IsOpened (R.opens (with_read new_options true) name.now) self.new.source result }
     {
+        self.openings = self.openings.saturating_add(1);
         self.source = Source::Nothing;
         if name == "-" {
             if !self.input_taken {
                 self.input_taken = true;
-                self.source = Source::Input(self.rt.reader());
+                self.source = Source::Input(self.rt.input());
                 return Ok(());
             }
-        } else if let Ok(file) = fs::open(self.rt, name) {
+        } else if let Ok(file) = open_to_read(self.rt, name) {
             self.source = Source::Opened(file);
             return Ok(());
         }
@@ -142,17 +170,21 @@ impl<R: Files + Input> Shelf for FileShelf<'_, R> {
     }
 
     fn read(&mut self, buf: &mut [u8]) -> Result<usize, Failed>
-        requires { self.old.is_open ≡ true }
-        ensures open { self.new.is_open ≡ true }
+        requires { stands_open self.old.source ≡ true }
+        ensures open { stands_open self.new.source ≡ true }
         ensures count { IfOk result (λ n. n ≤ length buf.old) }
+        ensures openings { self.new.openings ≡ self.old.openings }
         ensures cause { HasCause self.old.faults self.new.faults result }
         ensures in_range { self.new.faults < 2 ^ 64 }
         ensures taken { self.new.input_taken ≡ self.old.input_taken }
 
+        // The system is asked for bytes of the open one, and what it answers is told.
+        ensures answer { ToldOfOpen R.File.reads R.Input.reads self.old.source buf.old self.new.source buf.new result }
+
         // Where the open file or input tells what it has left, its next bytes are given, and none only at its end.
-        ensures given { IfOk result (λ n. Consumes self.old.left self.new.left (take n buf.new)) }
-        ensures end { IfOk result (λ n. n ≡ 0 → 0 < length buf.old → IsAtEnd self.new.left) }
-        ensures kept { OnErr result (Keeps self.old.left self.new.left) }
+        ensures given { IfOk result (λ n. Consumes (left_of R.File.left R.Input.left self.old.source) (left_of R.File.left R.Input.left self.new.source) (take n buf.new)) }
+        ensures end { IfOk result (λ n. n ≡ 0 → 0 < length buf.old → IsAtEnd (left_of R.File.left R.Input.left self.new.source)) }
+        ensures kept { OnErr result (Keeps (left_of R.File.left R.Input.left self.old.source) (left_of R.File.left R.Input.left self.new.source)) }
     {
         let given = match &mut self.source {
             Source::Nothing => unreachable!(),
@@ -164,40 +196,58 @@ impl<R: Files + Input> Shelf for FileShelf<'_, R> {
     }
 }
 
-/// The standard output. It tells no content.
+/// The standard output, or what else takes bytes by such calls. It tells no content; contracts see its calls.
 #[derive(Drop)]
-pub struct StdSink<'a, R: Print> {
-    rt: &'a R,
+pub struct StdSink<W> {
+    output: W,
     faults: u64,
 }
 
-impl<'a, R: Print> Model for StdSink<'a, R> {
-    ghost use Rattle.std.specs.Prelude.{ℕ};
+impl<W> Model for StdSink<W> {
+    ghost use Rattle.std.specs.Prelude.{◌<◌, ◌^◌};
+    ghost use Rattle.mt_port.specs.Outside.{Written};
 
-    ghost Value = { ℕ };
+    ghost Value = { Written W };
 
-    ghost view = { λ s. s.faults };
+    ghost view = { λ s. record { output = s.output; faults = s.faults } };
+
+    ghost invariant = { λ s. s.faults < 2 ^ 64 };
 }
 
-impl<'a, R: Print> StdSink<'a, R> {
-    /// A sink over what the program was given, with no fault so far. Contracts see the count alone.
-    pub fn new(rt: &'a R) -> StdSink<'a, R>
-        ensures { result ≡ 0 }
+impl<'a, R: Print> StdSink<Printer<'a, R>> {
+    /// A sink over what the program was given, with no fault so far.
+    pub fn new(rt: &'a R) -> StdSink<Printer<'a, R>>
+        ensures { result.faults ≡ 0 }
     {
-        StdSink { rt, faults: 0 }
+        StdSink {
+            output: io::writer(rt),
+            faults: 0,
+        }
     }
 }
 
-impl<R: Print> Sink for StdSink<'_, R> {
-    ghost faults = { λ s. s };
+impl<W: Outlet> Sink for StdSink<W> {
+    ghost faults = { λ s. s.faults };
 
     ghost tells = { λ s. false };
 
     ghost bytes = { λ s. [] };
 
     /// Fails where the system does, and where it takes nothing of a piece that isn't empty.
-    fn write(&mut self, piece: &[u8]) -> Result<usize, Failed> {
-        let taken = write_next(&mut io::writer(self.rt), piece);
+    fn write(&mut self, piece: &[u8]) -> Result<usize, Failed>
+        ensures count { IfOk result (λ n. n ≤ length piece.now) }
+        ensures some { IfOk result (λ n. 0 < length piece.now → 0 < n) }
+        ensures cause { HasCause self.old.faults self.new.faults result }
+        ensures in_range { self.new.faults < 2 ^ 64 }
+
+        // The system is given the piece, and what it answers is told.
+        ensures answer { ToldOfWrite W.writes piece.now self.old.output self.new.output result }
+
+        // Where the output tells what it holds, just the bytes that are counted were added.
+        ensures taken { IfOk result (λ n. Appends (W.holds self.old.output) (W.holds self.new.output) (take n piece.now)) }
+        ensures kept { OnErr result (Keeps (W.holds self.old.output) (W.holds self.new.output)) }
+    {
+        let taken = write_next(&mut self.output, piece);
         self.faults = count_after(&taken, self.faults);
         taken
     }

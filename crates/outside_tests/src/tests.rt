@@ -14,10 +14,12 @@ fn reads_a_real_file(rt: HostRuntime) -> Result<(), Fail> {
     let longer = read_all(rt.alloc(), &mut shelf, name, 9);
     fs::remove_file(&rt, name)?;
     let missing = read_all(rt.alloc(), &mut shelf, name, 10);
+    let empty = read_all(rt.alloc(), &mut shelf, "/dev/null", 10);
 
     assert_eq!(rt; text?.as_slice(), b"two\nlines\n".as_slice());
     assert!(rt; matches!(longer, Err(ReadFault::TooLong)));
     assert!(rt; matches!(missing, Err(ReadFault::Failed)));
+    assert!(rt; empty?.is_empty());
     Ok(())
 }
 
@@ -52,11 +54,11 @@ fn an_output_that_takes_nothing_fails(rt: HostRuntime) {
     }
 }
 
-// An output that fails or takes nothing has what it took before, and one that was interrupted has all.
+// An output that fails or takes nothing has what it took before, though it would take more, and one that was interrupted has all.
 #[test]
 fn a_write_that_fails_in_mid_stream_fails(rt: HostRuntime) {
-    let cut: &[Call] = &[Call::Moved(3), Call::Failed];
-    let full: &[Call] = &[Call::Moved(4), Call::Moved(0)];
+    let cut: &[Call] = &[Call::Moved(3), Call::Failed, Call::Moved(2)];
+    let full: &[Call] = &[Call::Moved(4), Call::Moved(0), Call::Moved(1)];
     let broken_off: &[Call] = &[
         Call::Interrupted,
         Call::Moved(3),

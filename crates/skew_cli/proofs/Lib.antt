@@ -13,4 +13,4 @@ mod TrimmedAgain
 mod TrimmedTexts
 mod TrimSteps
 mod JsonSteps
-mod NoneOpened
+pub mod Turns

@@ -8,7 +8,7 @@ use Rattle.skew_answers.specs.declared.status.Status.TheVariants as status
 use Rattle.skew_answers.specs.Statuses.{IsAnswer}
 use Rattle.skew_answers.specs.Texts.{line}
 use Rattle.skew_words.specs.Words.{Audit, Check, Command, Demo, Json, Order, Replay, Span, Times, Tolerance, Trim, Word, command_of}
-use Rattle.skew_commands.specs.Openings.{OpensAtMost}
+use Rattle.skew_commands.specs.Openings.{OpensAtMost, OpensInTurn, OpensMoreOnly, PassesFormula}
 use Rattle.skew_commands.specs.Possible.{OfSomeLog, OfSomeQuestion, OfSomeThird}
 use Rattle.skew_commands.specs.Reads.{HoldsQuestion, HoldsThird, NoThird}
 use Rattle.skew_commands.specs.TimesOutcome.{TimesOutcome}
@@ -27,33 +27,49 @@ abbrev pub Says : List ℕ → Status → List ℕ → Status → Type 0
 Says text due out s = (out ≡ line text) × (s ≡ due)
 
 -- what is due for a command: its outcome where files are held, what it can give of some files under some names, whether the
--- files that it comes to read are held, and how many files it names
+-- files that it comes to read are held, how many files it names, and which tests each opening comes after
 pub record Due : Type 1 where
   pub outcome : Files → List ℕ → Status → Type 0
   pub possible : List ℕ → Status → Type 0
   pub holds : Files → Type 0
   pub named : ℕ
+  pub in_turn : Files → Option ℕ → Option ℕ → Type 0
+
+-- a command of one file or of none has no file after another
+abbrev pub HasNoTurns : Files → Option ℕ → Option ℕ → Type 0
+HasNoTurns files before now = Unit {0}
 
 -- of a command that reads no file
 abbrev pub due_of_nothing : (List ℕ → Status → Type 0) → Due
-due_of_nothing Given = record { outcome = λ files. Given; possible = Given; holds = λ files. Unit {0}; named = 0 }
+due_of_nothing Given = record { outcome = λ files. Given; possible = Given; holds = λ files. Unit {0}; named = 0; in_turn = HasNoTurns }
 
 -- of one that reads a log
 abbrev pub due_of_log : (Files → Word → List ℕ → Status → Type 0) → Word → Due
-due_of_log Given log = record { outcome = λ files. Given files log; possible = OfSomeLog Given; holds = λ files. IsSome (file_of files log); named = 1 }
+due_of_log Given log = record { outcome = λ files. Given files log; possible = OfSomeLog Given; holds = λ files. IsSome (file_of files log); named = 1; in_turn = HasNoTurns }
 
 -- of one that reads a report
 abbrev pub due_of_report : (Files → Word → List ℕ → Status → Type 0) → Word → Due
-due_of_report Given name = record { outcome = λ files. Given files name; possible = OfSomeReport Given; holds = λ files. IsSome (file_of files name); named = 1 }
+due_of_report Given name = record { outcome = λ files. Given files name; possible = OfSomeReport Given; holds = λ files. IsSome (file_of files name); named = 1; in_turn = HasNoTurns }
 
 -- of one that reads a formula and a log
 abbrev pub due_of_question : (Files → Word → Word → List ℕ → Status → Type 0) → Word → Word → Due
-due_of_question Given formula log = record { outcome = λ files. Given files formula log; possible = OfSomeQuestion Given; holds = λ files. HoldsQuestion files formula log NoThird; named = 2 }
+due_of_question Given formula log = record {
+  outcome = λ files. Given files formula log;
+  possible = OfSomeQuestion Given;
+  holds = λ files. HoldsQuestion files formula log NoThird;
+  named = 2;
+  in_turn = λ files. OpensMoreOnly 1 (PassesFormula files formula);
+}
 
 -- of one that reads a third file after these
 abbrev pub due_of_third : (Files → Word → Word → Word → List ℕ → Status → Type 0) → Word → Word → Word → Due
-due_of_third Given formula log third =
-    record { outcome = λ files. Given files formula log third; possible = OfSomeThird Given; holds = λ files. HoldsQuestion files formula log (HoldsThird files third); named = 3 }
+due_of_third Given formula log third = record {
+  outcome = λ files. Given files formula log third;
+  possible = OfSomeThird Given;
+  holds = λ files. HoldsQuestion files formula log (HoldsThird files third);
+  named = 3;
+  in_turn = λ files. OpensInTurn files formula log;
+}
 
 -- what is due for each command
 abbrev pub due_for : Command → Due
@@ -84,6 +100,10 @@ HoldsFiles files command = (due_for command).holds files
 abbrev pub files_named : Command → ℕ
 files_named command = (due_for command).named
 
+-- each file that a command opens comes after the tests of those before it
+abbrev pub OpensFilesInTurn : Files → Command → Option ℕ → Option ℕ → Type 0
+OpensFilesInTurn files command = (due_for command).in_turn files
+
 -- what words give: the command's outcome, and a refusal where they are no command
 abbrev pub Outcome : List Word → Files → List ℕ → Status → Type 0
 Outcome words files out s = MatchOption (command_of words) (Says (codes "refused words") status.Words out s) (λ command. CommandOutcome command files out s)
@@ -107,6 +127,10 @@ HoldsNamed words files = MatchOption (command_of words) (Unit {0}) (HoldsFiles f
 -- no more files are opened than the command of words names, and none where they are no command
 abbrev pub OpensNamed : List Word → Option ℕ → Option ℕ → Type 0
 OpensNamed words before now = OpensAtMost (option_map_or files_named (command_of words) 0) before now
+
+-- each file that the command of words opens comes after the tests of those before it
+abbrev pub OpensNamedInTurn : List Word → Files → Option ℕ → Option ℕ → Type 0
+OpensNamedInTurn words files before now = MatchOption (command_of words) (Unit {0}) (λ command. OpensFilesInTurn files command before now)
 
 -- how a call ended that is to write what is due: an answer wrote it, and where writing failed, the beginning of it was written
 pub record Ends (Due : List ℕ → Status → Type 0) (old now : List ℕ) (s : Status) : Type 0 where

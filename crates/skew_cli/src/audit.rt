@@ -13,7 +13,7 @@ ghost use Rattle.report_text.specs.declared.report.Report.{Report};
 ghost use Rattle.skew_answers.specs.Statuses.{IsVerdict};
 ghost use Rattle.skew_answers.specs.Texts.{line};
 ghost use Rattle.skew_cli.specs.AuditOutcome.{AuditOfLog, AuditOfReport, AuditOutcome, refused_part};
-ghost use Rattle.skew_commands.specs.Openings.{OpensAtMost};
+ghost use Rattle.skew_commands.specs.Openings.{OpensAtMost, OpensInTurn, OpensMoreOnly, PassesHosts};
 ghost use Rattle.skew_commands.specs.Possible.{OfSomeThird};
 ghost use Rattle.skew_commands.specs.Reads.{HoldsQuestion, HoldsThird};
 ghost use Rattle.skew_commands.specs.Stops.{Gives};
@@ -95,6 +95,7 @@ fn audit_of_question<S: Shelf>(
     ensures never { S.steady shelf.old → S.tells shelf.old ≡ true → HoldsThird (S.files shelf.old) report.now (form_of question.now.formula) question.now.log → IsErrOf result Stop.ReadFailed → ⊥ }
     ensures later { S.faults shelf.old ≤ S.faults shelf.new }
     ensures openings { OpensAtMost 1 (S.openings shelf.old) (S.openings shelf.new) }
+    ensures in_turn { OpensMoreOnly 0 (PassesHosts (form_of question.now.formula) question.now.log) (S.openings shelf.old) (S.openings shelf.new) }
 {
     files::known_hosts(&question.text, &question.formula, &question.log)?;
     files::few_nodes(alloc, &question.formula)?;
@@ -121,6 +122,7 @@ pub fn audit<S: Shelf>(
     ensures never { S.steady shelf.old → S.tells shelf.old ≡ true → HoldsQuestion (S.files shelf.old) formula.now log.now (HoldsThird (S.files shelf.old) report.now) → IsErrOf result Stop.ReadFailed → ⊥ }
     ensures later { S.faults shelf.old ≤ S.faults shelf.new }
     ensures openings { OpensAtMost 3 (S.openings shelf.old) (S.openings shelf.new) }
+    ensures in_turn { S.tells shelf.old ≡ true → OpensInTurn (S.files shelf.old) formula.now log.now (S.openings shelf.old) (S.openings shelf.new) }
 {
     let question = read_question(alloc, shelf, formula, log)?;
     audit_of_question(alloc, shelf, conflicts, &question, report)

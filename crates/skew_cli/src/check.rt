@@ -13,7 +13,7 @@ ghost use Rattle.verdict.specs.Right.{CyclesOnce, IsRight, is_witness};
 ghost use Rattle.skew_words.specs.declared.limits.TheConstants.{MAX_CONFLICTS};
 ghost use Rattle.skew_answers.specs.Statuses.{IsVerdict};
 ghost use Rattle.skew_cli.specs.CheckOutcome.{CheckOfLog, CheckOutcome, IsReportStatus, IsVerdictsStatus, IsWitnessed};
-ghost use Rattle.skew_commands.specs.Openings.{OpensAtMost};
+ghost use Rattle.skew_commands.specs.Openings.{OpensAtMost, OpensMoreOnly, PassesFormula};
 ghost use Rattle.skew_commands.specs.Possible.{OfSomeQuestion};
 ghost use Rattle.skew_commands.specs.Reads.{HoldsQuestion, NoThird};
 ghost use Rattle.skew_best.specs.SizeTests.{TellsLarge};
@@ -131,6 +131,7 @@ pub fn check<S: Shelf>(
     ensures never { S.steady shelf.old → S.tells shelf.old ≡ true → HoldsQuestion (S.files shelf.old) formula.now log.now NoThird → IsErrOf result Stop.ReadFailed → ⊥ }
     ensures later { S.faults shelf.old ≤ S.faults shelf.new }
     ensures openings { OpensAtMost 2 (S.openings shelf.old) (S.openings shelf.new) }
+    ensures in_turn { S.tells shelf.old ≡ true → OpensMoreOnly 1 (PassesFormula (S.files shelf.old) formula.now) (S.openings shelf.old) (S.openings shelf.new) }
 {
     let question = read_question(alloc, shelf, formula, log)?;
     check_of_question(alloc, conflicts, &question)

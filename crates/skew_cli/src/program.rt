@@ -8,7 +8,7 @@ ghost use Rattle.skew_answers.specs.Texts.{line};
 ghost use Rattle.skew_words.specs.Words.{command_of};
 ghost use Rattle.skew_commands.specs.Reads.{Agree};
 ghost use Rattle.skew_commands.specs.Openings.{OpensAtMost};
-ghost use Rattle.skew_cli.specs.Outcome.{CommandOutcome, Ends, HasOutcome, HasPossible, HoldsFiles, HoldsNamed, IsPossible, IsPossibleOf, OpensNamed, Outcome, files_named};
+ghost use Rattle.skew_cli.specs.Outcome.{CommandOutcome, Ends, HasOutcome, HasPossible, HoldsFiles, HoldsNamed, IsPossible, IsPossibleOf, OpensFilesInTurn, OpensNamed, OpensNamedInTurn, Outcome, files_named};
 ghost use Rattle.skew_commands.specs.Refusals.{IsRefusalOf};
 ghost use Rattle.skew_commands.specs.Stops.{Gives, HasReason};
 
@@ -52,6 +52,7 @@ fn work<S: Shelf>(alloc: Global, shelf: &mut S, call: Call<'_>) -> Result<Reply,
     ensures never { S.steady shelf.old → S.tells shelf.old ≡ true → HoldsFiles (S.files shelf.old) (command_in call.entry) → IsErrOf result Stop.ReadFailed → ⊥ }
     ensures later { S.faults shelf.old ≤ S.faults shelf.new }
     ensures openings { OpensAtMost (files_named (command_in call.entry)) (S.openings shelf.old) (S.openings shelf.new) }
+    ensures in_turn { S.tells shelf.old ≡ true → OpensFilesInTurn (S.files shelf.old) (command_in call.entry) (S.openings shelf.old) (S.openings shelf.new) }
 {
     match call {
         Call::Times { log } => times(alloc, shelf, log),
@@ -109,6 +110,7 @@ fn reply<S: Shelf>(alloc: Global, shelf: &mut S, call: Call<'_>) -> Result<Reply
     ensures never { S.steady shelf.old → S.tells shelf.old ≡ true → HoldsFiles (S.files shelf.old) (command_in call.entry) → IsErrOf result Stop.ReadFailed → ⊥ }
     ensures later { S.faults shelf.old ≤ S.faults shelf.new }
     ensures openings { OpensAtMost (files_named (command_in call.entry)) (S.openings shelf.old) (S.openings shelf.new) }
+    ensures in_turn { S.tells shelf.old ≡ true → OpensFilesInTurn (S.files shelf.old) (command_in call.entry) (S.openings shelf.old) (S.openings shelf.new) }
 {
     match work(alloc, shelf, call) {
         Err(Stop::Refused(refusal)) => Ok(refusal.reply(alloc)?),
@@ -157,6 +159,10 @@ pub fn run<S: Shelf, K: Sink>(
 
     // On a shelf that counts its openings no more files are opened than the words name.
     ensures openings { OpensNamed (map string_bytes words.now.items) (S.openings shelf.old) (S.openings shelf.new) }
+
+    // Each file is opened only where the tests before it were passed: so a failed read is never answered where a test
+    // of an earlier file fails.
+    ensures in_turn { S.tells shelf.old ≡ true → OpensNamedInTurn (map string_bytes words.now.items) (S.files shelf.old) (S.openings shelf.old) (S.openings shelf.new) }
 
     // Where no device failed, the answer is there, or memory ran out.
     ensures complete { S.tells shelf.old ≡ true → HoldsNamed (map string_bytes words.now.items) (S.files shelf.old)

@@ -5,7 +5,7 @@ ghost use Rattle.mt_model.specs.Form.{form_of};
 ghost use Rattle.mt_port.specs.Port.{Rose};
 ghost use Rattle.mtl_parse.specs.FormulaOf.{FormulaOf};
 ghost use Rattle.skew_answers.specs.Texts.{line};
-ghost use Rattle.skew_commands.specs.Openings.{OpensAtMost};
+ghost use Rattle.skew_commands.specs.Openings.{OpensAtMost, OpensMoreOnly, PassesFormula};
 ghost use Rattle.skew_commands.specs.Reads.{HoldsQuestion, IsQuestion, NoThird};
 ghost use Rattle.skew_commands.specs.Refusals.{status_of, text_of};
 ghost use Rattle.skew_commands.specs.Stops.{NoAnswer, RefusesFor};
@@ -46,6 +46,7 @@ pub fn read_question<S: Shelf>(
     ensures never { S.steady shelf.old → S.tells shelf.old ≡ true → HoldsQuestion (S.files shelf.old) formula.now log.now NoThird → IsErrOf result Stop.ReadFailed → ⊥ }
     ensures later { S.faults shelf.old ≤ S.faults shelf.new }
     ensures openings { OpensAtMost 2 (S.openings shelf.old) (S.openings shelf.new) }
+    ensures in_turn { S.tells shelf.old ≡ true → OpensMoreOnly 1 (PassesFormula (S.files shelf.old) formula.now) (S.openings shelf.old) (S.openings shelf.new) }
     ensures steady { S.steady shelf.old → S.steady shelf.new }
     ensures files { S.files shelf.new ≡ S.files shelf.old }
     ensures telling { S.tells shelf.new ≡ S.tells shelf.old }

@@ -9,7 +9,7 @@ ghost use Rattle.mt_port.specs.Port.{IsOneMore, Rose, file_of};
 ghost use Rattle.mtl_parse.specs.FormulaOf.{FormulaOf};
 ghost use Rattle.skew_answers.specs.Statuses.{IsVerdict};
 ghost use Rattle.skew_answers.specs.Texts.{line};
-ghost use Rattle.skew_commands.specs.Openings.{OpensAtMost};
+ghost use Rattle.skew_commands.specs.Openings.{OpensAtMost, OpensInTurn, OpensMoreOnly, PassesHosts};
 ghost use Rattle.skew_commands.specs.Possible.{OfSomeThird};
 ghost use Rattle.skew_commands.specs.Reads.{HoldsQuestion, HoldsThird};
 ghost use Rattle.skew_commands.specs.ReplayOutcome.{ReplayOfLog, ReplayOfTimes, ReplayOutcome, value_status, value_text};
@@ -123,6 +123,7 @@ fn replay_of_question<S: Shelf>(
     ensures never { S.steady shelf.old → S.tells shelf.old ≡ true → HoldsThird (S.files shelf.old) times.now (form_of question.now.formula) question.now.log → IsErrOf result Stop.ReadFailed → ⊥ }
     ensures later { S.faults shelf.old ≤ S.faults shelf.new }
     ensures openings { OpensAtMost 1 (S.openings shelf.old) (S.openings shelf.new) }
+    ensures in_turn { OpensMoreOnly 0 (PassesHosts (form_of question.now.formula) question.now.log) (S.openings shelf.old) (S.openings shelf.new) }
 {
     files::known_hosts(&question.text, &question.formula, &question.log)?;
     let mut replayer = files::replayer(alloc, &question.log, &question.formula)?;
@@ -145,6 +146,7 @@ pub fn replay<S: Shelf>(
     ensures never { S.steady shelf.old → S.tells shelf.old ≡ true → HoldsQuestion (S.files shelf.old) formula.now log.now (HoldsThird (S.files shelf.old) times.now) → IsErrOf result Stop.ReadFailed → ⊥ }
     ensures later { S.faults shelf.old ≤ S.faults shelf.new }
     ensures openings { OpensAtMost 3 (S.openings shelf.old) (S.openings shelf.new) }
+    ensures in_turn { S.tells shelf.old ≡ true → OpensInTurn (S.files shelf.old) formula.now log.now (S.openings shelf.old) (S.openings shelf.new) }
 {
     let question = read_question(alloc, shelf, formula, log)?;
     replay_of_question(alloc, shelf, &question, times)

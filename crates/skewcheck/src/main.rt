@@ -1,19 +1,22 @@
 //! skewcheck: what a log of several hosts allows when each host's clock may be off.
 #![tactic(auto)]
 
-ghost use Rattle.std.specs.Prelude.{◌≡◌, IfOk, drop};
+ghost use Rattle.std.specs.Prelude.{◌≡◌, ◌≢◌, ◌⊎◌, ◌↔◌, true, IfOk, IsErr, drop};
 ghost use Rattle.std.specs.Process.{exit_status};
 ghost use Rattle.std.specs.Vec.Iter.{into_iter_items};
-ghost use Rattle.skew_answers.specs.Statuses.{code_of};
+ghost use Rattle.mt_port.specs.Port.{Files, Rose};
+ghost use Rattle.skew_answers.specs.Statuses.{IsAnswer, code_of};
+ghost use Rattle.skew_commands.specs.Reads.{Agree};
+ghost use Rattle.skew_cli.specs.Outcome.{Ends, HasPossible, OpensNamed, OpensNamedInTurn, Outcome};
+ghost use Rattle.skewcheck.specs.Ended.{EndsBy, words_in};
 
-use mt_port::{FileShelf, StdSink};
+use mt_port::{FileShelf, Shelf, Sink, StdSink};
 use skew_answers::Status;
 use skew_cli::run;
 use std::alloc::{AllocError, Global};
 use std::env::{self, Args};
 use std::io;
 use std::process::ExitCode;
-use std::rt::Env;
 
 /// The exit status where the system doesn't give the words of the command line.
 const NO_WORDS: u8 = 71;
@@ -30,23 +33,57 @@ fn words_of(alloc: Global, mut arguments: Args) -> Result<Vec<String>, AllocErro
     Ok(words)
 }
 
-// What the system gave the program as words.
-fn words<R: Env + AllocGlobal>(rt: &R) -> io::Result<Vec<String>> {
-    Ok(words_of(rt.alloc(), env::args(rt)?)?)
+// What a run on the words among these arguments answers.
+fn answer<S: Shelf, K: Sink>(alloc: Global, arguments: Args, shelf: &mut S, out: &mut K) -> Status
+    ensures outcome { S.tells shelf.old ≡ true → K.tells out.old ≡ true → (files : Files) → Agree (S.files shelf.old) files
+        → Ends (Outcome (words_in arguments) files) (K.bytes out.old) (K.bytes out.new) result }
+    ensures silent { K.tells out.old ≡ true → (result ≡ Status.NoMemory) ⊎ (result ≡ Status.ReadFailed) → K.bytes out.new ≡ K.bytes out.old }
+    ensures possible { IsAnswer result → HasPossible (words_in arguments) result }
+    ensures read { result ≡ Status.ReadFailed → Rose (S.faults shelf.old) (S.faults shelf.new) }
+    ensures read_told { ¬ (result ≡ Status.ReadFailed) → S.faults shelf.new ≡ S.faults shelf.old }
+    ensures write { result ≡ Status.WriteFailed → Rose (K.faults out.old) (K.faults out.new) }
+    ensures write_told { ¬ (result ≡ Status.WriteFailed) → K.faults out.new ≡ K.faults out.old }
+    ensures openings { OpensNamed (words_in arguments) (S.openings shelf.old) (S.openings shelf.new) }
+    ensures in_turn { S.tells shelf.old ≡ true → OpensNamedInTurn (words_in arguments) (S.files shelf.old) (S.openings shelf.old) (S.openings shelf.new) }
+{
+    match words_of(alloc, arguments) {
+        Ok(words) => run(alloc, &words, shelf, out),
+        Err(_) => Status::NoMemory,
+    }
 }
 
-// The exit status of an answer.
-fn exit_code(status: &Status) -> ExitCode
-    ensures { exit_status result ≡ code_of status.now }
+// The exit status after a run on what the system gave as the program's arguments.
+fn ended<S: Shelf, K: Sink>(
+    alloc: Global,
+    given: io::Result<Args>,
+    shelf: &mut S,
+    out: &mut K,
+) -> ExitCode
+    // It is 71 exactly where the system gave none.
+    ensures no_words { IsErr given ↔ (exit_status result ≡ 71) }
+
+    // Otherwise it is the number of what a run on the arguments behind the first answers.
+    ensures outcome { S.tells shelf.old ≡ true → K.tells out.old ≡ true → IfOk given (λ arguments. (files : Files) → Agree (S.files shelf.old) files
+        → EndsBy (Ends (Outcome (words_in arguments) files) (K.bytes out.old) (K.bytes out.new)) (exit_status result)) }
+    ensures silent { K.tells out.old ≡ true → (exit_status result ≡ 71) ⊎ (exit_status result ≡ code_of Status.NoMemory) ⊎ (exit_status result ≡ code_of Status.ReadFailed) → K.bytes out.new ≡ K.bytes out.old }
+    ensures possible { IfOk given (λ arguments. EndsBy (λ s. IsAnswer s → HasPossible (words_in arguments) s) (exit_status result)) }
+
+    // A failure of a device is told by it where the device's count rose, and nowhere else.
+    ensures read { exit_status result ≡ code_of Status.ReadFailed → Rose (S.faults shelf.old) (S.faults shelf.new) }
+    ensures read_told { exit_status result ≢ code_of Status.ReadFailed → S.faults shelf.new ≡ S.faults shelf.old }
+    ensures write { exit_status result ≡ code_of Status.WriteFailed → Rose (K.faults out.old) (K.faults out.new) }
+    ensures write_told { exit_status result ≢ code_of Status.WriteFailed → K.faults out.new ≡ K.faults out.old }
+    ensures openings { IfOk given (λ arguments. OpensNamed (words_in arguments) (S.openings shelf.old) (S.openings shelf.new)) }
+    ensures in_turn { S.tells shelf.old ≡ true → IfOk given (λ arguments. OpensNamedInTurn (words_in arguments) (S.files shelf.old) (S.openings shelf.old) (S.openings shelf.new)) }
 {
-    ExitCode::from(status.code())
+    match given {
+        Ok(arguments) => ExitCode::from(answer(alloc, arguments, shelf, out).code()),
+        Err(_) => ExitCode::from(NO_WORDS),
+    }
 }
 
 fn main(rt: HostRuntime) -> ExitCode {
-    let Ok(words) = words(&rt) else {
-        return ExitCode::from(NO_WORDS);
-    };
     let mut shelf = FileShelf::new(&rt);
     let mut out = StdSink::new(&rt);
-    exit_code(&run(rt.alloc(), &words, &mut shelf, &mut out))
+    ended(rt.alloc(), env::args(&rt), &mut shelf, &mut out)
 }

@@ -1,4 +1,4 @@
-use Rattle.std.proofs.Common.{ℕ, List, Err}
+use Rattle.std.proofs.Common.{ℕ, List, Err, inl, inr}
 use Rattle.std.proofs.lemmas.Result.{err_from_is_err_and}
 use Rattle.mt_model.specs.Form.{Form, form_of}
 use Rattle.mt_model.specs.Log.{Logged}
@@ -9,6 +9,7 @@ use Rattle.skew_cli.specs.AuditOutcome.{AuditOfReport}
 use Rattle.skew_best.specs.SizeTests.{OnSize}
 use Rattle.skew_cli.specs.ReportTests.{TellsFaultyLine, OnReport}
 use Rattle.skew_cli.proofs.ReportSteps.{report-read, report-refused}
+use Rattle.skew_commands.proofs.Opening.{none-opened}
 use Rattle.skew_commands.proofs.Possible.{third-long, third-read, third-uncounted, third-unread}
 use Rattle.skew_commands.proofs.Steps.{At, gives-weaker, reason-weaker, third-given, third-too_long}
 use Rattle.skew_cli.proofs.audit.audit_of_question.Goals as goal
@@ -105,3 +106,18 @@ returns-clause-possible g c =
     file c.audit_of_report.result c.in_ok-file.ensures.within
     (gives-weaker c.audit_of_report.result (OnSize f q.log (AuditOfReport c.args.conflicts f q.log report)) (AuditOfFile c.args.conflicts f q.log file)
     (λ out s. report-read file (λ r. OnSize f q.log (AuditOfReport c.args.conflicts f q.log r)) report out s reads) (c.audit_of_report.ensures.outcome report o.outlined o.is.spelled))
+
+pub returns-in_err-known_hosts-clause-in_turn : goal.returns-in_err-known_hosts-clause-in_turn
+returns-in_err-known_hosts-clause-in_turn g c = inl (none-opened _)
+
+pub returns-in_err-few_nodes-clause-in_turn : goal.returns-in_err-few_nodes-clause-in_turn
+returns-in_err-few_nodes-clause-in_turn g c = inl (none-opened _)
+
+pub returns-in_err-file-clause-in_turn : goal.returns-in_err-file-clause-in_turn
+returns-in_err-file-clause-in_turn g c = inr (c.in_ok-known_hosts.ensures.known, c.in_ok-few_nodes.ensures.few)
+
+pub returns-in_err-outline-clause-in_turn : goal.returns-in_err-outline-clause-in_turn
+returns-in_err-outline-clause-in_turn g c = inr (c.in_ok-known_hosts.ensures.known, c.in_ok-few_nodes.ensures.few)
+
+pub returns-clause-in_turn : goal.returns-clause-in_turn
+returns-clause-in_turn g c = inr (c.in_ok-known_hosts.ensures.known, c.in_ok-few_nodes.ensures.few)

@@ -4,6 +4,7 @@ use Rattle.skew_answers.specs.declared.status.Status.TheVariants as status
 use Rattle.skew_answers.specs.Texts.{line}
 use Rattle.skew_words.specs.Called.{command_in}
 use Rattle.skew_cli.proofs.Outcomes.{Ends-weaker, HasOutcome-answer, HasPossible-answer, IsPossible-command, IsPossible-words, Outcome-command, Outcome-words, refused-written}
+use Rattle.skew_cli.proofs.Turns.{none-in_turn}
 use Rattle.skew_cli.proofs.program.run.Goals as goal
 
 pub call_of-requires : goal.call_of-requires
@@ -68,3 +69,9 @@ returns-in_default-clause-possible_status g c = λ answer.
     let words = map string_bytes c.args.words.now.items in
     let none = rw c.deref.ensures.value at (sym c.in_default.ensures.command) in
     HasPossible-answer words (line (codes "refused words")) status.Words c.finish.result c.finish.ensures.status answer (IsPossible-words words none)
+
+pub returns-in_default-normal_list-clause-in_turn : goal.returns-in_default-normal_list-clause-in_turn
+returns-in_default-normal_list-clause-in_turn g c = λ _. none-in_turn (map string_bytes c.args.words.now.items) (g.S.Shelf.files c.args.shelf.now) (g.S.Shelf.openings c.args.shelf.now)
+
+pub returns-in_default-call_of-clause-in_turn : goal.returns-in_default-call_of-clause-in_turn
+returns-in_default-call_of-clause-in_turn g c = λ _. none-in_turn (map string_bytes c.args.words.now.items) (g.S.Shelf.files c.args.shelf.now) (g.S.Shelf.openings c.args.shelf.now)

@@ -1,4 +1,4 @@
-use Rattle.skew_cli.proofs.NoneOpened.{none-opened}
+use Rattle.skew_commands.proofs.Opening.{none-opened}
 use Rattle.skew_cli.proofs.program.work.Goals as goal
 
 pub returns-in-Replay-clause-outcome : goal.returns-in-Replay-clause-outcome
@@ -42,3 +42,33 @@ returns-in-Span-clause-possible g c = rw c.in-Span.is c.span.ensures.possible
 
 pub returns-in-Demo-clause-openings : goal.returns-in-Demo-clause-openings
 returns-in-Demo-clause-openings g c = rw c.in-Demo.is (none-opened _)
+
+pub returns-in-Replay-clause-in_turn : goal.returns-in-Replay-clause-in_turn
+returns-in-Replay-clause-in_turn g c = rw c.in-Replay.is c.replay.ensures.in_turn
+
+pub returns-in-Check-clause-in_turn : goal.returns-in-Check-clause-in_turn
+returns-in-Check-clause-in_turn g c = rw c.in-Check.is c.check.ensures.in_turn
+
+pub returns-in-Audit-clause-in_turn : goal.returns-in-Audit-clause-in_turn
+returns-in-Audit-clause-in_turn g c = rw c.in-Audit.is c.audit.ensures.in_turn
+
+pub returns-in-Tolerance-clause-in_turn : goal.returns-in-Tolerance-clause-in_turn
+returns-in-Tolerance-clause-in_turn g c = rw c.in-Tolerance.is c.tolerance.ensures.in_turn
+
+pub returns-in-Span-clause-in_turn : goal.returns-in-Span-clause-in_turn
+returns-in-Span-clause-in_turn g c = rw c.in-Span.is c.span.ensures.in_turn
+
+pub returns-in-Times-clause-in_turn : goal.returns-in-Times-clause-in_turn
+returns-in-Times-clause-in_turn g c = rw c.in-Times.is (λ _. tt)
+
+pub returns-in-Order-clause-in_turn : goal.returns-in-Order-clause-in_turn
+returns-in-Order-clause-in_turn g c = rw c.in-Order.is (λ _. tt)
+
+pub returns-in-Trim-clause-in_turn : goal.returns-in-Trim-clause-in_turn
+returns-in-Trim-clause-in_turn g c = rw c.in-Trim.is (λ _. tt)
+
+pub returns-in-Json-clause-in_turn : goal.returns-in-Json-clause-in_turn
+returns-in-Json-clause-in_turn g c = rw c.in-Json.is (λ _. tt)
+
+pub returns-in-Demo-clause-in_turn : goal.returns-in-Demo-clause-in_turn
+returns-in-Demo-clause-in_turn g c = rw c.in-Demo.is (λ _. tt)

@@ -4,7 +4,7 @@ use Rattle.mt_model.specs.Form.{form_of}
 use Rattle.skew_commands.specs.ReplayOutcome.{ReplayOfLog}
 use Rattle.skew_commands.specs.Reads.{HoldsThird}
 use Rattle.skew_commands.proofs.Holding.{next-held, question-held}
-use Rattle.skew_commands.proofs.Opening.{more-opened}
+use Rattle.skew_commands.proofs.Opening.{more-opened, question-opened, third-opened}
 use Rattle.skew_commands.proofs.Possible.{some-third-given, third-refused}
 use Rattle.skew_commands.proofs.Questions.{question-given, question-stopped}
 use Rattle.skew_commands.proofs.replaying.replay.Goals as goal
@@ -49,3 +49,11 @@ returns-clause-possible g c =
 
 pub returns-clause-openings : goal.returns-clause-openings
 returns-clause-openings g c = more-opened 2 1 _ _ _ c.in_ok-question.ensures.openings c.replay_of_question.ensures.openings
+
+pub returns-in_err-question-clause-in_turn : goal.returns-in_err-question-clause-in_turn
+returns-in_err-question-clause-in_turn g c = λ tells. question-opened _ _ _ _ _ c.in_err-question.ensures.openings (c.in_err-question.ensures.in_turn tells)
+
+pub returns-clause-in_turn : goal.returns-clause-in_turn
+returns-clause-in_turn g c = λ tells.
+    let q = c.in_ok-question.question in
+    third-opened _ _ _ q.text.items (form_of q.formula) q.log _ _ _ (c.in_ok-question.ensures.read tells) c.in_ok-question.ensures.openings c.replay_of_question.ensures.in_turn

@@ -1,10 +1,11 @@
+use Rattle.std.proofs.Common.{inl, inr}
 use Rattle.std.proofs.lemmas.Result.{err_from_is_err_and}
 use Rattle.mt_model.specs.Form.{form_of}
 use Rattle.skew_commands.specs.declared.limits.TheConstants.{TIMES_LIMIT}
 use Rattle.skew_commands.specs.declared.refusal.Named.TheVariants as named
 use Rattle.skew_commands.specs.ReplayOutcome.{ReplayOfTimes}
 use Rattle.skew_commands.specs.Tests.{OnTimes}
-use Rattle.skew_commands.proofs.Opening.{one-opened}
+use Rattle.skew_commands.proofs.Opening.{none-opened, one-opened}
 use Rattle.skew_commands.proofs.Possible.{third-unread, third-uncounted}
 use Rattle.skew_commands.proofs.Steps.{third-answered}
 use Rattle.skew_commands.proofs.replaying.replay_of_question.Goals as goal
@@ -52,3 +53,12 @@ returns-clause-possible g c =
           (λ file. OnTimes file q.log (ReplayOfTimes q.log f)) c.in_ok-known_hosts.ensures.known c.in_ok-replayer.ensures.few
           c.replay_of_file.result (some.given files name is);
     }
+
+pub returns-in_err-known_hosts-clause-in_turn : goal.returns-in_err-known_hosts-clause-in_turn
+returns-in_err-known_hosts-clause-in_turn g c = inl (none-opened _)
+
+pub returns-in_err-replayer-clause-in_turn : goal.returns-in_err-replayer-clause-in_turn
+returns-in_err-replayer-clause-in_turn g c = inl (none-opened _)
+
+pub returns-clause-in_turn : goal.returns-clause-in_turn
+returns-clause-in_turn g c = inr (c.in_ok-known_hosts.ensures.known, c.in_ok-replayer.ensures.few)
