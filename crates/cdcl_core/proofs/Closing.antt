@@ -1,5 +1,5 @@
 -- A walk of three edges, the last two of which are held.
-use Rattle.std.proofs.Common.{◌≡◌, ◌∙◌, ap, sym, refl, ℕ, ◌<◌, arith, List, [], ◌∷◌, ◌++◌, length, pos}
+use Rattle.std.proofs.Common.{◌≡◌, sym, refl, ℕ, ◌<◌, arith, List, [], ◌∷◌, ◌++◌, length, pos}
 use Rattle.std.proofs.lemmas.Int.{ints}
 use Rattle.std.proofs.lemmas.List.{get_or_append_left, get_or_push, length_push}
 use Rattle.neg_cycle.specs.declared.system.Edge.{Edge}

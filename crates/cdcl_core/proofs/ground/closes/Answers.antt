@@ -1,4 +1,4 @@
-use Rattle.std.proofs.Common.{◌≡◌, ◌<◌, arith, length}
+use Rattle.std.proofs.Common.{arith}
 use Rattle.cdcl_core.proofs.Closing.{cycle-of}
 use Rattle.cdcl_core.proofs.ground.closes.Goals as goal
 
