@@ -7,6 +7,10 @@ from common import ROOT
 PAGE = ROOT / "docs" / "asking-json.md"
 ITEM = re.compile(r"^- (\w+) \(((?:\"[^\"]*\"|[^,)])+)(?:, (.+?))?\)(?:: .*)?$")  # a key, its type, and when it is there
 MOST_EXACT = 2**53
+WORDS = {  # what the types are that stand for some words
+    "unit": ("s", "ms", "us", "ns"),
+    "verdict": ("true", "false", "either", "no timing", "unknown"),
+}
 
 
 def tables():
@@ -75,6 +79,8 @@ def is_simple(kind, value):
     """Whether a value is of a type without parts."""
     if kind == "integer":
         return is_integer(value)
+    if kind in WORDS:
+        return value in WORDS[kind]
     if kind.startswith('"'):
         return value == kind.strip('"')
     known = {"text": lambda: isinstance(value, str), "flag": lambda: isinstance(value, bool), "null": lambda: value is None}
