@@ -7,7 +7,7 @@ from room import ROOT
 
 MOST_OF_README = 1_200  # words
 MOST_OF_A_PAGE = 4_000
-MOST_OF_ALL = 42_000
+MOST_OF_ALL = 40_000  # as wc -w counts, so with bars of tables
 PAGES = [ROOT / "README.md", *sorted((ROOT / "docs").glob("*.md"))]
 READERS = re.compile(r"For (a|an|who|the|everybody)\b|for everybody")
 
@@ -25,7 +25,7 @@ class Lengths(unittest.TestCase):
                 self.assertLessEqual(words_of(page), most)
 
     def test_all_together(self):
-        self.assertLessEqual(sum(map(words_of, PAGES)), MOST_OF_ALL)
+        self.assertLessEqual(sum(len(page.read_text().split()) for page in PAGES), MOST_OF_ALL)
 
     def test_first_paragraphs(self):
         for page in PAGES:
