@@ -245,7 +245,7 @@ def naming_many_literals():
     for title, hinted in (("spans without a gap", spans()), ("pulses", pulses()), ("long lines", long_lines())):
         formula, log, report = hinted
         size = f"{len(report) / MEBIBYTE:.1f} MiB"
-        yield audit(f"{size} of hints to clauses of {title}", report, 5, at(b"false", 0), formula, log, most=6, seconds=5)
+        yield audit(f"{size} of hints to clauses of {title}", report, 5, at(b"false", 0), formula, log, seconds=5)
         yield trim(f"{size} of hints to clauses of {title}, to trim", report, 0, TITLE[:-1], most=6, seconds=5)
 
 
