@@ -10,7 +10,7 @@ use crate::decided::decided_by;
 use crate::main_loop::search_by;
 use crate::{Budget, Found, Searched};
 use mt_model::{Times, bounds_are_admissible, log_is_valid};
-use mtl_encode::{Part, encode_asked};
+use mtl_encode::{Most, Part, encode_asked};
 use question::{Question, question_is_asked};
 use skew_bounds::{Tight, times_of};
 use std::alloc::{AllocError, Global};
@@ -37,21 +37,22 @@ fn replayed(
     }
 }
 
-/// What is found in instances that a value asks for, and whether some were left out.
+/// What is found in instances that a value asks for, and whether more of them may find more.
 #[derive(Drop)]
 struct Turn {
     found: Option<Searched>,
-    is_cut: bool,
+    goes_on: bool,
 }
 
-// What is found in the instances that a value asks for, so many of which may name all rows as witnesses.
+// What is found in the instances that a value asks for, with so much of the long ones: more may find more where some
+// were left out and the budget wasn't spent.
 fn search_within(
     alloc: Global,
     question: Question,
     tight: &Tight,
     value: bool,
     budget: Budget,
-    most: u32,
+    most: Most,
 ) -> Result<Turn, AllocError>
     requires tight { IsTight question.log tight.now }
     ensures found { IfOk result (λ turn. IfSome turn.found (IsSearched question.entry.log question.entry.form value budget)) }
@@ -72,31 +73,47 @@ fn search_within(
             },
         ) => {
             let again = Question::new(alloc, log, nodes)?;
-            match replayed(alloc, &again, value, potentials.as_slice())? {
-                Some(times) => Ok(Turn {
-                    found: Some(Searched::Timing(times)),
-                    is_cut,
-                }),
-                None => Ok(Turn {
-                    found: None,
-                    is_cut,
-                }),
-            }
+            let timing = replayed(alloc, &again, value, potentials.as_slice())?;
+            Ok(Turn {
+                found: timing.map(Searched::Timing),
+                goes_on: is_cut,
+            })
         }
         Some(Found::Refuted(lines)) => Ok(Turn {
             found: Some(Searched::Refuted(lines)),
-            is_cut,
+            goes_on: false,
         }),
-        Some(Found::Spent(_)) | None => Ok(Turn {
+        Some(Found::Spent(_)) => Ok(Turn {
             found: None,
-            is_cut,
+            goes_on: false,
+        }),
+        None => Ok(Turn {
+            found: None,
+            goes_on: is_cut,
         }),
     }
 }
 
-// How many instances may name all rows as witnesses, turn by turn: most values are refuted by few, and where one isn't, the
-// turns before cost little beside the next.
-const TURNS: [u32; 4] = [32, 128, 512, u32::MAX];
+// How many literals the clauses of changes may have in all before the last turn.
+const LITERALS: usize = 1 << 22;
+
+// Turn by turn more of the long clauses: most values are decided by few, and where one isn't, the turns before cost little
+// beside the next.
+const TURNS: [Most; 5] = [
+    few(32),
+    few(128),
+    few(512),
+    few(u32::MAX),
+    Most::ALL,
+];
+
+// So many witnesses, and not all literals.
+const fn few(witnesses: u32) -> Most {
+    Most {
+        witnesses,
+        literals: LITERALS,
+    }
+}
 
 /// What is found of a value in the instances that it asks for: lines that refute it, or a timing in which the formula has it,
 /// which is replayed. None where the search finds another timing, spends the budget, or comes to nothing. An error is want of
@@ -115,8 +132,8 @@ pub fn search_part(
     let (log, nodes) = (question.log(), question.nodes());
     for most in TURNS {
         let again = Question::new(alloc, log, nodes)?;
-        let Turn { found, is_cut } = search_within(alloc, again, tight, value, budget, most)?;
-        if found.is_some() || !is_cut {
+        let Turn { found, goes_on } = search_within(alloc, again, tight, value, budget, most)?;
+        if found.is_some() || !goes_on {
             return Ok(found);
         }
     }

@@ -6,7 +6,7 @@ use crate::case::LogicCase;
 use crate::writing::{push_atom, push_items, push_sign};
 use axiom_rules::{AtomTable, Rule};
 use clause_db::{ClauseRef, Db, Lit, Var};
-use mtl_encode::{Problem, encode, encode_asked};
+use mtl_encode::{Most, Problem, encode, encode_asked};
 use neg_cycle::Edge;
 use question::{MAX_SIZE, Nodes, Question, size_of, sizes_are_unique};
 use skew_bounds::{Consistency, Tight, TightFault, settle, tight};
@@ -117,7 +117,7 @@ fn asked_of(alloc: Global, case: &LogicCase) -> Option<Problem> {
     let nodes = Nodes::asked(alloc, &log, &f).ok()?;
     let question = Question::new(alloc, &log, &nodes).ok()?;
     let tight = tight(alloc, &log).ok()?;
-    let part = encode_asked(alloc, question, case.value(), &tight, u32::MAX).ok()?;
+    let part = encode_asked(alloc, question, case.value(), &tight, Most::ALL).ok()?;
     Some(part.problem)
 }
 

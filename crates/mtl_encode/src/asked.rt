@@ -4,8 +4,9 @@ ghost use Rattle.std.specs.Prelude.{◌≡◌, IfOk, OnOk};
 ghost use Rattle.mtl_encode.specs.Asked.{AreAsked, IsHeld};
 
 use crate::clauses::Clauses;
-use crate::demands::{SOME_WITNESS, demands_of};
+use crate::demands::demands_of;
 use crate::held::Held;
+use crate::rule_numbers::{AS_CHANGED, SOME_WITNESS};
 use crate::scene::Scene;
 use crate::workspace::Workspace;
 use axiom_rules::{Atom, Literal, Rule, RuleFault, SOME_IS_FIRST};
@@ -68,14 +69,59 @@ impl Wanted {
     }
 }
 
+/// How much a part may have of the kinds of instances whose clauses are long.
+#[derive(Clone, Copy)]
+pub struct Most {
+    /// How many instances may say that some row is a witness, which name all rows.
+    pub witnesses: u32,
+    /// How many literals those may have in all that say what a change made of a proposition, which name all its pulses.
+    pub literals: usize,
+}
+
+impl Most {
+    /// As much as there is.
+    pub const ALL: Most = Most {
+        witnesses: u32::MAX,
+        literals: usize::MAX,
+    };
+
+    // Whether nothing more is left for an instance.
+    fn is_used_up(self, rule: Rule) -> bool {
+        match rule.number {
+            SOME_WITNESS => self.witnesses == 0,
+            AS_CHANGED => self.literals == 0,
+            _ => false,
+        }
+    }
+
+    // What is left behind an instance whose clause has so many literals.
+    fn less(self, rule: Rule, literals: usize) -> Most {
+        let Most {
+            witnesses,
+            literals: left,
+        } = self;
+        match rule.number {
+            SOME_WITNESS => Most {
+                witnesses: witnesses.saturating_sub(1),
+                literals: left,
+            },
+            AS_CHANGED => Most {
+                witnesses,
+                literals: left.saturating_sub(literals),
+            },
+            _ => self,
+        }
+    }
+}
+
 /// The instances that a value sought asks for, as they come.
 #[derive(Drop)]
 struct Asked {
     held: Held,
     wanted: Wanted,
     workspace: Workspace,
-    // How many more of them may name all rows as witnesses.
-    left: u32,
+    // How much more of long clauses there may be.
+    left: Most,
     is_cut: bool,
 }
 
@@ -94,36 +140,25 @@ impl Asked {
         requires held { IsHeld scene.rules.now self.old.held }
         ensures held { OnOk result (IsHeld scene.entry.rules.now self.new.held) }
     {
+        if self.left.is_used_up(rule) {
+            self.is_cut = true;
+            return Ok(());
+        }
         match scene.rules.clause_of(&rule, &mut self.workspace.clause) {
             Ok(()) => {}
             Err(RuleFault::Memory) => return Err(AllocError),
             Err(_) => return Ok(()),
         }
-        if scene.is_met(self.workspace.clause.as_slice(), head) || self.is_too_much(rule) {
+        if scene.is_met(self.workspace.clause.as_slice(), head) {
             return Ok(());
         }
+        self.left = self.left.less(rule, self.workspace.clause.len());
         if self.held.add(&mut self.workspace, scene.rules, rule)? {
             let workspace = &self.workspace;
             self.wanted
                 .take(&workspace.lits, workspace.clause.as_slice(), head)?;
         }
         Ok(())
-    }
-
-    // Whether an instance names all rows as witnesses, and as many as may do so are there.
-    fn is_too_much(&mut self, rule: Rule) -> bool
-        ensures held { self.new.held ≡ self.old.held }
-        ensures workspace { self.new.workspace ≡ self.old.workspace }
-    {
-        if rule.number != SOME_WITNESS {
-            return false;
-        }
-        if self.left == 0 {
-            self.is_cut = true;
-            return true;
-        }
-        self.left -= 1;
-        false
     }
 
     // The same of several.
@@ -176,8 +211,8 @@ impl Asked {
     }
 }
 
-/// The clauses of the instances that the value sought asks for, so many of which may name all rows as witnesses.
-pub fn asked_of(alloc: Global, scene: Scene<'_>, most: u32) -> Result<AskedClauses, AllocError>
+/// The clauses of the instances that the value sought asks for, with so much of the long ones.
+pub fn asked_of(alloc: Global, scene: Scene<'_>, most: Most) -> Result<AskedClauses, AllocError>
     ensures { IfOk result (λ asked. AreAsked scene.entry.rules.now asked.clauses) }
 {
     let mut asked = Asked {

@@ -1,15 +1,13 @@
 //! What a literal asks for: the instances that say what follows from it.
 
 use crate::needless::is_dead;
+use crate::rule_numbers::{AS_CHANGED, FALSE_BEFORE_CHANGES, FIRST_HAS_VALUE, FIRST_IS_NEVER_LATER, GAP_HAS_SPAN, GAP_IS_FROM_EVENT, GAP_LACKS_LEFT, HAS_BOTH, HAS_LEFT, HAS_RIGHT, HAS_WITNESS, INSTANT_IS_NOT_LATER, IS_WITNESS, IS_WITNESS_OF_TRUE, NOT_BOTH, ONE_OF_BOTH, SAME_INSTANT, SOME_WITNESS, SPAN_HAS_LEFT, SPAN_OR_GAP, TRUE_AT_PULSE, TRUE_IS_TRUE, WITNESS_HAS_RIGHT, WITNESS_HAS_SPAN, WITNESS_IS_FROM_LOW, WITNESS_IS_UP_TO_HIGH};
 use crate::scene::Scene;
 use axiom_rules::{Atom, Literal, Rule};
 use formula_arena::{Core, Direction};
 use mt_model::NodeId;
 use question::greatest_between;
 use std::alloc::AllocError;
-
-/// The number of the rule that a true until or since has a witness, which names all rows.
-pub const SOME_WITNESS: u8 = 17;
 
 // Where demands go, and what is known of the question.
 #[derive(Drop)]
@@ -30,16 +28,16 @@ impl Asking<'_> {
             return Ok(());
         };
         if positive {
-            self.add(1, [k, e, 0, 0])?;
+            self.add(FALSE_BEFORE_CHANGES, [k, e, 0, 0])?;
         }
         for place in self.scene.places(told, e) {
             if told.sets_at(place) != Some(positive) {
-                self.add(2, [k, e, place, 0])?;
+                self.add(AS_CHANGED, [k, e, place, 0])?;
             }
         }
         if !positive {
             for place in self.scene.pulses(told, e) {
-                self.add(27, [k, e, place, 0])?;
+                self.add(TRUE_AT_PULSE, [k, e, place, 0])?;
             }
         }
         Ok(())
@@ -55,7 +53,7 @@ impl Asking<'_> {
         };
         for placed in self.scene.reached(&u, e) {
             if !is_dead(self.scene.tight, &u, e, placed.row) {
-                self.add(18, [k, e, placed.row, 0])?;
+                self.add(HAS_WITNESS, [k, e, placed.row, 0])?;
             }
         }
         Ok(())
@@ -68,14 +66,14 @@ impl Asking<'_> {
         let args = [k, e, 0, 0];
         match self.scene.arena.node(NodeId::new(k)) {
             Core::True if positive => Ok(()),
-            Core::True => self.add(3, args),
+            Core::True => self.add(TRUE_IS_TRUE, args),
             Core::Prop(_) => self.ask_proposition(k, e, positive),
-            Core::Not(_) => self.add(if positive { 4 } else { 5 }, args),
+            Core::Not(_) => self.add(if positive { NOT_BOTH } else { ONE_OF_BOTH }, args),
             Core::And(..) if positive => {
-                self.add(6, args)?;
-                self.add(7, args)
+                self.add(HAS_LEFT, args)?;
+                self.add(HAS_RIGHT, args)
             }
-            Core::And(..) => self.add(8, args),
+            Core::And(..) => self.add(HAS_BOTH, args),
             Core::Until(..) | Core::Since(..) => self.ask_reach(k, e, positive),
         }
     }
@@ -83,16 +81,16 @@ impl Asking<'_> {
     fn ask_first(&mut self, e: u32) -> Result<(), AllocError> {
         let earliest = self.scene.windows.earliest();
         if greatest_between(self.scene.tight, e, earliest) < 0 {
-            return self.add(9, [e, earliest, 0, 0]);
+            return self.add(FIRST_IS_NEVER_LATER, [e, earliest, 0, 0]);
         }
         for placed in self
             .scene
             .windows
             .between(i128::MIN, self.scene.greatest(e))
         {
-            self.add(9, [e, placed.row, 0, 0])?;
+            self.add(FIRST_IS_NEVER_LATER, [e, placed.row, 0, 0])?;
         }
-        self.add(24, [e, 0, 0, 0])
+        self.add(FIRST_HAS_VALUE, [e, 0, 0, 0])
     }
 
     fn ask_witness(&mut self, args: [u32; 4], positive: bool) -> Result<(), AllocError> {
@@ -102,15 +100,15 @@ impl Asking<'_> {
         };
         let is_free = self.scene.rules.is_constant(u.left);
         if !positive {
-            return self.add(if is_free { 28 } else { 16 }, args);
+            return self.add(if is_free { IS_WITNESS_OF_TRUE } else { IS_WITNESS }, args);
         }
-        self.add(12, args)?;
-        self.add(13, args)?;
-        self.add(14, args)?;
+        self.add(WITNESS_IS_FROM_LOW, args)?;
+        self.add(WITNESS_IS_UP_TO_HIGH, args)?;
+        self.add(WITNESS_HAS_RIGHT, args)?;
         if is_free {
             return Ok(());
         }
-        self.add(15, args)
+        self.add(WITNESS_HAS_SPAN, args)
     }
 
     // A span, with what says that it holds in both senses: so its value can be told before those of the gaps.
@@ -120,12 +118,12 @@ impl Asking<'_> {
             return Ok(());
         };
         for placed in self.scene.between(&u, i, j) {
-            self.add(19, [k, i, j, placed.row])?;
+            self.add(SPAN_HAS_LEFT, [k, i, j, placed.row])?;
         }
         if positive {
             return Ok(());
         }
-        self.add(20, args)?;
+        self.add(SPAN_OR_GAP, args)?;
         let beyond = match u.direction {
             Direction::Ahead => self.scene.windows.between(self.scene.least(j), i128::MAX),
             Direction::Behind => self
@@ -135,7 +133,7 @@ impl Asking<'_> {
         };
         for placed in beyond {
             if self.scene.gap_value(&u, i, placed.row).is_none() {
-                self.add(21, [k, i, j, placed.row])?;
+                self.add(GAP_HAS_SPAN, [k, i, j, placed.row])?;
             }
         }
         Ok(())
@@ -151,19 +149,19 @@ impl Asking<'_> {
         if self.scene.is_too_far(&u, i, m) {
             return Ok(());
         }
-        self.add(22, args)?;
-        self.add(23, args)
+        self.add(GAP_IS_FROM_EVENT, args)?;
+        self.add(GAP_LACKS_LEFT, args)
     }
 
     fn ask_instant(&mut self, e: u32, x: u32, positive: bool) -> Result<(), AllocError> {
         if !positive {
-            return self.add(26, [e, x, 0, 0]);
+            return self.add(SAME_INSTANT, [e, x, 0, 0]);
         }
         if greatest_between(self.scene.tight, e, x) < 0 {
-            return self.add(25, [e, x, 0, 0]);
+            return self.add(INSTANT_IS_NOT_LATER, [e, x, 0, 0]);
         }
-        self.add(25, [x, e, 0, 0])?;
-        self.add(25, [e, x, 0, 0])
+        self.add(INSTANT_IS_NOT_LATER, [x, e, 0, 0])?;
+        self.add(INSTANT_IS_NOT_LATER, [e, x, 0, 0])
     }
 
     // A node that isn't true, or isn't false.
@@ -175,7 +173,7 @@ impl Asking<'_> {
         match self.scene.arena.node(NodeId::new(k)) {
             Core::And(left, _) if positive => {
                 let is_left = self.scene.known.value(left.get(), e) == Some(false);
-                self.add(if is_left { 6 } else { 7 }, args)
+                self.add(if is_left { HAS_LEFT } else { HAS_RIGHT }, args)
             }
             Core::Until(..) | Core::Since(..) if !positive => self.refute_reach(k, e),
             _ => self.ask_node(k, e, positive),
@@ -189,7 +187,7 @@ impl Asking<'_> {
         };
         for placed in self.scene.reached(&u, e) {
             if self.scene.witness_value(&u, e, placed.row) == Some(true) {
-                return self.add(18, [k, e, placed.row, 0]);
+                return self.add(HAS_WITNESS, [k, e, placed.row, 0]);
             }
         }
         Ok(())
@@ -203,13 +201,13 @@ impl Asking<'_> {
             return Ok(());
         };
         let number = if self.scene.known.value(u.right, j) == Some(false) {
-            14
+            WITNESS_HAS_RIGHT
         } else if self.scene.is_too_near(&u, i, j) {
-            12
+            WITNESS_IS_FROM_LOW
         } else if self.scene.is_too_far(&u, i, j) {
-            13
+            WITNESS_IS_UP_TO_HIGH
         } else {
-            15
+            WITNESS_HAS_SPAN
         };
         self.add(number, args)
     }
@@ -225,7 +223,7 @@ impl Asking<'_> {
             if self.scene.is_within(&u, i, j, m)
                 && self.scene.known.value(u.left, m) == Some(false)
             {
-                return self.add(19, [k, i, j, m]);
+                return self.add(SPAN_HAS_LEFT, [k, i, j, m]);
             }
         }
         Ok(())
@@ -238,7 +236,7 @@ impl Asking<'_> {
             return Ok(());
         };
         let is_left = self.scene.known.value(u.left, m) == Some(true);
-        self.add(if is_left { 23 } else { 22 }, args)
+        self.add(if is_left { GAP_LACKS_LEFT } else { GAP_IS_FROM_EVENT }, args)
     }
 
     // Adds what says that a literal that is never true isn't.

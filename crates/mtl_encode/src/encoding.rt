@@ -16,7 +16,7 @@ ghost use Rattle.mtl_encode.specs.Listing.{ListsRules};
 ghost use Rattle.mtl_encode.specs.Models.{IsModel};
 ghost use Rattle.mtl_encode.specs.Problems.{Fits};
 
-use crate::asked::{AskedClauses, asked_of};
+use crate::asked::{AskedClauses, Most, asked_of};
 use crate::changes::told_by;
 use crate::clauses::Clauses;
 use crate::known::known_by;
@@ -132,14 +132,14 @@ pub fn encode(
 
 /// The problem of the instances that a value sought of a question's formula can ask for: of each literal that has to be true
 /// those that say what follows, from the rows on that can be first, by windows over the rows' least times. An instance is left
-/// out where the bounds make its clause true, and where `most` instances are there that name all rows as witnesses each
-/// further one of that kind. An error is want of memory.
+/// out where the bounds make its clause true, and one whose clause is long where as much as `most` of its kind is there. An
+/// error is want of memory.
 pub fn encode_asked(
     alloc: Global,
     question: Question,
     value: bool,
     tight: &Tight,
-    most: u32,
+    most: Most,
 ) -> Result<Part, AllocError>
     ensures fits { IfOk result (λ part. Fits (sought_of question.entry.log question.entry.form value) part.problem) }
 

@@ -14,11 +14,13 @@ mod listing;
 mod needless;
 mod problem;
 mod pulses;
+mod rule_numbers;
 mod scene;
 mod variables;
 mod windows;
 mod workspace;
 
+pub use asked::Most;
 pub use encoding::{encode, encode_asked, encode_by};
 pub use known::order_value;
 pub use laws::{meanings_satisfy_rules, rules_are_exact};

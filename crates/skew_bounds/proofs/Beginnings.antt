@@ -11,7 +11,7 @@ use Rattle.neg_cycle.specs.Systems.{Meets, number_of}
 use Rattle.skew_bounds.specs.Beginning.{IsBeginning, IsBoundFrom, IsMost, IsMoved, IsNearLatest}
 use Rattle.skew_bounds.specs.Incoming.{IsNear, IsNetwork, IsSolution, ending_at}
 use Rattle.skew_bounds.specs.declared.latest.TheConstants.{UNREACHED}
-use Rattle.skew_bounds.specs.declared.matrix.TheConstants.{FAR}
+use Rattle.skew_bounds.specs.declared.column.TheConstants.{FAR}
 
 -- a solution moved up so far is nowhere less above the node than a near solution, and nowhere beyond what is unreached
 pub record IsUpper (incoming : List (List Edge)) (node : ℕ) (numbers : List ℤ) (raise : ℤ) : Type 0 where

@@ -14,7 +14,7 @@ use Rattle.mt_model.specs.Log.{IsWithin}
 use Rattle.mt_model.specs.declared.limits.TheConstants.{MAX_TIME}
 use Rattle.skew_bounds.specs.declared.latest.TheConstants.{UNREACHED}
 use Rattle.skew_bounds.specs.declared.lowering.Waiting.{Waiting}
-use Rattle.skew_bounds.specs.declared.matrix.TheConstants.{FAR}
+use Rattle.skew_bounds.specs.declared.column.TheConstants.{FAR}
 use Rattle.skew_bounds.specs.Lowering.{IsFloor, IsLowered, IsSearch, entry_of, height, work}
 
 height-falls : (x y : ℤ) → y <ℤ x → pos 0 ≤ℤ (y +ℤ pos (2 ^ 70)) → height y < height x

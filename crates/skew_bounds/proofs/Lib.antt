@@ -2,7 +2,6 @@ pub mod BoundCounts
 pub mod Columns
 pub mod EdgeLists
 pub mod KnownSpans
-pub mod Entries
 pub mod Near
 pub mod Beginnings
 pub mod Reached

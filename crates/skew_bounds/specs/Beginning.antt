@@ -5,7 +5,7 @@ use Rattle.neg_cycle.specs.declared.system.Edge.{Edge}
 use Rattle.neg_cycle.specs.Systems.{Meets, number_of}
 use Rattle.skew_bounds.specs.Incoming.{IsLatest, IsNear, ending_at}
 use Rattle.skew_bounds.specs.declared.latest.TheConstants.{UNREACHED}
-use Rattle.skew_bounds.specs.declared.matrix.TheConstants.{FAR}
+use Rattle.skew_bounds.specs.declared.column.TheConstants.{FAR}
 
 -- no near solution has one node further above another one than this
 abbrev pub IsMost : List (List Edge) → ℕ → ℕ → ℤ → Type 0

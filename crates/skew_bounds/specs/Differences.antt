@@ -1,29 +1,33 @@
 -- Tables of how far the numbers of nodes may be apart.
-use Rattle.std.specs.Prelude.{◌≡◌, ◌≢◌, ℕ, ◌+◌, ◌*◌, ◌<◌, List, slice_index_or, ℤ, pos}
+use Rattle.std.specs.Prelude.{◌≡◌, ℕ, ◌+◌, ◌-◌, ◌<◌, ◌&&◌, if◌then◌else◌, nat_le, nat_lt, List, [], length, slice_index_or, ℤ, pos, ◌+ℤ◌}
 use Rattle.mt_model.specs.Log.{IsWithin}
 use Rattle.neg_cycle.specs.Systems.{number_of}
-use Rattle.skew_bounds.specs.declared.matrix.TheConstants.{FAR}
+use Rattle.skew_bounds.specs.declared.column.TheConstants.{FAR}
 
--- for each pair of nodes the most that the number of the first may be above that of the second, node by node
+-- numbers of nodes, of which a stretch stands by itself, and the others are those that give the zero moment 0, moved up
+pub record Stretch : Type 0 where
+  pub raise : ℤ
+  pub start : ℕ
+  pub own : List ℤ
+
+-- none, which stands for what isn't there
+abbrev pub no_stretch : Stretch
+no_stretch = record { raise = pos 0; start = 0; own = [] }
+
+-- the number of a node among them
+abbrev pub number_in : List ℤ → Stretch → ℕ → ℤ
+number_in zero s i = if nat_le s.start i && nat_lt (i - s.start) (length s.own) then number_of s.own (i - s.start) else number_of zero i +ℤ s.raise
+
+-- for each pair of so many nodes the most that the number of the first may be above that of the second: for each second one
+-- a stretch, beside the numbers that give the zero moment 0
 pub record Differences : Type 0 where
   pub nodes : ℕ
-  pub entries : List ℤ
+  pub zero : List ℤ
+  pub columns : List Stretch
 
 -- the most that the number of node i may be above that of node j
 unfoldable pub entry : Differences → ℕ → ℕ → ℤ
-entry d i j = slice_index_or d.entries (i * d.nodes + j) (pos 0)
-
--- the entry of nodes i and j becomes a value, and no other one is changed
-pub record IsSet (old : Differences) (i j : ℕ) (value : ℤ) (new : Differences) : Type 0 where
-  pub nodes : new.nodes ≡ old.nodes
-  pub here : entry new i j ≡ value
-  pub others : (a b : ℕ) → a < old.nodes → b < old.nodes → (a ≡ i → b ≡ j → ⊥) → entry new a b ≡ entry old a b
-
--- the entries of each node and this one become these numbers, and no other ones are changed
-pub record IsColumnSet (old : Differences) (node : ℕ) (numbers : List ℤ) (new : Differences) : Type 0 where
-  pub nodes : new.nodes ≡ old.nodes
-  pub column : (i : ℕ) → i < old.nodes → entry new i node ≡ number_of numbers i
-  pub others : (i j : ℕ) → i < old.nodes → j < old.nodes → j ≢ node → entry new i j ≡ entry old i j
+entry d i j = number_in d.zero (slice_index_or d.columns j no_stretch) i
 
 -- the entries are far from the ends of a number
 abbrev pub AreSmall : Differences → Type 0
@@ -33,9 +37,3 @@ AreSmall d = (i j : ℕ) → i < d.nodes → j < d.nodes → IsWithin FAR (entry
 pub record IsOfRows (d : Differences) : Type 0 where
   pub zero_moment : 0 < d.nodes
   pub small : AreSmall d
-
--- a second table, over the same nodes as one of rows, has the nodes of each pair exchanged
-pub record AreTurned (d turned : Differences) : Type 0 where
-  pub of_rows : IsOfRows d
-  pub nodes : turned.nodes ≡ d.nodes
-  pub exchanged : (i j : ℕ) → i < d.nodes → j < d.nodes → entry turned j i ≡ entry d i j

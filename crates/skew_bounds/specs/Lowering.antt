@@ -6,7 +6,7 @@ use Rattle.neg_cycle.specs.declared.system.Edge.{Edge}
 use Rattle.neg_cycle.specs.Systems.{Meets, number_of}
 use Rattle.skew_bounds.specs.declared.latest.TheConstants.{UNREACHED}
 use Rattle.skew_bounds.specs.declared.lowering.Waiting.{Waiting}
-use Rattle.skew_bounds.specs.declared.matrix.TheConstants.{FAR}
+use Rattle.skew_bounds.specs.declared.column.TheConstants.{FAR}
 
 -- how far the number of a node is below that in a potential
 abbrev pub ahead_of : List ℤ → List ℤ → ℕ → ℤ

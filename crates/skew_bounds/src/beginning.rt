@@ -6,10 +6,10 @@ ghost use Rattle.mt_model.specs.declared.limits.TheConstants.{MAX_TIME};
 ghost use Rattle.skew_bounds.specs.Beginning.{IsBeginning, IsBoundFrom, IsMoved, IsNearLatest};
 ghost use Rattle.skew_bounds.specs.Incoming.{IsNear, IsNetwork, lists_of};
 ghost use Rattle.skew_bounds.specs.declared.latest.TheConstants.{UNREACHED};
-ghost use Rattle.skew_bounds.specs.declared.matrix.TheConstants.{FAR};
+ghost use Rattle.skew_bounds.specs.declared.column.TheConstants.{FAR};
 
 use crate::latest::UNREACHED;
-use crate::matrix::FAR;
+use crate::column::FAR;
 use neg_cycle::Edge;
 use std::alloc::{AllocError, Global};
 

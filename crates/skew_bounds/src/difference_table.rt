@@ -5,7 +5,8 @@ ghost use Rattle.mt_model.specs.Clocks.{offsets_of};
 ghost use Rattle.mt_model.specs.Log.{IsWithin};
 ghost use Rattle.mt_model.specs.Timing.{Admissible};
 ghost use Rattle.mt_model.specs.declared.limits.TheConstants.{MAX_TIME};
-ghost use Rattle.skew_bounds.specs.Differences.{AreTurned, IsColumnSet, IsOfRows};
+ghost use Rattle.skew_bounds.specs.Differences.{IsOfRows, entry};
+ghost use Rattle.skew_bounds.specs.declared.column.TheConstants.{FAR};
 ghost use Rattle.skew_bounds.specs.Incoming.{IsNear, IsNetwork, lists_of};
 ghost use Rattle.skew_bounds.specs.System.{IsSystemOf};
 ghost use Rattle.skew_bounds.specs.Table.{IsTableOf};
@@ -15,21 +16,66 @@ use crate::beginning::are_near;
 use crate::edges::node_count;
 use crate::incoming::incoming_of;
 use crate::latest::latest;
-use crate::matrix::Matrix;
+use crate::column::Column;
 use crate::offsets::offsets;
 use crate::system::BoundSystem;
 use mt_model::{Log, bounds_are_admissible, log_is_valid};
 use neg_cycle::Edge;
 use std::alloc::{AllocError, Global};
+use std::marker::Model;
 
-// Gives each pair of a node and this one the number of the first.
-fn set_column(table: &mut Matrix, node: usize, numbers: &[i128])
-    requires node { node < table.old.nodes }
-    requires count { length numbers.now ≡ table.old.nodes }
-    ensures { IsColumnSet table.old node numbers.now table.new }
+/// For each pair of nodes, which count from 0, the most that the number of the first may be above that
+/// of the second: a difference bound matrix (Dill, Timing assumptions and verification of finite-state
+/// concurrent systems, 1989), of whose columns only what isn't nearest by way of the zero moment is held.
+#[derive(Drop)]
+pub struct Table {
+    zero: Vec<i128>,
+    columns: Vec<Column>,
+}
+
+impl Model for Table {
+    ghost use Rattle.std.specs.Prelude.{◌≡◌, All, length};
+    ghost use Rattle.mt_model.specs.Log.{IsWithin};
+    ghost use Rattle.skew_bounds.specs.Differences.{Differences};
+    ghost use Rattle.skew_bounds.specs.declared.column.TheConstants.{FAR};
+
+    ghost Value = { Differences };
+
+    ghost view = { λ t. record { nodes = length t.columns.items; zero = t.zero.items; columns = t.columns.items } };
+
+    ghost invariant = { λ t. (length t.zero.items ≡ length t.columns.items) × All (IsWithin FAR) t.zero.items };
+}
+
+impl Table {
+    /// How many nodes there are.
+    pub fn nodes(&self) -> usize
+        ensures count { result ≡ self.now.nodes }
+    {
+        self.columns.len()
+    }
+
+    /// The most that the number of node i may be above that of node j.
+    #[inline]
+    #[tactic(auto, unfolding(crate::specs::Differences::entry))]
+    pub fn entry(&self, i: usize, j: usize) -> i128
+        requires i { i < self.now.nodes }
+        requires j { j < self.now.nodes }
+        ensures value { result ≡ entry self.now i j }
+    {
+        self.columns[j].number(&self.zero, i)
+    }
+}
+
+// So many numbers, or as many times 0 where one of them is further from 0 than two times can be apart.
+fn near_or_none(alloc: Global, numbers: &[i128], count: usize) -> Result<Vec<i128>, AllocError>
+    requires count { count ≤ length numbers.now }
+    ensures near { IfOk result (λ v. All (IsWithin FAR) v.items) }
+    ensures count { IfOk result (λ v. length v.items ≡ count) }
 {
-    for i in 0..numbers.len() {
-        table.set(i, node, numbers[i]);
+    if are_near(numbers) {
+        numbers[..count].to_vec(alloc)
+    } else {
+        vec![in alloc; 0; count]
     }
 }
 
@@ -39,7 +85,7 @@ fn table_by(
     nodes: usize,
     incoming: &[Vec<Edge>],
     potential: &[i128],
-) -> Result<Matrix, AllocError>
+) -> Result<Table, AllocError>
     requires nodes { nodes ≤ length incoming.now }
     requires zero_moment { 0 < length incoming.now }
     requires few { length incoming.now < 2 ^ 32 }
@@ -47,30 +93,19 @@ fn table_by(
     requires potential { IsNear (lists_of incoming.now) potential.now }
     ensures { IfOk result (IsTableOf nodes (lists_of incoming.now)) }
 {
-    let zero = latest(alloc, incoming, potential, None, 0)?;
-    let zero = if are_near(&zero) {
-        Some(zero.as_slice())
+    let from_zero = latest(alloc, incoming, potential, None, 0)?;
+    let known = if are_near(&from_zero) {
+        Some(from_zero.as_slice())
     } else {
         None
     };
-    let mut table = Matrix::new(alloc, nodes)?;
+    let zero = near_or_none(alloc, &from_zero, nodes)?;
+    let mut columns = Vec::with_capacity(alloc, nodes)?;
     for node in 0..nodes {
-        let numbers = latest(alloc, incoming, potential, zero, node as u32)?;
-        set_column(&mut table, node, &numbers[..nodes]);
+        let numbers = latest(alloc, incoming, potential, known, node as u32)?;
+        columns.push(Column::new(alloc, &zero, &numbers[..nodes])?)?;
     }
-    Ok(table)
-}
-
-/// The table with the nodes of each pair exchanged. An error is want of memory.
-pub fn turned(alloc: Global, table: &Matrix) -> Result<Matrix, AllocError>
-    requires { IsOfRows table.now }
-    ensures { IfOk result (AreTurned table.now) }
-{
-    let mut turned = Matrix::new(alloc, table.nodes())?;
-    for node in 0..table.nodes() {
-        set_column(&mut turned, node, table.row(node));
-    }
-    Ok(turned)
+    Ok(Table { zero, columns })
 }
 
 // The time of the zero moment, these of the rows, and an offset of each clock.
@@ -94,7 +129,7 @@ pub fn table_of(
     log: &Log,
     system: &BoundSystem,
     times: &[i128],
-) -> Result<Matrix, AllocError>
+) -> Result<Table, AllocError>
     requires system { IsSystemOf log.now system.now }
     requires admissible { Admissible log.now times.now }
     ensures exact { IfOk result (IsTight log.now) }

@@ -1,15 +1,13 @@
 //! The least and greatest differences of rows, looked up.
 
-ghost use Rattle.std.specs.Prelude.{◌≡◌, ◌+◌, ◌<◌, IfOk, ◌+ℤ◌};
+ghost use Rattle.std.specs.Prelude.{◌≡◌, ◌+◌, ◌<◌, ◌+ℤ◌};
 ghost use Rattle.mt_model.specs.Log.{IsWithin};
 ghost use Rattle.mt_model.specs.declared.limits.TheConstants.{MAX_TIME};
 ghost use Rattle.skew_bounds.specs.Differences.{IsOfRows};
 ghost use Rattle.skew_bounds.specs.Tight.{events_of, greatest_of, least_of};
 
-use crate::difference_table::turned;
-use crate::matrix::Matrix;
+use crate::difference_table::Table;
 use mt_model::EventId;
-use std::alloc::{AllocError, Global};
 use std::marker::Model;
 
 /// How long after one row of a log another comes at least and at most, over all timings that the log
@@ -17,29 +15,26 @@ use std::marker::Model;
 /// Temporal constraint networks, 1991). Where the other row comes first, the time is below 0.
 #[derive(Drop)]
 pub struct Tight {
-    table: Matrix,
-    /// The table with rows for its columns: so both differences of a row to each other one stand side by side in memory.
-    turned: Matrix,
+    table: Table,
 }
 
 impl Model for Tight {
-    ghost use Rattle.skew_bounds.specs.Differences.{AreTurned, Differences};
+    ghost use Rattle.skew_bounds.specs.Differences.{Differences, IsOfRows};
 
     ghost Value = { Differences };
 
     ghost view = { λ t. t.table };
 
-    ghost invariant = { λ t. AreTurned t.table t.turned };
+    ghost invariant = { λ t. IsOfRows t.table };
 }
 
 impl Tight {
     /// The differences that a table says, which is over the zero moment and the rows of a log.
-    pub(crate) fn new(alloc: Global, table: Matrix) -> Result<Tight, AllocError>
+    pub(crate) fn new(table: Table) -> Tight
         requires { IsOfRows table }
-        ensures table { IfOk result (λ t. t ≡ table) }
+        ensures table { result ≡ table }
     {
-        let turned = turned(alloc, &table)?;
-        Ok(Tight { table, turned })
+        Tight { table }
     }
 
     /// How many rows the log has, each of which may be e or f below. Takes no memory.
@@ -66,7 +61,7 @@ impl Tight {
         ensures greatest { result ≡ greatest_of self.now e f }
         ensures small { IsWithin (MAX_TIME +ℤ MAX_TIME) result }
     {
-        self.turned.entry(node_of(e), node_of(f))
+        self.table.entry(node_of(f), node_of(e))
     }
 }
 

@@ -6,7 +6,7 @@ ghost use Rattle.skew_bounds.specs.Beginning.{IsNearLatest};
 
 use crate::beginning::beginning;
 use crate::lowering::{ahead, lower_before, waiting_at};
-use crate::matrix::FAR;
+use crate::column::FAR;
 use neg_cycle::Edge;
 use std::alloc::{AllocError, Global};
 use std::collections::BinaryHeap;

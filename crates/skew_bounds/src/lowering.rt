@@ -8,7 +8,7 @@ ghost use Rattle.neg_cycle.specs.Systems.{IsEdge, IsWithin as IsBoundWithin, Mee
 ghost use Rattle.neg_cycle.specs.declared.system.TheConstants.{MAX_BOUND};
 ghost use Rattle.skew_bounds.specs.Lowering.{IsLowered, IsSearch, ahead_of, entry_of};
 ghost use Rattle.skew_bounds.specs.declared.latest.TheConstants.{UNREACHED};
-ghost use Rattle.skew_bounds.specs.declared.matrix.TheConstants.{FAR};
+ghost use Rattle.skew_bounds.specs.declared.column.TheConstants.{FAR};
 
 use neg_cycle::Edge;
 use std::alloc::AllocError;

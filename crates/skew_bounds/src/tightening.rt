@@ -50,16 +50,8 @@ pub fn tight(alloc: Global, log: &Log) -> Result<Tight, TightFault>
     }
 }
 
-/// The same where a timing is known that the log admits, from which the searches begin. An error is want of memory.
-pub fn tight_from(alloc: Global, log: &Log, times: &[i128]) -> Result<Tight, AllocError>
-    requires admissible { Admissible log.now times.now }
-    ensures exact { IfOk result (IsTight log.now) }
-{
-    let system = system_of(alloc, log)?;
-    tight_by(alloc, log, &system, times)
-}
-
-/// The same where the bounds and their edges are known too.
+/// The same where a timing is known that the log admits, from which the searches begin, and the bounds with their edges. An
+/// error is want of memory.
 pub fn tight_by(
     alloc: Global,
     log: &Log,
@@ -71,5 +63,5 @@ pub fn tight_by(
     ensures exact { IfOk result (IsTight log.now) }
 {
     let table = table_of(alloc, log, system, times)?;
-    Tight::new(alloc, table)
+    Ok(Tight::new(table))
 }

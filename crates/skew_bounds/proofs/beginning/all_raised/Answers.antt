@@ -4,7 +4,7 @@ use Rattle.std.proofs.lemmas.Int.{to_z-of_z}
 use Rattle.std.proofs.lemmas.List.{map_more, take_all}
 use Rattle.mt_model.specs.Log.{IsWithin}
 use Rattle.skew_bounds.specs.declared.latest.TheConstants.{UNREACHED}
-use Rattle.skew_bounds.specs.declared.matrix.TheConstants.{FAR}
+use Rattle.skew_bounds.specs.declared.column.TheConstants.{FAR}
 use Rattle.skew_bounds.proofs.beginning.all_raised.Goals as goal
 use mir.Val.{SFits, of_z, to_z}
 

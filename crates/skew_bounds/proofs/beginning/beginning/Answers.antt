@@ -8,7 +8,7 @@ use Rattle.skew_bounds.specs.Beginning.{IsBeginning, IsMoved}
 use Rattle.skew_bounds.specs.Incoming.{lists_of}
 use Rattle.neg_cycle.specs.Systems.{number_of}
 use Rattle.skew_bounds.specs.declared.latest.TheConstants.{UNREACHED}
-use Rattle.skew_bounds.specs.declared.matrix.TheConstants.{FAR}
+use Rattle.skew_bounds.specs.declared.column.TheConstants.{FAR}
 use Rattle.skew_bounds.proofs.Beginnings.{begun, by-zero, unreached}
 use Rattle.skew_bounds.proofs.EdgeLists.{list-at, lists-count}
 use Rattle.skew_bounds.proofs.beginning.beginning.Goals as goal
