@@ -157,6 +157,31 @@ class Unreached(WithCrates):
         names = [line.split(": ")[-1] for line in self.outcome("unreached")[1][:-1]]
         self.assertEqual(names, ["low::Number::value", "low::Number::unread", "low::Number::fmt", "low::shown"])
 
+    def with_tests(self, *contracts, head="pub fn is_right(x: u32) -> bool"):
+        """The names of what is unreached with functions of these contracts, each of which calls one of its own."""
+        texts = [f"{head}\n    {contract}\n{{\n    helps_{i}(x)\n}}\n\nfn helps_{i}(x: u32) -> bool {{\n    true\n}}\n"
+                 for i, contract in enumerate(contracts)]
+        self.write("crates/low/src/numbers.rt", "\n".join([NUMBERS, *texts]))
+        return [line.split("::")[-1] for line in self.outcome("unreached")[1][:-1] if "unread" not in line]
+
+    def test_test_of_what_a_call_requires(self):
+        self.assertEqual(self.with_tests("ensures { IsTrue result ↔ (x < 10) }"), [])
+        self.assertEqual(self.with_tests("ensures small { IfOk result (λ b. IsTrue b ↔ x.now < 10) }"), [])
+
+    def test_test_of_more_or_less_than_a_call_requires(self):
+        for statement in ("x < 11", "(x < 10) × (0 < x)"):
+            self.assertEqual(self.with_tests(f"ensures {{ IsTrue result ↔ {statement} }}"), ["is_right", "helps_0"])
+        self.assertEqual(self.with_tests("ensures { IsTrue result → x < 10 }"), ["is_right", "helps_0"])
+        self.assertEqual(self.with_tests("ensures { IsTrue result ↔ x < 10 }", head="fn is_right(x: u32) -> bool"),
+                         ["is_right", "helps_0"])
+
+    def test_test_of_two_parts_that_a_call_requires(self):
+        two = NUMBERS.replace("{ x < 10 }", "{ x < 10 }\n    requires some { 0 < x }")
+        self.assertNotEqual(two, NUMBERS)
+        self.write("crates/low/src/numbers.rt", two + "\npub fn is_right(x: u32) -> bool\n"
+                   "    ensures { IsTrue result ↔ ((0 < x) × (x < 10)) }\n{\n    true\n}\n")
+        self.assertNotIn("is_right", "".join(self.outcome("unreached")[1]))
+
     def test_crates_that_are_named(self):
         self.assertEqual(self.outcome("unreached", "skewcheck"), (0, ["0 unreached, 0 lines"], ""))
         self.assertEqual(self.outcome("unreached", "low")[1][-1], "1 unreached, 3 lines")
