@@ -32,6 +32,7 @@ use Rattle.log_read.specs.declared.kind.EventKind.TheVariants as event
 use Rattle.decimal.specs.Numbers.{is_number, number_up_to, negated, signed_up_to}
 use Rattle.log_read.specs.Records.{Listing, bound_with, clock_named, new_clock, place_of_clock, reading_with, row_number, host_with, row_with, place_of_host, act_of, delay_in, delayed, delayed_by, greatest_in, latency_of, latency_with, least_in, log_from, resync_with}
 use Rattle.log_read.specs.LogOf.{bound_fault, clock_fault, is_of_one_row, host_fault, event_fault, is_declared, is_delayed, is_empty, latency_fault, sends_again}
+use Rattle.log_read.proofs.Listing.{entry_parts}
 use Rattle.log_read.specs.Reading.{IsBegun, IsBound, IsLatency, clock_entry_with}
 use Rattle.log_read.proofs.Middles.{All-position_none}
 use Rattle.mt_model.proofs.Resyncs.{at-place}
@@ -604,10 +605,6 @@ bound-clear place bounds x later earlier most h other room =
     let read = bound_of_parts (row_number later) (row_number earlier) (signed_up_to MAX_EXTRA most) x h in
     let free : nat_le MAX_WRITTEN_EXTRAS (length bounds) ≡ false = lt-leb MAX_WRITTEN_EXTRAS (length bounds) room in
     rw (read.0, read.1, read.2, other, free) refl
-
-entry_parts : (n : Option (List ℕ)) (o : Option Reading) (e : ClockEntry) → option_map (λ r. let made : ClockEntry = record { reading = r; named = n } in made) o ≡ Some e → (o ≡ Some e.reading) × (n ≡ e.named)
-entry_parts n None e is = absurd (cc)
-entry_parts n (Some r) e is = (ap (λ o. Some (option_map_or (λ (k : ClockEntry). k.reading) o r)) is, ap (λ o. option_map_or (λ (k : ClockEntry). k.named) o n) is)
 
 -- what a clock record gives that has no fault may be added
 pub begun_entry : (place : ℕ) (log : Listing) (e : ClockEntry) (host error name : List ℕ) (clocks : List (List ℕ)) (readings : List Reading) → IsBegun log

@@ -1,6 +1,7 @@
 -- What records list, one more record at a time.
 use Rattle.std.proofs.Common.{◌≡◌, ◌∙◌, sym, ap, refl, arith, ℕ, ◌+◌, ◌<◌, ◌≤◌, List, [], ◌∷◌, ◌++◌, length, length-append, get_or, Option, Some, None, append_assoc}
-use Rattle.std.specs.Prelude.{option_to_list, Result}
+use Rattle.std.specs.Prelude.{option_map, option_to_list, Result, Ok, Err}
+use Rattle.std.specs.Option.{option_map_or}
 use Rattle.std.specs.List.{cons_option, filter_map}
 use Rattle.std.proofs.lemmas.List.{append-nil}
 use Rattle.std.proofs.lemmas.List.Elements.{filter_map-append}
@@ -9,17 +10,18 @@ use Rattle.mt_model.specs.declared.log.Row.{Row}
 use Rattle.mt_model.specs.declared.resync.Resync.{Resync}
 use Rattle.mt_model.specs.declared.reading.Reading.{Reading}
 use Rattle.mt_model.specs.declared.log.Extra.{Extra}
+use Rattle.log_read.specs.declared.clock.ClockEntry.{ClockEntry}
 use Rattle.log_read.specs.declared.latency.Latency.{Latency}
 use Rattle.log_read.specs.declared.fault.LogFault.{LogFault}
+use Rattle.log_read.specs.declared.fault.LogFault.TheVariants as fault
 use Rattle.log_read.specs.declared.version.Version.{Version}
 use Rattle.log_read.specs.declared.version.Version.TheVariants as version
 use Rattle.log_read.specs.declared.kind.Kind.{Kind}
 use Rattle.log_read.specs.declared.kind.Kind.TheVariants as kind
-use Rattle.log_read.specs.declared.kind.EventKind.{EventKind}
 use Rattle.log_read.specs.declared.kind.EventKind.TheVariants as event
-use Rattle.log_read.specs.Records.{Listing, Record, bound_by, bound_in, bound_with, clock_by, clock_in, clocks_after, host_by, host_in, host_with, hosts_in, kind_of, latency_by, latency_in, latency_with, listed, new_clock, reading_by, reading_in, reading_with, readings_after, resync_by, resync_in, resync_with, resyncs_after, row_by, row_in, row_with, rows_after}
-use Rattle.log_read.specs.LogOf.{bound_fault, clock_fault, event_fault, fault_by, fault_of, host_fault, known_in, latency_fault, resync_fault}
-use Rattle.log_read.specs.Reading.{Adds, with_record}
+use Rattle.log_read.specs.Records.{Listing, Record, bound_in, clock_in, clocks_after, host_in, hosts_in, kind_of, latency_in, listed, new_clock, reading_in, reading_with, readings_after, resync_in, resyncs_after, row_in, rows_after}
+use Rattle.log_read.specs.LogOf.{fault_by, fault_of, known_in}
+use Rattle.log_read.specs.Reading.{Adds, clock_entry_with, with_columns, with_record}
 
 -- four items are all of a list of four
 pub four_items : {X : Type 0} (xs : List X) (a b c d : X) → 4 ≤ length xs → length xs < 5 → a ≡ get_or xs 0 a → b ≡ get_or xs 1 b → c ≡ get_or xs 2 c → d ≡ get_or xs 3 d
@@ -58,61 +60,31 @@ pub same-listing : {hs hs2 : List Host} {rs rs2 : List Row} {ys ys2 : List Resyn
 same-listing p q r s t u v = rw (p, q, r, s, t, u, v) refl
 
 module _ (v : Version) (place : ℕ) (l now : Listing) (fields : Record) (w a b c : List ℕ) (r : Result (Unit {0}) LogFault) (four : fields ≡ w ∷ a ∷ b ∷ c ∷ []) where
-  -- a record of a kind was taken in
-  adds : (x : Kind) → known_in v (kind_of w) ≡ Some x
-      → Adds r (fault_by place l (Some x) a b c) now (record {
-        hosts = l.hosts ++ option_to_list (host_by (Some x) a b c);
-        rows = l.rows ++ option_to_list (row_by l.hosts (Some x) a b c);
-        resyncs = l.resyncs ++ option_to_list (resync_by l.hosts (length l.rows) (Some x) a b c);
-        latencies = l.latencies ++ option_to_list (latency_by (Some x) a b c);
-        clocks = l.clocks ++ option_to_list (clock_by l.clocks (Some x) a b c);
-        readings = l.readings ++ option_to_list (reading_by l.hosts l.clocks (length l.rows) (Some x) a b c);
-        bounds = l.bounds ++ option_to_list (bound_by (Some x) a b c);
-      })
-      → Adds r (fault_of v place l fields) now (with_record l fields)
-  adds x known added =
+  -- a record of a kind that the version has was taken in
+  pub record_taken : (k : Option Kind) → known_in v (kind_of w) ≡ k → Adds r (fault_by place l k a b c) now (with_columns l k a b c) → Adds r (fault_of v place l fields) now (with_record l fields)
+  record_taken None known added = rw (four, known) (go r added)
+    where
+      go : (r : Result (Unit {0}) LogFault) → Adds r (Some (fault.Kind place)) now (with_columns l None a b c) → Adds r (Some (fault.Kind place)) now (with_record l (w ∷ a ∷ b ∷ c ∷ []))
+      go (Ok done) added = let fault = added.0 in absurd (cc)
+      go (Err f) added = added
+  record_taken (Some x) known added =
       let is = known-is v (kind_of w) x known in
       let test : known_in v (Some x) ≡ Some x = ap (known_in v) (sym is) ∙ known in
       rw (four, is, test) added
 
-  pub adds_host : known_in v (kind_of w) ≡ Some kind.Host
-      → Adds r (host_fault place l.hosts a b c) now (listing (l.hosts ++ option_to_list (host_with a b c)) l.rows l.resyncs l.latencies l.clocks l.readings l.bounds)
-      → Adds r (fault_of v place l fields) now (with_record l fields)
-  adds_host known added =
-      adds kind.Host known (rw (append-nil l.rows, append-nil l.resyncs, append-nil l.latencies, append-nil l.clocks, append-nil l.readings, append-nil l.bounds) added)
+-- a reading, and the name of its clock where it is a new one
+pub entry_parts : (n : Option (List ℕ)) (o : Option Reading) (e : ClockEntry) → option_map (λ r. let made : ClockEntry = record { reading = r; named = n } in made) o ≡ Some e → (o ≡ Some e.reading) × (n ≡ e.named)
+entry_parts n None e is = absurd (cc)
+entry_parts n (Some r) e is = (ap (λ o. Some (option_map_or (λ (k : ClockEntry). k.reading) o r)) is, ap (λ o. option_map_or (λ (k : ClockEntry). k.named) o n) is)
 
-  pub adds_event : (e : EventKind) → known_in v (kind_of w) ≡ Some (kind.Event e)
-      → Adds r (event_fault place l.hosts l.rows e a b c) now (listing l.hosts (l.rows ++ option_to_list (row_with l.hosts e a b c)) l.resyncs l.latencies l.clocks l.readings l.bounds)
-      → Adds r (fault_of v place l fields) now (with_record l fields)
-  adds_event e known added =
-      adds (kind.Event e) known (rw (append-nil l.hosts, append-nil l.resyncs, append-nil l.latencies, append-nil l.clocks, append-nil l.readings, append-nil l.bounds) added)
-
-  pub adds_resync : known_in v (kind_of w) ≡ Some kind.Resync
-      → Adds r (resync_fault place l.hosts a b c) now
-      (listing l.hosts l.rows (l.resyncs ++ option_to_list (resync_with l.hosts (length l.rows) a b c)) l.latencies l.clocks l.readings l.bounds)
-      → Adds r (fault_of v place l fields) now (with_record l fields)
-  adds_resync known added =
-      adds kind.Resync known (rw (append-nil l.hosts, append-nil l.rows, append-nil l.latencies, append-nil l.clocks, append-nil l.readings, append-nil l.bounds) added)
-
-  pub adds_latency : known_in v (kind_of w) ≡ Some kind.Latency
-      → Adds r (latency_fault place l.hosts l.latencies a b c) now (listing l.hosts l.rows l.resyncs (l.latencies ++ option_to_list (latency_with a b c)) l.clocks l.readings l.bounds)
-      → Adds r (fault_of v place l fields) now (with_record l fields)
-  adds_latency known added =
-      adds kind.Latency known (rw (append-nil l.hosts, append-nil l.rows, append-nil l.resyncs, append-nil l.clocks, append-nil l.readings, append-nil l.bounds) added)
-
-  pub adds_clock : known_in v (kind_of w) ≡ Some kind.Clock
-      → Adds r (clock_fault place l.hosts l.clocks a b c) now
-      (listing l.hosts l.rows l.resyncs l.latencies (l.clocks ++ option_to_list (new_clock l.clocks c))
-      (l.readings ++ option_to_list (reading_with l.hosts l.clocks (length l.rows) a b c)) l.bounds)
-      → Adds r (fault_of v place l fields) now (with_record l fields)
-  adds_clock known added =
-      adds kind.Clock known (rw (append-nil l.hosts, append-nil l.rows, append-nil l.resyncs, append-nil l.latencies, append-nil l.bounds) added)
-
-  pub adds_bound : known_in v (kind_of w) ≡ Some kind.Bound
-      → Adds r (bound_fault place l.bounds a b c) now (listing l.hosts l.rows l.resyncs l.latencies l.clocks l.readings (l.bounds ++ option_to_list (bound_with a b c)))
-      → Adds r (fault_of v place l fields) now (with_record l fields)
-  adds_bound known added =
-      adds kind.Bound known (rw (append-nil l.hosts, append-nil l.rows, append-nil l.resyncs, append-nil l.latencies, append-nil l.clocks, append-nil l.readings) added)
+-- the reading and the name of a clock are what its record lists
+pub with_entry : (l : Listing) (e : ClockEntry) (host error name : List ℕ) (clocks : List (List ℕ)) (readings : List Reading)
+    → clock_entry_with l.hosts l.clocks (length l.rows) host error name ≡ Some e → clocks ≡ l.clocks ++ option_to_list e.named → readings ≡ l.readings ++ e.reading ∷ []
+    → listing l.hosts l.rows l.resyncs l.latencies clocks readings l.bounds ≡ with_columns l (Some kind.Clock) host error name
+with_entry l e host error name clocks readings h named read =
+    let parts = entry_parts (new_clock l.clocks name) (reading_with l.hosts l.clocks (length l.rows) host error name) e h in
+    let names : clocks ≡ l.clocks ++ option_to_list (new_clock l.clocks name) = named ∙ ap (λ o. l.clocks ++ option_to_list o) (sym parts.1) in
+    rw (names, read, parts.0, append-nil l.hosts, append-nil l.rows, append-nil l.resyncs, append-nil l.latencies, append-nil l.bounds) refl
 
 cons_option-is : {X : Type 0} (o : Option X) (xs : List X) → cons_option o xs ≡ option_to_list o ++ xs
 cons_option-is None xs = refl

@@ -8,7 +8,10 @@ use Rattle.log_read.specs.declared.clock.ClockEntry.{ClockEntry}
 use Rattle.log_read.specs.declared.latency.Latency.{Latency}
 use Rattle.log_read.specs.declared.fault.LogFault.{LogFault}
 use Rattle.log_read.specs.declared.fault.LogFault.TheVariants.{Memory}
-use Rattle.log_read.specs.Records.{Listing, Record, bound_in, clock_in, host_in, latency_in, new_clock, reading_in, reading_with, resync_in, row_in}
+use Rattle.log_read.specs.declared.columns.Columns.{Columns}
+use Rattle.log_read.specs.declared.kind.Kind.{Kind}
+use Rattle.log_read.specs.LogOf.{fault_by}
+use Rattle.log_read.specs.Records.{Listing, Record, bound_by, bound_in, clock_by, clock_in, host_by, host_in, latency_by, latency_in, new_clock, reading_by, reading_in, reading_with, resync_by, resync_in, row_by, row_in}
 
 -- delays in their range, of which the greatest is not below the least
 pub record IsLatency (l : Latency) : Type 0 where
@@ -49,6 +52,22 @@ Answers result due = MatchResult result (λ x. due ≡ Ok x) (λ f. (f ≡ Memor
 abbrev pub Enters : {X : Type 0} → Result X LogFault → Option LogFault → Option X → Type 0
 Enters result fault listed = MatchResult result (λ x. (fault ≡ None) × (listed ≡ Some x)) (λ f. (f ≡ Memory) ⊎ (fault ≡ Some f))
 
+-- the same, by the fault and by what is listed of a record's place and its columns
+abbrev pub EntersBy : {X : Type 0} → Result X LogFault → Columns → (ℕ → List ℕ → List ℕ → List ℕ → Option LogFault) → (List ℕ → List ℕ → List ℕ → Option X) → Type 0
+EntersBy result c fault listed = Enters result (fault c.place c.host.now c.time.now c.name.now) (listed c.host.now c.time.now c.name.now)
+
+-- what was listed, and what a record of a kind lists after it by its columns
+abbrev pub with_columns : Listing → Option Kind → List ℕ → List ℕ → List ℕ → Listing
+with_columns l k host time name = record {
+  hosts = l.hosts ++ option_to_list (host_by k host time name);
+  rows = l.rows ++ option_to_list (row_by l.hosts k host time name);
+  resyncs = l.resyncs ++ option_to_list (resync_by l.hosts (length l.rows) k host time name);
+  latencies = l.latencies ++ option_to_list (latency_by k host time name);
+  clocks = l.clocks ++ option_to_list (clock_by l.clocks k host time name);
+  readings = l.readings ++ option_to_list (reading_by l.hosts l.clocks (length l.rows) k host time name);
+  bounds = l.bounds ++ option_to_list (bound_by k host time name);
+}
+
 -- what was listed, and what a record lists after it
 abbrev pub with_record : Listing → Record → Listing
 with_record l r = record {
@@ -64,3 +83,7 @@ with_record l r = record {
 -- a call changed what was listed so far as is due where there is no fault, and else answered the fault, or want of memory
 abbrev pub Adds : Result (Unit {0}) LogFault → Option LogFault → Listing → Listing → Type 0
 Adds result fault now due = MatchResult result (λ _. (fault ≡ None) × (now ≡ due)) (λ f. (f ≡ Memory) ⊎ (fault ≡ Some f))
+
+-- a call took a record of a kind in, or answered its fault, or want of memory
+abbrev pub TakesIn : Result (Unit {0}) LogFault → Option Kind → Columns → Listing → Listing → Type 0
+TakesIn result k c before now = Adds result (fault_by c.place before k c.host.now c.time.now c.name.now) now (with_columns before k c.host.now c.time.now c.name.now)

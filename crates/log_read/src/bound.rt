@@ -2,10 +2,11 @@
 
 ghost use Rattle.std.specs.Prelude.{◌≡◌};
 ghost use Rattle.log_read.specs.LogOf.{bound_fault, lacks_row};
-ghost use Rattle.log_read.specs.Reading.{Enters};
+ghost use Rattle.log_read.specs.Reading.{EntersBy};
 ghost use Rattle.log_read.specs.Records.{bound_with, row_number};
 
 use crate::LogFault;
+use crate::columns::Columns;
 use decimal::{number, signed_number};
 use mt_model::{EventId, Extra, MAX_EXTRA, MAX_WRITTEN_EXTRAS};
 
@@ -34,15 +35,15 @@ pub fn bound_of(later: &[u8], earlier: &[u8], most: &[u8]) -> Option<Extra>
 }
 
 /// The bound of a bound record's fields, after bounds that stand before it.
-pub fn bound_entry(
-    place: u32,
-    bounds: &[Extra],
-    later: &[u8],
-    earlier: &[u8],
-    most: &[u8],
-) -> Result<Extra, LogFault>
-    ensures entry { Enters result (bound_fault place bounds.now later.now earlier.now most.now) (bound_with later.now earlier.now most.now) }
+pub fn bound_entry(bounds: &[Extra], columns: Columns) -> Result<Extra, LogFault>
+    ensures entry { EntersBy result columns.entry (λ place. bound_fault place bounds.now) bound_with }
 {
+    let Columns {
+        place,
+        host: later,
+        time: earlier,
+        name: most,
+    } = columns;
     let Some(bound) = bound_of(later, earlier, most) else {
         return Err(LogFault::Number { place });
     };

@@ -2,10 +2,11 @@
 
 ghost use Rattle.std.specs.Prelude.{◌≡◌, ◌≤◌, length};
 ghost use Rattle.log_read.specs.LogOf.{clock_fault};
-ghost use Rattle.log_read.specs.Reading.{Enters, clock_entry_with};
+ghost use Rattle.log_read.specs.Reading.{EntersBy, clock_entry_with};
 ghost use Rattle.log_read.specs.Records.{place_of_clock as place_found};
 
 use crate::LogFault;
+use crate::columns::Columns;
 use crate::entry::place_of;
 use decimal::unsigned_number;
 use mt_model::{ClockId, Host, HostId, MAX_CLOCKS, MAX_ERROR, MAX_HOSTS, MAX_ROWS, Name, Reading};
@@ -29,19 +30,22 @@ fn place_of_clock(clocks: &[Name], name: &[u8]) -> Option<usize>
 /// rows.
 pub fn clock_entry(
     alloc: Global,
-    place: u32,
     hosts: &[Host],
     clocks: &[Name],
     rows: usize,
-    host: &[u8],
-    error: &[u8],
-    name: &[u8],
+    columns: Columns,
 ) -> Result<ClockEntry, LogFault>
     requires hosts { length hosts.now ≤ MAX_HOSTS }
     requires clocks { length clocks.now ≤ MAX_CLOCKS }
     requires rows { rows ≤ MAX_ROWS }
-    ensures entry { Enters result (clock_fault place hosts.now clocks.now host.now error.now name.now) (clock_entry_with hosts.now clocks.now rows host.now error.now name.now) }
+    ensures entry { EntersBy result columns.entry (λ place. clock_fault place hosts.now clocks.now) (clock_entry_with hosts.now clocks.now rows) }
 {
+    let Columns {
+        place,
+        host,
+        time: error,
+        name,
+    } = columns;
     let Some(number) = place_of(hosts, host) else {
         return Err(LogFault::UnknownHost { place });
     };

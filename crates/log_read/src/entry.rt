@@ -3,10 +3,11 @@
 ghost use Rattle.std.specs.Prelude.{◌≡◌, ◌≤◌, length};
 ghost use Rattle.mt_model.specs.Name.{is_reserved};
 ghost use Rattle.log_read.specs.LogOf.{host_fault, event_fault, is_declared, is_delayed, is_sent, latency_fault, resync_fault, sends_again};
-ghost use Rattle.log_read.specs.Reading.{Enters};
+ghost use Rattle.log_read.specs.Reading.{EntersBy};
 ghost use Rattle.log_read.specs.Records.{host_with, latency_with, resync_with, row_with, place_of_host};
 
 use crate::LogFault;
+use crate::columns::Columns;
 use crate::fields::Field;
 use crate::kind::EventKind;
 use crate::latency::{Latency, greatest_of, least_of};
@@ -54,16 +55,15 @@ fn repeats(kind: EventKind, rows: &[Row], message: &[u8]) -> bool
 }
 
 /// The host of a host record's fields, after hosts that were declared before it.
-pub fn host_entry(
-    alloc: Global,
-    place: u32,
-    hosts: &[Host],
-    name: &[u8],
-    skew: &[u8],
-    gap: &[u8],
-) -> Result<Host, LogFault>
-    ensures entry { Enters result (host_fault place hosts.now name.now skew.now gap.now) (host_with name.now skew.now gap.now) }
+pub fn host_entry(alloc: Global, hosts: &[Host], columns: Columns) -> Result<Host, LogFault>
+    ensures entry { EntersBy result columns.entry (λ place. host_fault place hosts.now) host_with }
 {
+    let Columns {
+        place,
+        host: name,
+        time: skew,
+        name: gap,
+    } = columns;
     let Some(new_name) = Name::new(alloc, name)? else {
         return Err(LogFault::HostName { place });
     };
@@ -94,17 +94,20 @@ pub fn host_entry(
 /// The row of an event record's fields, after hosts and rows that stand before it.
 pub fn row_entry(
     alloc: Global,
-    place: u32,
     hosts: &[Host],
     rows: &[Row],
     kind: EventKind,
-    host: &[u8],
-    local: &[u8],
-    name: &[u8],
+    columns: Columns,
 ) -> Result<Row, LogFault>
     requires { length hosts.now ≤ MAX_HOSTS }
-    ensures entry { Enters result (event_fault place hosts.now rows.now kind host.now local.now name.now) (row_with hosts.now kind host.now local.now name.now) }
+    ensures entry { EntersBy result columns.entry (λ place. event_fault place hosts.now rows.now kind) (row_with hosts.now kind) }
 {
+    let Columns {
+        place,
+        host,
+        time: local,
+        name,
+    } = columns;
     let Some(host) = place_of(hosts, host) else {
         return Err(LogFault::UnknownHost { place });
     };
@@ -128,18 +131,17 @@ pub fn row_entry(
 }
 
 /// The resync of a resync record's fields, after hosts that were declared and so many rows.
-pub fn resync_entry(
-    place: u32,
-    hosts: &[Host],
-    rows: usize,
-    host: &[u8],
-    skew: &[u8],
-    gap: &[u8],
-) -> Result<Resync, LogFault>
+pub fn resync_entry(hosts: &[Host], rows: usize, columns: Columns) -> Result<Resync, LogFault>
     requires hosts { length hosts.now ≤ MAX_HOSTS }
     requires rows { rows ≤ MAX_ROWS }
-    ensures entry { Enters result (resync_fault place hosts.now host.now skew.now gap.now) (resync_with hosts.now rows host.now skew.now gap.now) }
+    ensures entry { EntersBy result columns.entry (λ place. resync_fault place hosts.now) (resync_with hosts.now rows) }
 {
+    let Columns {
+        place,
+        host,
+        time: skew,
+        name: gap,
+    } = columns;
     let Some(number) = place_of(hosts, host) else {
         return Err(LogFault::UnknownHost { place });
     };
@@ -166,15 +168,18 @@ fn has_latency(latencies: &[Latency], host: &[u8]) -> bool
 /// The latency of a latency record's fields, after hosts and latencies that stand before it.
 pub fn latency_entry(
     alloc: Global,
-    place: u32,
     hosts: &[Host],
     latencies: &[Latency],
-    host: &[u8],
-    least: &[u8],
-    most: &[u8],
+    columns: Columns,
 ) -> Result<Latency, LogFault>
-    ensures entry { Enters result (latency_fault place hosts.now latencies.now host.now least.now most.now) (latency_with host.now least.now most.now) }
+    ensures entry { EntersBy result columns.entry (λ place. latency_fault place hosts.now latencies.now) latency_with }
 {
+    let Columns {
+        place,
+        host,
+        time: least,
+        name: most,
+    } = columns;
     if place_of(hosts, host).is_none() {
         return Err(LogFault::UnknownHost { place });
     }

@@ -3,6 +3,7 @@
 
 mod bound;
 mod clock;
+mod columns;
 mod entry;
 mod fault;
 mod fields;

@@ -1,15 +1,17 @@
 //! A log that is read record by record.
 
-ghost use Rattle.std.specs.Prelude.{◌≡◌, [], ◌++◌, ◌<◌, ◌≤◌, length, None, Some, option_to_list, All, IfSome};
+ghost use Rattle.std.specs.Prelude.{◌≡◌, [], ◌<◌, ◌≤◌, length, Some, All, IfSome};
 ghost use Rattle.mt_model.specs.Log.{IsSent, received_by};
 ghost use Rattle.mt_model.specs.declared.log.Extra.{Extra};
-ghost use Rattle.log_read.specs.LogOf.{bound_fault, clock_fault, fault_of, host_fault, event_fault, latency_fault, resync_fault};
-ghost use Rattle.log_read.specs.Reading.{Adds, with_record};
-ghost use Rattle.log_read.specs.Records.{bound_with, host_with, latency_with, log_from, new_clock, reading_with, resync_with, row_with};
+ghost use Rattle.log_read.specs.declared.kind.Kind.TheVariants as record_kind;
+ghost use Rattle.log_read.specs.LogOf.{fault_of};
+ghost use Rattle.log_read.specs.Reading.{Adds, TakesIn, with_record};
+ghost use Rattle.log_read.specs.Records.{log_from};
 
 use crate::LogFault;
 use crate::bound::bound_entry;
 use crate::clock::clock_entry;
+use crate::columns::Columns;
 use crate::entry::{host_entry, latency_entry, resync_entry, row_entry};
 use crate::fields::Fields;
 use crate::kind::{EventKind, Kind};
@@ -66,98 +68,46 @@ impl Reading {
         self.rows.as_slice()
     }
 
-    fn add_host(
-        &mut self,
-        alloc: Global,
-        place: u32,
-        name: &[u8],
-        skew: &[u8],
-        gap: &[u8],
-    ) -> Result<(), LogFault>
-        ensures { let new = option_to_list (host_with name.now skew.now gap.now) in
-            Adds result (host_fault place self.old.hosts name.now skew.now gap.now) self.new (record { hosts = self.old.hosts ++ new; rows = self.old.rows; resyncs = self.old.resyncs; latencies = self.old.latencies; clocks = self.old.clocks; readings = self.old.readings; bounds = self.old.bounds }) }
+    fn add_host(&mut self, alloc: Global, columns: Columns) -> Result<(), LogFault>
+        ensures { TakesIn result (Some record_kind.Host) columns.entry self.old self.new }
     {
-        let host = host_entry(alloc, place, self.hosts.as_slice(), name, skew, gap)?;
+        let host = host_entry(alloc, self.hosts.as_slice(), columns)?;
         self.hosts.push(host)?;
         Ok(())
     }
 
-    fn add_row(
-        &mut self,
-        alloc: Global,
-        place: u32,
-        kind: EventKind,
-        host: &[u8],
-        local: &[u8],
-        name: &[u8],
-    ) -> Result<(), LogFault>
-        ensures { let new = option_to_list (row_with self.old.hosts kind host.now local.now name.now) in
-            Adds result (event_fault place self.old.hosts self.old.rows kind host.now local.now name.now) self.new (record { hosts = self.old.hosts; rows = self.old.rows ++ new; resyncs = self.old.resyncs; latencies = self.old.latencies; clocks = self.old.clocks; readings = self.old.readings; bounds = self.old.bounds }) }
+    fn add_row(&mut self, alloc: Global, kind: EventKind, columns: Columns) -> Result<(), LogFault>
+        ensures { TakesIn result (Some (record_kind.Event kind)) columns.entry self.old self.new }
     {
         let hosts = self.hosts.as_slice();
-        let row = row_entry(
-            alloc,
-            place,
-            hosts,
-            self.rows.as_slice(),
-            kind,
-            host,
-            local,
-            name,
-        )?;
+        let row = row_entry(alloc, hosts, self.rows.as_slice(), kind, columns)?;
         self.rows.push(row)?;
         Ok(())
     }
 
-    fn add_resync(
-        &mut self,
-        place: u32,
-        host: &[u8],
-        skew: &[u8],
-        gap: &[u8],
-    ) -> Result<(), LogFault>
-        ensures { let new = option_to_list (resync_with self.old.hosts (length self.old.rows) host.now skew.now gap.now) in
-            Adds result (resync_fault place self.old.hosts host.now skew.now gap.now) self.new (record { hosts = self.old.hosts; rows = self.old.rows; resyncs = self.old.resyncs ++ new; latencies = self.old.latencies; clocks = self.old.clocks; readings = self.old.readings; bounds = self.old.bounds }) }
+    fn add_resync(&mut self, columns: Columns) -> Result<(), LogFault>
+        ensures { TakesIn result (Some record_kind.Resync) columns.entry self.old self.new }
     {
         let hosts = self.hosts.as_slice();
-        let resync = resync_entry(place, hosts, self.rows.len(), host, skew, gap)?;
+        let resync = resync_entry(hosts, self.rows.len(), columns)?;
         self.resyncs.push(resync)?;
         Ok(())
     }
 
-    fn add_latency(
-        &mut self,
-        alloc: Global,
-        place: u32,
-        host: &[u8],
-        least: &[u8],
-        most: &[u8],
-    ) -> Result<(), LogFault>
-        ensures { let new = option_to_list (latency_with host.now least.now most.now) in
-            Adds result (latency_fault place self.old.hosts self.old.latencies host.now least.now most.now) self.new (record { hosts = self.old.hosts; rows = self.old.rows; resyncs = self.old.resyncs; latencies = self.old.latencies ++ new; clocks = self.old.clocks; readings = self.old.readings; bounds = self.old.bounds }) }
+    fn add_latency(&mut self, alloc: Global, columns: Columns) -> Result<(), LogFault>
+        ensures { TakesIn result (Some record_kind.Latency) columns.entry self.old self.new }
     {
         let hosts = self.hosts.as_slice();
-        let latencies = self.latencies.as_slice();
-        let latency = latency_entry(alloc, place, hosts, latencies, host, least, most)?;
+        let latency = latency_entry(alloc, hosts, self.latencies.as_slice(), columns)?;
         self.latencies.push(latency)?;
         Ok(())
     }
 
-    fn add_clock(
-        &mut self,
-        alloc: Global,
-        place: u32,
-        host: &[u8],
-        error: &[u8],
-        name: &[u8],
-    ) -> Result<(), LogFault>
-        ensures { let named = option_to_list (new_clock self.old.clocks name.now) in
-            let new = option_to_list (reading_with self.old.hosts self.old.clocks (length self.old.rows) host.now error.now name.now) in
-            Adds result (clock_fault place self.old.hosts self.old.clocks host.now error.now name.now) self.new (record { hosts = self.old.hosts; rows = self.old.rows; resyncs = self.old.resyncs; latencies = self.old.latencies; clocks = self.old.clocks ++ named; readings = self.old.readings ++ new; bounds = self.old.bounds }) }
+    fn add_clock(&mut self, alloc: Global, columns: Columns) -> Result<(), LogFault>
+        ensures { TakesIn result (Some record_kind.Clock) columns.entry self.old self.new }
     {
         let hosts = self.hosts.as_slice();
-        let rows = self.rows.len();
-        let entry = clock_entry(alloc, place, hosts, &self.clocks, rows, host, error, name)?;
+        let entry = clock_entry(alloc, hosts, &self.clocks, self.rows.len(), columns)?;
         // A clock is named only together with its reading, so that each one is read.
         self.clocks.reserve(1)?;
         self.readings.push(entry.reading)?;
@@ -167,19 +117,34 @@ impl Reading {
         Ok(())
     }
 
-    fn add_bound(
-        &mut self,
-        place: u32,
-        later: &[u8],
-        earlier: &[u8],
-        most: &[u8],
-    ) -> Result<(), LogFault>
-        ensures { let new = option_to_list (bound_with later.now earlier.now most.now) in
-            Adds result (bound_fault place self.old.bounds later.now earlier.now most.now) self.new (record { hosts = self.old.hosts; rows = self.old.rows; resyncs = self.old.resyncs; latencies = self.old.latencies; clocks = self.old.clocks; readings = self.old.readings; bounds = self.old.bounds ++ new }) }
+    fn add_bound(&mut self, columns: Columns) -> Result<(), LogFault>
+        ensures { TakesIn result (Some record_kind.Bound) columns.entry self.old self.new }
     {
-        let bound = bound_entry(place, self.bounds.as_slice(), later, earlier, most)?;
+        let bound = bound_entry(self.bounds.as_slice(), columns)?;
         self.bounds.push(bound)?;
         Ok(())
+    }
+
+    // Takes a record of a kind in.
+    fn add_of(
+        &mut self,
+        alloc: Global,
+        kind: Option<Kind>,
+        columns: Columns,
+    ) -> Result<(), LogFault>
+        ensures { TakesIn result kind columns.entry self.old self.new }
+    {
+        match kind {
+            Some(Kind::Host) => self.add_host(alloc, columns),
+            Some(Kind::Event(kind)) => self.add_row(alloc, kind, columns),
+            Some(Kind::Resync) => self.add_resync(columns),
+            Some(Kind::Latency) => self.add_latency(alloc, columns),
+            Some(Kind::Clock) => self.add_clock(alloc, columns),
+            Some(Kind::Bound) => self.add_bound(columns),
+            None => Err(LogFault::Kind {
+                place: columns.place,
+            }),
+        }
     }
 
     /// Takes the record at a place in; after a fault nothing is known of what was read.
@@ -193,27 +158,16 @@ impl Reading {
         ensures { Adds result (fault_of version place self.old fields.now) self.new (with_record self.old fields.now) }
     {
         match fields.as_slice() {
-            [word, host, time, name] => match version.known(Kind::named(word.bytes())) {
-                Some(Kind::Host) => {
-                    self.add_host(alloc, place, host.bytes(), time.bytes(), name.bytes())
-                }
-                Some(Kind::Event(kind)) => {
-                    self.add_row(alloc, place, kind, host.bytes(), time.bytes(), name.bytes())
-                }
-                Some(Kind::Resync) => {
-                    self.add_resync(place, host.bytes(), time.bytes(), name.bytes())
-                }
-                Some(Kind::Latency) => {
-                    self.add_latency(alloc, place, host.bytes(), time.bytes(), name.bytes())
-                }
-                Some(Kind::Clock) => {
-                    self.add_clock(alloc, place, host.bytes(), time.bytes(), name.bytes())
-                }
-                Some(Kind::Bound) => {
-                    self.add_bound(place, host.bytes(), time.bytes(), name.bytes())
-                }
-                None => Err(LogFault::Kind { place }),
-            },
+            [word, host, time, name] => {
+                let kind = version.known(Kind::named(word.bytes()));
+                let columns = Columns {
+                    place,
+                    host: host.bytes(),
+                    time: time.bytes(),
+                    name: name.bytes(),
+                };
+                self.add_of(alloc, kind, columns)
+            }
             _ => Err(LogFault::Width { place }),
         }
     }

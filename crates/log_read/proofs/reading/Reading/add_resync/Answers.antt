@@ -7,4 +7,4 @@ invariant_of-self-2 c =
     rw c.in_ok-push.ensures.ok
     (begun_resync
     (record { hosts = c.self.inside.hosts; rows = c.self.inside.rows; resyncs = c.self.inside.resyncs; latencies = c.self.inside.latencies; clocks = c.self.inside.clocks.items; readings = c.self.inside.readings; bounds = c.self.inside.bounds })
-    c.in_ok-resync.resync c.args.host.now c.args.skew.now c.args.gap.now c.self.invariant entry.1)
+    c.in_ok-resync.resync c.args.columns.host.now c.args.columns.time.now c.args.columns.name.now c.self.invariant entry.1)
