@@ -8,12 +8,11 @@ ghost use Rattle.mt_model.specs.declared.limits.TheConstants.{MAX_TIME};
 ghost use Rattle.witness_replay.specs.Columns.{IsColumn, reaches_from, value_at};
 ghost use Rattle.witness_replay.specs.Timelines.{IsTimeline};
 
-use crate::operators::is_reached;
+use crate::operators::{Operator, is_reached};
 use crate::states::Latest;
 use crate::sweep::{Sweep, Wanted};
-use crate::timeline::{Moment, row_at};
-use formula_arena::Direction;
-use mt_model::{Interval, Log, Name};
+use crate::timeline::{Timeline, row_at};
+use mt_model::{Log, Name};
 
 /// The same value at each row.
 pub fn fill(column: &mut [bool], value: bool)
@@ -24,19 +23,14 @@ pub fn fill(column: &mut [bool], value: bool)
     }
 }
 
-fn fill_states_of(
-    log: &Log,
-    times: &[i128],
-    moments: &[Moment],
-    host: usize,
-    name: &Name,
-    column: &mut [bool],
-)
-    requires count { length times.now ≡ length log.now.rows }
-    requires timeline { IsTimeline times.now moments.now }
-    requires room { length column.old ≡ length times.now }
-    ensures { IsColumn (length times.now) (λ e. state_of log.now times.now (time_of times.now e) host name.now) column.new }
+fn fill_states_of(log: &Log, timeline: Timeline, host: usize, name: &Name, column: &mut [bool])
+    requires count { length timeline.times.now ≡ length log.now.rows }
+    requires timeline { IsTimeline timeline.times.now timeline.moments.now }
+    requires room { length column.old ≡ length timeline.times.now }
+    ensures { let t = timeline.entry.times.now in
+        IsColumn (length t) (λ e. state_of log.now t (time_of t e) host name.now) column.new }
 {
+    let Timeline { times, moments } = timeline;
     let mut latest = Latest::new();
     for place in 0..times.len() {
         latest = latest.advanced(log, moments, host, name, place);
@@ -45,21 +39,15 @@ fn fill_states_of(
 }
 
 /// The state of a proposition at each row.
-pub fn fill_states(
-    log: &Log,
-    times: &[i128],
-    moments: &[Moment],
-    host: &Name,
-    name: &Name,
-    column: &mut [bool],
-)
-    requires count { length times.now ≡ length log.now.rows }
-    requires timeline { IsTimeline times.now moments.now }
-    requires room { length column.old ≡ length times.now }
-    ensures { IsColumn (length times.now) (λ e. state_named log.now times.now (time_of times.now e) host.now name.now) column.new }
+pub fn fill_states(log: &Log, timeline: Timeline, host: &Name, name: &Name, column: &mut [bool])
+    requires count { length timeline.times.now ≡ length log.now.rows }
+    requires timeline { IsTimeline timeline.times.now timeline.moments.now }
+    requires room { length column.old ≡ length timeline.times.now }
+    ensures { let t = timeline.entry.times.now in
+        IsColumn (length t) (λ e. state_named log.now t (time_of t e) host.now name.now) column.new }
 {
     match log.host_named(host) {
-        Some(host) => fill_states_of(log, times, moments, host, name, column),
+        Some(host) => fill_states_of(log, timeline, host, name, column),
         None => fill(column, false),
     }
 }
@@ -88,21 +76,25 @@ pub fn fill_conjunction(left: &[bool], right: &[bool], column: &mut [bool])
 /// Where an until holds, or a since where it looks behind. The rows are gone through from the one that is met last,
 /// and what is near comes nearer with each of them.
 pub fn fill_reaches(
-    direction: Direction,
-    times: &[i128],
-    moments: &[Moment],
-    interval: &Interval,
+    operator: Operator,
+    timeline: Timeline,
     left: &[bool],
     right: &[bool],
     column: &mut [bool],
 )
-    requires range { All (IsWithin MAX_TIME) times.now }
-    requires timeline { IsTimeline times.now moments.now }
-    requires left_count { length left.now ≡ length times.now }
-    requires right_count { length right.now ≡ length times.now }
-    requires room { length column.old ≡ length times.now }
-    ensures { IsColumn (length times.now) (reaches_from direction times.now interval.now left.now right.now) column.new }
+    requires range { All (IsWithin MAX_TIME) timeline.times.now }
+    requires timeline { IsTimeline timeline.times.now timeline.moments.now }
+    requires left_count { length left.now ≡ length timeline.times.now }
+    requires right_count { length right.now ≡ length timeline.times.now }
+    requires room { length column.old ≡ length timeline.times.now }
+    ensures { let t = timeline.entry.times.now in
+        IsColumn (length t) (reaches_from operator.direction t operator.interval left.now right.now) column.new }
 {
+    let Operator {
+        direction,
+        interval,
+    } = operator;
+    let Timeline { times, moments } = timeline;
     let failing = Wanted {
         value: false,
         low: 0,
@@ -115,10 +107,10 @@ pub fn fill_reaches(
     let mut witnesses = Sweep::new(times.len());
     for place in (0..times.len()).rev() {
         let e = row_at(direction, moments, place);
-        gaps = gaps.advanced(direction, times, moments, left, failing, e);
-        witnesses = witnesses.advanced(direction, times, moments, right, holding, e);
+        gaps = gaps.advanced(direction, timeline, left, failing, e);
+        witnesses = witnesses.advanced(direction, timeline, right, holding, e);
         let witness = witnesses.row(direction, moments);
         let gap = gaps.row(direction, moments);
-        column[e] = is_reached(direction, times, interval, witness, gap, e);
+        column[e] = is_reached(operator, times, witness, gap, e);
     }
 }

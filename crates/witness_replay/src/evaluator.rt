@@ -14,7 +14,8 @@ ghost use Rattle.witness_replay.specs.Tables.{ColumnsAreTruths, column_at};
 ghost use Rattle.witness_replay.specs.Timelines.{IsTimeline};
 
 use crate::columns::{fill, fill_conjunction, fill_negation, fill_reaches, fill_states};
-use crate::timeline::{Moment, sort_rows};
+use crate::operators::Operator;
+use crate::timeline::{Moment, Timeline, sort_rows};
 use formula_arena::{Arena, Core, Direction};
 use mt_model::{Log, NodeId, truth_by_rows};
 
@@ -31,27 +32,27 @@ fn column(table: &[bool], rows: usize, node: NodeId) -> &[bool]
 fn fill_node(
     log: &Log,
     arena: &Arena,
-    times: &[i128],
-    moments: &[Moment],
+    timeline: Timeline,
     node: NodeId,
     before: &[bool],
     target: &mut [bool],
 )
-    requires count { length times.now ≡ length log.now.rows }
-    requires range { All (IsWithin MAX_TIME) times.now }
-    requires timeline { IsTimeline times.now moments.now }
+    requires count { length timeline.times.now ≡ length log.now.rows }
+    requires range { All (IsWithin MAX_TIME) timeline.times.now }
+    requires timeline { IsTimeline timeline.times.now timeline.moments.now }
     requires node_in { node < length arena.now }
-    requires before_room { length before.now ≡ node * length times.now }
-    requires room { length target.old ≡ length times.now }
-    requires before { ColumnsAreTruths log.now times.now arena.now node before.now }
-    ensures { IsColumn (length times.now) (λ e. truth_of log.now times.now e (tree_at arena.now node)) target.new }
+    requires before_room { length before.now ≡ node * length timeline.times.now }
+    requires room { length target.old ≡ length timeline.times.now }
+    requires before { ColumnsAreTruths log.now timeline.times.now arena.now node before.now }
+    ensures { let t = timeline.entry.times.now in
+        IsColumn (length t) (λ e. truth_of log.now t e (tree_at arena.now node)) target.new }
 {
-    let rows = times.len();
+    let rows = timeline.times.len();
     match arena.node(node) {
         Core::True => fill(target, true),
         Core::Prop(prop) => {
             let (host, name) = arena.prop(prop);
-            fill_states(log, times, moments, host, name, target);
+            fill_states(log, timeline, host, name, target);
         }
         Core::Not(f) => fill_negation(column(before, rows, f), target),
         Core::And(f, g) => {
@@ -59,63 +60,50 @@ fn fill_node(
         }
         Core::Until(interval, f, g) => {
             let (left, right) = (column(before, rows, f), column(before, rows, g));
-            fill_reaches(
-                Direction::Ahead,
-                times,
-                moments,
-                &interval,
-                left,
-                right,
-                target,
-            );
+            let direction = Direction::Ahead;
+            let operator = Operator {
+                direction,
+                interval,
+            };
+            fill_reaches(operator, timeline, left, right, target);
         }
         Core::Since(interval, f, g) => {
             let (left, right) = (column(before, rows, f), column(before, rows, g));
-            fill_reaches(
-                Direction::Behind,
-                times,
-                moments,
-                &interval,
-                left,
-                right,
-                target,
-            );
+            let direction = Direction::Behind;
+            let operator = Operator {
+                direction,
+                interval,
+            };
+            fill_reaches(operator, timeline, left, right, target);
         }
     }
 }
 
 // Fills the column of a node where those of the nodes before it are filled.
-fn fill_next(
-    log: &Log,
-    arena: &Arena,
-    times: &[i128],
-    moments: &[Moment],
-    node: NodeId,
-    table: &mut [bool],
-)
-    requires count { length times.now ≡ length log.now.rows }
-    requires range { All (IsWithin MAX_TIME) times.now }
-    requires timeline { IsTimeline times.now moments.now }
+fn fill_next(log: &Log, arena: &Arena, timeline: Timeline, node: NodeId, table: &mut [bool])
+    requires count { length timeline.times.now ≡ length log.now.rows }
+    requires range { All (IsWithin MAX_TIME) timeline.times.now }
+    requires timeline { IsTimeline timeline.times.now timeline.moments.now }
     requires node_in { node < length arena.now }
-    requires room { length table.old ≡ length arena.now * length times.now }
-    requires before { ColumnsAreTruths log.now times.now arena.now node table.old }
-    ensures { ColumnsAreTruths log.now times.now arena.now (node + 1) table.new }
+    requires room { length table.old ≡ length arena.now * length timeline.times.now }
+    requires before { ColumnsAreTruths log.now timeline.times.now arena.now node table.old }
+    ensures { ColumnsAreTruths log.now timeline.entry.times.now arena.now (node + 1) table.new }
 {
-    let rows = times.len();
+    let rows = timeline.times.len();
     let (before, rest) = table.split_at_mut(node.get() as usize * rows);
-    fill_node(log, arena, times, moments, node, before, &mut rest[..rows]);
+    fill_node(log, arena, timeline, node, before, &mut rest[..rows]);
 }
 
 // Fills the table with the truth of each node at each row. What stands there before plays no part.
-fn evaluate(log: &Log, arena: &Arena, times: &[i128], moments: &[Moment], table: &mut [bool])
-    requires count { length times.now ≡ length log.now.rows }
-    requires range { All (IsWithin MAX_TIME) times.now }
-    requires timeline { IsTimeline times.now moments.now }
-    requires room { length table.old ≡ length arena.now * length times.now }
-    ensures { ColumnsAreTruths log.now times.now arena.now (length arena.now) table.new }
+fn evaluate(log: &Log, arena: &Arena, timeline: Timeline, table: &mut [bool])
+    requires count { length timeline.times.now ≡ length log.now.rows }
+    requires range { All (IsWithin MAX_TIME) timeline.times.now }
+    requires timeline { IsTimeline timeline.times.now timeline.moments.now }
+    requires room { length table.old ≡ length arena.now * length timeline.times.now }
+    ensures { ColumnsAreTruths log.now timeline.entry.times.now arena.now (length arena.now) table.new }
 {
     for k in 0..arena.len() {
-        fill_next(log, arena, times, moments, NodeId::new(k), table);
+        fill_next(log, arena, timeline, NodeId::new(k), table);
     }
 }
 
@@ -154,6 +142,6 @@ pub fn truth_at_first(
     truth_by_rows();
     prove!(!log.rows().is_empty());
     sort_rows(times, moments);
-    evaluate(log, arena, times, moments, table);
+    evaluate(log, arena, Timeline { times, moments }, table);
     table[node.get() as usize * times.len() + first_row(times)]
 }

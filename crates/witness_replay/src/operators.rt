@@ -16,6 +16,13 @@ ghost use Rattle.witness_replay.specs.Directions.{distance_from as distance_by, 
 use formula_arena::Direction;
 use mt_model::Interval;
 
+/// An until, or a since where it looks behind.
+#[derive(Clone, Copy)]
+pub struct Operator {
+    pub direction: Direction,
+    pub interval: Interval,
+}
+
 fn lies_in(interval: &Interval, distance: i128) -> bool
     ensures { result ≡ is_in interval.now distance }
 {
@@ -45,13 +52,16 @@ pub fn distance_from(direction: Direction, times: &[i128], e: usize, m: usize) -
     }
 }
 
-fn is_near(direction: Direction, times: &[i128], interval: &Interval, e: usize, m: usize) -> bool
+fn is_near(operator: Operator, times: &[i128], e: usize, m: usize) -> bool
     requires range { All (IsWithin MAX_TIME) times.now }
     requires e_in { e < length times.now }
     requires m_in { m < length times.now }
-    ensures { result ≡ is_near_from direction times.now interval.now e m }
+    ensures { result ≡ is_near_from operator.direction times.now operator.interval e m }
 {
-    lies_in(interval, distance_from(direction, times, e, m))
+    lies_in(
+        &operator.interval,
+        distance_from(operator.direction, times, e, m),
+    )
 }
 
 // Whether row e is met at latest together with row m.
@@ -78,9 +88,8 @@ fn is_before_gap(direction: Direction, times: &[i128], gap: Option<usize>, m: us
 /// Whether an until holds at row e, or a since where it looks behind: the nearest row that is far enough and has
 /// the right side is a witness, where there is one.
 pub fn is_reached(
-    direction: Direction,
+    operator: Operator,
     times: &[i128],
-    interval: &Interval,
     witness: Option<usize>,
     gap: Option<usize>,
     e: usize,
@@ -89,11 +98,12 @@ pub fn is_reached(
     requires witness { IfSome witness (λ w. w < length times.now) }
     requires gap { IfSome gap (λ g. g < length times.now) }
     requires e_in { e < length times.now }
-    ensures { result ≡ is_reached_by direction times.now interval.now witness gap e }
+    ensures { result ≡ is_reached_by operator.direction times.now operator.interval witness gap e }
 {
     match witness {
-        Some(w) => is_near(direction, times, interval, e, w)
-            && is_before_gap(direction, times, gap, w),
+        Some(w) => {
+            is_near(operator, times, e, w) && is_before_gap(operator.direction, times, gap, w)
+        }
         None => false,
     }
 }

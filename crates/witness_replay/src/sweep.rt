@@ -8,7 +8,7 @@ ghost use Rattle.witness_replay.specs.Sweeps.{AreFar, AreNear, IsSwept, is_hit};
 ghost use Rattle.witness_replay.specs.Timelines.{IsTimeline, row_met};
 
 use crate::operators::distance_from;
-use crate::timeline::{Moment, row_at};
+use crate::timeline::{Moment, Timeline, row_at};
 use formula_arena::Direction;
 
 /// What a side of an operator is searched for: a value at a least distance.
@@ -72,44 +72,38 @@ impl Sweep {
     pub fn advanced(
         self,
         direction: Direction,
-        times: &[i128],
-        moments: &[Moment],
+        timeline: Timeline,
         side: &[bool],
         wanted: Wanted,
         e: usize,
     ) -> Sweep
-        requires range { All (IsWithin MAX_TIME) times.now }
-        requires timeline { IsTimeline times.now moments.now }
-        requires count { length side.now ≡ length times.now }
-        requires e_in { e < length times.now }
-        requires swept { IsSwept (is_hit direction moments.now wanted.value side.now) (length times.now) self }
-        requires far { AreFar direction times.now moments.now wanted.low e self.place }
-        ensures swept { IsSwept (is_hit direction moments.now wanted.value side.now) (length times.now) result }
-        ensures far { AreFar direction times.now moments.now wanted.low e result.place }
-        ensures near { AreNear direction times.now moments.now wanted.low e result.place }
+        requires range { All (IsWithin MAX_TIME) timeline.times.now }
+        requires timeline { IsTimeline timeline.times.now timeline.moments.now }
+        requires count { length side.now ≡ length timeline.times.now }
+        requires e_in { e < length timeline.times.now }
+        requires swept { IsSwept (is_hit direction timeline.moments.now wanted.value side.now) (length timeline.times.now) self }
+        requires far { AreFar direction timeline.times.now timeline.moments.now wanted.low e self.place }
+        ensures swept { IsSwept (is_hit direction timeline.entry.moments.now wanted.value side.now) (length timeline.entry.times.now) result }
+        ensures far { AreFar direction timeline.entry.times.now timeline.entry.moments.now wanted.low e result.place }
+        ensures near { AreNear direction timeline.entry.times.now timeline.entry.moments.now wanted.low e result.place }
     {
         let mut sweep = self;
-        while sweep.has_more(direction, times, moments, wanted.low, e) {
-            sweep = sweep.extended(direction, moments, side, wanted.value);
+        while sweep.has_more(direction, timeline, wanted.low, e) {
+            sweep = sweep.extended(direction, timeline.moments, side, wanted.value);
         }
         sweep
     }
 
     // Whether the next place is one whose row is far enough from row e on.
-    fn has_more(
-        self,
-        direction: Direction,
-        times: &[i128],
-        moments: &[Moment],
-        low: u64,
-        e: usize,
-    ) -> bool
-        requires range { All (IsWithin MAX_TIME) times.now }
-        requires timeline { IsTimeline times.now moments.now }
-        requires e_in { e < length times.now }
-        requires within { self.place ≤ length times.now }
-        ensures { result ≡ (nat_lt 0 self.place && is_far_from direction times.now low e (row_met direction moments.now (self.place - 1))) }
+    fn has_more(self, direction: Direction, timeline: Timeline, low: u64, e: usize) -> bool
+        requires range { All (IsWithin MAX_TIME) timeline.times.now }
+        requires timeline { IsTimeline timeline.times.now timeline.moments.now }
+        requires e_in { e < length timeline.times.now }
+        requires within { self.place ≤ length timeline.times.now }
+        ensures { let far = is_far_from direction timeline.entry.times.now low e in
+            result ≡ (nat_lt 0 self.place && far (row_met direction timeline.entry.moments.now (self.place - 1))) }
     {
+        let Timeline { times, moments } = timeline;
         self.place > 0
             && is_far(
                 direction,

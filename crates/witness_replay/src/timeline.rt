@@ -12,6 +12,13 @@ pub struct Moment {
     pub row: usize,
 }
 
+/// A timing: the times of its rows, and the rows in the order of these.
+#[derive(Clone, Copy)]
+pub struct Timeline<'a> {
+    pub times: &'a [i128],
+    pub moments: &'a [Moment],
+}
+
 // Each row at its time, in the order of the log.
 fn place_rows(times: &[i128], moments: &mut [Moment])
     requires room { length moments.old ≡ length times.now }

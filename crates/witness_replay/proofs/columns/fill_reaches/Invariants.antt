@@ -9,7 +9,7 @@ invariant-loop-place l = record {
   gaps : IsSwept (is_hit l.direction l.moments false l.left) (length l.times) l.gaps;
   witnesses : IsSwept (is_hit l.direction l.moments true l.right) (length l.times) l.witnesses;
   gaps_far : (p : ℕ) → p < l.place → AreFar l.direction l.times l.moments 0 (row_met l.direction l.moments p) l.gaps.place;
-  witnesses_far : (p : ℕ) → p < l.place → AreFar l.direction l.times l.moments l.interval.low (row_met l.direction l.moments p) l.witnesses.place;
+  witnesses_far : (p : ℕ) → p < l.place → AreFar l.direction l.times l.moments l.operator.interval.low (row_met l.direction l.moments p) l.witnesses.place;
   filled : (k : ℕ) → l.place ≤ k → k < length l.times
-      → value_at l.column (row_met l.direction l.moments k) ≡ reaches_from l.direction l.times l.interval l.left l.right (row_met l.direction l.moments k);
+      → value_at l.column (row_met l.direction l.moments k) ≡ reaches_from l.direction l.times l.operator.interval l.left l.right (row_met l.direction l.moments k);
 }

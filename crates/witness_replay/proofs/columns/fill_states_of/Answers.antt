@@ -12,8 +12,8 @@ use Rattle.witness_replay.proofs.columns.fill_states_of.Goals as goal
 pub loop-place-preserved : goal.loop-place-preserved
 loop-place-preserved c =
     let log = c.args.log.now in
-    let t = c.args.times.now in
-    let ms = c.args.moments.now in
+    let t = c.args.timeline.times.now in
+    let ms = c.args.timeline.moments.now in
     let p = c.loop-place.place in
     let in_ : p < length t = omega arith in
     let latest = c.advanced-latest.ensures in
@@ -36,12 +36,12 @@ loop-place-preserved c =
 pub state-requires-clause-pulse_in : goal.state-requires-clause-pulse_in
 state-requires-clause-pulse_in c =
     let latest = c.advanced-latest.ensures in
-    pulse-within c.args.log.now c.args.moments.now c.args.host c.args.name.now c.advanced-latest.result.places c.advanced-latest.result.pulse latest.within latest.latest.pulse
+    pulse-within c.args.log.now c.args.timeline.moments.now c.args.host c.args.name.now c.advanced-latest.result.places c.advanced-latest.result.pulse latest.within latest.latest.pulse
 
 pub returns : goal.returns
 returns c = record {
   full = omega arith;
   each = λ e within.
-      let (k, k_in, here) = met-each Ahead c.args.times.now c.args.moments.now c.requires.timeline e within in
+      let (k, k_in, here) = met-each Ahead c.args.timeline.times.now c.args.timeline.moments.now c.requires.timeline e within in
       rw (← here) (c.loop-place.invariant.filled k (omega arith));
 }

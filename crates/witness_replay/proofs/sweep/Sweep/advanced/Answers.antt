@@ -4,5 +4,5 @@ use Rattle.witness_replay.proofs.sweep.Sweep.advanced.Goals as goal
 
 pub returns-clause-near : goal.returns-clause-near
 returns-clause-near c =
-    near-rest c.args.direction c.args.times.now c.args.moments.now c.requires.timeline c.args.wanted.low c.args.e c.loop-direction.sweep.place c.loop-direction.invariant.swept.within
+    near-rest c.args.direction c.args.timeline.times.now c.args.timeline.moments.now c.requires.timeline c.args.wanted.low c.args.e c.loop-direction.sweep.place c.loop-direction.invariant.swept.within
     (sym c.has_more.ensures ∙ c.loop-direction-test.false)
