@@ -4,6 +4,7 @@ use Rattle.std.specs.Option.{option_map_or}
 use Rattle.mt_model.specs.declared.tree.Interval.{Interval}
 use Rattle.mt_model.specs.Frame.{reaches}
 use Rattle.formula_arena.specs.declared.direction.Direction.{Direction}
+use Rattle.witness_replay.specs.declared.operators.Operator.{Operator}
 use Rattle.witness_replay.specs.Directions.{rows_from, is_near}
 
 -- the value of row e
@@ -22,3 +23,7 @@ is_reached d t I witness gap e = option_map_or (λ w. is_near d t I e w && optio
 -- until, or since with time turned, at row e
 abbrev pub reaches_from : Direction → List ℤ → Interval → List Bool → List Bool → ℕ → Bool
 reaches_from d t I left right e = reaches (rows_from d t) (is_near d t I) (value_at left) (value_at right) e
+
+-- the operator at row e
+abbrev pub reaches_by : Operator → List ℤ → List Bool → List Bool → ℕ → Bool
+reaches_by o t left right e = reaches_from o.direction t o.interval left right e

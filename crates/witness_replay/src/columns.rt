@@ -5,7 +5,7 @@ ghost use Rattle.mt_model.specs.Log.{IsWithin};
 ghost use Rattle.mt_model.specs.State.{state_named, state as state_of};
 ghost use Rattle.mt_model.specs.Timing.{time_of};
 ghost use Rattle.mt_model.specs.declared.limits.TheConstants.{MAX_TIME};
-ghost use Rattle.witness_replay.specs.Columns.{IsColumn, reaches_from, value_at};
+ghost use Rattle.witness_replay.specs.Columns.{IsColumn, reaches_by, value_at};
 ghost use Rattle.witness_replay.specs.Timelines.{IsTimeline};
 
 use crate::operators::{Operator, is_reached};
@@ -88,7 +88,7 @@ pub fn fill_reaches(
     requires right_count { length right.now ≡ length timeline.times.now }
     requires room { length column.old ≡ length timeline.times.now }
     ensures { let t = timeline.entry.times.now in
-        IsColumn (length t) (reaches_from operator.direction t operator.interval left.now right.now) column.new }
+        IsColumn (length t) (reaches_by operator t left.now right.now) column.new }
 {
     let Operator {
         direction,

@@ -4,7 +4,7 @@ ghost use Rattle.std.specs.Prelude.{◌≡◌, ◌<◌, ◌≤◌, ◌+◌, ◌-
 ghost use Rattle.mt_model.specs.Log.{IsWithin};
 ghost use Rattle.mt_model.specs.declared.limits.TheConstants.{MAX_TIME};
 ghost use Rattle.witness_replay.specs.Directions.{is_far as is_far_from};
-ghost use Rattle.witness_replay.specs.Sweeps.{AreFar, AreNear, IsSwept, is_hit};
+ghost use Rattle.witness_replay.specs.Sweeps.{AreFar, AreNear, IsSwept, is_far_before, is_hit};
 ghost use Rattle.witness_replay.specs.Timelines.{IsTimeline, row_met};
 
 use crate::operators::distance_from;
@@ -100,8 +100,7 @@ impl Sweep {
         requires timeline { IsTimeline timeline.times.now timeline.moments.now }
         requires e_in { e < length timeline.times.now }
         requires within { self.place ≤ length timeline.times.now }
-        ensures { let far = is_far_from direction timeline.entry.times.now low e in
-            result ≡ (nat_lt 0 self.place && far (row_met direction timeline.entry.moments.now (self.place - 1))) }
+        ensures { result ≡ is_far_before direction timeline.entry low e self.place }
     {
         let Timeline { times, moments } = timeline;
         self.place > 0
