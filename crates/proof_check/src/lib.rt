@@ -21,6 +21,6 @@ mod walk;
 
 pub use check::{Check, TextCheck};
 pub use checker::Checker;
-pub use cycle::{check_cycle, check_cycle_by};
+pub use cycle::check_cycle;
 pub use cycle_walk::CycleWalk;
 pub use laws::{refuted_is_no_value, right_lines_hold};

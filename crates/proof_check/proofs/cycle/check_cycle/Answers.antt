@@ -2,7 +2,7 @@ use Rattle.std.proofs.Common.{◌≡◌, arith, subst, sym, take}
 use Rattle.std.proofs.lemmas.List.{take_all, take_more}
 use Rattle.proof_check.specs.Cycles.{bound_edge_of}
 use Rattle.proof_check.specs.Walking.{HasCome, HasWalked}
-use Rattle.proof_check.proofs.cycle.cycle_fault.Goals as goal
+use Rattle.proof_check.proofs.cycle.check_cycle.Goals as goal
 
 pub loop-step-init : goal.loop-step-init
 loop-step-init c = (c.new-walk.ensures.walked (bound_edge_of c.args.log.now), c.new-walk.ensures.room)
