@@ -14,7 +14,6 @@ ghost use Rattle.proof_log.specs.LinesOf.{IsTextOf};
 ghost use Rattle.proof_check.specs.Answering.{OfSought};
 
 use crate::check::{Check, TextCheck};
-use crate::judge::Clause;
 use crate::laws::refuted_is_no_value;
 use crate::taking::{check_lines, check_lines_of};
 use axiom_rules::Rules;
@@ -22,7 +21,6 @@ use formula_arena::{Arena, ArenaFault};
 use mt_model::{Formula, Log, log_is_valid};
 use proof_log::Line;
 use question::Nodes;
-use smallvec::SmallVec;
 use std::alloc::{AllocError, Global};
 use std::marker::Model;
 
@@ -32,7 +30,6 @@ use std::marker::Model;
 pub struct Checker {
     alloc: Global,
     rules: Rules,
-    clause: Clause,
 }
 
 impl Model for Checker {
@@ -66,11 +63,7 @@ impl Checker {
         let mut arena = Arena::new(alloc);
         let root = arena.intern(f)?;
         let rules = Rules::new(alloc, log, &arena, root, value)?;
-        Ok(Checker {
-            alloc,
-            rules,
-            clause: SmallVec::new(alloc),
-        })
+        Ok(Checker { alloc, rules })
     }
 
     /// The same where the nodes of the formula are known already. An error is want of memory.
@@ -78,11 +71,7 @@ impl Checker {
         ensures sought { IfOk result (λ c. c ≡ sought_of log.now nodes.now value) }
     {
         let rules = Rules::new(alloc, log, nodes.arena(), nodes.root(), value)?;
-        Ok(Checker {
-            alloc,
-            rules,
-            clause: SmallVec::new(alloc),
-        })
+        Ok(Checker { alloc, rules })
     }
 
     /// What lines are for the log, the formula and the value. Fewer than 2^32 lines are asked for, and each call judges its
@@ -100,7 +89,7 @@ impl Checker {
     {
         refuted_is_no_value();
         rules_have_a_log(&self.rules);
-        check_lines(self.alloc, &self.rules, &mut self.clause, lines)
+        check_lines(self.alloc, &self.rules, lines)
     }
 
     /// The same for lines of which the bytes are the text. They are read one after another, and of each its clause alone is
@@ -116,6 +105,6 @@ impl Checker {
     {
         refuted_is_no_value();
         rules_have_a_log(&self.rules);
-        check_lines_of(self.alloc, &self.rules, &mut self.clause, text)
+        check_lines_of(self.alloc, &self.rules, text)
     }
 }

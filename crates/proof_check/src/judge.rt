@@ -28,6 +28,23 @@ const SPAN_OR_GAP: u8 = 20;
 /// Room for the clause of a rule.
 pub type Clause = SmallVec<Literal, 8, Global>;
 
+/// What makes judging quick. Whatever it holds, judging is right.
+#[derive(Drop)]
+pub struct Aids {
+    pub room: Clause,
+    pub guesses: Guesses,
+}
+
+impl Aids {
+    /// No guess, and room that takes no memory yet.
+    pub fn new(alloc: Global, rules: &Rules) -> Aids {
+        Aids {
+            room: SmallVec::new(alloc),
+            guesses: Guesses::new(alloc, rules),
+        }
+    }
+}
+
 // Whether a rule has a clause, which is then written.
 fn writes_clause(rules: &Rules, rule: &Rule, clause: &mut Clause) -> Result<bool, AllocError>
     ensures { IfOk result (λ b. result_ok (clause_of_rule rules.now rule.now) ≡ (if b then Some clause.new.items else None)) }
@@ -59,9 +76,8 @@ fn span_in(rules: &Rules, rule: &Rule) -> Option<Literal>
 fn take_rule(
     rules: &Rules,
     rule: &Rule,
-    clause: &mut Clause,
     assumed: &mut Assumed,
-    guesses: &mut Guesses,
+    aids: &mut Aids,
 ) -> Result<Taken, AllocError>
     ensures { IfOk result (λ taken. MatchOption (result_ok (clause_of_rule rules.now rule.now)) (taken ≡ Taken.Stuck) (λ clause. IsTaken assumed.old clause assumed.new taken)) }
 {
@@ -73,8 +89,8 @@ fn take_rule(
             return assumed.take(&[span], Clue::Nothing);
         }
     }
-    if writes_clause(rules, rule, clause)? {
-        take_written(clause.as_slice(), assumed, guesses)
+    if writes_clause(rules, rule, &mut aids.room)? {
+        take_written(aids.room.as_slice(), assumed, &mut aids.guesses)
     } else {
         Ok(Taken::Stuck)
     }
@@ -127,18 +143,17 @@ fn take_hint(
     rules: &Rules,
     kept: &Clauses,
     hint: Hint,
-    clause: &mut Clause,
     assumed: &mut Assumed,
-    guesses: &mut Guesses,
+    aids: &mut Aids,
 ) -> Result<Taken, AllocError>
     ensures { IfOk result (λ taken. IsHintTaken rules.now (lines_with kept.now.closed) (length kept.now.closed + 1) hint assumed.old assumed.new taken) }
 {
     match hint {
         Hint::Line(m) => match cited_clause(kept, m) {
-            Some(lits) => take_cited(kept, m, lits, assumed, guesses),
+            Some(lits) => take_cited(kept, m, lits, assumed, &mut aids.guesses),
             None => Ok(Taken::Stuck),
         },
-        Hint::Rule(rule) => take_rule(rules, &rule, clause, assumed, guesses),
+        Hint::Rule(rule) => take_rule(rules, &rule, assumed, aids),
     }
 }
 
@@ -148,9 +163,8 @@ fn are_refuting(
     kept: &Clauses,
     count: u32,
     words: &[u8],
-    clause: &mut Clause,
     assumed: &mut Assumed,
-    guesses: &mut Guesses,
+    aids: &mut Aids,
 ) -> Result<bool, AllocError>
     ensures { IfOk result (λ b. OfHints count words.now (λ hints. IsTrue b ↔ NextRefutes rules.now kept.now.closed assumed.old hints)) }
 {
@@ -162,7 +176,7 @@ fn are_refuting(
         let Some((hint, after)) = read_hint(rest) else {
             return Ok(false);
         };
-        match take_hint(rules, kept, hint, clause, assumed, guesses)? {
+        match take_hint(rules, kept, hint, assumed, aids)? {
             Taken::Gives => rest = after,
             Taken::False => return Ok(i + 1 == count),
             Taken::Stuck => return Ok(false),
@@ -177,8 +191,7 @@ fn is_learnt(
     rules: &Rules,
     kept: &Clauses,
     words: &[u8],
-    clause: &mut Clause,
-    guesses: &mut Guesses,
+    aids: &mut Aids,
 ) -> Result<bool, AllocError>
     requires few { length kept.now.pending < 2 ^ 32 }
     ensures { IfOk result (λ b. OfCountedHints words.now (λ hints. IsTrue b ↔ IsNextLearnt rules.now kept.now.closed kept.now.pending hints)) }
@@ -190,9 +203,9 @@ fn is_learnt(
     if !are_in_range(rules, lits) {
         return Ok(false);
     }
-    let mut assumed = Assumed::denying(alloc, lits, guesses.is_any_long())?;
+    let mut assumed = Assumed::denying(alloc, lits, aids.guesses.is_any_long())?;
     let (count, hints) = read_count(words);
-    are_refuting(rules, kept, count, hints, clause, &mut assumed, guesses)
+    are_refuting(rules, kept, count, hints, &mut assumed, aids)
 }
 
 // Adds the literals, the words of which follow their number, to the pending clause. The words after them.
@@ -218,8 +231,7 @@ pub fn takes_learn(
     alloc: Global,
     rules: &Rules,
     kept: &mut Clauses,
-    clause: &mut Clause,
-    guesses: &mut Guesses,
+    aids: &mut Aids,
     words: &[u8],
 ) -> Result<bool, AllocError>
     requires open { kept.old.pending ≡ [] }
@@ -230,7 +242,7 @@ pub fn takes_learn(
     let Some(hints) = push_literals(kept, words)? else {
         return Ok(false);
     };
-    if !is_learnt(alloc, rules, kept, hints, clause, guesses)? {
+    if !is_learnt(alloc, rules, kept, hints, aids)? {
         return Ok(false);
     }
     kept.close()?;

@@ -15,8 +15,7 @@ ghost use Rattle.proof_check.specs.Keeping.{closed_only, lines_with, with_closed
 use crate::check::{Check, TextCheck};
 use crate::clauses::ends_empty;
 use crate::conflict::takes_cycle;
-use crate::guesses::Guesses;
-use crate::judge::{Clause, takes_learn};
+use crate::judge::{Aids, takes_learn};
 use crate::kept::Clauses;
 use axiom_rules::Rules;
 use proof_log::{Line, LineWords, has_spelling, next_words, print_lines};
@@ -32,8 +31,7 @@ fn takes(
     rules: &Rules,
     table: &EdgeTable,
     kept: &mut Clauses,
-    clause: &mut Clause,
-    guesses: &mut Guesses,
+    aids: &mut Aids,
     words: LineWords,
 ) -> Result<bool, AllocError>
     requires table { IsEdgeTableOf rules.now.log table.now }
@@ -45,10 +43,10 @@ fn takes(
     if ends_empty(kept) {
         return Ok(false);
     }
-    guesses.begin(kept);
+    aids.guesses.begin(kept);
     match words {
         LineWords::Cycle(words) => takes_cycle(alloc, rules, table, kept, words),
-        LineWords::Learn(words) => takes_learn(alloc, rules, kept, clause, guesses, words),
+        LineWords::Learn(words) => takes_learn(alloc, rules, kept, aids, words),
     }
 }
 
@@ -88,24 +86,19 @@ fn learn_lines_with(count: u32, words: LineWords) -> u32
 }
 
 /// What the lines of a text are, and how many of those that were read are Learn lines.
-pub fn check_lines_of(
-    alloc: Global,
-    rules: &Rules,
-    clause: &mut Clause,
-    text: &[u8],
-) -> Result<TextCheck, AllocError>
+pub fn check_lines_of(alloc: Global, rules: &Rules, text: &[u8]) -> Result<TextCheck, AllocError>
     requires { length text.now < 2 ^ 31 }
     ensures answer { IfOk result (λ t. (lines : List Line) → IsTextOf text.now lines → OfSought rules.now (λ log f v. IsAnswer log f v lines t.check)) }
     ensures learn { IfOk result (λ t. (lines : List Line) → IsTextOf text.now lines → t.check ≡ Check.Derives → t.learn_lines ≡ learn_lines lines) }
 {
     let table = EdgeTable::of(alloc, rules.log())?;
     let mut kept = Clauses::new(alloc);
-    let mut guesses = Guesses::new(alloc, rules);
+    let mut aids = Aids::new(alloc, rules);
     let mut learn_lines = 0;
     let mut rest = text;
     while let Some((words, after)) = first_words(rest) {
         let number = kept.len() as u32 + 1;
-        if !takes(alloc, rules, &table, &mut kept, clause, &mut guesses, words)? {
+        if !takes(alloc, rules, &table, &mut kept, &mut aids, words)? {
             let check = Check::Wrong(number);
             return Ok(TextCheck { check, learn_lines });
         }
@@ -141,12 +134,7 @@ fn with_unspelled(spelled: usize, front: Check) -> Check
 
 /// What lines are, by the text of those before the first that has no spelling: this one isn't right. A text of 2^31 bytes
 /// or more is told as want of memory.
-pub fn check_lines(
-    alloc: Global,
-    rules: &Rules,
-    clause: &mut Clause,
-    lines: &[Line],
-) -> Result<Check, AllocError>
+pub fn check_lines(alloc: Global, rules: &Rules, lines: &[Line]) -> Result<Check, AllocError>
     requires { length lines.now < 2 ^ 32 }
     ensures { IfOk result (λ c. OfSought rules.now (λ log f v. IsAnswer log f v lines.now c)) }
 {
@@ -155,7 +143,7 @@ pub fn check_lines(
     if text.len() >= TOO_LONG {
         return Err(AllocError);
     }
-    let front = check_lines_of(alloc, rules, clause, text.as_slice())?.check;
+    let front = check_lines_of(alloc, rules, text.as_slice())?.check;
     if spelled == lines.len() {
         Ok(front)
     } else {
