@@ -97,22 +97,18 @@ fn search_within(
 // How many literals the clauses of changes may have in all before the last turn.
 const LITERALS: usize = 1 << 22;
 
-// Turn by turn more of the long clauses: most values are decided by few, and where one isn't, the turns before cost little
-// beside the next.
-const TURNS: [Most; 5] = [
-    few(32),
-    few(128),
-    few(512),
-    few(u32::MAX),
-    Most::ALL,
-];
-
 // So many witnesses, and not all literals.
-const fn few(witnesses: u32) -> Most {
+fn few(witnesses: u32) -> Most {
     Most {
         witnesses,
         literals: LITERALS,
     }
+}
+
+// Turn by turn more of the long clauses: most values are decided by few, and where one isn't, the turns before cost little
+// beside the next.
+fn turns() -> [Most; 5] {
+    [few(32), few(128), few(512), few(u32::MAX), Most::ALL]
 }
 
 /// What is found of a value in the instances that it asks for: lines that refute it, or a timing in which the formula has it,
@@ -130,7 +126,7 @@ pub fn search_part(
 {
     question_is_asked(&question);
     let (log, nodes) = (question.log(), question.nodes());
-    for most in TURNS {
+    for most in turns() {
         let again = Question::new(alloc, log, nodes)?;
         let Turn { found, goes_on } = search_within(alloc, again, tight, value, budget, most)?;
         if found.is_some() || !goes_on {

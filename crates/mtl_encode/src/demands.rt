@@ -1,7 +1,13 @@
 //! What a literal asks for: the instances that say what follows from it.
 
 use crate::needless::is_dead;
-use crate::rule_numbers::{AS_CHANGED, FALSE_BEFORE_CHANGES, FIRST_HAS_VALUE, FIRST_IS_NEVER_LATER, GAP_HAS_SPAN, GAP_IS_FROM_EVENT, GAP_LACKS_LEFT, HAS_BOTH, HAS_LEFT, HAS_RIGHT, HAS_WITNESS, INSTANT_IS_NOT_LATER, IS_WITNESS, IS_WITNESS_OF_TRUE, NOT_BOTH, ONE_OF_BOTH, SAME_INSTANT, SOME_WITNESS, SPAN_HAS_LEFT, SPAN_OR_GAP, TRUE_AT_PULSE, TRUE_IS_TRUE, WITNESS_HAS_RIGHT, WITNESS_HAS_SPAN, WITNESS_IS_FROM_LOW, WITNESS_IS_UP_TO_HIGH};
+use crate::rule_numbers::{
+    AS_CHANGED, FALSE_BEFORE_CHANGES, FIRST_HAS_VALUE, FIRST_IS_NEVER_LATER, GAP_HAS_SPAN,
+    GAP_IS_FROM_EVENT, GAP_LACKS_LEFT, HAS_BOTH, HAS_LEFT, HAS_RIGHT, HAS_WITNESS,
+    INSTANT_IS_NOT_LATER, IS_WITNESS, IS_WITNESS_OF_TRUE, NOT_BOTH, ONE_OF_BOTH, SAME_INSTANT,
+    SOME_WITNESS, SPAN_HAS_LEFT, SPAN_OR_GAP, TRUE_AT_PULSE, TRUE_IS_TRUE, WITNESS_HAS_RIGHT,
+    WITNESS_HAS_SPAN, WITNESS_IS_FROM_LOW, WITNESS_IS_UP_TO_HIGH,
+};
 use crate::scene::Scene;
 use axiom_rules::{Atom, Literal, Rule};
 use formula_arena::{Core, Direction};
@@ -100,7 +106,12 @@ impl Asking<'_> {
         };
         let is_free = self.scene.rules.is_constant(u.left);
         if !positive {
-            return self.add(if is_free { IS_WITNESS_OF_TRUE } else { IS_WITNESS }, args);
+            let number = if is_free {
+                IS_WITNESS_OF_TRUE
+            } else {
+                IS_WITNESS
+            };
+            return self.add(number, args);
         }
         self.add(WITNESS_IS_FROM_LOW, args)?;
         self.add(WITNESS_IS_UP_TO_HIGH, args)?;
@@ -236,7 +247,12 @@ impl Asking<'_> {
             return Ok(());
         };
         let is_left = self.scene.known.value(u.left, m) == Some(true);
-        self.add(if is_left { GAP_LACKS_LEFT } else { GAP_IS_FROM_EVENT }, args)
+        let number = if is_left {
+            GAP_LACKS_LEFT
+        } else {
+            GAP_IS_FROM_EVENT
+        };
+        self.add(number, args)
     }
 
     // Adds what says that a literal that is never true isn't.

@@ -3,7 +3,7 @@ use Rattle.std.proofs.Common.{◌≡◌, ◌∙◌, ℕ, ◌+◌, ◌<◌, ◌�
 use Rattle.std.proofs.lemmas.List.{get_or-take, get_or_append_left, get_or_push, length-append}
 use Rattle.neg_cycle.specs.declared.system.Edge.{Edge}
 use Rattle.neg_cycle.specs.Systems.{number_of}
-use Rattle.skew_bounds.specs.Differences.{Differences, Stretch, entry, no_stretch, number_in}
+use Rattle.skew_bounds.specs.Differences.{Stretch, entry, no_stretch, number_in}
 use Rattle.skew_bounds.specs.Incoming.{IsLatest}
 use Rattle.skew_bounds.specs.Table.{IsTableOf}
 

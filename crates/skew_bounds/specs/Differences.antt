@@ -1,5 +1,5 @@
 -- Tables of how far the numbers of nodes may be apart.
-use Rattle.std.specs.Prelude.{◌≡◌, ℕ, ◌+◌, ◌-◌, ◌<◌, ◌&&◌, if◌then◌else◌, nat_le, nat_lt, List, [], length, slice_index_or, ℤ, pos, ◌+ℤ◌}
+use Rattle.std.specs.Prelude.{ℕ, ◌-◌, ◌<◌, ◌&&◌, if◌then◌else◌, nat_le, nat_lt, List, [], length, slice_index_or, ℤ, pos, ◌+ℤ◌}
 use Rattle.mt_model.specs.Log.{IsWithin}
 use Rattle.neg_cycle.specs.Systems.{number_of}
 use Rattle.skew_bounds.specs.declared.column.TheConstants.{FAR}

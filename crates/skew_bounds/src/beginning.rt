@@ -8,8 +8,8 @@ ghost use Rattle.skew_bounds.specs.Incoming.{IsNear, IsNetwork, lists_of};
 ghost use Rattle.skew_bounds.specs.declared.latest.TheConstants.{UNREACHED};
 ghost use Rattle.skew_bounds.specs.declared.column.TheConstants.{FAR};
 
-use crate::latest::UNREACHED;
 use crate::column::FAR;
+use crate::latest::UNREACHED;
 use neg_cycle::Edge;
 use std::alloc::{AllocError, Global};
 

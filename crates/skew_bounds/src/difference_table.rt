@@ -13,10 +13,10 @@ ghost use Rattle.skew_bounds.specs.Table.{IsTableOf};
 ghost use Rattle.skew_bounds.specs.Tight.{IsTight};
 
 use crate::beginning::are_near;
+use crate::column::Column;
 use crate::edges::node_count;
 use crate::incoming::incoming_of;
 use crate::latest::latest;
-use crate::column::Column;
 use crate::offsets::offsets;
 use crate::system::BoundSystem;
 use mt_model::{Log, bounds_are_admissible, log_is_valid};

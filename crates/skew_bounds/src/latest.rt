@@ -5,8 +5,8 @@ ghost use Rattle.skew_bounds.specs.Incoming.{IsLatest, IsNear, IsNetwork, lists_
 ghost use Rattle.skew_bounds.specs.Beginning.{IsNearLatest};
 
 use crate::beginning::beginning;
-use crate::lowering::{ahead, lower_before, waiting_at};
 use crate::column::FAR;
+use crate::lowering::{ahead, lower_before, waiting_at};
 use neg_cycle::Edge;
 use std::alloc::{AllocError, Global};
 use std::collections::BinaryHeap;

@@ -9,6 +9,7 @@
 mod beginning;
 mod bound_list;
 mod broken;
+mod column;
 mod consistency;
 mod difference_table;
 mod differences;
@@ -16,7 +17,6 @@ mod edges;
 mod incoming;
 mod latest;
 mod lowering;
-mod column;
 mod offsets;
 mod row_edges;
 mod rows;
