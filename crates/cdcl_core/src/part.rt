@@ -73,11 +73,16 @@ fn search_within(
             },
         ) => {
             let again = Question::new(alloc, log, nodes)?;
-            let timing = replayed(alloc, &again, value, potentials.as_slice())?;
-            Ok(Turn {
-                found: timing.map(Searched::Timing),
-                goes_on: is_cut,
-            })
+            match replayed(alloc, &again, value, potentials.as_slice())? {
+                Some(times) => Ok(Turn {
+                    found: Some(Searched::Timing(times)),
+                    goes_on: false,
+                }),
+                None => Ok(Turn {
+                    found: None,
+                    goes_on: is_cut,
+                }),
+            }
         }
         Some(Found::Refuted(lines)) => Ok(Turn {
             found: Some(Searched::Refuted(lines)),
