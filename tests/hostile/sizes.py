@@ -54,6 +54,7 @@ def cases():
     yield from one_of_64_rows()
     yield from most_rows()
     yield from by_one_clock()
+    yield from pulses_beside_clears()
     yield from fewer_rows()
 
 
@@ -95,6 +96,17 @@ def by_one_clock():
     yield case("1,024 rows in turns by one clock, S[0,60]", b"!a.p S[0,60] b.p", read(wide), (67,), line)
     yield case("160 rows in turns by one clock, error 10000, U", b"!a.p U b.p", read(turns(160, 10_000, 0), 10_000))
     yield case("64 rows in turns by one clock, error 5, U", b"!a.p U b.p", read(turns(64, 1000), 5))
+
+
+def pulses_beside_clears():
+    """512 clears and 512 pulses of one proposition: what a clear made of it names all pulses, for each row and clear."""
+    rows = [b"clear,a,%d,p\n" % row for row in range(512)] + [b"pulse,a,%d,p\n" % (512 + row) for row in range(512)]
+    joint = joined([b"F[0,%d] a.p" % number for number in range(1, 5)])
+    for skew, formula, seconds, memory in ((0, b"a.p", 2, 300), (100_000, b"a.p", 30, 1_024), (100_000, joint, 60, 2_048)):
+        log = b"skewlog2,host,time,name\nhost,a,%d,0\n" % skew + b"".join(rows)
+        title = f"512 clears and 512 pulses, skew {skew}, {formula.decode()}"
+        most = memory * 1_048_576 // len(formula)
+        yield Case("size", title, ["check", "f", "l"], {"l": log, "f": formula}, ANSWERED, b"skewcheck 1", most, seconds)
 
 
 def fewer_rows():
