@@ -3,11 +3,21 @@ use Rattle.std.specs.Prelude.{◌≡◌, ℕ, ◌≤◌, Bool, List, length, map
 use Rattle.proof_log.specs.declared.line.Line.{Line}
 use Rattle.proof_log.specs.LinesOf.{IsTextOf}
 use Rattle.proof_log.specs.Marks.{marked}
+use Rattle.proof_trim.specs.Naming.{AreNamed}
+use Rattle.proof_trim.specs.Needed.{NoneForward}
 use Rattle.proof_trim.specs.Trimmed.{IsTrimOf, place_of, renumbered}
 
 -- the lines that are marked, in order, with hints that name lines by their places among these
 abbrev pub left_of : List Bool → List Line → List Line
 left_of marks lines = map (renumbered (place_of marks lines)) (marked marks lines)
+
+-- so of the lines whose text the bytes are and whose marks these are, where no line has a hint that names one which does not come before it
+abbrev pub OfMarked : List ℕ → List Bool → (List Line → Type 0) → Type 0
+OfMarked text marks Holds = (lines : List Line) → IsTextOf text lines → length marks ≡ length lines → NoneForward lines → Holds lines
+
+-- so of the lines whose text the bytes are, and whose hints name lines of these numbers
+abbrev pub OfNamed : List ℕ → List ℕ → List ℕ → (List Line → Type 0) → Type 0
+OfNamed text numbers ends Holds = (lines : List Line) → IsTextOf text lines → AreNamed lines numbers ends → Holds lines
 
 -- the bytes are the text of what is left of the lines, and so many lines are left
 pub record IsTrimmedText (lines : List Line) (bytes : List ℕ) (count : ℕ) : Type 0 where

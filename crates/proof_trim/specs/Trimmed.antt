@@ -1,5 +1,5 @@
 -- What is left of lines without those that the last one does not need.
-use Rattle.std.specs.Prelude.{◌≡◌, ◌↔◌, ℕ, zero, suc, ◌<◌, ◌≤◌, Bool, true, List, length, map, take, Option, Some, None, slice_get}
+use Rattle.std.specs.Prelude.{◌≡◌, ◌↔◌, ℕ, zero, suc, ◌-◌, ◌<◌, ◌≤◌, Bool, true, List, length, map, take, Option, Some, None, slice_get, slice_index}
 use Rattle.mt_model.specs.Form.{Form}
 use Rattle.mt_model.specs.Log.{Logged}
 use Rattle.proof_log.specs.declared.line.Hint.{Hint}
@@ -23,6 +23,10 @@ hint_renumbered place (hint.Rule r) = hint.Rule r
 abbrev pub renumbered : (ℕ → ℕ) → Line → Line
 renumbered place (line.Cycle steps) = line.Cycle steps
 renumbered place (line.Learn lits hints) = line.Learn lits (map (hint_renumbered place) hints)
+
+-- a line with the numbers that these places are of lines 1, 2 and so on
+abbrev pub moved : List ℕ → Line → Line
+moved places l = renumbered (λ n. slice_index places (n - 1)) l
 
 -- the mark of line n
 abbrev pub mark_at : List Bool → ℕ → Option Bool

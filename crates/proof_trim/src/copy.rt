@@ -3,7 +3,7 @@
 ghost use Rattle.std.specs.Prelude.{◌≡◌, ◌+◌, ◌-◌, ◌<◌, ◌^◌, [], ◌∷◌, ◌++◌, if◌then◌else◌, All, IfOk, OnOk, length, map, slice_index};
 ghost use Rattle.proof_trim.specs.Needed.{LooksBack, NamesEarlier, NoneForward};
 ghost use Rattle.proof_log.specs.Marks.{marked};
-ghost use Rattle.proof_trim.specs.Trimmed.{hint_renumbered, place_of, renumbered};
+ghost use Rattle.proof_trim.specs.Trimmed.{hint_renumbered, moved, place_of, renumbered};
 
 use axiom_rules::Literal;
 use mt_model::{Step, Steps};
@@ -54,7 +54,7 @@ fn hints_copy(alloc: Global, hints: &[Hint], places: &[u32]) -> Result<Hints, Al
 
 fn line_copy(alloc: Global, line: &Line, places: &[u32]) -> Result<Line, AllocError>
     requires { LooksBack (length places.now + 1) line.now }
-    ensures { IfOk result (λ copy. copy ≡ renumbered (λ n. slice_index places.now (n - 1)) line.now) }
+    ensures { IfOk result (λ copy. copy ≡ moved places.now line.now) }
 {
     match line {
         Line::Cycle(steps) => Ok(Line::Cycle(steps_copy(alloc, steps.as_slice())?)),
@@ -75,7 +75,7 @@ fn copy_marked(
     places: &[u32],
 ) -> Result<(), AllocError>
     requires { LooksBack (length places.now + 1) line.now }
-    ensures { OnOk result (left.new ≡ (if mark then left.old ++ renumbered (λ n. slice_index places.now (n - 1)) line.now ∷ [] else left.old)) }
+    ensures { OnOk result (left.new ≡ (if mark then left.old ++ moved places.now line.now ∷ [] else left.old)) }
 {
     if mark {
         left.push(line_copy(alloc, line, places)?)?;

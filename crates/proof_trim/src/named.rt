@@ -4,9 +4,8 @@ ghost use Rattle.std.specs.Prelude.{◌≡◌, ◌↔◌, ◌++◌, ◌<◌, ℕ
 ghost use Rattle.std.specs.List.{flat_map};
 ghost use Rattle.proof_log.specs.declared.line.Line.{Line};
 ghost use Rattle.proof_log.specs.LinesOf.{IsTextOf};
-ghost use Rattle.proof_log.specs.Parts.{AreWordsOf};
+ghost use Rattle.proof_log.specs.Parts.{OfLine};
 ghost use Rattle.proof_log.specs.Reading.{words_after};
-ghost use Rattle.proof_log.specs.Spelled.{IsSpelled};
 ghost use Rattle.proof_trim.specs.Naming.{AreNamed, IsEarlier, named_in, named_of};
 
 use crate::naming::next_named;
@@ -33,7 +32,7 @@ fn add_named(numbers: &mut Vec<u32>, words: &[u8]) -> Result<(), AllocError>
 }
 
 fn add_line(numbers: &mut Vec<u32>, words: LineWords) -> Result<(), AllocError>
-    ensures { OnOk result ((l : Line) → IsSpelled l → AreWordsOf words.entry l → numbers.new.items ≡ numbers.old.items ++ named_of l) }
+    ensures { OnOk result (OfLine words.entry (λ l. numbers.new.items ≡ numbers.old.items ++ named_of l)) }
 {
     match words {
         LineWords::Cycle(_) => Ok(()),

@@ -6,13 +6,13 @@ ghost use Rattle.std.specs.List.{join_with_byte};
 ghost use Rattle.proof_log.specs.declared.line.Line.{Line};
 ghost use Rattle.proof_log.specs.LinesOf.{IsTextOf};
 ghost use Rattle.proof_log.specs.LinesText.{line_text, line_words, lines_text, space, spaced};
-ghost use Rattle.proof_log.specs.Parts.{AreWordsOf, bytes_of};
+ghost use Rattle.proof_log.specs.Parts.{AreWordsOf, OfLine, bytes_of};
 ghost use Rattle.proof_log.specs.Reading.{words_after};
 ghost use Rattle.proof_log.specs.Spelled.{IsSpelled};
 ghost use Rattle.proof_trim.specs.Naming.{IsEarlier, named_in, renamed_in};
 ghost use Rattle.proof_trim.specs.Needed.{LooksBack, NoneForward};
-ghost use Rattle.proof_trim.specs.Placed.{left_of};
-ghost use Rattle.proof_trim.specs.Trimmed.{renumbered};
+ghost use Rattle.proof_trim.specs.Placed.{OfMarked, left_of};
+ghost use Rattle.proof_trim.specs.Trimmed.{moved};
 
 use crate::naming::next_named;
 use itoa::Buffer;
@@ -47,7 +47,7 @@ fn push_renamed(left: &mut Vec<u8>, words: &[u8], places: &[u32]) -> Result<(), 
 fn push_words(left: &mut Vec<u8>, words: LineWords, places: &[u32]) -> Result<(), AllocError>
     requires line { (l : Line) × IsSpelled l × AreWordsOf words l × LooksBack (length places.now + 1) l }
     requires spaced { bytes_of words ≡ spaced (words_after (bytes_of words)) }
-    ensures { OnOk result ((l : Line) → IsSpelled l → AreWordsOf words.entry l → left.new.items ≡ left.old.items ++ join_with_byte space (line_words (renumbered (λ n. slice_index places.now (n - 1)) l))) }
+    ensures { OnOk result (OfLine words.entry (λ l. left.new.items ≡ left.old.items ++ join_with_byte space (line_words (moved places.now l)))) }
 {
     match words {
         LineWords::Cycle(words) => {
@@ -65,7 +65,7 @@ fn push_words(left: &mut Vec<u8>, words: LineWords, places: &[u32]) -> Result<()
 fn push_line(left: &mut Vec<u8>, words: LineWords, places: &[u32]) -> Result<(), AllocError>
     requires line { (l : Line) × IsSpelled l × AreWordsOf words l × LooksBack (length places.now + 1) l }
     requires spaced { bytes_of words ≡ spaced (words_after (bytes_of words)) }
-    ensures { OnOk result ((l : Line) → IsSpelled l → AreWordsOf words.entry l → left.new.items ≡ left.old.items ++ line_text (renumbered (λ n. slice_index places.now (n - 1)) l)) }
+    ensures { OnOk result (OfLine words.entry (λ l. left.new.items ≡ left.old.items ++ line_text (moved places.now l))) }
 {
     push_words(left, words, places)?;
     left.push(b'\n')?;
@@ -81,7 +81,7 @@ fn push_marked(
 ) -> Result<(), AllocError>
     requires line { (l : Line) × IsSpelled l × AreWordsOf words l × LooksBack (length places.now + 1) l }
     requires spaced { bytes_of words ≡ spaced (words_after (bytes_of words)) }
-    ensures { OnOk result ((l : Line) → IsSpelled l → AreWordsOf words.entry l → left.new.items ≡ (if mark then left.old.items ++ line_text (renumbered (λ n. slice_index places.now (n - 1)) l) else left.old.items)) }
+    ensures { OnOk result (OfLine words.entry (λ l. left.new.items ≡ (if mark then left.old.items ++ line_text (moved places.now l) else left.old.items))) }
 {
     if mark {
         push_line(left, words, places)
@@ -103,8 +103,8 @@ fn count_with(count: u32, mark: bool) -> u32
 pub fn marked_text(alloc: Global, text: &[u8], marks: &[bool]) -> Result<(Vec<u8>, u32), AllocError>
     requires few { length marks.now < 2 ^ 31 }
     requires lines { (lines : List Line) × IsTextOf text.now lines × (length marks.now ≡ length lines) × NoneForward lines }
-    ensures left { IfOk result (λ r. (lines : List Line) → IsTextOf text.now lines → length marks.now ≡ length lines → NoneForward lines → r.0.items ≡ lines_text (left_of marks.now lines)) }
-    ensures full { IfOk result (λ r. (lines : List Line) → IsTextOf text.now lines → length marks.now ≡ length lines → NoneForward lines → r.1 ≡ length (left_of marks.now lines)) }
+    ensures left { IfOk result (λ r. OfMarked text.now marks.now (λ lines. r.0.items ≡ lines_text (left_of marks.now lines))) }
+    ensures full { IfOk result (λ r. OfMarked text.now marks.now (λ lines. r.1 ≡ length (left_of marks.now lines))) }
 {
     let mut left = Vec::with_capacity(alloc, text.len())?;
     let mut places = Vec::with_capacity(alloc, marks.len())?;

@@ -6,7 +6,7 @@ ghost use Rattle.proof_log.specs.LinesOf.{IsTextOf};
 ghost use Rattle.proof_trim.specs.Laws.{CanBeTrimmed};
 ghost use Rattle.proof_trim.specs.Needed.{IsFirstForward, NoneForward};
 ghost use Rattle.proof_trim.specs.Naming.{AreNamed};
-ghost use Rattle.proof_trim.specs.Placed.{IsTrimmedText};
+ghost use Rattle.proof_trim.specs.Placed.{IsTrimmedText, OfNamed};
 
 use crate::fault::TrimFault;
 use crate::named::named_lines;
@@ -46,7 +46,7 @@ fn left_text(
     requires some { 1 ≤ length ends.now }
     requires few { length ends.now < 2 ^ 31 }
     requires named { (lines : List Line) × IsTextOf text.now lines × AreNamed lines numbers.now ends.now × NoneForward lines }
-    ensures trimmed { IfOk result (λ t. (lines : List Line) → IsTextOf text.now lines → AreNamed lines numbers.now ends.now → NoneForward lines → IsTrimmedText lines t.text.items t.count) }
+    ensures trimmed { IfOk result (λ t. OfNamed text.now numbers.now ends.now (λ lines. NoneForward lines → IsTrimmedText lines t.text.items t.count)) }
 {
     let marks = needed_in(alloc, numbers, ends)?;
     if are_all_marked(&marks) {
@@ -68,7 +68,7 @@ fn trim_named(
 ) -> Result<TrimmedText, TrimFault>
     requires few { length ends.now < 2 ^ 31 }
     requires named { (lines : List Line) × IsTextOf text.now lines × AreNamed lines numbers.now ends.now }
-    ensures trimmed { IfOk result (λ t. (lines : List Line) → IsTextOf text.now lines → AreNamed lines numbers.now ends.now → IsTrimmedText lines t.text.items t.count) }
+    ensures trimmed { IfOk result (λ t. OfNamed text.now numbers.now ends.now (λ lines. IsTrimmedText lines t.text.items t.count)) }
     ensures can { OnOk result ((lines : List Line) → AreNamed lines numbers.now ends.now → CanBeTrimmed lines) }
     ensures empty { result ≡ Err TrimFault.Empty → (lines : List Line) → AreNamed lines numbers.now ends.now → lines ≡ [] }
     ensures hint { (n : ℕ) → result ≡ Err (TrimFault.Hint n) → (lines : List Line) → AreNamed lines numbers.now ends.now → IsFirstForward lines n }
