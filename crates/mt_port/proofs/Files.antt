@@ -1,6 +1,6 @@
 -- The file at the index of a name is the file of that name.
 use Rattle.std.proofs.Common.{◌≡◌, ◌∙◌, ◌+◌, ◌<◌, ap, refl, sym, ℕ, suc, List, [], ◌∷◌, map, length, true, false, Bool, cond, not, Option, Some, None, arith, drop, drop-cons, add-one}
-use Rattle.std.specs.Prelude.{String, Vec, string_bytes, bytes_eq, position, find, slice_index_or, option_map, ◌≤◌, IsNone, IfSome, ◌↔◌}
+use Rattle.std.specs.Prelude.{String, Vec, nat_lt, string_bytes, bytes_eq, position, find, slice_index_or, option_map, ◌≤◌, IsNone, IfSome, ◌↔◌}
 use Rattle.std.specs.List.{position_or_len}
 use Rattle.std.specs.declared.alloc.Global.{Global}
 use Rattle.std.proofs.lemmas.Bool.Decides.{nat_tests}
@@ -9,7 +9,7 @@ use Rattle.std.proofs.Common.{◌-◌, ◌++◌, take}
 use Rattle.std.proofs.lemmas.List.{length-map, get_or-map, take_at, take_rest, drop-drop, take-append-drop}
 use Rattle.std.proofs.lemmas.Grind.{common_steps}
 use Rattle.mt_port.specs.Port.{file_of}
-use Rattle.mt_port.specs.Memory.{AreDistinct, bytes_of, named, left_at}
+use Rattle.mt_port.specs.Memory.{AreDistinct, bytes_of, named, left_at, place_of}
 
 first_step : (b : Bool) (n len : ℕ) (head : List ℕ × List ℕ) (found : Option (List ℕ × List ℕ)) (rest : List (List ℕ)) → (n < len → option_map (λ f. f.1) found ≡ Some (slice_index_or rest n []))
     → cond (not b) (1 + n) 0 < suc len → option_map (λ f. f.1) (cond b (Some head) found) ≡ Some (slice_index_or (head.1 ∷ rest) (cond (not b) (1 + n) 0) [])
@@ -72,6 +72,16 @@ index_absent xs name None is =
 index_absent xs name (Some i) is =
     let held = opens_at_start xs name i is in
     (λ no. absurd cc, λ none. let some = rw held at none in absurd cc)
+
+same_length : (xs : List (String Global × Vec ℕ Global)) (name : List ℕ) → position_or_len (λ f. bytes_eq f.0 name) (named xs) ≡ position_or_len (λ f. bytes_eq (string_bytes f.0) name) xs
+same_length [] name = refl
+same_length (x ∷ xs) name = ap (λ n. cond (not (bytes_eq (string_bytes x.0) name)) (1 + n) 0) (same_length xs name)
+
+-- the place of a name among names and bytes is its place among the files
+pub place_found : (xs : List (String Global × Vec ℕ Global)) (name : List ℕ) (r : Option ℕ) → r ≡ position (λ f. bytes_eq (string_bytes f.0) name) xs → r ≡ place_of (named xs) name
+place_found xs name r is =
+    let place : (n : ℕ) → Option ℕ = λ n. cond (nat_lt n (length xs)) (Some n) None in
+    rw length-map (is ∙ sym (ap place (same_length xs name)))
 
 -- the file at a place, and those after it
 from_place : (xs : List (String Global × Vec ℕ Global)) (i : ℕ) (d : String Global × Vec ℕ Global) → i < length xs → drop i xs ≡ slice_index_or xs i d ∷ drop (i + 1) xs

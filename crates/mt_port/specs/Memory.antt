@@ -1,5 +1,5 @@
 -- What contracts see of the shelf and the sink in memory.
-use Rattle.std.specs.Prelude.{◌≢◌, ℕ, ◌+◌, ◌-◌, ◌^◌, ◌<◌, ◌≤◌, List, [], ◌∷◌, ◌++◌, map, length, min, All, Contains, Bool, true, false, string_bytes, String, Vec, Option, Some, None, IsNone, slice_index_or, drop}
+use Rattle.std.specs.Prelude.{◌≡◌, ◌≢◌, ℕ, ◌+◌, ◌-◌, ◌^◌, ◌<◌, ◌≤◌, List, [], ◌∷◌, ◌++◌, map, length, min, position, bytes_eq, All, Contains, Bool, true, false, string_bytes, String, Vec, Option, Some, None, IsNone, slice_index_or, drop}
 use Rattle.std.specs.declared.alloc.Global.{Global}
 use Rattle.mt_port.specs.Port.{Files, file_of}
 
@@ -12,7 +12,8 @@ pub record Sunk : Type 0 where
   pub calls : ℕ
   pub faults : ℕ
 
--- the files, what is left of the open one, the most that one call gives, the calls that fail, and the counts
+-- the files, what is left of the open one, the most that one call gives, the calls that fail, the counts, and the place of the
+-- file that was asked for last, where one of its name is held
 pub record Shelved : Type 0 where
   pub files : Files
   pub is_open : Bool
@@ -21,6 +22,7 @@ pub record Shelved : Type 0 where
   pub fails : List ℕ
   pub calls : ℕ
   pub openings : ℕ
+  pub asked : Option ℕ
   pub faults : ℕ
 
 -- a count after one more, which stays at its end
@@ -48,18 +50,32 @@ named files = map (λ f. (string_bytes f.0, f.1.items)) files
 abbrev pub bytes_of : Files → ℕ → List ℕ
 bytes_of files i = slice_index_or (map (λ f. f.1) files) i []
 
+-- the place of the file of a name
+abbrev pub place_of : Files → List ℕ → Option ℕ
+place_of files name = position (λ f. bytes_eq f.0 name) files
+
+-- the file that was asked for last is the first one of these names
+abbrev pub AskedLast : Files → Option ℕ → List (List ℕ) → Type 0
+AskedLast files asked [] = Unit {0}
+AskedLast files asked (name ∷ past) = asked ≡ place_of files name
+
+-- openings were asked for of just these names, the last one first, by their number and the last one
+pub record HasOpened (s : Shelved) (past : List (List ℕ)) : Type 0 where
+  pub count : s.openings ≡ min (length past) (2 ^ 64 - 1)
+  pub last : AskedLast s.files s.asked past
+
 -- the bytes from a place on of the file at an index
 abbrev pub left_at : Files → Option ℕ → ℕ → List ℕ
 left_at files None place = []
 left_at files (Some i) place = drop place (bytes_of files i)
 
--- the shelf after it opened a file of these bytes
-abbrev pub opened : Shelved → List ℕ → Shelved
-opened s bytes = record s { is_open = true; left = bytes; calls = one_more s.calls; openings = one_more s.openings }
+-- the shelf after it opened the file of a name, of these bytes
+abbrev pub opened : Shelved → List ℕ → List ℕ → Shelved
+opened s name bytes = record s { is_open = true; left = bytes; calls = one_more s.calls; openings = one_more s.openings; asked = place_of s.files name }
 
--- the shelf after an opening that failed
-abbrev pub not_opened : Shelved → Shelved
-not_opened s = record s { is_open = false; left = []; calls = one_more s.calls; openings = one_more s.openings; faults = one_more s.faults }
+-- the shelf after an opening of a name that failed
+abbrev pub not_opened : Shelved → List ℕ → Shelved
+not_opened s name = record s { is_open = false; left = []; calls = one_more s.calls; openings = one_more s.openings; asked = place_of s.files name; faults = one_more s.faults }
 
 -- the shelf after it gave this many bytes
 abbrev pub gave : Shelved → ℕ → Shelved

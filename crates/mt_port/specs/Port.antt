@@ -1,5 +1,5 @@
 -- What a shelf and a sink tell, and what their calls do to it.
-use Rattle.std.specs.Prelude.{◌≡◌, ℕ, ◌+◌, ◌^◌, ◌-◌, ◌<◌, ◌≤◌, min, List, [], ◌++◌, take, Option, None, Some, Result, OnErr, OnOk, bytes_eq, find, option_map}
+use Rattle.std.specs.Prelude.{◌≡◌, ℕ, ◌+◌, ◌^◌, ◌-◌, ◌<◌, ◌≤◌, min, List, [], ◌∷◌, ◌++◌, take, Option, Result, OnErr, OnOk, bytes_eq, find, option_map}
 
 -- a count rose, or stands at its end
 abbrev pub Rose : ℕ → ℕ → Type 0
@@ -11,10 +11,18 @@ pub record HasCause {T E : Type 0} (before now : ℕ) (result : Result T E) : Ty
   pub failed : OnErr result (Rose before now)
   pub quiet : OnOk result (now ≡ before)
 
--- a count that is told is one more, or stands at its end
-abbrev pub IsOneMore : Option ℕ → Option ℕ → Type 0
-IsOneMore None now = Unit {0}
-IsOneMore (Some before) now = now ≡ Some (min (before + 1) (2 ^ 64 - 1))
+-- what is told of the openings so far: that they were of just these names, the last one first
+abbrev pub Openings : Type 1
+Openings = List (List ℕ) → Type 0
+
+-- names, the last one first, with these behind them
+abbrev pub and_then : List (List ℕ) → List (List ℕ) → List (List ℕ)
+and_then past [] = past
+and_then past (name ∷ names) = and_then (name ∷ past) names
+
+-- just these names are opened, in this order
+abbrev pub Opens : List (List ℕ) → Openings → Openings → Type 0
+Opens names before now = (past : List (List ℕ)) → before past → now (and_then past names)
 
 -- named files
 abbrev pub Files : Type 0

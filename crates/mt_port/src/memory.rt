@@ -1,8 +1,8 @@
 //! A shelf and a sink in memory, which fail at chosen calls.
 
-ghost use Rattle.std.specs.Prelude.{◌≡◌, ◌⊎◌, ◌++◌, [], ◌<◌, ◌≤◌, ◌-◌, ◌^◌, IfOk, IsErr, IsOk, IsSome, IsNone, IfSome, Some, Contains, IsTrue, ◌↔◌, OnOk, OnErr, true, false, position, bytes_eq, string_bytes, drop, take, min, length, ◌+◌};
-ghost use Rattle.mt_port.specs.Port.{Gives, HasCause, file_of};
-ghost use Rattle.mt_port.specs.Memory.{AreDistinct, IsFullFor, IsSteady, IsToFail, Shelved, Sunk, bytes_of, gave, left_at, named, not_opened, not_read, not_written, one_more, opened, took};
+ghost use Rattle.std.specs.Prelude.{◌≡◌, ◌⊎◌, ◌∷◌, ◌++◌, [], None, ◌<◌, ◌≤◌, ◌-◌, ◌^◌, IfOk, IsErr, IsOk, IsSome, IsNone, IfSome, Some, Contains, IsTrue, ◌↔◌, OnOk, OnErr, true, false, position, bytes_eq, string_bytes, drop, take, min, length, ◌+◌};
+ghost use Rattle.mt_port.specs.Port.{Gives, HasCause, Opens, file_of};
+ghost use Rattle.mt_port.specs.Memory.{AreDistinct, HasOpened, IsFullFor, IsSteady, IsToFail, Shelved, Sunk, bytes_of, gave, left_at, named, not_opened, not_read, not_written, opened, place_of, took};
 
 use crate::{Failed, Shelf, Sink};
 use std::alloc::{AllocError, Global};
@@ -139,6 +139,7 @@ fn index_of(files: &[(String, Vec<u8>)], name: &str) -> Option<usize>
     ensures found { IfSome result (λ i. file_of (named files.now) name.now ≡ Some (left_at (named files.now) (Some i) 0)) }
     ensures within { IfSome result (λ i. i < length files.now) }
     ensures absent { IsNone result ↔ IsNone (file_of (named files.now) name.now) }
+    ensures place { result ≡ place_of (named files.now) name.now }
 {
     position_of(files, name)
 }
@@ -159,6 +160,7 @@ pub struct MemShelf {
     fails: Vec<u64>,
     calls: u64,
     openings: u64,
+    asked: Option<usize>,
     faults: u64,
     current: Option<usize>,
     place: usize,
@@ -171,7 +173,7 @@ impl Model for MemShelf {
 
     ghost Value = { Shelved };
 
-    ghost view = { λ s. record { files = named s.files.items; is_open = is_some s.current; left = left_at (named s.files.items) s.current s.place; piece = s.piece; fails = s.fails.items; calls = s.calls; openings = s.openings; faults = s.faults } };
+    ghost view = { λ s. record { files = named s.files.items; is_open = is_some s.current; left = left_at (named s.files.items) s.current s.place; piece = s.piece; fails = s.fails.items; calls = s.calls; openings = s.openings; asked = s.asked; faults = s.faults } };
 
     ghost invariant = { λ s. (0 < s.piece) × ForSome s.current (λ i. (i < vec_len s.files) × (s.place ≤ length (bytes_of (named s.files.items) i))) };
 }
@@ -184,7 +186,7 @@ impl MemShelf {
     pub fn new(files: Vec<(String, Vec<u8>)>, piece: usize, fails: Vec<u64>) -> MemShelf
         requires distinct { AreDistinct (named files.items) }
         requires some { 0 < piece }
-        ensures { result ≡ record { files = named files.items; is_open = false; left = []; piece = piece; fails = fails.items; calls = 0; openings = 0; faults = 0 } }
+        ensures { result ≡ record { files = named files.items; is_open = false; left = []; piece = piece; fails = fails.items; calls = 0; openings = 0; asked = None; faults = 0 } }
     {
         MemShelf {
             files,
@@ -192,6 +194,7 @@ impl MemShelf {
             fails,
             calls: 0,
             openings: 0,
+            asked: None,
             faults: 0,
             current: None,
             place: 0,
@@ -221,7 +224,7 @@ impl MemShelf {
 impl Shelf for MemShelf {
     ghost faults = { λ s. s.faults };
 
-    ghost openings = { λ s. Some s.openings };
+    ghost openings = { HasOpened };
 
     ghost is_open = { λ s. s.is_open };
 
@@ -239,7 +242,7 @@ impl Shelf for MemShelf {
         ensures closed { OnErr result (self.new.is_open ≡ false) }
         ensures at_start { OnOk result (file_of self.old.files name.now ≡ Some self.new.left) }
         ensures files { self.new.files ≡ self.old.files }
-        ensures opening { self.new.openings ≡ one_more self.old.openings }
+        ensures opening { Opens (name.now ∷ []) (HasOpened self.old) (HasOpened self.new) }
         ensures cause { HasCause self.old.faults self.new.faults result }
         ensures in_range { self.new.faults < 2 ^ 64 }
         ensures steady { IsSteady self.old.fails self.old.calls → IsSteady self.new.fails self.new.calls }
@@ -247,18 +250,19 @@ impl Shelf for MemShelf {
 
         // Exactly when it fails, and all that changes.
         ensures fails { IsErr result ↔ (IsToFail self.old.fails self.old.calls ⊎ IsNone (file_of self.old.files name.now)) }
-        ensures ok { OnOk result (self.new ≡ opened self.old self.new.left) }
-        ensures err { OnErr result (self.new ≡ not_opened self.old) }
+        ensures ok { OnOk result (self.new ≡ opened self.old name.now self.new.left) }
+        ensures err { OnErr result (self.new ≡ not_opened self.old name.now) }
     {
         self.calls = self.calls.saturating_add(1);
         self.openings = self.openings.saturating_add(1);
+        self.asked = index_of(&self.files, name);
         self.current = None;
         self.place = 0;
         if is_to_fail(&self.fails, self.calls) {
             self.faults = self.faults.saturating_add(1);
             return Err(Failed);
         }
-        match index_of(&self.files, name) {
+        match self.asked {
             Some(i) => {
                 self.current = Some(i);
                 Ok(())
@@ -278,7 +282,7 @@ impl Shelf for MemShelf {
         ensures bytes { IfOk result (λ n. Gives self.old.left self.new.left (length buf.old) buf.new n) }
         ensures place { OnErr result (self.new.left ≡ self.old.left) }
         ensures files { self.new.files ≡ self.old.files }
-        ensures openings { self.new.openings ≡ self.old.openings }
+        ensures openings { Opens [] (HasOpened self.old) (HasOpened self.new) }
         ensures cause { HasCause self.old.faults self.new.faults result }
         ensures in_range { self.new.faults < 2 ^ 64 }
         ensures steady { IsSteady self.old.fails self.old.calls → IsSteady self.new.fails self.new.calls }

@@ -1,6 +1,6 @@
 //! The real files and streams behind the traits, a few lines each.
 
-ghost use Rattle.std.specs.Prelude.{[], false, true, codes, bytes_eq, take, ◌≡◌, ◌≢◌, ◌↔◌, ◌||◌, ◌^◌, ◌<◌, ◌≤◌, Some, IsErr, IfOk, OnErr, OnOk, length};
+ghost use Rattle.std.specs.Prelude.{[], false, true, codes, bytes_eq, take, ◌≡◌, ◌≢◌, ◌↔◌, ◌||◌, ◌^◌, ◌-◌, ◌<◌, ◌≤◌, IsErr, IfOk, OnErr, OnOk, length, min};
 ghost use Rattle.std.specs.Fs.{new_options, with_read};
 ghost use Rattle.std.specs.Io.KnownBytes.{Appends, Consumes, IsAtEnd, Keeps};
 ghost use Rattle.mt_port.specs.Calls.{ToldOfRead, ToldOfWrite};
@@ -125,7 +125,7 @@ impl<'a, R: System> FileShelf<'a, R> {
 impl<R: System> Shelf for FileShelf<'_, R> {
     ghost faults = { λ s. s.faults };
 
-    ghost openings = { λ s. Some s.openings };
+    ghost openings = { λ s past. s.openings ≡ min (length past) (2 ^ 64 - 1) };
 
     ghost is_open = { λ s. stands_open s.source };
 

@@ -1,7 +1,7 @@
 //! What the program asks of the outside: a shelf to read from and a sink to write to.
 
-ghost use Rattle.std.specs.Prelude.{◌≡◌, ◌++◌, ◌^◌, ◌<◌, ◌≤◌, ℕ, List, Bool, true, false, Option, None, Some, length, take, IsOk, IsSome, IfOk, OnOk, OnErr};
-ghost use Rattle.mt_port.specs.Port.{Files, file_of, HasCause, Gives, IsOneMore};
+ghost use Rattle.std.specs.Prelude.{◌≡◌, ◌∷◌, ◌++◌, ◌^◌, ◌<◌, ◌≤◌, [], ℕ, List, Bool, true, false, Some, length, take, IsOk, IsSome, IfOk, OnOk, OnErr};
+ghost use Rattle.mt_port.specs.Port.{Files, Openings, Opens, file_of, HasCause, Gives};
 
 /// A call of the outside that failed. The cause isn't told; the count of faults shows that there was one.
 #[derive(Clone, Copy, Debug, PartialEq, Eq)]
@@ -14,8 +14,8 @@ pub trait Shelf {
     /// How many calls failed. It only grows, up to `2^64 - 1`.
     ghost faults: { Self → ℕ };
 
-    /// How many openings were asked for, where the shelf counts them, up to `2^64 - 1`.
-    ghost openings: { Self → Option ℕ } = { λ _. None };
+    /// That openings were asked for of just these names, the last one first, as far as the shelf tells that.
+    ghost openings: { Self → Openings } = { λ _ _. Unit {0} };
 
     /// Whether a file is open.
     ghost is_open: { Self → Bool };
@@ -42,7 +42,7 @@ pub trait Shelf {
 
         ensures files { files self.new ≡ files self.old }
         ensures telling { tells self.new ≡ tells self.old }
-        ensures opening { IsOneMore (openings self.old) (openings self.new) }
+        ensures opening { Opens (name.now ∷ []) (openings self.old) (openings self.new) }
 
         ensures cause { HasCause (faults self.old) (faults self.new) result }
         ensures in_range { faults self.new < 2 ^ 64 }
@@ -62,7 +62,7 @@ pub trait Shelf {
 
         ensures files { files self.new ≡ files self.old }
         ensures telling { tells self.new ≡ tells self.old }
-        ensures openings { openings self.new ≡ openings self.old }
+        ensures openings { Opens [] (openings self.old) (openings self.new) }
 
         ensures cause { HasCause (faults self.old) (faults self.new) result }
         ensures in_range { faults self.new < 2 ^ 64 }

@@ -1,7 +1,7 @@
 //! Whole files read within a limit, and whole texts written.
 
-ghost use Rattle.std.specs.Prelude.{◌≡◌, ◌+◌, ◌++◌, ◌^◌, ◌<◌, ◌≤◌, [], true, Some, length, IsErrOf, IsSome, IfOk, OnOk, OnErr};
-ghost use Rattle.mt_port.specs.Port.{HasCause, IsOneMore, Rose, file_of};
+ghost use Rattle.std.specs.Prelude.{◌≡◌, ◌+◌, ◌∷◌, ◌++◌, ◌^◌, ◌<◌, ◌≤◌, [], true, Some, length, IsErrOf, IsSome, IfOk, OnOk, OnErr};
+ghost use Rattle.mt_port.specs.Port.{HasCause, Opens, Rose, file_of};
 ghost use Rattle.mt_port.specs.Whole.{GaveAtMost, GaveSoMany, IsLonger, WrotePrefix};
 
 use crate::{Failed, Shelf, Sink};
@@ -53,7 +53,7 @@ pub fn read_all<S: Shelf>(
     ensures at_most { S.tells shelf.old ≡ true → S.is_open shelf.new ≡ true → ¬ IsErrOf result ReadFault.TooLong → GaveAtMost (file_of (S.files shelf.old) name.now) (S.left shelf.new) limit }
 
     // It opens the file and nothing else, and once: so what was given is never lost by an opening after it.
-    ensures once { IsOneMore (S.openings shelf.old) (S.openings shelf.new) }
+    ensures once { Opens (name.now ∷ []) (S.openings shelf.old) (S.openings shelf.new) }
 
     ensures failed { IsErrOf result ReadFault.Failed → Rose (S.faults shelf.old) (S.faults shelf.new) }
     ensures told { ¬ IsErrOf result ReadFault.Failed → S.faults shelf.new ≡ S.faults shelf.old }

@@ -1,5 +1,5 @@
-use Rattle.std.proofs.Common.{◌≡◌, ◌+◌, ◌-◌, ◌<◌, ◌≤◌, ◌^◌, ◌++◌, length, true, Some, vec_len}
-use Rattle.mt_port.specs.Port.{IsOneMore, file_of}
+use Rattle.std.proofs.Common.{◌≡◌, ◌+◌, ◌-◌, ◌<◌, ◌≤◌, ◌^◌, ◌∷◌, [], ◌++◌, length, true, Some, vec_len}
+use Rattle.mt_port.specs.Port.{Opens, file_of}
 use Rattle.mt_port.proofs.whole.read_all.Given as goal
 
 abbrev pub invariant-loop-bytes : goal.invariant-loop-bytes
@@ -12,7 +12,7 @@ invariant-loop-bytes g l = record {
   in_range : g.S.Shelf.faults l.shelf < 2 ^ 64;
   steady : g.S.Shelf.steady l.fn.shelf → g.S.Shelf.steady l.shelf;
   files : g.S.Shelf.files l.shelf ≡ g.S.Shelf.files l.fn.shelf;
-  once : IsOneMore (g.S.Shelf.openings l.fn.shelf) (g.S.Shelf.openings l.shelf);
+  once : Opens (l.name ∷ []) (g.S.Shelf.openings l.fn.shelf) (g.S.Shelf.openings l.shelf);
   telling : g.S.Shelf.tells l.shelf ≡ g.S.Shelf.tells l.fn.shelf;
 }
 

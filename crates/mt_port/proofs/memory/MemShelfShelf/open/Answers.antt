@@ -3,5 +3,5 @@ use Rattle.mt_port.proofs.memory.MemShelfShelf.open.Goals as goal
 
 pub returns-then-is_to_fail-clause-fails : goal.returns-then-is_to_fail-clause-fails
 returns-then-is_to_fail-clause-fails c =
-    let chosen = rw (c.deref.ensures.value, c.saturating_add-self-inside.ensures) at (c.is_to_fail.ensures.0 c.if-is_to_fail.true) in
+    let chosen = rw (c.deref-2.ensures.value, c.saturating_add-self-inside.ensures) at (c.is_to_fail.ensures.0 c.if-is_to_fail.true) in
     rw (← c.self.view_is) (λ _. inl chosen, λ _. refl)

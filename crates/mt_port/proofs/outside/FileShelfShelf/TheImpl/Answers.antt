@@ -1,4 +1,6 @@
 -- What the traits ask of a shelf that tells nothing holds of every answer.
+use Rattle.std.proofs.Common.{◌∙◌}
+use Rattle.mt_port.proofs.Counted.{one_more_counted}
 use Rattle.mt_port.proofs.Untold.{if_ok, on_err, on_ok}
 use Rattle.mt_port.proofs.outside.FileShelfShelf.TheImpl.Goals as goal
 
@@ -9,7 +11,7 @@ open-tells g c = record {
   at_start = on_ok _ c.result;
   files = cc;
   telling = cc;
-  opening = cc;
+  opening = λ past counted. one_more_counted _ _ c.args.name.now past c.ensures.opening counted;
   cause = c.ensures.cause;
   in_range = c.ensures.in_range;
   steady = λ no. no;
@@ -24,7 +26,7 @@ read-tells g c = record {
   place = on_err _ c.result;
   files = cc;
   telling = cc;
-  openings = cc;
+  openings = λ past counted. c.ensures.openings ∙ counted;
   cause = c.ensures.cause;
   in_range = c.ensures.in_range;
   steady = λ no. no;
