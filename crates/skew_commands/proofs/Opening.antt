@@ -1,31 +1,31 @@
--- How many files are opened, call by call.
-use Rattle.std.proofs.Common.{◌≡◌, ◌+◌, ◌-◌, ◌^◌, ◌≤◌, ℕ, List, length, Option, Some, None, Ok, inl, inr, arith}
-use Rattle.std.proofs.Math.Nat.{min-le_left}
+-- Which files are opened, call by call.
+use Rattle.std.proofs.Common.{◌≡◌, ◌≤◌, ℕ, zero, suc, List, [], ◌∷◌, length, take, Some, Ok, inl, inr}
 use Rattle.mt_model.specs.Form.{Form}
 use Rattle.mt_model.specs.Log.{Logged}
-use Rattle.mt_port.specs.Port.{Files, IsOneMore, file_of}
+use Rattle.mt_port.specs.Port.{Files, Openings, Opens, file_of}
 use Rattle.mtl_parse.specs.FormulaOf.{FormulaOf}
 use Rattle.skew_words.specs.Words.{Word}
 use Rattle.skew_commands.specs.declared.limits.TheConstants.{FORMULA_LIMIT}
 use Rattle.skew_commands.specs.Openings.{OpensAtMost, OpensInTurn, OpensMoreOnly, PassesFormula, PassesHosts}
 use Rattle.skew_commands.specs.Reads.{IsQuestion}
 
--- the count stays
-pub none-opened : (a : Option ℕ) → OpensAtMost 0 a a
-none-opened None = tt
-none-opened (Some x) = omega arith
+-- none of some names
+pub none-opened : (names : List Word) (a : Openings) → OpensAtMost names a a
+none-opened names a = (0, λ past h. h)
 
--- some are opened, and then others
-pub more-opened : (m n : ℕ) (a b c : Option ℕ) → OpensAtMost m a b → OpensAtMost n b c → OpensAtMost (m + n) a c
-more-opened m n None b c h k = tt
-more-opened m n (Some x) None c h k = absurd h
-more-opened m n (Some x) (Some y) None h k = absurd k
-more-opened m n (Some x) (Some y) (Some z) h k = omega (arith, h, k)
+-- two names, and at most some others behind them
+pub more-opened : (first second : Word) (names : List Word) (a b c : Openings) → Opens (first ∷ second ∷ []) a b → OpensAtMost names b c → OpensAtMost (first ∷ second ∷ names) a c
+more-opened first second names a b c both more = (suc (suc more.0), λ past h. more.1 (second ∷ first ∷ past) (both past h))
 
--- one more is at most one more
-pub one-opened : (a b : Option ℕ) → IsOneMore a b → OpensAtMost 1 a b
-one-opened None b one = tt
-one-opened (Some x) b one = rw one (min-le_left (x + 1) (2 ^ 64 - 1))
+so-many : (n : ℕ) (first second : Word) (names : List Word) (a b : Openings) → Opens (take n (first ∷ second ∷ [])) a b → OpensAtMost (first ∷ second ∷ names) a b
+so-many zero first second names a b h = (0, h)
+so-many (suc zero) first second names a b h = (1, h)
+so-many (suc (suc zero)) first second names a b h = (2, h)
+so-many (suc (suc (suc n))) first second names a b h = (2, h)
+
+-- at most two names are at most these and others
+pub two-of-more : (first second : Word) (names : List Word) (a b : Openings) → OpensAtMost (first ∷ second ∷ []) a b → OpensAtMost (first ∷ second ∷ names) a b
+two-of-more first second names a b most = so-many most.0 first second names a b most.1
 
 -- the log's turn, once the formula was read
 pub formula-passed : (files : Files) (formula : Word) (text : List ℕ) (f : Form) → file_of files formula ≡ Some text → length text ≤ FORMULA_LIMIT → FormulaOf text (Ok f) → PassesFormula files formula
@@ -33,14 +33,14 @@ formula-passed files formula text f held within reads = record { text = text; he
 
 module _ (files : Files) (formula log : Word) where
   -- a formula and a log that were read have no third file opened after them
-  pub question-opened : (a b : Option ℕ) → OpensAtMost 2 a b → OpensMoreOnly 1 (PassesFormula files formula) a b → OpensInTurn files formula log a b
+  pub question-opened : (a b : Openings) → OpensAtMost (formula ∷ log ∷ []) a b → OpensMoreOnly (formula ∷ []) (PassesFormula files formula) a b → OpensInTurn files formula log a b
   question-opened a b most second = record { second = second; third = inl most }
 
   -- or one whose turn it is
-  pub third-opened : (text : List ℕ) (f : Form) (l : Logged) (a b c : Option ℕ) → IsQuestion files formula log text f l → OpensAtMost 2 a b → OpensMoreOnly 0 (PassesHosts f l) b c
-      → OpensInTurn files formula log a c
-  third-opened text f l a b c q most (inl none) = record { second = inr (formula-passed files formula text f q.text_held q.text_within q.formula_read); third = inl (more-opened 2 0 a b c most none) }
-  third-opened text f l a b c q most (inr passed) = record {
+  pub third-opened : (text : List ℕ) (f : Form) (l : Logged) (a b c : Openings) → IsQuestion files formula log text f l → Opens (formula ∷ log ∷ []) a b
+      → OpensMoreOnly [] (PassesHosts f l) b c → OpensInTurn files formula log a c
+  third-opened text f l a b c q both (inl none) = record { second = inr (formula-passed files formula text f q.text_held q.text_within q.formula_read); third = inl (more-opened formula log [] a b c both none) }
+  third-opened text f l a b c q both (inr passed) = record {
     second = inr (formula-passed files formula text f q.text_held q.text_within q.formula_read);
     third = inr (record { text = text; f = f; l = l; read = q; hosts = passed });
   }

@@ -1,9 +1,9 @@
--- How many files a command opens, on a shelf that counts its openings, and after which tests.
-use Rattle.std.specs.Prelude.{◌≡◌, ◌⊎◌, ◌≤◌, ℕ, ◌+◌, List, length, Option, None, Some, Ok, IsSomeAnd}
+-- Which files a command opens, as far as a shelf tells its openings, and after which tests.
+use Rattle.std.specs.Prelude.{◌≡◌, ◌⊎◌, ◌≤◌, ℕ, List, [], ◌∷◌, length, take, None, Some, Ok}
 use Rattle.mt_model.specs.Form.{Form}
 use Rattle.mt_model.specs.Log.{Logged}
 use Rattle.mt_model.specs.State.{unknown_host}
-use Rattle.mt_port.specs.Port.{Files, file_of}
+use Rattle.mt_port.specs.Port.{Files, Openings, Opens, file_of}
 use Rattle.formula_arena.specs.Nodes.{nodes_of}
 use Rattle.formula_arena.specs.declared.arena.TheConstants.{MAX_NODES}
 use Rattle.mtl_parse.specs.FormulaOf.{FormulaOf}
@@ -11,14 +11,13 @@ use Rattle.skew_words.specs.Words.{Word}
 use Rattle.skew_commands.specs.declared.limits.TheConstants.{FORMULA_LIMIT}
 use Rattle.skew_commands.specs.Reads.{IsQuestion}
 
--- a count that is told is greater by at most so many
-abbrev pub OpensAtMost : ℕ → Option ℕ → Option ℕ → Type 0
-OpensAtMost n None now = Unit {0}
-OpensAtMost n (Some before) now = IsSomeAnd now (λ count. count ≤ before + n)
+-- the first few of these are opened, in this order and each once, or all or none of them, and nothing else
+abbrev pub OpensAtMost : List Word → Openings → Openings → Type 0
+OpensAtMost names before now = (count : ℕ) × Opens (take count names) before now
 
--- more than so many files are opened only where tests were passed
-abbrev pub OpensMoreOnly : ℕ → Type 0 → Option ℕ → Option ℕ → Type 0
-OpensMoreOnly n Passed before now = OpensAtMost n before now ⊎ Passed
+-- more than these are opened only where tests were passed
+abbrev pub OpensMoreOnly : List Word → Type 0 → Openings → Openings → Type 0
+OpensMoreOnly names Passed before now = OpensAtMost names before now ⊎ Passed
 
 -- the tests before the log: the formula's file is held, within its limit, and its text is a formula
 pub record PassesFormula (files : Files) (formula : Word) : Type 0 where
@@ -40,7 +39,7 @@ pub record PassesQuestion (files : Files) (formula log : Word) : Type 0 where
   pub read : IsQuestion files formula log text f l
   pub hosts : PassesHosts f l
 
--- a formula's file, a log's after it, and a third file after both are opened, each only where the tests before it were passed
-pub record OpensInTurn (files : Files) (formula log : Word) (before now : Option ℕ) : Type 0 where
-  pub second : OpensMoreOnly 1 (PassesFormula files formula) before now
-  pub third : OpensMoreOnly 2 (PassesQuestion files formula log) before now
+-- more than a formula's file, and more than this and a log's after it, are opened only where the tests before were passed
+pub record OpensInTurn (files : Files) (formula log : Word) (before now : Openings) : Type 0 where
+  pub second : OpensMoreOnly (formula ∷ []) (PassesFormula files formula) before now
+  pub third : OpensMoreOnly (formula ∷ log ∷ []) (PassesQuestion files formula log) before now

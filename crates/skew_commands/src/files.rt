@@ -1,6 +1,6 @@
 //! The tests that a command makes of its files, in their order.
 
-ghost use Rattle.std.specs.Prelude.{◌≡◌, ◌^◌, ◌<◌, ◌≤◌, true, None, Some, All, length, IfOk, OnOk, IsErrOf, IsSome, Ok};
+ghost use Rattle.std.specs.Prelude.{◌≡◌, ◌∷◌, [], ◌^◌, ◌<◌, ◌≤◌, true, None, Some, All, length, IfOk, OnOk, IsErrOf, IsSome, Ok};
 ghost use Rattle.mt_model.specs.Form.{form_of};
 ghost use Rattle.formula_arena.specs.Cores.{core_of};
 ghost use Rattle.formula_arena.specs.Nodes.{nodes_of};
@@ -8,7 +8,7 @@ ghost use Rattle.formula_arena.specs.declared.arena.TheConstants.{MAX_NODES};
 ghost use Rattle.mt_model.specs.Log.{IsWithin};
 ghost use Rattle.mt_model.specs.State.{unknown_host};
 ghost use Rattle.mt_model.specs.declared.limits.TheConstants.{MAX_TIME};
-ghost use Rattle.mt_port.specs.Port.{IsOneMore, Rose, file_of};
+ghost use Rattle.mt_port.specs.Port.{Opens, Rose, file_of};
 ghost use Rattle.mt_port.specs.Whole.{IsLonger};
 ghost use Rattle.mtl_parse.specs.FormulaOf.{FormulaOf};
 ghost use Rattle.times_read.specs.TimesOf.{times_of};
@@ -43,7 +43,7 @@ pub fn file<S: Shelf>(
     ensures told { ¬ IsErrOf result Stop.ReadFailed → S.faults shelf.new ≡ S.faults shelf.old }
     ensures never { S.steady shelf.old → S.tells shelf.old ≡ true → IsSome (file_of (S.files shelf.old) name.now) → IsErrOf result Stop.ReadFailed → ⊥ }
     ensures later { S.faults shelf.old ≤ S.faults shelf.new }
-    ensures once { IsOneMore (S.openings shelf.old) (S.openings shelf.new) }
+    ensures once { Opens (name.now ∷ []) (S.openings shelf.old) (S.openings shelf.new) }
     ensures steady { S.steady shelf.old → S.steady shelf.new }
     ensures files { S.files shelf.new ≡ S.files shelf.old }
     ensures telling { S.tells shelf.new ≡ S.tells shelf.old }

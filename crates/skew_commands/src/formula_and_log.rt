@@ -1,8 +1,8 @@
 //! A formula and a log, which several commands read first.
 
-ghost use Rattle.std.specs.Prelude.{◌≡◌, ◌^◌, ◌<◌, ◌≤◌, length, true, IfOk, IsErrOf, Ok};
+ghost use Rattle.std.specs.Prelude.{◌≡◌, ◌∷◌, [], OnOk, ◌^◌, ◌<◌, ◌≤◌, length, true, IfOk, IsErrOf, Ok};
 ghost use Rattle.mt_model.specs.Form.{form_of};
-ghost use Rattle.mt_port.specs.Port.{Rose};
+ghost use Rattle.mt_port.specs.Port.{Opens, Rose};
 ghost use Rattle.mtl_parse.specs.FormulaOf.{FormulaOf};
 ghost use Rattle.skew_answers.specs.Texts.{line};
 ghost use Rattle.skew_commands.specs.Openings.{OpensAtMost, OpensMoreOnly, PassesFormula};
@@ -45,8 +45,9 @@ pub fn read_question<S: Shelf>(
     ensures told { ¬ IsErrOf result Stop.ReadFailed → S.faults shelf.new ≡ S.faults shelf.old }
     ensures never { S.steady shelf.old → S.tells shelf.old ≡ true → HoldsQuestion (S.files shelf.old) formula.now log.now NoThird → IsErrOf result Stop.ReadFailed → ⊥ }
     ensures later { S.faults shelf.old ≤ S.faults shelf.new }
-    ensures openings { OpensAtMost 2 (S.openings shelf.old) (S.openings shelf.new) }
-    ensures in_turn { S.tells shelf.old ≡ true → OpensMoreOnly 1 (PassesFormula (S.files shelf.old) formula.now) (S.openings shelf.old) (S.openings shelf.new) }
+    ensures both { OnOk result (Opens (formula.now ∷ log.now ∷ []) (S.openings shelf.old) (S.openings shelf.new)) }
+    ensures openings { OpensAtMost (formula.now ∷ log.now ∷ []) (S.openings shelf.old) (S.openings shelf.new) }
+    ensures in_turn { S.tells shelf.old ≡ true → OpensMoreOnly (formula.now ∷ []) (PassesFormula (S.files shelf.old) formula.now) (S.openings shelf.old) (S.openings shelf.new) }
     ensures steady { S.steady shelf.old → S.steady shelf.new }
     ensures files { S.files shelf.new ≡ S.files shelf.old }
     ensures telling { S.tells shelf.new ≡ S.tells shelf.old }

@@ -1,11 +1,11 @@
 //! What `replay` answers: the truth of a formula on one timing of a log.
 
-ghost use Rattle.std.specs.Prelude.{◌≡◌, ◌^◌, ◌<◌, ◌≤◌, true, length, All, IfOk, IsErrOf, IsSome, Ok};
+ghost use Rattle.std.specs.Prelude.{◌≡◌, ◌∷◌, [], ◌^◌, ◌<◌, ◌≤◌, true, length, All, IfOk, IsErrOf, IsSome, Ok};
 ghost use Rattle.formula_arena.specs.Cores.{core_of};
 ghost use Rattle.mt_model.specs.Form.{Form, form_of};
 ghost use Rattle.mt_model.specs.Log.{IsWithin};
 ghost use Rattle.mt_model.specs.declared.limits.TheConstants.{MAX_TIME};
-ghost use Rattle.mt_port.specs.Port.{IsOneMore, Rose, file_of};
+ghost use Rattle.mt_port.specs.Port.{Opens, Rose, file_of};
 ghost use Rattle.mtl_parse.specs.FormulaOf.{FormulaOf};
 ghost use Rattle.skew_answers.specs.Statuses.{IsVerdict};
 ghost use Rattle.skew_answers.specs.Texts.{line};
@@ -100,7 +100,7 @@ fn replay_of_file<S: Shelf>(
     ensures told { ¬ IsErrOf result Stop.ReadFailed → S.faults shelf.new ≡ S.faults shelf.old }
     ensures never { S.steady shelf.old → S.tells shelf.old ≡ true → IsSome (file_of (S.files shelf.old) times.now) → IsErrOf result Stop.ReadFailed → ⊥ }
     ensures later { S.faults shelf.old ≤ S.faults shelf.new }
-    ensures once { IsOneMore (S.openings shelf.old) (S.openings shelf.new) }
+    ensures once { Opens (times.now ∷ []) (S.openings shelf.old) (S.openings shelf.new) }
 {
     let file = files::file(alloc, shelf, times, TIMES_LIMIT, Named::Times)?;
     replay_of_bytes(alloc, replayer, log, &file)
@@ -122,8 +122,8 @@ fn replay_of_question<S: Shelf>(
     ensures told { ¬ IsErrOf result Stop.ReadFailed → S.faults shelf.new ≡ S.faults shelf.old }
     ensures never { S.steady shelf.old → S.tells shelf.old ≡ true → HoldsThird (S.files shelf.old) times.now (form_of question.now.formula) question.now.log → IsErrOf result Stop.ReadFailed → ⊥ }
     ensures later { S.faults shelf.old ≤ S.faults shelf.new }
-    ensures openings { OpensAtMost 1 (S.openings shelf.old) (S.openings shelf.new) }
-    ensures in_turn { OpensMoreOnly 0 (PassesHosts (form_of question.now.formula) question.now.log) (S.openings shelf.old) (S.openings shelf.new) }
+    ensures openings { OpensAtMost (times.now ∷ []) (S.openings shelf.old) (S.openings shelf.new) }
+    ensures in_turn { OpensMoreOnly [] (PassesHosts (form_of question.now.formula) question.now.log) (S.openings shelf.old) (S.openings shelf.new) }
 {
     files::known_hosts(&question.text, &question.formula, &question.log)?;
     let mut replayer = files::replayer(alloc, &question.log, &question.formula)?;
@@ -145,7 +145,7 @@ pub fn replay<S: Shelf>(
     ensures told { ¬ IsErrOf result Stop.ReadFailed → S.faults shelf.new ≡ S.faults shelf.old }
     ensures never { S.steady shelf.old → S.tells shelf.old ≡ true → HoldsQuestion (S.files shelf.old) formula.now log.now (HoldsThird (S.files shelf.old) times.now) → IsErrOf result Stop.ReadFailed → ⊥ }
     ensures later { S.faults shelf.old ≤ S.faults shelf.new }
-    ensures openings { OpensAtMost 3 (S.openings shelf.old) (S.openings shelf.new) }
+    ensures openings { OpensAtMost (formula.now ∷ log.now ∷ times.now ∷ []) (S.openings shelf.old) (S.openings shelf.new) }
     ensures in_turn { S.tells shelf.old ≡ true → OpensInTurn (S.files shelf.old) formula.now log.now (S.openings shelf.old) (S.openings shelf.new) }
 {
     let question = read_question(alloc, shelf, formula, log)?;

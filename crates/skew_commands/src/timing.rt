@@ -1,7 +1,7 @@
 //! What `times` answers: an admissible timing of a log, or bounds of it in conflict.
 
-ghost use Rattle.std.specs.Prelude.{◌≡◌, ◌<◌, ◌≤◌, true, IfOk, IsErrOf, IsSome};
-ghost use Rattle.mt_port.specs.Port.{IsOneMore, Rose, file_of};
+ghost use Rattle.std.specs.Prelude.{◌≡◌, ◌∷◌, [], ◌<◌, ◌≤◌, true, IfOk, IsErrOf, IsSome};
+ghost use Rattle.mt_port.specs.Port.{Opens, Rose, file_of};
 ghost use Rattle.skew_answers.specs.Statuses.{IsVerdict};
 ghost use Rattle.skew_commands.specs.Possible.{OfSomeLog};
 ghost use Rattle.skew_commands.specs.Stops.{Gives};
@@ -50,7 +50,7 @@ pub fn times<S: Shelf>(alloc: Global, shelf: &mut S, log: &str) -> Result<Reply,
     ensures told { ¬ IsErrOf result Stop.ReadFailed → S.faults shelf.new ≡ S.faults shelf.old }
     ensures never { S.steady shelf.old → S.tells shelf.old ≡ true → IsSome (file_of (S.files shelf.old) log.now) → IsErrOf result Stop.ReadFailed → ⊥ }
     ensures later { S.faults shelf.old ≤ S.faults shelf.new }
-    ensures once { IsOneMore (S.openings shelf.old) (S.openings shelf.new) }
+    ensures once { Opens (log.now ∷ []) (S.openings shelf.old) (S.openings shelf.new) }
 {
     let file = files::file(alloc, shelf, log, LOG_LIMIT, Named::Log)?;
     let log = files::log(alloc, &file)?;

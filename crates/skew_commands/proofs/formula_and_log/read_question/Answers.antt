@@ -1,10 +1,10 @@
-use Rattle.std.proofs.Common.{◌∙◌, inl, inr}
+use Rattle.std.proofs.Common.{◌∙◌, ◌∷◌, inl, inr}
 use Rattle.std.proofs.lemmas.Result.{err_from_is_err_and}
 use Rattle.mt_model.specs.Form.{form_of}
 use Rattle.skew_commands.specs.Reads.{NoThird}
 use Rattle.skew_commands.specs.Stops.{NoAnswer}
 use Rattle.skew_commands.proofs.Holding.{log-held}
-use Rattle.skew_commands.proofs.Opening.{formula-passed, one-opened}
+use Rattle.skew_commands.proofs.Opening.{formula-passed}
 use Rattle.skew_commands.proofs.Possible.{some-formula-faulty, some-formula-long, some-log_file-faulty, some-log_file-long}
 use Rattle.skew_commands.proofs.Steps.{question-formula_faulty, question-log_faulty, question-log_long, reason-weaker}
 use Rattle.skew_commands.proofs.formula_and_log.read_question.Goals as goal
@@ -100,10 +100,10 @@ returns-clause-some_read g c =
     }
 
 pub returns-in_err-text-clause-in_turn : goal.returns-in_err-text-clause-in_turn
-returns-in_err-text-clause-in_turn g c = λ _. inl (one-opened (g.S.Shelf.openings c.args.shelf.now) _ c.in_err-text.ensures.once)
+returns-in_err-text-clause-in_turn g c = λ _. inl (1, c.in_err-text.ensures.once)
 
 pub returns-in_err-formula-clause-in_turn : goal.returns-in_err-formula-clause-in_turn
-returns-in_err-formula-clause-in_turn g c = λ _. inl (one-opened (g.S.Shelf.openings c.args.shelf.now) _ c.in_ok-text.ensures.once)
+returns-in_err-formula-clause-in_turn g c = λ _. inl (1, c.in_ok-text.ensures.once)
 
 pub returns-in_err-file-clause-in_turn : goal.returns-in_err-file-clause-in_turn
 returns-in_err-file-clause-in_turn g c = λ tells.
@@ -119,3 +119,21 @@ pub returns-clause-in_turn : goal.returns-clause-in_turn
 returns-clause-in_turn g c = λ tells.
     let reads = rw c.deref.ensures.value at c.in_ok-formula.ensures.formula in
     inr (formula-passed _ _ c.in_ok-text.text.items (form_of c.in_ok-formula.formula) (c.in_ok-text.ensures.whole tells) c.in_ok-text.ensures.within reads)
+
+pub returns-clause-both : goal.returns-clause-both
+returns-clause-both g c = λ past told. c.in_ok-file.ensures.once (c.args.formula.now ∷ past) (c.in_ok-text.ensures.once past told)
+
+pub returns-in_err-text-clause-openings : goal.returns-in_err-text-clause-openings
+returns-in_err-text-clause-openings g c = (1, c.in_err-text.ensures.once)
+
+pub returns-in_err-formula-clause-openings : goal.returns-in_err-formula-clause-openings
+returns-in_err-formula-clause-openings g c = (1, c.in_ok-text.ensures.once)
+
+pub returns-in_err-file-clause-openings : goal.returns-in_err-file-clause-openings
+returns-in_err-file-clause-openings g c = (2, λ past told. c.in_err-file.ensures.once (c.args.formula.now ∷ past) (c.in_ok-text.ensures.once past told))
+
+pub returns-in_err-log-clause-openings : goal.returns-in_err-log-clause-openings
+returns-in_err-log-clause-openings g c = (2, λ past told. c.in_ok-file.ensures.once (c.args.formula.now ∷ past) (c.in_ok-text.ensures.once past told))
+
+pub returns-clause-openings : goal.returns-clause-openings
+returns-clause-openings g c = (2, λ past told. c.in_ok-file.ensures.once (c.args.formula.now ∷ past) (c.in_ok-text.ensures.once past told))

@@ -5,7 +5,6 @@ use Rattle.skew_commands.specs.declared.limits.TheConstants.{TIMES_LIMIT}
 use Rattle.skew_commands.specs.declared.refusal.Named.TheVariants as named
 use Rattle.skew_commands.specs.ReplayOutcome.{ReplayOfTimes}
 use Rattle.skew_commands.specs.Tests.{OnTimes}
-use Rattle.skew_commands.proofs.Opening.{none-opened, one-opened}
 use Rattle.skew_commands.proofs.Possible.{third-unread, third-uncounted}
 use Rattle.skew_commands.proofs.Steps.{third-answered}
 use Rattle.skew_commands.proofs.replaying.replay_of_question.Goals as goal
@@ -18,8 +17,14 @@ returns-clause-outcome g c = λ tells.
     (λ file. OnTimes file q.log (ReplayOfTimes q.log f)) c.in_ok-known_hosts.ensures.known c.in_ok-replayer.ensures.few
     c.replay_of_file.result (c.replay_of_file.ensures.outcome tells f (rw c.in_ok-replayer.ensures.core))
 
+pub returns-in_err-known_hosts-clause-openings : goal.returns-in_err-known_hosts-clause-openings
+returns-in_err-known_hosts-clause-openings g c = (0, λ past told. told)
+
+pub returns-in_err-replayer-clause-openings : goal.returns-in_err-replayer-clause-openings
+returns-in_err-replayer-clause-openings g c = (0, λ past told. told)
+
 pub returns-clause-openings : goal.returns-clause-openings
-returns-clause-openings g c = one-opened (g.S.Shelf.openings c.args.shelf.now) (g.S.Shelf.openings c.replay_of_file.new.shelf) c.replay_of_file.ensures.once
+returns-clause-openings g c = (1, c.replay_of_file.ensures.once)
 
 pub returns-clause-never : goal.returns-clause-never
 returns-clause-never g c = λ steady tells holds failed. c.replay_of_file.ensures.never steady tells (holds c.in_ok-known_hosts.ensures.known c.in_ok-replayer.ensures.few) failed
@@ -55,10 +60,10 @@ returns-clause-possible g c =
     }
 
 pub returns-in_err-known_hosts-clause-in_turn : goal.returns-in_err-known_hosts-clause-in_turn
-returns-in_err-known_hosts-clause-in_turn g c = inl (none-opened _)
+returns-in_err-known_hosts-clause-in_turn g c = inl (0, λ past told. told)
 
 pub returns-in_err-replayer-clause-in_turn : goal.returns-in_err-replayer-clause-in_turn
-returns-in_err-replayer-clause-in_turn g c = inl (none-opened _)
+returns-in_err-replayer-clause-in_turn g c = inl (0, λ past told. told)
 
 pub returns-clause-in_turn : goal.returns-clause-in_turn
 returns-clause-in_turn g c = inr (c.in_ok-known_hosts.ensures.known, c.in_ok-replayer.ensures.few)
