@@ -1,30 +1,26 @@
 -- That what opens no file opens none before its turn.
-use Rattle.std.proofs.Common.{ℕ, List, Option, Some, None, inl, arith}
+use Rattle.std.proofs.Common.{List, Option, Some, None, inl}
 use Rattle.std.specs.Prelude.{MatchOption}
-use Rattle.mt_port.specs.Port.{Files}
+use Rattle.mt_port.specs.Port.{Files, Openings}
 use Rattle.skew_words.specs.Words.{Audit, Check, Command, Demo, Json, Order, Replay, Span, Times, Tolerance, Trim, Word, command_of}
-use Rattle.skew_commands.specs.Openings.{OpensAtMost}
+use Rattle.skew_commands.proofs.Opening.{none-opened}
 use Rattle.skew_cli.specs.Outcome.{OpensFilesInTurn, OpensNamedInTurn}
 
-none-more : (n : ℕ) (a : Option ℕ) → OpensAtMost n a a
-none-more n None = tt
-none-more n (Some x) = omega arith
-
-none-of : (files : Files) (a : Option ℕ) (command : Command) → OpensFilesInTurn files command a a
+none-of : (files : Files) (a : Openings) (command : Command) → OpensFilesInTurn files command a a
 none-of files a (Times log) = tt
-none-of files a (Replay formula log times) = record { second = inl (none-more 1 a); third = inl (none-more 2 a) }
+none-of files a (Replay formula log times) = record { second = inl (none-opened _ a); third = inl (none-opened _ a) }
 none-of files a (Order log) = tt
-none-of files a (Check conflicts formula log) = inl (none-more 1 a)
-none-of files a (Audit conflicts formula log report) = record { second = inl (none-more 1 a); third = inl (none-more 2 a) }
+none-of files a (Check conflicts formula log) = inl (none-opened _ a)
+none-of files a (Audit conflicts formula log report) = record { second = inl (none-opened _ a); third = inl (none-opened _ a) }
 none-of files a (Trim name) = tt
 none-of files a (Json name) = tt
-none-of files a (Tolerance conflicts value max formula log) = inl (none-more 1 a)
-none-of files a (Span conflicts value from to formula log) = inl (none-more 1 a)
+none-of files a (Tolerance conflicts value max formula log) = inl (none-opened _ a)
+none-of files a (Span conflicts value from to formula log) = inl (none-opened _ a)
 none-of files a (Demo seed) = tt
 
-none-said : (files : Files) (a : Option ℕ) (said : Option Command) → MatchOption said (Unit {0}) (λ command. OpensFilesInTurn files command a a)
+none-said : (files : Files) (a : Openings) (said : Option Command) → MatchOption said (Unit {0}) (λ command. OpensFilesInTurn files command a a)
 none-said files a None = tt
 none-said files a (Some command) = none-of files a command
 
-pub none-in_turn : (words : List Word) (files : Files) (a : Option ℕ) → OpensNamedInTurn words files a a
+pub none-in_turn : (words : List Word) (files : Files) (a : Openings) → OpensNamedInTurn words files a a
 none-in_turn words files a = none-said files a (command_of words)

@@ -1,7 +1,7 @@
 -- What a run must give: for words and files, which bytes are written and which status is answered.
-use Rattle.std.specs.Prelude.{◌≡◌, ◌++◌, ℕ, List, codes, Option, IsSome, MatchOption}
+use Rattle.std.specs.Prelude.{◌≡◌, ◌++◌, ℕ, List, [], ◌∷◌, codes, IsSome, MatchOption}
 use Rattle.std.specs.Option.{option_map_or}
-use Rattle.mt_port.specs.Port.{Files, file_of}
+use Rattle.mt_port.specs.Port.{Files, Openings, file_of}
 use Rattle.mt_port.specs.Whole.{WrotePrefix}
 use Rattle.skew_answers.specs.declared.status.Status.{Status}
 use Rattle.skew_answers.specs.declared.status.Status.TheVariants as status
@@ -27,29 +27,29 @@ abbrev pub Says : List ℕ → Status → List ℕ → Status → Type 0
 Says text due out s = (out ≡ line text) × (s ≡ due)
 
 -- what is due for a command: its outcome where files are held, what it can give of some files under some names, whether the
--- files that it comes to read are held, how many files it names, and which tests each opening comes after
+-- files that it comes to read are held, the files that it names in the order of their turns, and which tests each turn comes after
 pub record Due : Type 1 where
   pub outcome : Files → List ℕ → Status → Type 0
   pub possible : List ℕ → Status → Type 0
   pub holds : Files → Type 0
-  pub named : ℕ
-  pub in_turn : Files → Option ℕ → Option ℕ → Type 0
+  pub named : List Word
+  pub in_turn : Files → Openings → Openings → Type 0
 
 -- a command of one file or of none has no file after another
-abbrev pub HasNoTurns : Files → Option ℕ → Option ℕ → Type 0
+abbrev pub HasNoTurns : Files → Openings → Openings → Type 0
 HasNoTurns files before now = Unit {0}
 
 -- of a command that reads no file
 abbrev pub due_of_nothing : (List ℕ → Status → Type 0) → Due
-due_of_nothing Given = record { outcome = λ files. Given; possible = Given; holds = λ files. Unit {0}; named = 0; in_turn = HasNoTurns }
+due_of_nothing Given = record { outcome = λ files. Given; possible = Given; holds = λ files. Unit {0}; named = []; in_turn = HasNoTurns }
 
 -- of one that reads a log
 abbrev pub due_of_log : (Files → Word → List ℕ → Status → Type 0) → Word → Due
-due_of_log Given log = record { outcome = λ files. Given files log; possible = OfSomeLog Given; holds = λ files. IsSome (file_of files log); named = 1; in_turn = HasNoTurns }
+due_of_log Given log = record { outcome = λ files. Given files log; possible = OfSomeLog Given; holds = λ files. IsSome (file_of files log); named = log ∷ []; in_turn = HasNoTurns }
 
 -- of one that reads a report
 abbrev pub due_of_report : (Files → Word → List ℕ → Status → Type 0) → Word → Due
-due_of_report Given name = record { outcome = λ files. Given files name; possible = OfSomeReport Given; holds = λ files. IsSome (file_of files name); named = 1; in_turn = HasNoTurns }
+due_of_report Given name = record { outcome = λ files. Given files name; possible = OfSomeReport Given; holds = λ files. IsSome (file_of files name); named = name ∷ []; in_turn = HasNoTurns }
 
 -- of one that reads a formula and a log
 abbrev pub due_of_question : (Files → Word → Word → List ℕ → Status → Type 0) → Word → Word → Due
@@ -57,8 +57,8 @@ due_of_question Given formula log = record {
   outcome = λ files. Given files formula log;
   possible = OfSomeQuestion Given;
   holds = λ files. HoldsQuestion files formula log NoThird;
-  named = 2;
-  in_turn = λ files. OpensMoreOnly 1 (PassesFormula files formula);
+  named = formula ∷ log ∷ [];
+  in_turn = λ files. OpensMoreOnly (formula ∷ []) (PassesFormula files formula);
 }
 
 -- of one that reads a third file after these
@@ -67,7 +67,7 @@ due_of_third Given formula log third = record {
   outcome = λ files. Given files formula log third;
   possible = OfSomeThird Given;
   holds = λ files. HoldsQuestion files formula log (HoldsThird files third);
-  named = 3;
+  named = formula ∷ log ∷ third ∷ [];
   in_turn = λ files. OpensInTurn files formula log;
 }
 
@@ -96,12 +96,12 @@ IsPossibleOf command = (due_for command).possible
 abbrev pub HoldsFiles : Files → Command → Type 0
 HoldsFiles files command = (due_for command).holds files
 
--- how many files a command names
-abbrev pub files_named : Command → ℕ
+-- the files that a command names, in the order of their turns
+abbrev pub files_named : Command → List Word
 files_named command = (due_for command).named
 
 -- each file that a command opens comes after the tests of those before it
-abbrev pub OpensFilesInTurn : Files → Command → Option ℕ → Option ℕ → Type 0
+abbrev pub OpensFilesInTurn : Files → Command → Openings → Openings → Type 0
 OpensFilesInTurn files command = (due_for command).in_turn files
 
 -- what words give: the command's outcome, and a refusal where they are no command
@@ -124,12 +124,12 @@ HasOutcome words files s = (out : List ℕ) × Outcome words files out s
 abbrev pub HoldsNamed : List Word → Files → Type 0
 HoldsNamed words files = MatchOption (command_of words) (Unit {0}) (HoldsFiles files)
 
--- no more files are opened than the command of words names, and none where they are no command
-abbrev pub OpensNamed : List Word → Option ℕ → Option ℕ → Type 0
-OpensNamed words before now = OpensAtMost (option_map_or files_named (command_of words) 0) before now
+-- at most the files that the command of words names are opened, in their order, and none where they are no command
+abbrev pub OpensNamed : List Word → Openings → Openings → Type 0
+OpensNamed words before now = OpensAtMost (option_map_or files_named (command_of words) []) before now
 
 -- each file that the command of words opens comes after the tests of those before it
-abbrev pub OpensNamedInTurn : List Word → Files → Option ℕ → Option ℕ → Type 0
+abbrev pub OpensNamedInTurn : List Word → Files → Openings → Openings → Type 0
 OpensNamedInTurn words files before now = MatchOption (command_of words) (Unit {0}) (λ command. OpensFilesInTurn files command before now)
 
 -- how a call ended that is to write what is due: an answer wrote it, and where writing failed, the beginning of it was written

@@ -1,6 +1,6 @@
 //! What `audit` answers: whether a report is right for a formula and a log.
 
-ghost use Rattle.std.specs.Prelude.{◌≡◌, ◌^◌, ◌<◌, ◌≤◌, ℕ, List, length, codes, true, IfOk, IsErrOf, None, Ok};
+ghost use Rattle.std.specs.Prelude.{◌≡◌, ◌∷◌, [], ◌^◌, ◌<◌, ◌≤◌, ℕ, List, length, codes, true, IfOk, IsErrOf, None, Ok};
 ghost use Rattle.formula_arena.specs.Nodes.{nodes_of};
 ghost use Rattle.formula_arena.specs.declared.arena.TheConstants.{MAX_NODES};
 ghost use Rattle.mt_model.specs.Form.{form_of};
@@ -94,8 +94,8 @@ fn audit_of_question<S: Shelf>(
     ensures told { ¬ IsErrOf result Stop.ReadFailed → S.faults shelf.new ≡ S.faults shelf.old }
     ensures never { S.steady shelf.old → S.tells shelf.old ≡ true → HoldsThird (S.files shelf.old) report.now (form_of question.now.formula) question.now.log → IsErrOf result Stop.ReadFailed → ⊥ }
     ensures later { S.faults shelf.old ≤ S.faults shelf.new }
-    ensures openings { OpensAtMost 1 (S.openings shelf.old) (S.openings shelf.new) }
-    ensures in_turn { OpensMoreOnly 0 (PassesHosts (form_of question.now.formula) question.now.log) (S.openings shelf.old) (S.openings shelf.new) }
+    ensures openings { OpensAtMost (report.now ∷ []) (S.openings shelf.old) (S.openings shelf.new) }
+    ensures in_turn { OpensMoreOnly [] (PassesHosts (form_of question.now.formula) question.now.log) (S.openings shelf.old) (S.openings shelf.new) }
 {
     files::known_hosts(&question.text, &question.formula, &question.log)?;
     files::few_nodes(alloc, &question.formula)?;
@@ -121,7 +121,7 @@ pub fn audit<S: Shelf>(
     ensures told { ¬ IsErrOf result Stop.ReadFailed → S.faults shelf.new ≡ S.faults shelf.old }
     ensures never { S.steady shelf.old → S.tells shelf.old ≡ true → HoldsQuestion (S.files shelf.old) formula.now log.now (HoldsThird (S.files shelf.old) report.now) → IsErrOf result Stop.ReadFailed → ⊥ }
     ensures later { S.faults shelf.old ≤ S.faults shelf.new }
-    ensures openings { OpensAtMost 3 (S.openings shelf.old) (S.openings shelf.new) }
+    ensures openings { OpensAtMost (formula.now ∷ log.now ∷ report.now ∷ []) (S.openings shelf.old) (S.openings shelf.new) }
     ensures in_turn { S.tells shelf.old ≡ true → OpensInTurn (S.files shelf.old) formula.now log.now (S.openings shelf.old) (S.openings shelf.new) }
 {
     let question = read_question(alloc, shelf, formula, log)?;

@@ -1,6 +1,6 @@
 //! What `check` answers: the truth values of a formula over all timings of a log.
 
-ghost use Rattle.std.specs.Prelude.{◌≡◌, ◌^◌, ◌<◌, ◌≤◌, ◌||◌, length, true, IfOk, IsErrOf, IsTrue, None, Ok, OnOk};
+ghost use Rattle.std.specs.Prelude.{◌≡◌, ◌∷◌, [], ◌^◌, ◌<◌, ◌≤◌, ◌||◌, length, true, IfOk, IsErrOf, IsTrue, None, Ok, OnOk};
 ghost use Rattle.mt_model.specs.Form.{form_of};
 ghost use Rattle.mt_model.specs.State.{unknown_host};
 ghost use Rattle.mt_port.specs.Port.{Rose};
@@ -130,8 +130,8 @@ pub fn check<S: Shelf>(
     ensures told { ¬ IsErrOf result Stop.ReadFailed → S.faults shelf.new ≡ S.faults shelf.old }
     ensures never { S.steady shelf.old → S.tells shelf.old ≡ true → HoldsQuestion (S.files shelf.old) formula.now log.now NoThird → IsErrOf result Stop.ReadFailed → ⊥ }
     ensures later { S.faults shelf.old ≤ S.faults shelf.new }
-    ensures openings { OpensAtMost 2 (S.openings shelf.old) (S.openings shelf.new) }
-    ensures in_turn { S.tells shelf.old ≡ true → OpensMoreOnly 1 (PassesFormula (S.files shelf.old) formula.now) (S.openings shelf.old) (S.openings shelf.new) }
+    ensures openings { OpensAtMost (formula.now ∷ log.now ∷ []) (S.openings shelf.old) (S.openings shelf.new) }
+    ensures in_turn { S.tells shelf.old ≡ true → OpensMoreOnly (formula.now ∷ []) (PassesFormula (S.files shelf.old) formula.now) (S.openings shelf.old) (S.openings shelf.new) }
 {
     let question = read_question(alloc, shelf, formula, log)?;
     check_of_question(alloc, conflicts, &question)

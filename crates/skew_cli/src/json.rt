@@ -1,9 +1,9 @@
 //! What `json` answers: the text of the log that a JSON file is.
 
-ghost use Rattle.std.specs.Prelude.{◌≡◌, ◌^◌, ◌<◌, ◌≤◌, length, true, IfOk, IsErrOf, IsSome, Ok};
+ghost use Rattle.std.specs.Prelude.{◌≡◌, ◌∷◌, [], ◌^◌, ◌<◌, ◌≤◌, length, true, IfOk, IsErrOf, IsSome, Ok};
 ghost use Rattle.json_log.specs.JsonLogOf.{json_log_of};
 ghost use Rattle.mt_model.specs.Log.{IsPlain};
-ghost use Rattle.mt_port.specs.Port.{IsOneMore, Rose, file_of};
+ghost use Rattle.mt_port.specs.Port.{Opens, Rose, file_of};
 ghost use Rattle.skew_answers.specs.Statuses.{IsVerdict};
 ghost use Rattle.skew_commands.specs.Possible.{OfSomeLog};
 ghost use Rattle.skew_commands.specs.Stops.{Gives, RefusesFor};
@@ -56,7 +56,7 @@ pub fn json<S: Shelf>(alloc: Global, shelf: &mut S, name: &str) -> Result<Reply,
     ensures told { ¬ IsErrOf result Stop.ReadFailed → S.faults shelf.new ≡ S.faults shelf.old }
     ensures never { S.steady shelf.old → S.tells shelf.old ≡ true → IsSome (file_of (S.files shelf.old) name.now) → IsErrOf result Stop.ReadFailed → ⊥ }
     ensures later { S.faults shelf.old ≤ S.faults shelf.new }
-    ensures once { IsOneMore (S.openings shelf.old) (S.openings shelf.new) }
+    ensures once { Opens (name.now ∷ []) (S.openings shelf.old) (S.openings shelf.new) }
 {
     let file = files::file(alloc, shelf, name, JSON_LIMIT, Named::Json)?;
     let log = json_file(alloc, &file)?;

@@ -1,7 +1,7 @@
 //! What `trim` answers: a report whose refuted sections have the needed lines alone.
 
-ghost use Rattle.std.specs.Prelude.{◌≡◌, ◌^◌, ◌<◌, ◌≤◌, ℕ, List, length, true, IfOk, OnOk, IsErrOf, IsSome};
-ghost use Rattle.mt_port.specs.Port.{IsOneMore, Rose, file_of};
+ghost use Rattle.std.specs.Prelude.{◌≡◌, ◌∷◌, [], ◌^◌, ◌<◌, ◌≤◌, ℕ, List, length, true, IfOk, OnOk, IsErrOf, IsSome};
+ghost use Rattle.mt_port.specs.Port.{Opens, Rose, file_of};
 ghost use Rattle.proof_log.specs.declared.line.Line.{Line};
 ghost use Rattle.proof_log.specs.LinesOf.{IsTextOf};
 ghost use Rattle.proof_trim.specs.Placed.{IsTrimmedText};
@@ -149,7 +149,7 @@ pub fn trim<S: Shelf>(alloc: Global, shelf: &mut S, report: &str) -> Result<Repl
     ensures told { ¬ IsErrOf result Stop.ReadFailed → S.faults shelf.new ≡ S.faults shelf.old }
     ensures never { S.steady shelf.old → S.tells shelf.old ≡ true → IsSome (file_of (S.files shelf.old) report.now) → IsErrOf result Stop.ReadFailed → ⊥ }
     ensures later { S.faults shelf.old ≤ S.faults shelf.new }
-    ensures once { IsOneMore (S.openings shelf.old) (S.openings shelf.new) }
+    ensures once { Opens (report.now ∷ []) (S.openings shelf.old) (S.openings shelf.new) }
 {
     let file = files::file(alloc, shelf, report, REPORT_LIMIT, Named::Report)?;
     let outline = report_file::outline_of(alloc, &file)?;

@@ -1,10 +1,10 @@
-use Rattle.std.proofs.Common.{◌∙◌}
+use Rattle.std.proofs.Common.{◌∙◌, [], ◌∷◌, suc}
 use Rattle.std.proofs.lemmas.Result.{err_from_is_err_and}
 use Rattle.mt_model.specs.Form.{form_of}
 use Rattle.skew_cli.specs.AuditOutcome.{AuditOfLog}
 use Rattle.skew_commands.specs.Reads.{HoldsThird}
 use Rattle.skew_commands.proofs.Holding.{next-held, question-held}
-use Rattle.skew_commands.proofs.Opening.{more-opened, question-opened, third-opened}
+use Rattle.skew_commands.proofs.Opening.{question-opened, third-opened, two-of-more}
 use Rattle.skew_commands.proofs.Possible.{some-third-given, third-refused}
 use Rattle.skew_commands.proofs.Questions.{question-given, question-stopped}
 use Rattle.skew_cli.proofs.audit.audit.Goals as goal
@@ -48,8 +48,14 @@ returns-clause-possible g c =
     some-third-given q.text.items (form_of q.formula) q.log c.in_ok-question.ensures.some_read c.audit_of_question.result
     (λ files. AuditOfLog files c.args.conflicts) c.audit_of_question.ensures.possible
 
+pub returns-in_err-question-clause-openings : goal.returns-in_err-question-clause-openings
+returns-in_err-question-clause-openings g c =
+    two-of-more c.args.formula.now c.args.log.now (c.args.report.now ∷ []) (g.S.Shelf.openings c.args.shelf.now) (g.S.Shelf.openings c.read_question.new.shelf) c.in_err-question.ensures.openings
+
 pub returns-clause-openings : goal.returns-clause-openings
-returns-clause-openings g c = more-opened 2 1 _ _ _ c.in_ok-question.ensures.openings c.audit_of_question.ensures.openings
+returns-clause-openings g c =
+    let more = c.audit_of_question.ensures.openings in
+    (suc (suc more.0), λ past told. more.1 (c.args.log.now ∷ c.args.formula.now ∷ past) (c.in_ok-question.ensures.both past told))
 
 pub returns-in_err-question-clause-in_turn : goal.returns-in_err-question-clause-in_turn
 returns-in_err-question-clause-in_turn g c = λ tells. question-opened _ _ _ _ _ c.in_err-question.ensures.openings (c.in_err-question.ensures.in_turn tells)
@@ -57,4 +63,4 @@ returns-in_err-question-clause-in_turn g c = λ tells. question-opened _ _ _ _ _
 pub returns-clause-in_turn : goal.returns-clause-in_turn
 returns-clause-in_turn g c = λ tells.
     let q = c.in_ok-question.question in
-    third-opened _ _ _ q.text.items (form_of q.formula) q.log _ _ _ (c.in_ok-question.ensures.read tells) c.in_ok-question.ensures.openings c.audit_of_question.ensures.in_turn
+    third-opened _ _ _ q.text.items (form_of q.formula) q.log _ (g.S.Shelf.openings c.read_question.new.shelf) _ (c.in_ok-question.ensures.read tells) c.in_ok-question.ensures.both c.audit_of_question.ensures.in_turn

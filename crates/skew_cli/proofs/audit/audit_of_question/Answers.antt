@@ -9,7 +9,6 @@ use Rattle.skew_cli.specs.AuditOutcome.{AuditOfReport}
 use Rattle.skew_best.specs.SizeTests.{OnSize}
 use Rattle.skew_cli.specs.ReportTests.{TellsFaultyLine, OnReport}
 use Rattle.skew_cli.proofs.ReportSteps.{report-read, report-refused}
-use Rattle.skew_commands.proofs.Opening.{none-opened}
 use Rattle.skew_commands.proofs.Possible.{third-long, third-read, third-uncounted, third-unread}
 use Rattle.skew_commands.proofs.Steps.{At, gives-weaker, reason-weaker, third-given, third-too_long}
 use Rattle.skew_cli.proofs.audit.audit_of_question.Goals as goal
@@ -107,11 +106,26 @@ returns-clause-possible g c =
     (gives-weaker c.audit_of_report.result (OnSize f q.log (AuditOfReport c.args.conflicts f q.log report)) (AuditOfFile c.args.conflicts f q.log file)
     (λ out s. report-read file (λ r. OnSize f q.log (AuditOfReport c.args.conflicts f q.log r)) report out s reads) (c.audit_of_report.ensures.outcome report o.outlined o.is.spelled))
 
+pub returns-in_err-known_hosts-clause-openings : goal.returns-in_err-known_hosts-clause-openings
+returns-in_err-known_hosts-clause-openings g c = (0, λ past told. told)
+
+pub returns-in_err-few_nodes-clause-openings : goal.returns-in_err-few_nodes-clause-openings
+returns-in_err-few_nodes-clause-openings g c = (0, λ past told. told)
+
+pub returns-in_err-file-clause-openings : goal.returns-in_err-file-clause-openings
+returns-in_err-file-clause-openings g c = (1, c.in_err-file.ensures.once)
+
+pub returns-in_err-outline-clause-openings : goal.returns-in_err-outline-clause-openings
+returns-in_err-outline-clause-openings g c = (1, c.in_ok-file.ensures.once)
+
+pub returns-clause-openings : goal.returns-clause-openings
+returns-clause-openings g c = (1, c.in_ok-file.ensures.once)
+
 pub returns-in_err-known_hosts-clause-in_turn : goal.returns-in_err-known_hosts-clause-in_turn
-returns-in_err-known_hosts-clause-in_turn g c = inl (none-opened _)
+returns-in_err-known_hosts-clause-in_turn g c = inl (0, λ past told. told)
 
 pub returns-in_err-few_nodes-clause-in_turn : goal.returns-in_err-few_nodes-clause-in_turn
-returns-in_err-few_nodes-clause-in_turn g c = inl (none-opened _)
+returns-in_err-few_nodes-clause-in_turn g c = inl (0, λ past told. told)
 
 pub returns-in_err-file-clause-in_turn : goal.returns-in_err-file-clause-in_turn
 returns-in_err-file-clause-in_turn g c = inr (c.in_ok-known_hosts.ensures.known, c.in_ok-few_nodes.ensures.few)

@@ -1,4 +1,3 @@
-use Rattle.skew_commands.proofs.Opening.{none-opened}
 use Rattle.skew_cli.proofs.program.work.Goals as goal
 
 pub returns-in-Replay-clause-outcome : goal.returns-in-Replay-clause-outcome
@@ -41,7 +40,19 @@ pub returns-in-Span-clause-possible : goal.returns-in-Span-clause-possible
 returns-in-Span-clause-possible g c = rw c.in-Span.is c.span.ensures.possible
 
 pub returns-in-Demo-clause-openings : goal.returns-in-Demo-clause-openings
-returns-in-Demo-clause-openings g c = rw c.in-Demo.is (none-opened _)
+returns-in-Demo-clause-openings g c = rw c.in-Demo.is (0, λ past told. told)
+
+pub returns-in-Times-clause-openings : goal.returns-in-Times-clause-openings
+returns-in-Times-clause-openings g c = rw c.in-Times.is (1, c.times.ensures.once)
+
+pub returns-in-Order-clause-openings : goal.returns-in-Order-clause-openings
+returns-in-Order-clause-openings g c = rw c.in-Order.is (1, c.order.ensures.once)
+
+pub returns-in-Trim-clause-openings : goal.returns-in-Trim-clause-openings
+returns-in-Trim-clause-openings g c = rw c.in-Trim.is (1, c.trim.ensures.once)
+
+pub returns-in-Json-clause-openings : goal.returns-in-Json-clause-openings
+returns-in-Json-clause-openings g c = rw c.in-Json.is (1, c.json.ensures.once)
 
 pub returns-in-Replay-clause-in_turn : goal.returns-in-Replay-clause-in_turn
 returns-in-Replay-clause-in_turn g c = rw c.in-Replay.is c.replay.ensures.in_turn
