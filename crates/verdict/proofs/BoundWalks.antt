@@ -1,6 +1,5 @@
 -- Walks over the bounds of a text.
 use Rattle.std.proofs.Common.{◌≡◌, ◌∙◌, sym, ap, subst, ℕ, ◌+◌, ◌<◌, ◌≤◌, List, [], ◌∷◌, ◌++◌, length, get_or, drop, take, arith}
-use Rattle.std.specs.Prelude.{All}
 use Rattle.std.specs.List.{flat_map}
 use Rattle.std.proofs.lemmas.List.{drop_more, take_all, take_more}
 use Rattle.std.proofs.lemmas.List.Elements.{All-get_or}
@@ -10,12 +9,7 @@ use Rattle.proof_check.specs.declared.cycle_walk.CycleWalk.{CycleWalk}
 use Rattle.proof_check.specs.Walking.{HasRoom, HasWalked}
 use Rattle.report_text.specs.ReportText.{bound_text}
 use Rattle.report_text.specs.Spelled.{IsSpelledBound}
-
--- the steps are so many bounds, and this is their text
-pub record AreBoundsOf (count : ℕ) (text : List ℕ) (steps : List Step) : Type 0 where
-  pub full : length steps ≡ count
-  pub each : All IsSpelledBound steps
-  pub are : flat_map bound_text steps ≡ text
+use Rattle.verdict.specs.OfOutlines.{AreBoundsOf}
 
 -- the walk is that of the first i steps, and the rest is the text of the others
 pub record AreWalkedTo (log : Logged) (i : ℕ) (rest : List ℕ) (walk : CycleWalk) (steps : List Step) : Type 0 where

@@ -1,15 +1,10 @@
 //! The audit of walks by their text, of which one bound at a time is read.
 
-ghost use Rattle.std.specs.Prelude.{◌≡◌, ℕ, All, List, length, MatchOption};
-ghost use Rattle.std.specs.List.{flat_map};
+ghost use Rattle.std.specs.Prelude.{List, MatchOption};
 ghost use Rattle.mt_model.specs.declared.step.Step.{Step};
-ghost use Rattle.mt_model.specs.Form.{Form};
 ghost use Rattle.skew_bounds.specs.RowEdges.{IsEdgeTableOf};
 ghost use Rattle.proof_check.specs.Walking.{HasWalked};
-ghost use Rattle.report_text.specs.ReportText.{bound_text};
-ghost use Rattle.report_text.specs.Spelled.{IsSpelledBound};
-ghost use Rattle.report_text.specs.declared.report.Report.TheVariants as report;
-ghost use Rattle.verdict.specs.AuditPlace.{IsAudit};
+ghost use Rattle.verdict.specs.OfOutlines.{AreBoundsOf, IsWalkAudit};
 
 use crate::{Audit, Part};
 use mt_model::Log;
@@ -20,7 +15,7 @@ use skew_bounds::EdgeTable;
 // The walk over so many bounds of which the text is given. None of them is kept.
 fn walk_of(log: &Log, table: &EdgeTable, count: u32, text: &[u8]) -> Option<CycleWalk>
     requires table { IsEdgeTableOf log.now table.now }
-    ensures { (steps : List Step) → length steps ≡ count → All IsSpelledBound steps → flat_map bound_text steps ≡ text.now → MatchOption result ⊥ (HasWalked log.now steps) }
+    ensures { (steps : List Step) → AreBoundsOf count text.now steps → MatchOption result ⊥ (HasWalked log.now steps) }
 {
     let mut walk = CycleWalk::new();
     let mut rest = text;
@@ -37,7 +32,7 @@ fn walk_of(log: &Log, table: &EdgeTable, count: u32, text: &[u8]) -> Option<Cycl
 /// What an audit says of a walk of so many bounds, on as many events as the log has rows.
 pub fn audit_of_bounds(log: &Log, table: &EdgeTable, count: u32, text: &[u8]) -> Audit
     requires table { IsEdgeTableOf log.now table.now }
-    ensures { (steps : List Step) → length steps ≡ count → All IsSpelledBound steps → flat_map bound_text steps ≡ text.now → (f : Form) (budget events : ℕ) → events ≡ length log.now.rows → IsAudit log.now f budget (report.Inconsistent events steps) result }
+    ensures { (steps : List Step) → AreBoundsOf count text.now steps → IsWalkAudit log.now steps result }
 {
     let part = Part::Inconsistent;
     let Some(walk) = walk_of(log, table, count, text) else {

@@ -1,26 +1,24 @@
 //! The audit of reports by their outlines: of a derivation one line at a time is read.
 
-ghost use Rattle.std.specs.Prelude.{◌≡◌, ◌↔◌, ◌<◌, ◌^◌, ℕ, Bool, List, length, IfErr, IfOk, IsTrue, OnOk, None};
-ghost use Rattle.mt_model.specs.Form.{Form, form_of};
-ghost use Rattle.mt_model.specs.Log.{Logged};
+ghost use Rattle.std.specs.Prelude.{◌≡◌, ◌↔◌, ◌<◌, ◌^◌, ℕ, List, length, IfErr, IfOk, IsTrue, OnOk, None};
+ghost use Rattle.mt_model.specs.Form.{form_of};
 ghost use Rattle.mt_model.specs.State.{unknown_host};
 ghost use Rattle.mt_model.specs.Timing.{Admissible};
 ghost use Rattle.skew_bounds.specs.System.{IsSystemOf};
-ghost use Rattle.proof_log.specs.Freshness.{learn_lines};
 ghost use Rattle.proof_log.specs.LinesOf.{IsTextOf};
 ghost use Rattle.proof_log.specs.declared.line.Line.{Line};
 ghost use Rattle.proof_check.specs.Answering.{IsAnswer};
 ghost use Rattle.report_text.specs.Outlines.{IsOutlineIn, IsOutlineOf, IsSectionOutline};
 ghost use Rattle.report_text.specs.ReportText.{events_of as events_of_report};
-ghost use Rattle.report_text.specs.Spelled.{IsSpelled, IsSpelledSection, IsSpelledWitness};
+ghost use Rattle.report_text.specs.Spelled.{IsSpelledSection, IsSpelledWitness};
 ghost use Rattle.report_text.specs.declared.report.Report.{Report};
 ghost use Rattle.report_text.specs.declared.report.Section.{Section};
 ghost use Rattle.verdict.specs.AuditPlace.{AuditPlace, IsAccepted, IsAudit, IsJudgedAt};
 ghost use Rattle.verdict.specs.Claims.{Claims};
+ghost use Rattle.verdict.specs.OfOutlines.{CountsLearnLines, OfAnswer, OfOutline, OfSection, OfVerdicts};
 ghost use Rattle.question.specs.Faults.{IsFault, IsJudged};
 ghost use Rattle.verdict.specs.Right.{IsRight, IsWitness};
 ghost use Rattle.report_text.specs.declared.report.Section.TheVariants as section;
-ghost use Rattle.report_text.specs.declared.report.Report.TheVariants as report;
 
 use crate::bounds::audit_of_bounds;
 use crate::laws::{accepted_reports_are_true, audits_are_exact, right_reports_are_accepted};
@@ -74,7 +72,7 @@ fn checked_text(
 ) -> Result<TextCheck, AllocError>
     requires few { length text.now < 2 ^ 31 }
     ensures answer { IfOk result (λ t. (lines : List Line) → IsTextOf text.now lines → IsAnswer question.now.log question.now.form value lines t.check) }
-    ensures learn { IfOk result (λ t. (lines : List Line) → IsTextOf text.now lines → t.check ≡ Check.Derives → t.learn_lines ≡ learn_lines lines) }
+    ensures learn { IfOk result (λ t. (lines : List Line) → IsTextOf text.now lines → CountsLearnLines t lines) }
 {
     let mut judge = Checker::by(alloc, question.log(), question.nodes(), value)?;
     judge.check_text(text)
@@ -82,7 +80,7 @@ fn checked_text(
 
 // The line at which a refuted section fails whose lines are this, and None where it shows what it says.
 fn refuted_line(check: Check) -> Option<u32>
-    ensures { (log : Logged) (f : Form) (budget : ℕ) (v : Bool) (lines : List Line) → IsAnswer log f v lines check → IsJudgedAt log f budget v (section.Refuted lines) result }
+    ensures { OfAnswer check (λ log f v lines. (budget : ℕ) → IsJudgedAt log f budget v (section.Refuted lines) result) }
 {
     match check {
         Check::Refutes => None,
@@ -93,7 +91,7 @@ fn refuted_line(check: Check) -> Option<u32>
 
 // The same of an unknown section.
 fn unknown_line(budget: u32, found: TextCheck) -> Option<u32>
-    ensures { (log : Logged) (f : Form) (v : Bool) (lines : List Line) → IsAnswer log f v lines found.check → (found.check ≡ Check.Derives → found.learn_lines ≡ learn_lines lines) → IsJudgedAt log f budget v (section.Unknown lines) result }
+    ensures { OfAnswer found.check (λ log f v lines. CountsLearnLines found lines → IsJudgedAt log f budget v (section.Unknown lines) result) }
 {
     match found.check {
         Check::Derives if found.learn_lines == budget => None,
@@ -112,7 +110,8 @@ fn failing_line(
 ) -> Result<Option<u32>, AllocError>
     requires short { length outline.text.now < 2 ^ 31 }
     requires some { (s : Section) × IsSectionOutline outline s × IsSpelledSection (length question.now.log.rows) s }
-    ensures { IfOk result (λ line. (s : Section) → IsSectionOutline outline.entry s → IsSpelledSection (length question.now.log.rows) s → IsJudgedAt question.now.log question.now.form budget value s line) }
+    ensures { let log = question.now.log in
+        IfOk result (λ line. OfSection outline.entry (length log.rows) (λ s. IsJudgedAt log question.now.form budget value s line)) }
 {
     match outline.kind {
         Kind::Witness => {
@@ -143,7 +142,8 @@ fn audit_of_sections(
     requires false_short { length on_false.text.now < 2 ^ 31 }
     requires true_some { (s : Section) × IsSectionOutline on_true s × IsSpelledSection (length question.now.log.rows) s }
     requires false_some { (s : Section) × IsSectionOutline on_false s × IsSpelledSection (length question.now.log.rows) s }
-    ensures { IfOk result (λ a. (events : ℕ) (s t : Section) → events ≡ length question.now.log.rows → IsSectionOutline on_true.entry s → IsSectionOutline on_false.entry t → IsSpelledSection (length question.now.log.rows) s → IsSpelledSection (length question.now.log.rows) t → IsAudit question.now.log question.now.form budget (report.Verdicts events s t) a) }
+    ensures { let log = question.now.log in
+        IfOk result (λ a. OfVerdicts on_true.entry on_false.entry (length log.rows) (λ r. IsAudit log question.now.form budget r a)) }
 {
     if let Some(line) = failing_line(alloc, question, budget, true, on_true)? {
         let part = Part::OnTrue;
@@ -173,7 +173,7 @@ fn audit_by(
     outline: Outline,
 ) -> Result<Audit, AllocError>
     requires whole { (bytes : List ℕ) × (length bytes < 2 ^ 31) × IsOutlineIn bytes outline }
-    ensures { IfOk result (λ a. (r : Report) → IsOutlineOf outline.entry r → IsSpelled r → IsAudit question.now.log question.now.form budget r a) }
+    ensures { IfOk result (λ a. OfOutline outline.entry (λ r. IsAudit question.now.log question.now.form budget r a)) }
 {
     let log = question.log();
     if events_of(outline) as usize != log.rows().len() {
@@ -204,7 +204,7 @@ fn audit_on(
 ) -> Result<Audit, VerdictFault>
     requires hosts { unknown_host log.now nodes.now ≡ None }
     requires whole { (bytes : List ℕ) × (length bytes < 2 ^ 31) × IsOutlineIn bytes outline }
-    ensures audit { IfOk result (λ a. (r : Report) → IsOutlineOf outline.entry r → IsSpelled r → IsAudit log.now nodes.now budget r a) }
+    ensures audit { IfOk result (λ a. OfOutline outline.entry (λ r. IsAudit log.now nodes.now budget r a)) }
     ensures judged { OnOk result (IsJudged log.now nodes.now) }
     ensures fault { IfErr result (IsFault log.now nodes.now) }
 {
@@ -223,9 +223,10 @@ pub fn audit_outline(
     outline: Outline,
 ) -> Result<Audit, VerdictFault>
     requires whole { (bytes : List ℕ) × (length bytes < 2 ^ 31) × IsOutlineIn bytes outline }
-    ensures accepted { IfOk result (λ a. (r : Report) → IsOutlineOf outline.entry r → IsSpelled r → (a ≡ Audit.Accepted) ↔ IsAccepted log.now (form_of f.now) budget r) }
-    ensures refused { IfOk result (λ a. (r : Report) → IsOutlineOf outline.entry r → IsSpelled r → (part : Part) (line : ℕ) → (a ≡ Audit.Refused part line) ↔ AuditPlace log.now (form_of f.now) budget r part line) }
-    ensures claims { IfOk result (λ a. (r : Report) → IsOutlineOf outline.entry r → IsSpelled r → a ≡ Audit.Accepted → Claims log.now (form_of f.now) r) }
+    ensures accepted { IfOk result (λ a. OfOutline outline.entry (λ r. (a ≡ Audit.Accepted) ↔ IsAccepted log.now (form_of f.now) budget r)) }
+    ensures refused { let form = form_of f.now in
+        IfOk result (λ a. OfOutline outline.entry (λ r. (part : Part) (line : ℕ) → (a ≡ Audit.Refused part line) ↔ AuditPlace log.now form budget r part line)) }
+    ensures claims { IfOk result (λ a. OfOutline outline.entry (λ r. a ≡ Audit.Accepted → Claims log.now (form_of f.now) r)) }
     ensures right { IfOk result (λ a. (r : Report) → IsOutlineOf outline.entry r → IsRight log.now (form_of f.now) budget r → a ≡ Audit.Accepted) }
     ensures judged { OnOk result (IsJudged log.now (form_of f.now)) }
     ensures fault { IfErr result (IsFault log.now (form_of f.now)) }

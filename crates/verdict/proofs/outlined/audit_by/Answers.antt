@@ -11,6 +11,6 @@ returns-in_ok-table-in-Inconsistent c = λ r out spelled.
     let bounds = rw o.is at spelled in
     let count : c.events_of.result ≡ c.in-Inconsistent.events = c.events_of.ensures r out ∙ ap events_of o.is in
     let same : c.in-Inconsistent.events ≡ length log.rows = omega (arith, count, ap length c.rows.ensures.same) in
-    let walk = c.audit_of_bounds.ensures o.steps o.full bounds.walk.each o.are f c.args.budget c.in-Inconsistent.events same in
+    let walk = c.audit_of_bounds.ensures o.steps (record { full = o.full; each = bounds.walk.each; are = o.are }) f c.args.budget c.in-Inconsistent.events same in
     subst (λ l. IsAudit l f c.args.budget r c.audit_of_bounds.result) c.log-log.ensures.log
     (subst (λ x. IsAudit log f c.args.budget x c.audit_of_bounds.result) (sym o.is) walk)
