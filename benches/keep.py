@@ -2,8 +2,8 @@
 
 Run as: python3 benches/keep.py BENCH [WORDS..]
 
-BENCH is `check`, `proofs` or `times`, whose WORDS come behind it. The file has its name, and is written once the bench
-has ended; a program among WORDS is told by its checksum alone.
+BENCH is `beside`, `check`, `proofs`, `second` or `times`, whose WORDS come behind it. The file has its name, and is
+written once the bench has ended; a program among WORDS is told by its checksum alone.
 """
 
 import argparse
@@ -19,7 +19,8 @@ from pathlib import Path
 sys.dont_write_bytecode = True  # leaves no compiled files beside the sources
 
 ROOT = Path(__file__).resolve().parent.parent
-BENCHES = {"check": [sys.executable, "benches/check.py"], "proofs": [sys.executable, "benches/proofs.py"], "times": ["benches/times.sh"]}
+BENCHES = {name: [sys.executable, f"benches/{name}.py"] for name in ("beside", "check", "proofs", "second")}
+BENCHES["times"] = ["benches/times.sh"]
 BUILT = ROOT / "crates/skewcheck/out/skewcheck"
 
 

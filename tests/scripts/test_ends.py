@@ -17,13 +17,14 @@ HEAD = f"import sys\nsys.path.insert(0, {str(ROOT / 'tests')!r})\nimport ends\n"
 UNKNOWN = ["--no-such-option"]
 COMPARISONS = sorted(path.name for path in (ROOT / "tests" / "reference").glob("compare*.py") if path.stem != "compare_best")
 WITH_OPERANDS = [
-    "benches/inputs.py", "benches/keep.py", "tests/examples/examples.py", "tests/hostile/hostile.py", "tests/hostile/limits.py",
-    "tests/hostile/timed.py", "tests/unittests.py",
+    "benches/inputs.py", "benches/keep.py", "benches/z3.py", "tests/examples/examples.py", "tests/hostile/hostile.py",
+    "tests/hostile/limits.py", "tests/hostile/timed.py", "tests/unittests.py",
     *(f"tests/reference/{name}" for name in ("demo_log.py", "derivations.py", "freshness.py", *COMPARISONS)),
 ]
 WITHOUT = [
-    "benches/check.py", "benches/proofs.py", "tests/ask/agreement.py", "tests/ask/windows_agreement.py",
-    "tests/clauses/figures", "tests/clauses/print", "tests/clauses/unreached", "tests/hostile/launcher.py", "tests/wrong/run",
+    "benches/beside.py", "benches/check.py", "benches/proofs.py", "benches/second.py", "tests/ask/agreement.py",
+    "tests/ask/windows_agreement.py", "tests/clauses/figures", "tests/clauses/print", "tests/clauses/unreached",
+    "tests/hostile/launcher.py", "tests/wrong/run",
     *(f"tests/reference/{name}" for name in ("check_freshness.py", "long")),
     *(f"tests/reference/selfcheck{name}.py" for name in ("", "_best", "_reports")),
 ]
