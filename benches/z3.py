@@ -8,7 +8,8 @@ whether the formula can be true and whether it can be false. With `--text` it is
 It is written as a careful user of a solver would write it from `docs/definitions.md`: an integer for each row and each
 clock, the bounds of the log as differences, and a Boolean for each part of the formula and each row, which says whether
 the part is true at the instant of the row. How two rows stand to each other is left out where their stamps and skews
-alone decide it, and so is what nothing asks for. `beside.py` times the answers.
+alone decide it, and so is what nothing asks for. All times are told from a zero moment: z3 is slower by far where a time
+by itself is compared with a number. `beside.py` times the answers.
 """
 
 import argparse
@@ -29,7 +30,6 @@ import reference
 
 VALUES = ("true", "false")
 FUTURE = ("F", "G", "U")
-PAST = ("O", "H", "S")
 VERDICTS = {("sat", "unsat"): "true", ("unsat", "sat"): "false", ("sat", "sat"): "either", ("unsat", "unsat"): "inconsistent"}
 NO_VERDICT = "unknown"
 
