@@ -5,9 +5,11 @@ Run as: python3 benches/beside.py [PROGRAM] [--patience SECONDS] [--only FAMILY.
 PROGRAM is the built program of this folder where none is given. The families stand in `families.py`, and what z3 is
 asked in `z3.py`. Each family has logs of 24, 64 and 256 rows, or of those of `--rows`; for a size that it doesn't have
 the nearest one is taken. Of each log one run of the program is timed, and then one run of z3 for each truth value,
-whose seconds are added. All are seconds of processor time, the start of the process included; to write the question
-isn't counted. A run that takes longer than the patience, 60 seconds where none is given, is stopped, and larger logs of
-its family are left out.
+whose seconds are added. All are seconds of processor time, the start of the process included. A run that takes longer
+than the patience, 60 seconds where none is given, is stopped, and larger logs of its family are left out.
+
+What it takes to write a question for z3 isn't counted. A row has the mark `stamps` where stamps and skews alone decide
+the formula, so that z3 is asked nothing of it.
 
 A ratio is the program's time by that of z3, each of which counts as 0.03 seconds at least, what it takes to start a
 solver. One that was stopped counts as it was then. The last lines tell the geometric mean and the greatest ratio.
@@ -63,18 +65,21 @@ class Answers(NamedTuple):
     solver: Took
     verdict: str  # of the program
     said: tuple  # of z3, on true and on false
+    is_decided: bool  # by stamps and skews, so that z3 isn't asked of the formula
 
 
-def answers_to(formula, log, program, folder, patience):
+def answers_to(formula, log, name, folder, patience):
     """The answers to a question, one side after the other."""
     for file, data in (("f", formula), ("l", log)):
         Path(folder, file).write_bytes(data)
-    checked = check.taken([program, "check", "f", "l"], folder, patience)
+    checked = check.taken([name, "check", "f", "l"], folder, patience)
     question = z3.question_of(formula, log)
-    runs = [solved(question.text(value), folder, patience) for value in z3.VALUES]
+    texts = [question.text(value) for value in z3.VALUES]
+    runs = [solved(text, folder, patience) for text in texts]
     solver = Took(sum(run.seconds for run in runs), any(run.status < 0 for run in runs))
     said = tuple(STOPPED if run.status < 0 else run.output.decode().strip() for run in runs)
-    return Answers(Took(checked.seconds, checked.status < 0), solver, verdict_of(checked.status), said)
+    program = Took(checked.seconds, checked.status < 0)
+    return Answers(program, solver, verdict_of(checked.status), said, all(map(z3.is_decided, texts)))
 
 
 def solved(text, folder, patience):
@@ -148,7 +153,9 @@ def table(arguments, program, folder):
 
 def row_of(family, rows, answers):
     """The row of a question."""
-    mark = "" if agree(answers.verdict, answers.said) else f"z3 says {' and '.join(answers.said)}"
+    mark = "stamps" if answers.is_decided else ""
+    if not agree(answers.verdict, answers.said):
+        mark = f"z3 says {' and '.join(answers.said)}"
     took = [side.shown() for side in (answers.program, answers.solver)]
     return COLUMNS.format(family.title, rows, *took, shown_ratio(answers), answers.verdict, mark).rstrip()
 
@@ -156,11 +163,14 @@ def row_of(family, rows, answers):
 def closing(found):
     """The lines behind the table."""
     ratios = [ratio_of(answers) for _, answers in found]
+    asked = [ratio for ratio, (_, answers) in zip(ratios, found) if not answers.is_decided]
     worst = max(range(len(found)), key=ratios.__getitem__)
     stopped = [sum(side(answers).was_stopped for _, answers in found) for side in (lambda a: a.program, lambda a: a.solver)]
     differing = sum(not agree(answers.verdict, answers.said) for _, answers in found)
     yield f"{len(found)} questions; the program was stopped at {stopped[0]} of them, and z3 at {stopped[1]}"
     yield f"geometric mean of the ratios {geometric_mean(ratios):.3f}, the greatest {ratios[worst]:.3f} ({found[worst][0]})"
+    if asked:
+        yield f"geometric mean of the {len(asked)} that stamps don't decide {geometric_mean(asked):.3f}"
     yield f"{differing} verdicts differ"
 
 

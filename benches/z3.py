@@ -250,6 +250,11 @@ def question_of(formula, log):
     return Question(read, tree)
 
 
+def is_decided(text):
+    """Whether a question asks no more than whether the log admits a timing, or not even that."""
+    return text.splitlines()[-2] in [f"(assert {value})" for value in VALUES]
+
+
 def verdict_of(answers):
     """What z3's answers on true and false come to."""
     return VERDICTS.get(tuple(answers), NO_VERDICT)

@@ -20,9 +20,9 @@ HEAD = b"kind,host,time,name\nhost,a,2,1\nhost,b,2,1\n"
 THIRD = b"skewlog3,host,time,name\nhost,a,2,1\nhost,b,2,1\n"
 
 
-def answers(program, solver, verdict="true", said=("sat", "unsat"), stopped=(False, False)):
+def answers(program, solver, verdict="true", said=("sat", "unsat"), stopped=(False, False), is_decided=False):
     """The answers to a question that took so many seconds."""
-    return Answers(Took(program, stopped[0]), Took(solver, stopped[1]), verdict, said)
+    return Answers(Took(program, stopped[0]), Took(solver, stopped[1]), verdict, said, is_decided)
 
 
 def lines_of(log, formula, value="true"):
@@ -50,13 +50,14 @@ class Ratios(unittest.TestCase):
 
     def test_closing_lines(self):
         found = [
-            ("leases, 24 rows", answers(0.003, 0.24)),
+            ("leases, 24 rows", answers(0.003, 0.24, is_decided=True)),
             ("jobs, 16 rows", answers(8, 1)),
             ("pulses, 24 rows", answers(0.06, 60, "either", (beside.STOPPED, "sat"), (False, True))),
         ]
         self.assertEqual(list(beside.closing(found)), [
             "3 questions; the program was stopped at 0 of them, and z3 at 1",
             "geometric mean of the ratios 0.100, the greatest 8.000 (jobs, 16 rows)",
+            "geometric mean of the 2 that stamps don't decide 0.089",
             "0 verdicts differ",
         ])
 
@@ -81,9 +82,12 @@ class Verdicts(unittest.TestCase):
         self.assertEqual([beside.verdict_of(status) for status in (0, 1, 2, 3)], ["true", "false", "either", "inconsistent"])
         self.assertEqual({beside.verdict_of(status) for status in (4, 64, -9)}, {"unknown"})
 
-    def test_a_verdict_that_differs_is_told_beside_its_row(self):
-        row = beside.row_of(FAMILIES[0], 24, answers(0.3, 0.1, "true", ("sat", "sat")))
-        self.assertEqual(row.split(), "request and response 24 0.300 0.100 3.000 true z3 says sat and sat".split())
+    def test_marks_of_a_row(self):
+        for said, is_decided, mark in (
+            (("sat", "unsat"), False, ""), (("sat", "unsat"), True, "stamps"), (("sat", "sat"), True, "z3 says sat and sat"),
+        ):
+            row = beside.row_of(FAMILIES[0], 24, answers(0.3, 0.1, "true", said, is_decided=is_decided))
+            self.assertEqual(row.split(), f"request and response 24 0.300 0.100 3.000 true {mark}".split())
 
 
 class Tables(unittest.TestCase):
@@ -130,11 +134,13 @@ class Questions(unittest.TestCase):
         ):
             with self.subTest(formula=formula):
                 self.assertEqual(lines_of(log, formula, value)[-1], f"(assert {asked})")
+                self.assertTrue(z3.is_decided(z3.question_of(formula, log).text(value)))
 
     def test_a_distance(self):
         near = "(<= (- t1 t0) 9)"
         lines = lines_of(HEAD + b"set,a,10,p\nset,b,19,q\n", b"F[0,9] b.q", "false")
         self.assertEqual(lines, [f"(assert (= b1_0 {near}))", "(assert (not b1_0))"])
+        self.assertFalse(z3.is_decided("\n".join([*lines, "(check-sat)"])))
 
     def test_the_first_row_may_be_either(self):
         lines = lines_of(HEAD + b"set,a,10,p\nset,b,11,q\n", b"b.q")
