@@ -1,7 +1,7 @@
 # What the scripts `run` of the folders beside this file have in common, which they source. It goes to the top of the
 # repository, leaves all out where python3 or one of the packages that `needs` lists isn't here, each of which has a
 # command of its own name, and names in SKEWCHECK the program: that of the environment, or the built one, which is
-# built where it isn't.
+# built where it isn't. A script that runs no program says so by `runs_program=no`, and none is built for it.
 folder=tests/$(basename "$(dirname "$(readlink -f "$0")")")
 cd "$(dirname "${BASH_SOURCE[0]}")/.." || exit 74
 for package in python3 "${needs[@]}"; do
@@ -11,6 +11,7 @@ for package in python3 "${needs[@]}"; do
     exit 0
   fi
 done
+[ "${runs_program-yes}" = yes ] || return 0
 export SKEWCHECK=${SKEWCHECK:-$PWD/crates/skewcheck/out/skewcheck}
 [ -x "$SKEWCHECK" ] || ./skewcheck -- </dev/null >/dev/null
 [ -x "$SKEWCHECK" ] || exit 72
