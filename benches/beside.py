@@ -42,6 +42,7 @@ COLUMNS = "{:<22} {:>4} {:>9} {:>9} {:>9} {:>8}  {}"
 HEADS = ("check", "rows", "program", "z3", "ratio", "verdict", "")
 STATUSES = {0: "true", 1: "false", 2: "either", 3: "inconsistent"}  # of check, with the verdicts
 STOPPED = "stopped"  # what a run says that was stopped
+SIGNAL = "signal"  # and one that a signal ended before, with its number
 
 
 # Answers
@@ -77,7 +78,7 @@ def answers_to(formula, log, name, folder, patience):
     texts = [question.text(value) for value in z3.VALUES]
     runs = [solved(text, folder, patience) for text in texts]
     solver = Took(sum(run.seconds for run in runs), any(run.status < 0 for run in runs))
-    said = tuple(STOPPED if run.status < 0 else run.output.decode().strip() for run in runs)
+    said = tuple(said_by(run, patience) for run in runs)
     program = Took(checked.seconds, checked.status < 0)
     return Answers(program, solver, verdict_of(checked.status), said, all(map(z3.is_decided, texts)))
 
@@ -86,6 +87,13 @@ def solved(text, folder, patience):
     """One run of z3."""
     Path(folder, "q").write_text(text)
     return check.taken(["z3", "q"], folder, patience)
+
+
+def said_by(run, patience):
+    """What a run of z3 says: its answer, that it was stopped after the patience, or the signal that ended it before."""
+    if run.status >= 0:
+        return run.output.decode().strip()
+    return STOPPED if run.seconds > patience - 1 else f"{SIGNAL} {-run.status}"
 
 
 def verdict_of(status):
@@ -98,7 +106,7 @@ def agree(verdict, said):
     if verdict == z3.NO_VERDICT:
         return True
     expected = next(answers for answers, other in z3.VERDICTS.items() if other == verdict)
-    return all(answer in (STOPPED, right) for answer, right in zip(said, expected))
+    return all(answer in (STOPPED, right) or answer.startswith(SIGNAL) for answer, right in zip(said, expected))
 
 
 # Ratios
@@ -154,7 +162,7 @@ def table(arguments, program, folder):
 def row_of(family, rows, answers):
     """The row of a question."""
     mark = "stamps" if answers.is_decided else ""
-    if not agree(answers.verdict, answers.said):
+    if not agree(answers.verdict, answers.said) or any(answer.startswith(SIGNAL) for answer in answers.said):
         mark = f"z3 says {' and '.join(answers.said)}"
     took = [side.shown() for side in (answers.program, answers.solver)]
     return COLUMNS.format(family.title, rows, *took, shown_ratio(answers), answers.verdict, mark).rstrip()

@@ -78,6 +78,10 @@ class Verdicts(unittest.TestCase):
         self.assertFalse(beside.agree("either", ("sat", '(error "line 1")')))
         self.assertTrue(beside.agree("unknown", ("sat", "unsat")))
 
+    def test_what_a_run_says(self):
+        for status, seconds, said in ((0, 2, "sat"), (-9, 59.9, beside.STOPPED), (-24, 60.1, beside.STOPPED), (-9, 20, "signal 9")):
+            self.assertEqual(beside.said_by(beside.check.Taken(status, seconds, 0, b"sat\n"), 60), said)
+
     def test_statuses(self):
         self.assertEqual([beside.verdict_of(status) for status in (0, 1, 2, 3)], ["true", "false", "either", "inconsistent"])
         self.assertEqual({beside.verdict_of(status) for status in (4, 64, -9)}, {"unknown"})
@@ -85,6 +89,7 @@ class Verdicts(unittest.TestCase):
     def test_marks_of_a_row(self):
         for said, is_decided, mark in (
             (("sat", "unsat"), False, ""), (("sat", "unsat"), True, "stamps"), (("sat", "sat"), True, "z3 says sat and sat"),
+            (("sat", beside.STOPPED), False, ""), (("sat", "signal 9"), False, "z3 says sat and signal 9"),
         ):
             row = beside.row_of(FAMILIES[0], 24, answers(0.3, 0.1, "true", said, is_decided=is_decided))
             self.assertEqual(row.split(), f"request and response 24 0.300 0.100 3.000 true {mark}".split())
