@@ -160,9 +160,9 @@ pub fn run<S: Shelf, K: Sink>(
     // As far as the shelf tells its openings: at most the files that the words name are opened, in their order, each once.
     ensures openings { OpensNamed (map string_bytes words.now.items) (S.openings shelf.old) (S.openings shelf.new) }
 
-    // More than the formula's file is opened only where that passes its tests, and more than this and the log's only where
-    // the log passes too: so where a shelf tells all its openings, a failed read is never answered where a test of an
-    // earlier file fails.
+    // More than the formula's file is opened only where that passes its tests, and a third file only where all tests before
+    // it are passed: so where the shelf tells all its openings, a failed read is never answered where a test of an earlier
+    // file fails.
     ensures in_turn { S.tells shelf.old ≡ true → OpensNamedInTurn (map string_bytes words.now.items) (S.files shelf.old) (S.openings shelf.old) (S.openings shelf.new) }
 
     // Where no device failed, the answer is there, or memory ran out.

@@ -54,6 +54,9 @@ returns-in-Trim-clause-openings g c = rw c.in-Trim.is (1, c.trim.ensures.once)
 pub returns-in-Json-clause-openings : goal.returns-in-Json-clause-openings
 returns-in-Json-clause-openings g c = rw c.in-Json.is (1, c.json.ensures.once)
 
+pub returns-in-Span-clause-openings : goal.returns-in-Span-clause-openings
+returns-in-Span-clause-openings g c = rw c.in-Span.is c.span.ensures.openings
+
 pub returns-in-Replay-clause-in_turn : goal.returns-in-Replay-clause-in_turn
 returns-in-Replay-clause-in_turn g c = rw c.in-Replay.is c.replay.ensures.in_turn
 
