@@ -320,7 +320,7 @@ class Output(Rooms):
 class Memory(Rooms):
     def test_memory_that_runs_out(self):
         self.put({"many.csv": MANY, "often": OFTEN})
-        for kilobytes in (8_000, 16_000):
+        for kilobytes in (4_500, 6_000):
             done = subprocess.run(
                 ["bash", "-c", f'ulimit -v {kilobytes}; exec "$@"', "bash", PROGRAM, "check", "often", "many.csv"], cwd=self.room, capture_output=True,
                 timeout=PATIENCE,
