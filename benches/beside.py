@@ -18,7 +18,6 @@ With `--cases` nothing is timed: both answer so many small questions that are ma
 where their verdicts differ.
 """
 
-import argparse
 import math
 import random
 import shutil
@@ -212,11 +211,7 @@ def compared(arguments, program, folder):
 
 def read_arguments():
     """The options of the command line."""
-    parser = argparse.ArgumentParser(description="time check beside z3")
-    parser.add_argument("program", nargs="?", help="the built program of this folder by default")
-    parser.add_argument("--patience", type=int, default=60, help="seconds after which to stop")
-    titles = [family.title for family in FAMILIES]
-    parser.add_argument("--only", nargs="+", metavar="FAMILY", choices=titles, help=f"of {', '.join(titles)}")
+    parser = check.parser_for("time check beside z3")
     parser.add_argument("--rows", type=int, nargs="+", default=ROWS, help="take logs of these sizes")
     parser.add_argument("--cases", type=int, help="compare verdicts on so many small questions instead")
     parser.add_argument("--seed", type=int, default=1, help="from which these are made")

@@ -232,13 +232,19 @@ def built_program():
     return str(name)
 
 
-def read_arguments():
-    """The options of the command line."""
-    parser = argparse.ArgumentParser(description="time check, audit and trim on logs of growing length")
+def parser_for(description, patience=60):
+    """A parser of the options that the benches of families share."""
+    parser = argparse.ArgumentParser(description=description)
     parser.add_argument("program", nargs="?", help="the built program of this folder by default")
-    parser.add_argument("--patience", type=int, default=60, help="seconds after which to stop")
+    parser.add_argument("--patience", type=int, default=patience, help="seconds after which to stop")
     titles = [family.title for family in FAMILIES]
     parser.add_argument("--only", nargs="+", metavar="FAMILY", choices=titles, help=f"of {', '.join(titles)}")
+    return parser
+
+
+def read_arguments():
+    """The options of the command line."""
+    parser = parser_for("time check, audit and trim on logs of growing length")
     parser.add_argument("--rows", type=int, nargs="+", help="take logs of these sizes alone")
     parser.add_argument("--goals", action="store_true", help="take logs of the sizes that have goals alone")
     parser.add_argument("--fallbacks", action="store_true", help="count how often the whole table of rules is encoded")

@@ -11,7 +11,6 @@ With `--cases` the logs are small ones of version 3 that are made by chance from
 and one row has the sums. The end is 1 where a report isn't accepted.
 """
 
-import argparse
 import collections
 import random
 import sys
@@ -108,11 +107,7 @@ def made_by_chance(arguments, asked):
 
 def read_arguments():
     """The options of the command line."""
-    parser = argparse.ArgumentParser(description="have the second checker judge reports of check")
-    parser.add_argument("program", nargs="?", help="the built program of this folder by default")
-    parser.add_argument("--patience", type=int, default=600, help="seconds after which to stop")
-    titles = [family.title for family in FAMILIES]
-    parser.add_argument("--only", nargs="+", metavar="FAMILY", choices=titles, help=f"of {', '.join(titles)}")
+    parser = check.parser_for("have the second checker judge reports of check", 600)
     parser.add_argument("--rows", type=int, nargs="+", default=ROWS, help="take logs of these sizes")
     parser.add_argument("--cases", type=int, help="take so many small logs of version 3 instead")
     parser.add_argument("--seed", type=int, default=1, help="from which these are made")
