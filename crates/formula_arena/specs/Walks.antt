@@ -121,3 +121,7 @@ pub record IsTaken (steps : List Step) (old waiting : List Form) (result : Resul
   pub less : OnOk result (work left < work steps)
   pub too_many : (grown : List Form) (f : Form) → Leads steps old waiting grown f → result ≡ Err TooManyNodes → MAX_NODES < length grown
   pub kept : Extends old new
+
+-- the same of a task before tasks, where nodes wait
+abbrev pub IsTaskTaken : Task → List Task → List Form → List ℕ → Result (Unit {0}) ArenaFault → List Task → List Form → List ℕ → Type 0
+IsTaskTaken task tasks old waiting result left new nodes = IsTaken (step_in task ∷ steps_in tasks) old (waiting_in old waiting) result (steps_in left) new nodes

@@ -9,7 +9,7 @@ ghost use Rattle.formula_arena.specs.Nodes.{Extends, has_form, IsArena, IsAt, no
 ghost use Rattle.formula_arena.specs.Shapes.{IsNode};
 ghost use Rattle.formula_arena.specs.Table.{IsOver, tree_of_proposition, tree_over};
 ghost use Rattle.formula_arena.specs.Growth.{IsGrown, with_subtrees, with_tree};
-ghost use Rattle.formula_arena.specs.Walks.{AreHeld, IsMade, IsTaken, Join, Negation, operands, step_in, steps_in, tree_by, waiting_in};
+ghost use Rattle.formula_arena.specs.Walks.{AreHeld, IsMade, IsTaken, IsTaskTaken, Join, Negation, operands, step_in, steps_in, tree_by, waiting_in};
 
 use crate::ArenaFault;
 use crate::node::{Core, Operator, Proposition};
@@ -210,7 +210,7 @@ impl Arena {
     ) -> Result<(), ArenaFault>
         requires held { AreHeld self.old waiting.old.items }
         requires operands { operands (step_in task) ≤ length waiting.old.items }
-        ensures { IsTaken (step_in task.entry ∷ steps_in tasks.old.items) self.old (waiting_in self.old waiting.old.items) result (steps_in tasks.new.items) self.new waiting.new.items }
+        ensures { IsTaskTaken task.entry tasks.old.items self.old waiting.old.items result tasks.new.items self.new waiting.new.items }
     {
         match task {
             Task::Tree(tree) => {

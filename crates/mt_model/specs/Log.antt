@@ -19,6 +19,10 @@ pub record Logged : Type 0 where
   pub readings : List Reading
   pub extras : List Extra
 
+-- the log of these hosts, rows, resyncs, clocks, readings and extra bounds
+abbrev pub log_of : List Host → List Row → List Resync → List (List ℕ) → List Reading → List Extra → Logged
+log_of hosts rows resyncs clocks readings extras = record { hosts = hosts; rows = rows; resyncs = resyncs; clocks = clocks; readings = readings; extras = extras }
+
 -- the log of these hosts, rows and resyncs, without clocks and extra bounds
 abbrev pub log_with : List Host → List Row → List Resync → Logged
 log_with hosts rows resyncs = record { hosts = hosts; rows = rows; resyncs = resyncs; clocks = []; readings = []; extras = [] }
@@ -189,6 +193,10 @@ widened_host s h = record { name = h.name; skew = h.skew +ℤ s; gap = h.gap; le
 -- the resync to a skew that is greater by s
 abbrev pub widened_resync : ℤ → Resync → Resync
 widened_resync s r = record { place = r.place; host = r.host; skew = r.skew +ℤ s; gap = r.gap }
+
+-- each skew of hosts and of resyncs stays in its range when it grows by s
+abbrev pub MayWiden : ℤ → List Host → List Resync → Type 0
+MayWiden s hosts resyncs = All (λ h. (h.skew +ℤ s) ≤ℤ MAX_SKEW) hosts × All (λ r. (r.skew +ℤ s) ≤ℤ MAX_SKEW) resyncs
 
 -- the log with each skew greater by s
 abbrev pub widened : ℤ → Logged → Logged

@@ -1,7 +1,7 @@
 //! Logs: hosts, rows, resyncs, clocks and extra bounds that fit together, and how a log is copied, bounded further or widened.
 
 ghost use Rattle.std.specs.Prelude.{◌≡◌, ◌↔◌, IsTrue, IsSome, IfSome, IfOk, IfErr, option_copied, Some, All, pos, ◌+ℤ◌, ◌≤ℤ◌};
-ghost use Rattle.mt_model.specs.Log.{Logged, IsLog, log_with, plain_log, IsPlain, name_in, sent_by, received_by, with_extra, widened};
+ghost use Rattle.mt_model.specs.Log.{Logged, IsLog, MayWiden, log_of, log_with, plain_log, IsPlain, name_in, sent_by, received_by, with_extra, widened};
 ghost use Rattle.mt_model.specs.State.{host_named};
 
 use crate::validity::{is_extra, is_valid};
@@ -268,8 +268,8 @@ impl Log {
         readings: ReadingList,
         extras: ExtraList,
     ) -> Option<Log>
-        ensures valid { IsSome result ↔ IsLog (record { hosts = hosts; rows = rows; resyncs = resyncs; clocks = clocks; readings = readings; extras = extras }) }
-        ensures log { IfSome result (λ l. l ≡ record { hosts = hosts; rows = rows; resyncs = resyncs; clocks = clocks; readings = readings; extras = extras }) }
+        ensures valid { IsSome result ↔ IsLog (log_of hosts rows resyncs clocks readings extras) }
+        ensures log { IfSome result (λ l. l ≡ log_of hosts rows resyncs clocks readings extras) }
     {
         if is_valid(
             hosts.as_slice(),
@@ -415,7 +415,7 @@ impl Log {
 
     /// Whether each skew stays in its range when it grows by s, which is at least 0.
     pub fn takes_widening(&self, s: i128) -> bool
-        ensures valid { IsTrue result ↔ ((pos 0 ≤ℤ s) × All (λ h. (h.skew +ℤ s) ≤ℤ MAX_SKEW) self.now.hosts × All (λ r. (r.skew +ℤ s) ≤ℤ MAX_SKEW) self.now.resyncs) }
+        ensures valid { IsTrue result ↔ ((pos 0 ≤ℤ s) × MayWiden s self.now.hosts self.now.resyncs) }
     {
         0 <= s && may_widen_all(self.hosts.as_slice(), self.resyncs.as_slice(), s)
     }

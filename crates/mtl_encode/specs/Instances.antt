@@ -69,6 +69,10 @@ module _ (s : Sought) (out : Rule → Bool) (number : ℕ) (counts : List ℕ) w
   abbrev pub with_none : List Rule
   with_none = flat_map with_one (range_with_len 0 (slice_index counts 0))
 
+-- the rules of a number that a table of differences leaves, with arguments below these counts
+abbrev pub left_by : Differences → Sought → ℕ → List ℕ → List Rule
+left_by d s number counts = with_none s (out_by d s) number counts
+
 -- the rules of a number that are kept
 abbrev pub of_number : Sought → (Rule → Bool) → ℕ → List Rule
 of_number s out number = option_map_or (λ row. with_none s out number (map (count_of s) row.arguments)) (row_of number) []

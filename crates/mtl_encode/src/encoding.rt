@@ -13,7 +13,7 @@ ghost use Rattle.axiom_rules.specs.Sought.{sought_of};
 ghost use Rattle.mtl_encode.specs.Instances.{out_by};
 ghost use Rattle.mtl_encode.specs.Kept.{Kept};
 ghost use Rattle.mtl_encode.specs.Listing.{ListsRules};
-ghost use Rattle.mtl_encode.specs.Models.{IsModel};
+ghost use Rattle.mtl_encode.specs.Models.{GivesTimings};
 ghost use Rattle.mtl_encode.specs.Problems.{Fits};
 
 use crate::asked::{AskedClauses, Most, asked_of};
@@ -77,8 +77,7 @@ pub fn encode_by(
     ensures kept { IfOk result (λ p. Kept question.entry.log question.entry.form value p.rules) }
 
     // What satisfies the problem gives an admissible timing in which the formula has the value.
-    ensures exact { IfOk result (λ p. (values : List Bool) (numbers : List ℤ) → IsModel p values numbers
-        → Admissible question.entry.log (times_of (length question.entry.log.rows) numbers) × (truth question.entry.log (times_of (length question.entry.log.rows) numbers) 0 question.entry.form ≡ value)) }
+    ensures exact { IfOk result (GivesTimings question.entry.log question.entry.form value) }
 {
     rules_are_exact();
     bounds_are_admissible();
@@ -109,8 +108,7 @@ pub fn encode(
     ensures kept { IfOk result (λ p. (f : Form) → arena.now ≡ nodes_of f → root + 1 ≡ length arena.now → Kept log.now f value p.rules) }
 
     // What satisfies the problem gives an admissible timing in which the formula has the value.
-    ensures exact { IfOk result (λ p. (f : Form) → arena.now ≡ nodes_of f → root + 1 ≡ length arena.now → (values : List Bool) (numbers : List ℤ) → IsModel p values numbers
-        → Admissible log.now (times_of (length log.now.rows) numbers) × (truth log.now (times_of (length log.now.rows) numbers) 0 f ≡ value)) }
+    ensures exact { IfOk result (λ p. (f : Form) → arena.now ≡ nodes_of f → root + 1 ≡ length arena.now → GivesTimings log.now f value p) }
 {
     rules_are_exact();
     bounds_are_admissible();

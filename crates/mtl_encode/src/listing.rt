@@ -5,7 +5,7 @@ ghost use Rattle.skew_bounds.specs.Differences.{Differences};
 ghost use Rattle.axiom_rules.specs.Clauses.{clause_of};
 ghost use Rattle.axiom_rules.specs.NodeShapes.{reach_in, shape_at};
 ghost use Rattle.mtl_encode.specs.Growth.{AreClauses, Gains, HasRoom};
-ghost use Rattle.mtl_encode.specs.Instances.{count_of as count_of_argument, instances, is_of_reach as is_number_of_reach, of_number, out_by, rule_at, with_none, with_one, with_three};
+ghost use Rattle.mtl_encode.specs.Instances.{count_of as count_of_argument, instances, is_of_reach as is_number_of_reach, of_number, out_by, rule_at, with_none, with_one, with_three, left_by};
 ghost use Rattle.mtl_encode.specs.Seconds.{AreCounts, AreEvents};
 
 use crate::clauses::Clauses;
@@ -85,7 +85,8 @@ pub struct Source<'a> {
 impl Source<'_> {
     // Whether rules of the number are about the events of a span, and no span is needed from event i to event j.
     fn passes_over_span(self, number: u8, k: u32, i: u32, j: u32) -> bool
-        ensures { result ≡ true → (counts : List ℕ) → with_three self.entry.rules.now (out_by self.entry.tight.now self.entry.rules.now) number counts k i j ≡ [] }
+        ensures { let s = self.entry in
+            result ≡ true → (counts : List ℕ) → with_three s.rules.now (out_by s.tight.now s.rules.now) number counts k i j ≡ [] }
     {
         is_needless_over_span(number) && needs_no_span(self.rules, self.tight, k, i, j)
     }
@@ -103,8 +104,8 @@ impl Clauses {
         requires events { AreEvents source.rules.now source.events.now }
         requires counts { AreCounts source.rules.now number counts }
         requires clauses { AreClauses source.rules.now self.old }
-        requires room { HasRoom source.rules.now (self.old.rules ++ with_none source.rules.now (out_by source.tight.now source.rules.now) number counts) }
-        ensures { OnOk result (Gains source.entry.rules.now self.old self.new (with_none source.entry.rules.now (out_by source.entry.tight.now source.entry.rules.now) number counts)) }
+        requires room { HasRoom source.rules.now (self.old.rules ++ left_by source.tight.now source.rules.now number counts) }
+        ensures { OnOk result (Gains source.entry.rules.now self.old self.new (left_by source.entry.tight.now source.entry.rules.now number counts)) }
     {
         for a in 0..counts[0] {
             if keeps_none(source.rules, number, a) {
@@ -139,7 +140,8 @@ impl Clauses {
         requires events { AreEvents source.rules.now source.events.now }
         requires clauses { AreClauses source.rules.now self.old }
         requires room { HasRoom source.rules.now (self.old.rules ++ of_number source.rules.now (out_by source.tight.now source.rules.now) number) }
-        ensures { OnOk result (Gains source.entry.rules.now self.old self.new (of_number source.entry.rules.now (out_by source.entry.tight.now source.entry.rules.now) number)) }
+        ensures { let s = source.entry in
+            OnOk result (Gains s.rules.now self.old self.new (of_number s.rules.now (out_by s.tight.now s.rules.now) number)) }
     {
         match arguments_of(number) {
             Some(arguments) => {

@@ -38,6 +38,10 @@ formula_text (Always I f) = prefixed (codes "G") I (formula_text f)
 formula_text (Once I f) = prefixed (codes "O") I (formula_text f)
 formula_text (Historically I f) = prefixed (codes "H") I (formula_text f)
 
+-- two formulas with a letter and an interval between them, in parentheses
+abbrev pub timed_text : Form → List ℕ → Interval → Form → List ℕ
+timed_text f letter I g = joined (formula_text f) (letter ++ interval_text I) (formula_text g)
+
 -- the text of a valid formula is that formula
 abbrev pub TextsReadBack : Type 0
 TextsReadBack = (f : Form) → IsFormula f → FormulaOf (formula_text f) (Ok f)

@@ -1,6 +1,6 @@
 //! Formulas from tokens, one token after another; what is pending waits on a stack.
 
-ghost use Rattle.std.specs.Prelude.{◌≡◌, ◌∷◌, IfOk, IfErr, Ok, Err, Some, None, option_map, true};
+ghost use Rattle.std.specs.Prelude.{◌≡◌, ◌∷◌, IfOk, IfErr, Ok, Err, Some, None, option_map, true, ◌≢◌};
 ghost use Rattle.mtl_parse.specs.Tokens.{Word};
 ghost use Rattle.mtl_parse.specs.Machine.{LeftOfAnd, LeftOfImplies, LeftOfOr, Wanted, after_word, begin, capped, closed, complete, finish, finished, high_bound, is_sound, left_of, letter_after, read_one, refusal_behind, step_bracket, step_comma, step_dot, step_high, step_host, step_letter, step_low, step_read, step_wanted};
 ghost use Rattle.mtl_parse.specs.States.{completed_in, form_in, infix_in, letter_in, pending_in, placed_in, stack_in, state_in, token_in};
@@ -316,8 +316,8 @@ fn step_read(
     byte: u32,
 ) -> Result<Parser, FormulaFault>
     ensures ok { IfOk result (λ p. step_read capped (stack_in stack.items) (form_in operand) (token_in token.entry) ≡ Some (state_in p)) }
-    ensures none { IfErr result (λ e. (e ≡ FormulaFault.Memory → ⊥) → step_read capped (stack_in stack.items) (form_in operand) (token_in token.entry) ≡ None) }
-    ensures fault { IfErr result (λ e. (e ≡ FormulaFault.Memory → ⊥) → e ≡ refusal_behind (stack_in stack.items) byte) }
+    ensures none { IfErr result (λ e. e ≢ FormulaFault.Memory → step_read capped (stack_in stack.items) (form_in operand) (token_in token.entry) ≡ None) }
+    ensures fault { IfErr result (λ e. e ≢ FormulaFault.Memory → e ≡ refusal_behind (stack_in stack.items) byte) }
 {
     match token {
         Token::Close => after_close(alloc, stack, operand, byte),

@@ -4,7 +4,7 @@ ghost use Rattle.std.specs.Prelude.{◌≡◌, [], ◌∷◌, ◌++◌, codes, I
 ghost use Rattle.std.specs.Fmt.{decimal};
 ghost use Rattle.mt_model.specs.Form.{form_of};
 ghost use Rattle.mtl_parse.specs.FormulaOf.{FormulaOf};
-ghost use Rattle.mtl_parse.specs.FormulaText.{TextsReadBack, formula_text, high_text, interval_text, joined, prefixed};
+ghost use Rattle.mtl_parse.specs.FormulaText.{TextsReadBack, formula_text, high_text, interval_text, joined, prefixed, timed_text};
 
 use mt_model::{Formula, Interval, Name, Tree};
 use std::alloc::{AllocError, Global};
@@ -89,7 +89,7 @@ fn push_timed(
     interval: &Interval,
     right: &Tree,
 ) -> Result<(), AllocError>
-    ensures { OnOk result (text.new.items ≡ text.old.items ++ joined (formula_text (form_of left.now)) (letter ∷ [] ++ interval_text interval.now) (formula_text (form_of right.now))) }
+    ensures { OnOk result (text.new.items ≡ text.old.items ++ timed_text (form_of left.now) (letter ∷ []) interval.now (form_of right.now)) }
 {
     text.push(b'(')?;
     push_tree(alloc, text, left)?;

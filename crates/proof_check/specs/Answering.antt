@@ -9,10 +9,15 @@ use Rattle.proof_log.specs.Derivations.{Derives, FirstWrong, IsGood, Refutes, cl
 use Rattle.proof_log.specs.Spelled.{IsSpelled}
 use Rattle.proof_check.specs.declared.check.Check.{Check}
 use Rattle.proof_check.specs.declared.check.Check.TheVariants as check
+use Rattle.proof_log.specs.LinesOf.{IsTextOf}
 
 -- P holds of the log, the formula and the value for which it is sought
 abbrev pub OfSought : Sought → (Logged → Form → Bool → Type 0) → Type 0
 OfSought s P = (log : Logged) (f : Form) (v : Bool) → s ≡ sought_of log f v → P log f v
+
+-- so of the lines whose text the bytes are, and of what is sought
+abbrev pub OfText : Sought → List ℕ → (Logged → Form → Bool → List Line → Type 0) → Type 0
+OfText s text P = (lines : List Line) → IsTextOf text lines → OfSought s (λ log f v. P log f v lines)
 
 -- the answer is what the lines are: they refute, they derive, or this is the first wrong line
 pub record IsAnswer (log : Logged) (f : Form) (v : Bool) (lines : List Line) (answer : Check) : Type 0 where

@@ -12,6 +12,13 @@ use Rattle.proof_check.specs.declared.refutation.Taken.{Taken}
 use Rattle.proof_check.specs.declared.refutation.Taken.TheVariants as taken
 use Rattle.proof_check.specs.Keeping.{lines_with}
 use Rattle.proof_check.specs.Refutation.{IsTaken}
+use Rattle.std.specs.Result.{result_ok}
+use Rattle.axiom_rules.specs.Clauses.{clause_of}
+use Rattle.axiom_rules.specs.declared.rule.Rule.{Rule}
+
+-- what the clause of a rule does to the literals that are assumed; a rule without a clause is stuck
+abbrev pub IsRuleTaken : Sought → Rule → List Literal → List Literal → Taken → Type 0
+IsRuleTaken s rule old new found = MatchOption (result_ok (clause_of s rule)) (found ≡ taken.Stuck) (λ clause. IsTaken old clause new found)
 
 module _ (s : Sought) (lines : List Line) (n : ℕ) where
   -- what the clause of a hint of line n does to the literals that are assumed; a hint without a clause is stuck

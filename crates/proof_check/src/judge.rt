@@ -5,7 +5,7 @@ ghost use Rattle.std.specs.Result.{result_ok};
 ghost use Rattle.axiom_rules.specs.declared.literal.Literal.{Literal};
 ghost use Rattle.axiom_rules.specs.Clauses.{clause_of as clause_of_rule};
 ghost use Rattle.proof_log.specs.declared.line.Hint.{Hint};
-ghost use Rattle.proof_check.specs.Judging.{IsHintTaken, IsNextLearnt, NextRefutes};
+ghost use Rattle.proof_check.specs.Judging.{IsHintTaken, IsNextLearnt, NextRefutes, IsRuleTaken};
 ghost use Rattle.proof_check.specs.Keeping.{ArePending, closed_only, lines_with, with_closed};
 ghost use Rattle.proof_check.specs.Refutation.{IsTaken};
 ghost use Rattle.proof_check.specs.Standing.{IsSpanOrGap};
@@ -79,7 +79,7 @@ fn take_rule(
     assumed: &mut Assumed,
     aids: &mut Aids,
 ) -> Result<Taken, AllocError>
-    ensures { IfOk result (λ taken. MatchOption (result_ok (clause_of_rule rules.now rule.now)) (taken ≡ Taken.Stuck) (λ clause. IsTaken assumed.old clause assumed.new taken)) }
+    ensures { IfOk result (IsRuleTaken rules.now rule.now assumed.old assumed.new) }
 {
     // So that such clauses aren't walked over for each of their spans.
     if let Some(span) = span_in(rules, rule) {

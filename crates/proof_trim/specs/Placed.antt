@@ -1,15 +1,20 @@
 -- The text of what is left of lines.
-use Rattle.std.specs.Prelude.{◌≡◌, ℕ, ◌≤◌, Bool, List, length, map}
+use Rattle.std.specs.Prelude.{◌≡◌, ℕ, ◌≤◌, Bool, List, length, map, ◌++◌, if◌then◌else◌}
 use Rattle.proof_log.specs.declared.line.Line.{Line}
 use Rattle.proof_log.specs.LinesOf.{IsTextOf}
 use Rattle.proof_log.specs.Marks.{marked}
 use Rattle.proof_trim.specs.Naming.{AreNamed}
 use Rattle.proof_trim.specs.Needed.{NoneForward}
-use Rattle.proof_trim.specs.Trimmed.{IsTrimOf, place_of, renumbered}
+use Rattle.proof_trim.specs.Trimmed.{IsTrimOf, place_of, renumbered, moved}
+use Rattle.proof_log.specs.LinesText.{line_text}
 
 -- the lines that are marked, in order, with hints that name lines by their places among these
 abbrev pub left_of : List Bool → List Line → List Line
 left_of marks lines = map (renumbered (place_of marks lines)) (marked marks lines)
+
+-- the text with that of a line at its end, with the numbers that these places are, where the line is marked
+abbrev pub with_marked : Bool → List ℕ → List ℕ → Line → List ℕ
+with_marked mark places text l = if mark then text ++ line_text (moved places l) else text
 
 -- so of the lines whose text the bytes are and whose marks these are, where no line has a hint that names one which does not come before it
 abbrev pub OfMarked : List ℕ → List Bool → (List Line → Type 0) → Type 0

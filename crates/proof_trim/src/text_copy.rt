@@ -11,7 +11,7 @@ ghost use Rattle.proof_log.specs.Reading.{words_after};
 ghost use Rattle.proof_log.specs.Spelled.{IsSpelled};
 ghost use Rattle.proof_trim.specs.Naming.{IsEarlier, named_in, renamed_in};
 ghost use Rattle.proof_trim.specs.Needed.{LooksBack, NoneForward};
-ghost use Rattle.proof_trim.specs.Placed.{OfMarked, left_of};
+ghost use Rattle.proof_trim.specs.Placed.{OfMarked, left_of, with_marked};
 ghost use Rattle.proof_trim.specs.Trimmed.{moved};
 
 use crate::naming::next_named;
@@ -81,7 +81,7 @@ fn push_marked(
 ) -> Result<(), AllocError>
     requires line { (l : Line) × IsSpelled l × AreWordsOf words l × LooksBack (length places.now + 1) l }
     requires spaced { bytes_of words ≡ spaced (words_after (bytes_of words)) }
-    ensures { OnOk result (OfLine words.entry (λ l. left.new.items ≡ (if mark then left.old.items ++ line_text (moved places.now l) else left.old.items))) }
+    ensures { OnOk result (OfLine words.entry (λ l. left.new.items ≡ with_marked mark places.now left.old.items l)) }
 {
     if mark {
         push_line(left, words, places)

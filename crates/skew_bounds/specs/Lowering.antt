@@ -1,5 +1,5 @@
 -- Numbers of nodes that are lowered until they meet edges, while each node that was lowered waits.
-use Rattle.std.specs.Prelude.{◌≡◌, ◌⊎◌, ℕ, ◌+◌, ◌-◌, ◌*◌, ◌^◌, ◌<◌, ◌≤◌, List, length, All, Contains, sum_by, ℤ, pos, negsuc, ◌+ℤ◌, ◌-ℤ◌, ◌≤ℤ◌}
+use Rattle.std.specs.Prelude.{◌≡◌, ◌⊎◌, ℕ, ◌+◌, ◌-◌, ◌*◌, ◌^◌, ◌<◌, ◌≤◌, List, length, All, Contains, sum_by, ℤ, pos, negsuc, ◌+ℤ◌, ◌-ℤ◌, ◌≤ℤ◌, [], ◌∷◌}
 use Rattle.mt_model.specs.Log.{IsWithin}
 use Rattle.mt_model.specs.declared.limits.TheConstants.{MAX_TIME}
 use Rattle.neg_cycle.specs.declared.system.Edge.{Edge}
@@ -59,3 +59,7 @@ pub record IsLowered (potential : List ℤ) (node : ℕ) (edges : List Edge) (ol
   pub kept : (w : Waiting) → Contains before w → Contains after w
   pub nodes : AreNodes (length potential) before → AreNodes (length potential) after
   pub less : work new after ≤ work old before
+
+-- the same for one edge and the node where it ends
+abbrev pub IsRelaxed : List ℤ → Edge → List ℤ → List Waiting → List ℤ → List Waiting → Type 0
+IsRelaxed potential edge old before new after = IsLowered potential edge.to (edge ∷ []) old before new after

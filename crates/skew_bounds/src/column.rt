@@ -35,7 +35,7 @@ impl Model for Column {
 }
 
 impl Column {
-    /// Those numbers, where these are the ones from the zero moment.
+    /// The column of these numbers, beside those from the zero moment.
     pub fn new(alloc: Global, zero: &[i128], numbers: &[i128]) -> Result<Column, AllocError>
         requires near { All (IsWithin FAR) zero.now }
         requires count { length numbers.now ≡ length zero.now }

@@ -6,7 +6,7 @@ ghost use Rattle.mt_model.specs.Log.{IsWithin};
 ghost use Rattle.mt_model.specs.declared.limits.TheConstants.{MAX_TIME};
 ghost use Rattle.neg_cycle.specs.Systems.{IsEdge, IsWithin as IsBoundWithin, Meets, number_of};
 ghost use Rattle.neg_cycle.specs.declared.system.TheConstants.{MAX_BOUND};
-ghost use Rattle.skew_bounds.specs.Lowering.{IsLowered, IsSearch, ahead_of, entry_of};
+ghost use Rattle.skew_bounds.specs.Lowering.{IsLowered, IsRelaxed, IsSearch, ahead_of, entry_of};
 ghost use Rattle.skew_bounds.specs.declared.latest.TheConstants.{UNREACHED};
 ghost use Rattle.skew_bounds.specs.declared.column.TheConstants.{FAR};
 
@@ -112,7 +112,7 @@ fn relax(
     requires met { Meets potential.now edge }
     requires search { IsSearch potential.now numbers.old }
     ensures search { OnOk result (IsSearch potential.now numbers.new) }
-    ensures lowered { OnOk result (IsLowered potential.now edge.to (edge ∷ []) numbers.old (heap_items waiting.old) numbers.new (heap_items waiting.new)) }
+    ensures lowered { OnOk result (IsRelaxed potential.now edge numbers.old (heap_items waiting.old) numbers.new (heap_items waiting.new)) }
 {
     if let Some(number) = unmet(potential, numbers, edge) {
         lower(potential, edge.from, number, numbers, waiting)?;

@@ -34,8 +34,8 @@ impl From<AllocError> for TightFault {
 
 /// The least and the greatest difference of each two rows' true times, over all timings that a log
 /// admits, each of which some admissible timing has. An error other than want of memory comes exactly
-/// where no timing is admissible. The work is that of a search over all bounds for each row, and the memory
-/// grows with the square of the rows.
+/// where no timing is admissible. The work is that of a search over all bounds for each row. The memory
+/// grows with the differences that no walk by way of the zero moment gives, at most with the square of the rows.
 pub fn tight(alloc: Global, log: &Log) -> Result<Tight, TightFault>
     ensures exact { IfOk result (IsTight log.now) }
     ensures consistent { OnOk result (IsConsistent log.now) }

@@ -1,5 +1,5 @@
 -- Which reports an audit accepts, and the part and the line at which it refuses one. Lines count from 1; 0 stands for a part as a whole.
-use Rattle.std.specs.Prelude.{◌≡◌, ◌≢◌, ◌⊎◌, ℕ, List, length, Bool, true, false, Option, None, IfSome}
+use Rattle.std.specs.Prelude.{◌≡◌, ◌≢◌, ◌⊎◌, ℕ, List, length, Bool, true, false, Option, None, IfSome, ◌↔◌}
 use Rattle.mt_model.specs.declared.step.Step.{Step}
 use Rattle.mt_model.specs.Form.{Form}
 use Rattle.mt_model.specs.Log.{Logged}
@@ -102,3 +102,7 @@ pub record IsAccepted (log : Logged) (f : Form) (conflicts : ℕ) (r : Report) :
 abbrev pub IsAudit : Logged → Form → ℕ → Report → Audit → Type 0
 IsAudit log f conflicts r audit.Accepted = IsAccepted log f conflicts r
 IsAudit log f conflicts r (audit.Refused p n) = AuditPlace log f conflicts r p n
+
+-- an audit is a refusal at a part and a line exactly where the report is refused first there
+abbrev pub IsRefusedAtPlace : Logged → Form → ℕ → Report → Audit → Type 0
+IsRefusedAtPlace log f conflicts r a = (p : Part) (line : ℕ) → (a ≡ audit.Refused p line) ↔ AuditPlace log f conflicts r p line

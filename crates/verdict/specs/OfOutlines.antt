@@ -1,5 +1,5 @@
 -- What is said of the reports and the sections of outlines, of the bounds of a text, and of the lines for which a check answered.
-use Rattle.std.specs.Prelude.{◌≡◌, ℕ, Bool, List, length, All}
+use Rattle.std.specs.Prelude.{◌≡◌, ℕ, Bool, List, length, All, Option}
 use Rattle.std.specs.List.{flat_map}
 use Rattle.mt_model.specs.declared.step.Step.{Step}
 use Rattle.mt_model.specs.Form.{Form}
@@ -19,7 +19,7 @@ use Rattle.report_text.specs.Outlines.{IsOutlineOf, IsSectionOutline}
 use Rattle.report_text.specs.ReportText.{bound_text}
 use Rattle.report_text.specs.Spelled.{IsSpelled, IsSpelledBound, IsSpelledSection}
 use Rattle.verdict.specs.declared.answer.Audit.{Audit}
-use Rattle.verdict.specs.AuditPlace.{IsAudit}
+use Rattle.verdict.specs.AuditPlace.{IsAudit, IsJudgedAt}
 
 -- the steps are so many bounds, and this is their text
 pub record AreBoundsOf (count : ℕ) (text : List ℕ) (steps : List Step) : Type 0 where
@@ -43,6 +43,14 @@ OfSection o events Holds = (s : Section) → IsSectionOutline o s → IsSpelledS
 abbrev pub OfVerdicts : SectionOutline → SectionOutline → ℕ → (Report → Type 0) → Type 0
 OfVerdicts on_true on_false rows Holds = (events : ℕ) (s t : Section) → events ≡ rows → IsSectionOutline on_true s → IsSectionOutline on_false t
     → IsSpelledSection rows s → IsSpelledSection rows t → Holds (report.Verdicts events s t)
+
+-- no line where the section of an outline shows what it says, and else the line at which it fails
+abbrev pub IsOutlineJudgedAt : Logged → Form → ℕ → Bool → SectionOutline → Option ℕ → Type 0
+IsOutlineJudgedAt log f budget v o line = OfSection o (length log.rows) (λ s. IsJudgedAt log f budget v s line)
+
+-- what an audit says of the report with the sections of two outlines
+abbrev pub IsAuditOfVerdicts : Logged → Form → ℕ → SectionOutline → SectionOutline → Audit → Type 0
+IsAuditOfVerdicts log f budget on_true on_false a = OfVerdicts on_true on_false (length log.rows) (λ r. IsAudit log f budget r a)
 
 -- so of the lines for which a check answered this
 abbrev pub OfAnswer : Check → (Logged → Form → Bool → List Line → Type 0) → Type 0

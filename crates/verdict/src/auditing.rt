@@ -6,7 +6,7 @@ ghost use Rattle.report_text.specs.Outlines.{IsOutlineIn, IsOutlineOf};
 ghost use Rattle.report_text.specs.ReportText.{report_text};
 ghost use Rattle.report_text.specs.Spelled.{IsSpelled};
 ghost use Rattle.report_text.specs.declared.report.Report.{Report};
-ghost use Rattle.verdict.specs.AuditPlace.{AuditPlace, IsAccepted};
+ghost use Rattle.verdict.specs.AuditPlace.{IsAccepted, IsRefusedAtPlace};
 ghost use Rattle.verdict.specs.Claims.{Claims};
 ghost use Rattle.question.specs.Faults.{IsFault, IsJudged};
 ghost use Rattle.verdict.specs.Right.{IsRight};
@@ -50,7 +50,7 @@ pub fn audit(
 ) -> Result<Audit, VerdictFault>
     requires spelled { IsSpelled report.now }
     ensures accepted { IfOk result (λ a. (a ≡ Audit.Accepted) ↔ IsAccepted log.now (form_of f.now) budget report.now) }
-    ensures refused { IfOk result (λ a. (part : Part) (line : ℕ) → (a ≡ Audit.Refused part line) ↔ AuditPlace log.now (form_of f.now) budget report.now part line) }
+    ensures refused { IfOk result (IsRefusedAtPlace log.now (form_of f.now) budget report.now) }
     ensures claims { IfOk result (λ a. a ≡ Audit.Accepted → Claims log.now (form_of f.now) report.now) }
 
     // What `decide` gives for the same budget is accepted.

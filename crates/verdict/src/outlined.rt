@@ -13,9 +13,9 @@ ghost use Rattle.report_text.specs.ReportText.{events_of as events_of_report};
 ghost use Rattle.report_text.specs.Spelled.{IsSpelledSection, IsSpelledWitness};
 ghost use Rattle.report_text.specs.declared.report.Report.{Report};
 ghost use Rattle.report_text.specs.declared.report.Section.{Section};
-ghost use Rattle.verdict.specs.AuditPlace.{AuditPlace, IsAccepted, IsAudit, IsJudgedAt};
+ghost use Rattle.verdict.specs.AuditPlace.{AuditPlace, IsAccepted, IsAudit, IsJudgedAt, IsRefusedAtPlace};
 ghost use Rattle.verdict.specs.Claims.{Claims};
-ghost use Rattle.verdict.specs.OfOutlines.{CountsLearnLines, OfAnswer, OfOutline, OfSection, OfVerdicts};
+ghost use Rattle.verdict.specs.OfOutlines.{CountsLearnLines, OfAnswer, OfOutline, OfSection, OfVerdicts, IsAuditOfVerdicts, IsOutlineJudgedAt};
 ghost use Rattle.question.specs.Faults.{IsFault, IsJudged};
 ghost use Rattle.verdict.specs.Right.{IsRight, IsWitness};
 ghost use Rattle.report_text.specs.declared.report.Section.TheVariants as section;
@@ -110,8 +110,7 @@ fn failing_line(
 ) -> Result<Option<u32>, AllocError>
     requires short { length outline.text.now < 2 ^ 31 }
     requires some { (s : Section) × IsSectionOutline outline s × IsSpelledSection (length question.now.log.rows) s }
-    ensures { let log = question.now.log in
-        IfOk result (λ line. OfSection outline.entry (length log.rows) (λ s. IsJudgedAt log question.now.form budget value s line)) }
+    ensures { IfOk result (IsOutlineJudgedAt question.now.log question.now.form budget value outline.entry) }
 {
     match outline.kind {
         Kind::Witness => {
@@ -142,8 +141,7 @@ fn audit_of_sections(
     requires false_short { length on_false.text.now < 2 ^ 31 }
     requires true_some { (s : Section) × IsSectionOutline on_true s × IsSpelledSection (length question.now.log.rows) s }
     requires false_some { (s : Section) × IsSectionOutline on_false s × IsSpelledSection (length question.now.log.rows) s }
-    ensures { let log = question.now.log in
-        IfOk result (λ a. OfVerdicts on_true.entry on_false.entry (length log.rows) (λ r. IsAudit log question.now.form budget r a)) }
+    ensures { IfOk result (IsAuditOfVerdicts question.now.log question.now.form budget on_true.entry on_false.entry) }
 {
     if let Some(line) = failing_line(alloc, question, budget, true, on_true)? {
         let part = Part::OnTrue;
@@ -224,8 +222,7 @@ pub fn audit_outline(
 ) -> Result<Audit, VerdictFault>
     requires whole { (bytes : List ℕ) × (length bytes < 2 ^ 31) × IsOutlineIn bytes outline }
     ensures accepted { IfOk result (λ a. OfOutline outline.entry (λ r. (a ≡ Audit.Accepted) ↔ IsAccepted log.now (form_of f.now) budget r)) }
-    ensures refused { let form = form_of f.now in
-        IfOk result (λ a. OfOutline outline.entry (λ r. (part : Part) (line : ℕ) → (a ≡ Audit.Refused part line) ↔ AuditPlace log.now form budget r part line)) }
+    ensures refused { IfOk result (λ a. OfOutline outline.entry (λ r. IsRefusedAtPlace log.now (form_of f.now) budget r a)) }
     ensures claims { IfOk result (λ a. OfOutline outline.entry (λ r. a ≡ Audit.Accepted → Claims log.now (form_of f.now) r)) }
     ensures right { IfOk result (λ a. (r : Report) → IsOutlineOf outline.entry r → IsRight log.now (form_of f.now) budget r → a ≡ Audit.Accepted) }
     ensures judged { OnOk result (IsJudged log.now (form_of f.now)) }

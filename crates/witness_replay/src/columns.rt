@@ -9,7 +9,7 @@ ghost use Rattle.witness_replay.specs.Columns.{IsColumn, reaches_by, value_at};
 ghost use Rattle.witness_replay.specs.Timelines.{IsTimeline};
 
 use crate::operators::{Operator, is_reached};
-use crate::states::Latest;
+use crate::states::{Latest, Proposition};
 use crate::sweep::{Sweep, Wanted};
 use crate::timeline::{Timeline, row_at};
 use mt_model::{Log, Name};
@@ -23,17 +23,17 @@ pub fn fill(column: &mut [bool], value: bool)
     }
 }
 
-fn fill_states_of(log: &Log, timeline: Timeline, host: usize, name: &Name, column: &mut [bool])
+fn fill_states_of(log: &Log, timeline: Timeline, proposition: Proposition, column: &mut [bool])
     requires count { length timeline.times.now ≡ length log.now.rows }
     requires timeline { IsTimeline timeline.times.now timeline.moments.now }
     requires room { length column.old ≡ length timeline.times.now }
     ensures { let t = timeline.entry.times.now in
-        IsColumn (length t) (λ e. state_of log.now t (time_of t e) host name.now) column.new }
+        IsColumn (length t) (λ e. state_of log.now t (time_of t e) proposition.entry.host proposition.entry.name.now) column.new }
 {
     let Timeline { times, moments } = timeline;
     let mut latest = Latest::new();
     for place in 0..times.len() {
-        latest = latest.advanced(log, moments, host, name, place);
+        latest = latest.advanced(log, moments, proposition, place);
         column[moments[place].row] = latest.state(moments, place);
     }
 }
@@ -47,7 +47,7 @@ pub fn fill_states(log: &Log, timeline: Timeline, host: &Name, name: &Name, colu
         IsColumn (length t) (λ e. state_named log.now t (time_of t e) host.now name.now) column.new }
 {
     match log.host_named(host) {
-        Some(host) => fill_states_of(log, timeline, host, name, column),
+        Some(host) => fill_states_of(log, timeline, Proposition { host, name }, column),
         None => fill(column, false),
     }
 }

@@ -15,7 +15,7 @@ ghost use Rattle.witness_replay.specs.Timelines.{IsTimeline};
 
 use crate::columns::{fill, fill_conjunction, fill_negation, fill_reaches, fill_states};
 use crate::operators::Operator;
-use crate::timeline::{Moment, Timeline, sort_rows};
+use crate::timeline::Timeline;
 use formula_arena::{Arena, Core, Direction};
 use mt_model::{Log, NodeId, truth_by_rows};
 
@@ -122,26 +122,24 @@ fn first_row(times: &[i128]) -> usize
     first
 }
 
-/// The truth of a node at the first position of a timing. There is room for a moment of each row, and in the table
-/// for a value of each node at each row; what stands there before plays no part.
+/// The truth of a node at the first position of a timing. There is room in the table for a value of each node at each
+/// row; what stands there before plays no part.
 pub fn truth_at_first(
     log: &Log,
     arena: &Arena,
     node: NodeId,
-    times: &[i128],
-    moments: &mut [Moment],
+    timeline: Timeline,
     table: &mut [bool],
 ) -> bool
-    requires count { length times.now ≡ length log.now.rows }
-    requires range { All (IsWithin MAX_TIME) times.now }
+    requires count { length timeline.times.now ≡ length log.now.rows }
+    requires range { All (IsWithin MAX_TIME) timeline.times.now }
+    requires timeline { IsTimeline timeline.times.now timeline.moments.now }
     requires node_in { node < length arena.now }
-    requires moments_room { length moments.old ≡ length times.now }
-    requires room { length table.old ≡ length arena.now * length times.now }
-    ensures { result ≡ truth log.now times.now 0 (tree_at arena.now node) }
+    requires room { length table.old ≡ length arena.now * length timeline.times.now }
+    ensures { result ≡ truth log.now timeline.entry.times.now 0 (tree_at arena.now node) }
 {
     truth_by_rows();
     prove!(!log.rows().is_empty());
-    sort_rows(times, moments);
-    evaluate(log, arena, Timeline { times, moments }, table);
-    table[node.get() as usize * times.len() + first_row(times)]
+    evaluate(log, arena, timeline, table);
+    table[node.get() as usize * timeline.times.len() + first_row(timeline.times)]
 }

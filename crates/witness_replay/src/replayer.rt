@@ -13,7 +13,7 @@ ghost use Rattle.formula_arena.specs.Nodes.{nodes_of, tree_at};
 ghost use Rattle.formula_arena.specs.declared.arena.TheConstants.{MAX_NODES};
 
 use crate::evaluator::truth_at_first;
-use crate::timeline::Moment;
+use crate::timeline::{Moment, Timeline, sort_rows};
 use formula_arena::{Arena, ArenaFault, nodes_are_subtrees, truth_of_core};
 use mt_model::{Bound, BoundList, Formula, Log, NodeId, RowReadings};
 use question::{Question, question_is_asked};
@@ -138,14 +138,10 @@ impl Replayer {
         ensures kept { self.new ≡ self.old }
     {
         truth_of_core();
-        truth_at_first(
-            &self.log,
-            &self.arena,
-            self.root,
-            times,
-            &mut self.moments,
-            &mut self.table,
-        )
+        sort_rows(times, &mut self.moments);
+        let moments = self.moments.as_slice();
+        let timeline = Timeline { times, moments };
+        truth_at_first(&self.log, &self.arena, self.root, timeline, &mut self.table)
     }
 }
 
@@ -164,12 +160,8 @@ pub fn truth_by(alloc: Global, question: &Question, times: &[i128]) -> Result<bo
     let (log, nodes) = (question.log(), question.nodes());
     let mut moments = make_moments(alloc, log.rows().len())?;
     let mut table = make_table(alloc, nodes.arena().len(), log.rows().len())?;
-    Ok(truth_at_first(
-        log,
-        nodes.arena(),
-        nodes.root(),
-        times,
-        &mut moments,
-        &mut table,
-    ))
+    sort_rows(times, &mut moments);
+    let moments = moments.as_slice();
+    let timeline = Timeline { times, moments };
+    Ok(truth_at_first(log, nodes.arena(), nodes.root(), timeline, &mut table))
 }

@@ -12,6 +12,13 @@ ghost use Rattle.witness_replay.specs.Timelines.{AreRising, moment_at};
 use crate::timeline::Moment;
 use mt_model::{Act, Log, Name};
 
+/// A proposition of a host of a log.
+#[derive(Clone, Copy)]
+pub struct Proposition<'a> {
+    pub host: usize,
+    pub name: &'a Name,
+}
+
 /// What a row does to a proposition.
 #[derive(Clone, Copy)]
 pub enum Effect {
@@ -35,15 +42,16 @@ fn act_effect(act: &Act, name: &Name) -> Option<Effect>
     }
 }
 
-// What a row does to a host's proposition.
-fn row_effect(log: &Log, host: usize, name: &Name, e: usize) -> Option<Effect>
+// What a row does to a proposition.
+fn row_effect(log: &Log, proposition: Proposition, e: usize) -> Option<Effect>
     requires { e < length log.now.rows }
-    ensures change { option_map (λ sets. record { row = e; sets = sets }) (changed_to result) ≡ change_at log.now host name.now e }
-    ensures pulse { is_pulsing result ≡ is_pulse_at log.now host name.now e }
+    ensures change { let p = proposition.entry in
+        option_map (λ sets. record { row = e; sets = sets }) (changed_to result) ≡ change_at log.now p.host p.name.now e }
+    ensures pulse { is_pulsing result ≡ is_pulse_at log.now proposition.entry.host proposition.entry.name.now e }
 {
     let row = &log.rows()[e];
-    if row.host.get() as usize == host {
-        act_effect(&row.act, name)
+    if row.host.get() as usize == proposition.host {
+        act_effect(&row.act, proposition.name)
     } else {
         None
     }
@@ -83,16 +91,16 @@ impl Latest {
     }
 
     // One more place is taken in.
-    fn extended(self, log: &Log, moments: &[Moment], host: usize, name: &Name) -> Latest
+    fn extended(self, log: &Log, moments: &[Moment], proposition: Proposition) -> Latest
         requires rows { All (λ m. m.row < length log.now.rows) moments.now }
         requires more { self.places < length moments.now }
-        requires latest { IsLatest log.now moments.now host name.now self }
-        ensures latest { IsLatest log.now moments.now host name.now result }
+        requires latest { IsLatest log.now moments.now proposition.host proposition.name.now self }
+        ensures latest { IsLatest log.now moments.now proposition.entry.host proposition.entry.name.now result }
         ensures places { result.places ≡ self.places + 1 }
     {
         let row = moments[self.places].row;
         let places = self.places + 1;
-        match row_effect(log, host, name, row) {
+        match row_effect(log, proposition, row) {
             Some(Effect::Changes(sets)) => {
                 if self.decides(row) {
                     Latest {
@@ -127,24 +135,23 @@ impl Latest {
         self,
         log: &Log,
         moments: &[Moment],
-        host: usize,
-        name: &Name,
+        proposition: Proposition,
         place: usize,
     ) -> Latest
         requires rows { All (λ m. m.row < length log.now.rows) moments.now }
         requires rising { AreRising moments.now (length moments.now) }
-        requires latest { IsLatest log.now moments.now host name.now self }
+        requires latest { IsLatest log.now moments.now proposition.host proposition.name.now self }
         requires within { self.places ≤ length moments.now }
         requires place_in { place < length moments.now }
         requires by { AreBy moments.now (moment_at moments.now place).time self.places }
-        ensures latest { IsLatest log.now moments.now host name.now result }
+        ensures latest { IsLatest log.now moments.now proposition.entry.host proposition.entry.name.now result }
         ensures within { result.places ≤ length moments.now }
         ensures by { AreBy moments.now (moment_at moments.now place).time result.places }
         ensures after { AreAfter moments.now (moment_at moments.now place).time result.places }
     {
         let mut latest = self;
         while latest.has_more(moments, place) {
-            latest = latest.extended(log, moments, host, name);
+            latest = latest.extended(log, moments, proposition);
         }
         latest
     }

@@ -18,10 +18,10 @@ loop-place-preserved c =
     let in_ : p < length t = omega arith in
     let latest = c.advanced-latest.ensures in
     let (_, timed-here) = timed Ahead t ms c.requires.timeline p in_ in
-    let value : c.state.result ≡ state log t (time_of t (moment_at ms p).row) c.args.host c.args.name.now =
+    let value : c.state.result ≡ state log t (time_of t (moment_at ms p).row) c.args.proposition.host c.args.proposition.name.now =
     c.state.ensures
-    ∙ sym (state-latest log t ms c.requires.count c.requires.timeline c.args.host c.args.name.now (moment_at ms p).time c.advanced-latest.result latest.within latest.by latest.after latest.latest)
-    ∙ ap (λ u. state log t u c.args.host c.args.name.now) timed-here in
+    ∙ sym (state-latest log t ms c.requires.count c.requires.timeline c.args.proposition.host c.args.proposition.name.now (moment_at ms p).time c.advanced-latest.result latest.within latest.by latest.after latest.latest)
+    ∙ ap (λ u. state log t u c.args.proposition.host c.args.proposition.name.now) timed-here in
     record {
       latest = latest.latest;
       within = latest.within;
@@ -29,14 +29,14 @@ loop-place-preserved c =
           let up = c.requires.timeline.rising p k (omega (arith, after)) within in
           let early = latest.by j less in
           grind (arith, ints);
-      filled = filled-on (row_met Ahead ms) (λ e. state log t (time_of t e) c.args.host c.args.name.now) p c.loop-place.column c.state.result
+      filled = filled-on (row_met Ahead ms) (λ e. state log t (time_of t e) c.args.proposition.host c.args.proposition.name.now) p c.loop-place.column c.state.result
           (let met = met-in Ahead t ms c.requires.timeline p in_ in omega arith) value c.loop-place.invariant.filled;
     }
 
 pub state-requires-clause-pulse_in : goal.state-requires-clause-pulse_in
 state-requires-clause-pulse_in c =
     let latest = c.advanced-latest.ensures in
-    pulse-within c.args.log.now c.args.timeline.moments.now c.args.host c.args.name.now c.advanced-latest.result.places c.advanced-latest.result.pulse latest.within latest.latest.pulse
+    pulse-within c.args.log.now c.args.timeline.moments.now c.args.proposition.host c.args.proposition.name.now c.advanced-latest.result.places c.advanced-latest.result.pulse latest.within latest.latest.pulse
 
 pub returns : goal.returns
 returns c = record {

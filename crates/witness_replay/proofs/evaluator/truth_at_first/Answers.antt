@@ -7,7 +7,7 @@ pub returns : goal.returns
 returns c =
     let row = c.first_row.ensures in
     let value =
-    value-in-table c.args.log.now c.args.times.now c.args.arena.now
+    value-in-table c.args.log.now c.args.timeline.times.now c.args.arena.now
     (length c.args.arena.now) c.evaluate.new.table c.evaluate.ensures c.args.node c.first_row.result c.requires.node_in row.within in
-    let first = c.truth_by_rows.ensures.at_first c.args.log.now c.args.times.now c.first_row.result (tree_at c.args.arena.now c.args.node) row.within row.least in
+    let first = c.truth_by_rows.ensures.at_first c.args.log.now c.args.timeline.times.now c.first_row.result (tree_at c.args.arena.now c.args.node) row.within row.least in
     rw c.get.ensures.number (value ∙ first)

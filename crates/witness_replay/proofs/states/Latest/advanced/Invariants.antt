@@ -5,7 +5,7 @@ use Rattle.witness_replay.proofs.states.Latest.advanced.Given as goal
 
 abbrev pub invariant-loop-latest : goal.invariant-loop-latest
 invariant-loop-latest l = record {
-  latest : IsLatest l.log l.moments l.host l.name l.latest;
+  latest : IsLatest l.log l.moments l.proposition.host l.proposition.name.now l.latest;
   within : l.latest.places ≤ length l.moments;
   by : AreBy l.moments (moment_at l.moments l.place).time l.latest.places;
 }
