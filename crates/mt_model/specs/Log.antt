@@ -194,9 +194,9 @@ widened_host s h = record { name = h.name; skew = h.skew +ℤ s; gap = h.gap; le
 abbrev pub widened_resync : ℤ → Resync → Resync
 widened_resync s r = record { place = r.place; host = r.host; skew = r.skew +ℤ s; gap = r.gap }
 
--- each skew of hosts and of resyncs stays in its range when it grows by s
-abbrev pub MayWiden : ℤ → List Host → List Resync → Type 0
-MayWiden s hosts resyncs = All (λ h. (h.skew +ℤ s) ≤ℤ MAX_SKEW) hosts × All (λ r. (r.skew +ℤ s) ≤ℤ MAX_SKEW) resyncs
+-- s is at least 0, and each skew of the log's hosts and resyncs stays in its range when it grows by s
+abbrev pub MayWiden : ℤ → Logged → Type 0
+MayWiden s log = (pos 0 ≤ℤ s) × All (λ h. (h.skew +ℤ s) ≤ℤ MAX_SKEW) log.hosts × All (λ r. (r.skew +ℤ s) ≤ℤ MAX_SKEW) log.resyncs
 
 -- the log with each skew greater by s
 abbrev pub widened : ℤ → Logged → Logged

@@ -415,7 +415,7 @@ impl Log {
 
     /// Whether each skew stays in its range when it grows by s, which is at least 0.
     pub fn takes_widening(&self, s: i128) -> bool
-        ensures valid { IsTrue result ↔ ((pos 0 ≤ℤ s) × MayWiden s self.now.hosts self.now.resyncs) }
+        ensures valid { IsTrue result ↔ MayWiden s self.now }
     {
         0 <= s && may_widen_all(self.hosts.as_slice(), self.resyncs.as_slice(), s)
     }

@@ -1,7 +1,7 @@
 //! Skews that grow.
 
 ghost use Rattle.std.specs.Prelude.{◌≡◌, ◌↔◌, IsTrue, All, map, pos, ◌+ℤ◌, ◌≤ℤ◌};
-ghost use Rattle.mt_model.specs.Log.{IsHost, IsWithin, MayWiden, widened_host, widened_resync};
+ghost use Rattle.mt_model.specs.Log.{IsHost, IsWithin, widened_host, widened_resync};
 
 use crate::{Host, HostList, MAX_SKEW, Resync, ResyncList};
 use mt_list::ListOf;
@@ -31,7 +31,7 @@ fn may_widen_resyncs(resyncs: &[Resync], s: i128) -> bool
 /// Whether each skew of hosts and of resyncs stays in its range when it grows by s.
 pub fn may_widen_all(hosts: &[Host], resyncs: &[Resync], s: i128) -> bool
     requires { pos 0 ≤ℤ s }
-    ensures { IsTrue result ↔ MayWiden s hosts.now resyncs.now }
+    ensures { IsTrue result ↔ (All (λ h. (h.skew +ℤ s) ≤ℤ MAX_SKEW) hosts.now × All (λ r. (r.skew +ℤ s) ≤ℤ MAX_SKEW) resyncs.now) }
 {
     may_widen_hosts(hosts, s) && may_widen_resyncs(resyncs, s)
 }
