@@ -1,4 +1,4 @@
-"""What ask and the program that it runs were made of: a commit and a kit, where they are known."""
+"""What ask and the program that it runs were made of: a release, a commit and a kit, where they are known."""
 
 from __future__ import annotations
 
@@ -12,25 +12,28 @@ from ask.program import find_program
 from ask.texts import Trouble
 from ask.words import Answer
 
-INSTALLED = Path("share", "doc", "skewcheck", "version")  # below a prefix, with the lines `commit ..` and `kit ..`
+INSTALLED = Path("share", "doc", "skewcheck", "version")  # below a prefix, with the lines `commit ..` and `kit ..`, and `release ..` of one
 PROVED = Path("docs", "proved.md")  # of a repository
 KIT = re.compile(r"^Proved with `([^`]+)`", re.M)
+RELEASE = re.compile(r"v([0-9]+(?:\.[0-9]+)*)")  # a tag
 PATIENCE = 10  # seconds that git may take
 
 
 class Origin(NamedTuple):
-    """The commit and the kit of a file, None where they aren't known; of a repository its present commit."""
+    """The commit, the kit and the release of a file, None where they aren't known; of a repository those of its present commit."""
 
     commit: Optional[str] = None
     kit: Optional[str] = None
     is_repository: bool = False
+    release: Optional[str] = None
 
     def words(self) -> str:
         """What it is, in words."""
         if not self.commit and not self.kit:
             return "its commit and kit aren't known"
         commit = f"commit {self.commit or 'not known'}"
-        return f"{'of a repository at ' * self.is_repository}{commit}, kit {self.kit or 'not known'}"
+        release = f"release {self.release}, " if self.release else ""
+        return f"{release}{'of a repository at ' * self.is_repository}{commit}, kit {self.kit or 'not known'}"
 
 
 def answer_of_version(arguments: argparse.Namespace) -> Answer:
@@ -60,16 +63,18 @@ def installed_origin(file: Path) -> Origin:
     """The origin that a file of an installation states."""
     lines = text_of(file).splitlines()
     told = dict(line.split(" ", 1) for line in lines if " " in line)
-    return Origin(told.get("commit"), told.get("kit"))
+    return Origin(told.get("commit"), told.get("kit"), release=told.get("release"))
 
 
 def repository_origin(folder: Path) -> Origin:
     """The commit at which a repository is, and the kit by which its page says that it was proved."""
     found = KIT.search(text_of(folder / PROVED))
     commit = git(folder, "rev-parse", "HEAD")
+    kit = found.group(1) if found else None
     if commit and git(folder, "status", "--porcelain", "--untracked-files=no"):
-        commit += ", with changes"
-    return Origin(commit or None, found.group(1) if found else None, is_repository=True)
+        return Origin(f"{commit}, with changes", kit, is_repository=True)
+    release = RELEASE.fullmatch(git(folder, "describe", "--tags", "--exact-match", "--match", "v[0-9]*"))
+    return Origin(commit or None, kit, is_repository=True, release=release.group(1) if release else None)
 
 
 def text_of(file: Path) -> str:

@@ -98,6 +98,8 @@ class Version(unittest.TestCase):
         self.assertEqual((ended, text.splitlines()[1]), (0, f"skewcheck: {program}: commit 0123abc, kit rattle-kit-1 logic 2"))
         self.assertEqual(origin_of(self.installed("commit 0123abc, with changes\n")), Origin("0123abc, with changes"))
         self.assertEqual(origin_of(self.installed("")).words(), "its commit and kit aren't known")
+        released = origin_of(self.installed("commit 0123abc\nkit rattle-kit-1 logic 2\nrelease 1.0\n"))
+        self.assertEqual(released.words(), "release 1.0, commit 0123abc, kit rattle-kit-1 logic 2")
 
     def test_ask_installed_beside_it(self):
         program = self.installed("commit 0123abc\nkit rattle-kit-1 logic 2\n")
@@ -116,6 +118,11 @@ class Version(unittest.TestCase):
             subprocess.run(["git", "-C", self.room, *words], check=True, capture_output=True)
         commit = subprocess.run(["git", "-C", self.room, "rev-parse", "HEAD"], check=True, capture_output=True, text=True).stdout.strip()
         self.assertEqual(origin_of(program), Origin(commit, "rattle-kit-7 logic 8", True))
+        for tag, release in (("vague", None), ("v2-draft", None), ("v1.0", "1.0")):
+            subprocess.run(["git", "-C", self.room, "tag", tag], check=True, capture_output=True)
+            self.assertEqual(origin_of(program), Origin(commit, "rattle-kit-7 logic 8", True, release), tag)
+            subprocess.run(["git", "-C", self.room, "tag", "-d", tag], check=True, capture_output=True)
+        subprocess.run(["git", "-C", self.room, "tag", "v1.0"], check=True, capture_output=True)
         (self.room / "docs" / "proved.md").write_text("")
         self.assertEqual(origin_of(program), Origin(f"{commit}, with changes", None, True))
 

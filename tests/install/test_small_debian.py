@@ -15,7 +15,7 @@ import tempfile
 import unittest
 from pathlib import Path
 
-from common import ABOUT, NOBODY, PATIENCE, PROGRAM, WithRoom, expected, installed, needs_commit, tree
+from common import ABOUT, NOBODY, PATIENCE, PROGRAM, ROOT, WithRoom, expected, installed, needs_commit, tree
 
 SUITE = "bookworm"
 LONGEST = 240  # seconds that are waited for the small Debian when the other cases are done
@@ -218,15 +218,40 @@ class Package(WithRoom):
             [self.field(name) for name in ("Package", "Architecture", "Maintainer", "Depends", "Suggests")],
             ["skewcheck", "amd64", "Tavgnir <skewcheck@tavgnir.invalid>", "libc6 (>= 2.34), python3 (>= 3.8)", "parallel, jq"],
         )
-        self.assertRegex(self.field("Version"), r"^0\+git[0-9]{14}\.[0-9a-f]{12}(\+changed)?$")
+        self.assertRegex(self.field("Version"), r"^[0-9]+(\.[0-9]+)*(\+git[0-9]{14}\.[0-9a-f]{12}(\+changed)?)?$")
         self.assertGreater(int(self.field("Installed-Size")), Path(PROGRAM).stat().st_size // 1024)
 
-    def test_versions_sort_by_date(self):
-        """The version has the time of the commit, so that of the next second is greater, whatever its hash."""
-        version = self.field("Version")
-        later = f"0+git{int(version[5:19]) + 1}.000000000000"
-        compared = subprocess.run(["dpkg", "--compare-versions", version, "lt", later])
-        self.assertEqual(compared.returncode, 0)
+    def test_versions_rise(self):
+        """A release has its number, and what comes after it the time of its commit as well: that of the next second is
+        greater, whatever its hash, and the next release is greater than all of these."""
+        clone = self.room / "clone"
+        named = ("git", "-C", clone, "-c", "user.name=n", "-c", "user.email=e")
+        for words in (
+            ("git", "clone", "-q", "--shared", ROOT, clone),
+            (*named, "commit", "-q", "--allow-empty", "-m", "a release"), (*named, "tag", "v7.1"),
+        ):
+            subprocess.run(words, check=True, capture_output=True)
+        made = [self.version_of(clone)]
+        for word in ("once", "more"):
+            subprocess.run((*named, "commit", "-q", "--allow-empty", "-m", word), check=True, capture_output=True)
+            made.append(self.version_of(clone))
+        self.assertEqual(made[0], ("7.1", "release 7.1"))
+        for version, last in made[1:]:
+            self.assertRegex(version, r"^7\.1\+git[0-9]{14}\.[0-9a-f]{12}$")
+            self.assertNotIn("release", last)
+        later = f"7.1+git{int(made[1][0][7:21]) + 1}.000000000000"
+        for less, more in (("0+git20301231235959.ffffffffffff", made[0][0]), (made[0][0], made[1][0]), (made[1][0], later), (later, "7.2")):
+            self.assertEqual(subprocess.run(["dpkg", "--compare-versions", less, "lt", more]).returncode, 0, (less, more))
+
+    def version_of(self, clone):
+        """The version of the package that a clone makes, and the line behind those of its commit and its kit."""
+        deb = self.room / "clone.deb"
+        done = subprocess.run([clone / "install", "--deb", deb], capture_output=True, text=True, env={**os.environ, "SKEWCHECK": PROGRAM})
+        self.assertEqual(done.returncode, 0, done.stderr)
+        subprocess.run(["dpkg-deb", "-x", deb, self.room / "taken"], check=True)
+        lines = (self.room / "taken" / "usr" / ABOUT / "version").read_text().splitlines()
+        version = subprocess.run(["dpkg-deb", "-f", deb, "Version"], stdout=subprocess.PIPE, text=True, check=True).stdout.strip()
+        return version, lines[2]
 
     def test_files(self):
         other = self.room / "other"
