@@ -25,6 +25,10 @@ pub record Shelved : Type 0 where
   pub asked : Option ℕ
   pub faults : ℕ
 
+-- the shelf of these files before its first call
+abbrev pub new_shelf : Files → ℕ → List ℕ → Shelved
+new_shelf files piece fails = record { files = files; is_open = false; left = []; piece = piece; fails = fails; calls = 0; openings = 0; asked = None; faults = 0 }
+
 -- a count after one more, which stays at its end
 abbrev pub one_more : ℕ → ℕ
 one_more count = min (count + 1) (2 ^ 64 - 1)

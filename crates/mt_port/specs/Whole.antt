@@ -1,5 +1,7 @@
 -- What a whole read and a whole write mean.
-use Rattle.std.specs.Prelude.{◌≡◌, ℕ, ◌<◌, ◌≤◌, List, ◌++◌, length, take, Option, Some, IsSomeAnd}
+use Rattle.std.specs.Prelude.{◌≡◌, ℕ, ◌<◌, ◌≤◌, List, ◌++◌, length, take, Option, Some, IsSomeAnd, Result, IsErrOf}
+use Rattle.mt_port.specs.declared.whole.ReadFault.{ReadFault}
+use Rattle.mt_port.specs.declared.whole.ReadFault.TheVariants.{TooLong}
 
 -- a file that is held, and longer than the limit
 abbrev pub IsLonger : Option (List ℕ) → ℕ → Type 0
@@ -16,6 +18,14 @@ pub record GaveAtMost (file : Option (List ℕ)) (left : List ℕ) (limit : ℕ)
   pub given : List ℕ
   pub count : length given ≤ limit
   pub split : file ≡ Some (given ++ left)
+
+-- a file was found too long
+abbrev pub IsTooLong : {X : Type 0} → Result X ReadFault → Type 0
+IsTooLong result = IsErrOf result TooLong
+
+-- no more bytes of a file were given than the limit, unless it was found too long, and these are left
+abbrev pub GaveWithin : {X : Type 0} → Result X ReadFault → Option (List ℕ) → List ℕ → ℕ → Type 0
+GaveWithin result file left limit = ¬ IsTooLong result → GaveAtMost file left limit
 
 -- a prefix of the bytes was written
 pub record WrotePrefix (old now bytes : List ℕ) : Type 0 where

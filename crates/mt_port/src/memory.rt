@@ -2,7 +2,7 @@
 
 ghost use Rattle.std.specs.Prelude.{◌≡◌, ◌⊎◌, ◌∷◌, ◌++◌, [], None, ◌<◌, ◌≤◌, ◌-◌, ◌^◌, IfOk, IsErr, IsOk, IsSome, IsNone, IfSome, Some, Contains, IsTrue, ◌↔◌, OnOk, OnErr, true, false, position, bytes_eq, string_bytes, drop, take, min, length, ◌+◌};
 ghost use Rattle.mt_port.specs.Port.{Gives, HasCause, Opens, file_of};
-ghost use Rattle.mt_port.specs.Memory.{AreDistinct, HasOpened, IsFullFor, IsSteady, IsToFail, Shelved, Sunk, bytes_of, gave, left_at, named, not_opened, not_read, not_written, opened, place_of, took};
+ghost use Rattle.mt_port.specs.Memory.{AreDistinct, HasOpened, IsFullFor, IsSteady, IsToFail, Shelved, Sunk, bytes_of, gave, left_at, named, new_shelf, not_opened, not_read, not_written, opened, place_of, took};
 
 use crate::{Failed, Shelf, Sink};
 use std::alloc::{AllocError, Global};
@@ -186,7 +186,7 @@ impl MemShelf {
     pub fn new(files: Vec<(String, Vec<u8>)>, piece: usize, fails: Vec<u64>) -> MemShelf
         requires distinct { AreDistinct (named files.items) }
         requires some { 0 < piece }
-        ensures { result ≡ record { files = named files.items; is_open = false; left = []; piece = piece; fails = fails.items; calls = 0; openings = 0; asked = None; faults = 0 } }
+        ensures { result ≡ new_shelf (named files.items) piece fails.items }
     {
         MemShelf {
             files,

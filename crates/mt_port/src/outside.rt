@@ -182,7 +182,8 @@ impl<R: System> Shelf for FileShelf<'_, R> {
         ensures answer { ToldOfOpen R.File.reads R.Input.reads self.old.source buf.old self.new.source buf.new result }
 
         // Where the open file or input tells what it has left, its next bytes are given, and none only at its end.
-        ensures given { IfOk result (λ n. Consumes (left_of R.File.left R.Input.left self.old.source) (left_of R.File.left R.Input.left self.new.source) (take n buf.new)) }
+        ensures given { let left = left_of R.File.left R.Input.left in
+            IfOk result (λ n. Consumes (left self.old.source) (left self.new.source) (take n buf.new)) }
         ensures end { IfOk result (λ n. n ≡ 0 → 0 < length buf.old → IsAtEnd (left_of R.File.left R.Input.left self.new.source)) }
         ensures kept { OnErr result (Keeps (left_of R.File.left R.Input.left self.old.source) (left_of R.File.left R.Input.left self.new.source)) }
     {

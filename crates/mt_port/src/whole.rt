@@ -2,7 +2,7 @@
 
 ghost use Rattle.std.specs.Prelude.{◌≡◌, ◌+◌, ◌∷◌, ◌++◌, ◌^◌, ◌<◌, ◌≤◌, [], true, Some, length, IsErrOf, IsSome, IfOk, OnOk, OnErr};
 ghost use Rattle.mt_port.specs.Port.{HasCause, Opens, Rose, file_of};
-ghost use Rattle.mt_port.specs.Whole.{GaveAtMost, GaveSoMany, IsLonger, WrotePrefix};
+ghost use Rattle.mt_port.specs.Whole.{GaveSoMany, GaveWithin, IsLonger, IsTooLong, WrotePrefix};
 
 use crate::{Failed, Shelf, Sink};
 use std::alloc::{AllocError, Global};
@@ -48,9 +48,9 @@ pub fn read_all<S: Shelf>(
     ensures open { ¬ IsErrOf result ReadFault.Failed → S.is_open shelf.new ≡ true }
 
     // One byte past the limit is asked for and never more; TooLong says that it was given.
-    ensures too_long { IsErrOf result ReadFault.TooLong → S.tells shelf.old ≡ true → IsLonger (file_of (S.files shelf.old) name.now) limit }
-    ensures given { IsErrOf result ReadFault.TooLong → S.tells shelf.old ≡ true → GaveSoMany (file_of (S.files shelf.old) name.now) (S.left shelf.new) (limit + 1) }
-    ensures at_most { S.tells shelf.old ≡ true → S.is_open shelf.new ≡ true → ¬ IsErrOf result ReadFault.TooLong → GaveAtMost (file_of (S.files shelf.old) name.now) (S.left shelf.new) limit }
+    ensures too_long { IsTooLong result → S.tells shelf.old ≡ true → IsLonger (file_of (S.files shelf.old) name.now) limit }
+    ensures given { IsTooLong result → S.tells shelf.old ≡ true → GaveSoMany (file_of (S.files shelf.old) name.now) (S.left shelf.new) (limit + 1) }
+    ensures at_most { S.tells shelf.old ≡ true → S.is_open shelf.new ≡ true → GaveWithin result (file_of (S.files shelf.old) name.now) (S.left shelf.new) limit }
 
     // It opens the file and nothing else, and once: so what was given is never lost by an opening after it.
     ensures once { Opens (name.now ∷ []) (S.openings shelf.old) (S.openings shelf.new) }

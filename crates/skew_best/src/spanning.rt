@@ -11,7 +11,7 @@ ghost use Rattle.verdict_span.specs.Told.{IsInconsistentExactly, Tells};
 ghost use Rattle.verdict_span.specs.Widest.{WidestRight};
 ghost use Rattle.skew_words.specs.declared.limits.TheConstants.{MAX_CONFLICTS};
 ghost use Rattle.skew_answers.specs.Statuses.{IsVerdict};
-ghost use Rattle.skew_commands.specs.Openings.{OpensAtMost, OpensMoreOnly, PassesFormula};
+ghost use Rattle.skew_commands.specs.Openings.{OpensAtMost, OpensLogInTurn};
 ghost use Rattle.skew_commands.specs.Possible.{OfSomeQuestion};
 ghost use Rattle.skew_commands.specs.Reads.{HoldsQuestion, NoThird};
 ghost use Rattle.skew_commands.specs.Stops.{Gives, RefusesFor};
@@ -170,10 +170,10 @@ pub fn span<S: Shelf>(
     ensures verdict { IfOk result (λ r. IsVerdict r.status) }
     ensures failed { IsErrOf result Stop.ReadFailed → Rose (S.faults shelf.old) (S.faults shelf.new) }
     ensures told { ¬ IsErrOf result Stop.ReadFailed → S.faults shelf.new ≡ S.faults shelf.old }
-    ensures never { S.steady shelf.old → S.tells shelf.old ≡ true → HoldsQuestion (S.files shelf.old) formula.now log.now NoThird → IsErrOf result Stop.ReadFailed → ⊥ }
+    ensures never { NeverFailsToRead (S.steady shelf.old) (S.tells shelf.old) (HoldsQuestion (S.files shelf.old) formula.now log.now NoThird) result }
     ensures later { S.faults shelf.old ≤ S.faults shelf.new }
     ensures openings { OpensAtMost (formula.now ∷ log.now ∷ []) (S.openings shelf.old) (S.openings shelf.new) }
-    ensures in_turn { S.tells shelf.old ≡ true → OpensMoreOnly (formula.now ∷ []) (PassesFormula (S.files shelf.old) formula.now) (S.openings shelf.old) (S.openings shelf.new) }
+    ensures in_turn { S.tells shelf.old ≡ true → OpensLogInTurn (S.files shelf.old) formula.now (S.openings shelf.old) (S.openings shelf.new) }
 {
     logs_are_plain();
     let question = read_question(alloc, shelf, formula, log)?;

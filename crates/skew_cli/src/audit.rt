@@ -15,7 +15,7 @@ ghost use Rattle.skew_answers.specs.Texts.{line};
 ghost use Rattle.skew_cli.specs.AuditOutcome.{AuditOfLog, AuditOfReport, AuditOutcome, refused_part};
 ghost use Rattle.skew_commands.specs.Openings.{OpensAtMost, OpensInTurn, OpensMoreOnly, PassesHosts};
 ghost use Rattle.skew_commands.specs.Possible.{OfSomeThird};
-ghost use Rattle.skew_commands.specs.Reads.{HoldsQuestion, HoldsThird};
+ghost use Rattle.skew_commands.specs.Reads.{HoldsAfter, HoldsThree};
 ghost use Rattle.skew_commands.specs.Stops.{Gives};
 ghost use Rattle.skew_commands.specs.Untold.{GivesForSome};
 ghost use Rattle.skew_best.specs.SizeTests.{OnSize};
@@ -92,7 +92,7 @@ fn audit_of_question<S: Shelf>(
     ensures verdict { IfOk result (λ r. IsVerdict r.status) }
     ensures failed { IsErrOf result Stop.ReadFailed → Rose (S.faults shelf.old) (S.faults shelf.new) }
     ensures told { ¬ IsErrOf result Stop.ReadFailed → S.faults shelf.new ≡ S.faults shelf.old }
-    ensures never { S.steady shelf.old → S.tells shelf.old ≡ true → HoldsThird (S.files shelf.old) report.now (form_of question.now.formula) question.now.log → IsErrOf result Stop.ReadFailed → ⊥ }
+    ensures never { NeverFailsToRead (S.steady shelf.old) (S.tells shelf.old) (HoldsAfter question.now (S.files shelf.old) report.now) result }
     ensures later { S.faults shelf.old ≤ S.faults shelf.new }
     ensures openings { OpensAtMost (report.now ∷ []) (S.openings shelf.old) (S.openings shelf.new) }
     ensures in_turn { OpensMoreOnly [] (PassesHosts (form_of question.now.formula) question.now.log) (S.openings shelf.old) (S.openings shelf.new) }
@@ -119,7 +119,7 @@ pub fn audit<S: Shelf>(
     ensures verdict { IfOk result (λ r. IsVerdict r.status) }
     ensures failed { IsErrOf result Stop.ReadFailed → Rose (S.faults shelf.old) (S.faults shelf.new) }
     ensures told { ¬ IsErrOf result Stop.ReadFailed → S.faults shelf.new ≡ S.faults shelf.old }
-    ensures never { S.steady shelf.old → S.tells shelf.old ≡ true → HoldsQuestion (S.files shelf.old) formula.now log.now (HoldsThird (S.files shelf.old) report.now) → IsErrOf result Stop.ReadFailed → ⊥ }
+    ensures never { NeverFailsToRead (S.steady shelf.old) (S.tells shelf.old) (HoldsThree (S.files shelf.old) formula.now log.now report.now) result }
     ensures later { S.faults shelf.old ≤ S.faults shelf.new }
     ensures openings { OpensAtMost (formula.now ∷ log.now ∷ report.now ∷ []) (S.openings shelf.old) (S.openings shelf.new) }
     ensures in_turn { S.tells shelf.old ≡ true → OpensInTurn (S.files shelf.old) formula.now log.now (S.openings shelf.old) (S.openings shelf.new) }

@@ -54,7 +54,7 @@ pub fn json<S: Shelf>(alloc: Global, shelf: &mut S, name: &str) -> Result<Reply,
     ensures verdict { IfOk result (λ r. IsVerdict r.status) }
     ensures failed { IsErrOf result Stop.ReadFailed → Rose (S.faults shelf.old) (S.faults shelf.new) }
     ensures told { ¬ IsErrOf result Stop.ReadFailed → S.faults shelf.new ≡ S.faults shelf.old }
-    ensures never { S.steady shelf.old → S.tells shelf.old ≡ true → IsSome (file_of (S.files shelf.old) name.now) → IsErrOf result Stop.ReadFailed → ⊥ }
+    ensures never { NeverFailsToRead (S.steady shelf.old) (S.tells shelf.old) (IsSome (file_of (S.files shelf.old) name.now)) result }
     ensures later { S.faults shelf.old ≤ S.faults shelf.new }
     ensures once { Opens (name.now ∷ []) (S.openings shelf.old) (S.openings shelf.new) }
 {

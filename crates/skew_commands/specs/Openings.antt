@@ -27,6 +27,10 @@ pub record PassesFormula (files : Files) (formula : Word) : Type 0 where
   pub f : Form
   pub reads : FormulaOf text (Ok f)
 
+-- the log's file is opened only where the tests before it were passed
+abbrev pub OpensLogInTurn : Files → Word → Openings → Openings → Type 0
+OpensLogInTurn files formula = OpensMoreOnly (formula ∷ []) (PassesFormula files formula)
+
 -- the tests between the log and a third file: the formula's hosts are in the log, and its nodes are few
 abbrev pub PassesHosts : Form → Logged → Type 0
 PassesHosts f l = (unknown_host l f ≡ None) × (length (nodes_of f) ≤ MAX_NODES)
@@ -41,5 +45,5 @@ pub record PassesQuestion (files : Files) (formula log : Word) : Type 0 where
 
 -- more than a formula's file, and more than this and a log's after it, are opened only where the tests before were passed
 pub record OpensInTurn (files : Files) (formula log : Word) (before now : Openings) : Type 0 where
-  pub second : OpensMoreOnly (formula ∷ []) (PassesFormula files formula) before now
+  pub second : OpensLogInTurn files formula before now
   pub third : OpensMoreOnly (formula ∷ log ∷ []) (PassesQuestion files formula log) before now

@@ -2,7 +2,8 @@
 use Rattle.std.specs.Prelude.{◌≡◌, ◌⊎◌, ◌++◌, ℕ, Bool, true, false, List, codes, Some, ℤ}
 use Rattle.mt_model.specs.declared.bound.Bound.{Bound}
 use Rattle.mt_model.specs.Bounds.{first_broken, step_of}
-use Rattle.mt_model.specs.Form.{Form}
+use Rattle.formula_arena.specs.Cores.{core_of}
+use Rattle.mt_model.specs.Form.{Form, form_of}
 use Rattle.mt_model.specs.Log.{Logged}
 use Rattle.mt_model.specs.Texts.{step_text}
 use Rattle.mt_model.specs.Timing.{Admissible}
@@ -12,6 +13,7 @@ use Rattle.skew_answers.specs.declared.status.Status.{Status}
 use Rattle.skew_answers.specs.declared.status.Status.TheVariants as status
 use Rattle.skew_answers.specs.Texts.{line}
 use Rattle.skew_words.specs.Words.{Word}
+use Rattle.skew_commands.specs.declared.formula_and_log.Question.{Question}
 use Rattle.skew_commands.specs.declared.limits.TheConstants.{TIMES_LIMIT}
 use Rattle.skew_commands.specs.declared.refusal.Named.TheVariants as named
 use Rattle.skew_commands.specs.Tests.{OnFile, OnHosts, OnNodes, OnQuestion, OnTimes}
@@ -43,9 +45,21 @@ pub record Broken (log : Logged) (t : List ℤ) (out : List ℕ) (s : Status) : 
 abbrev pub ReplayOfTimes : Logged → Form → List ℤ → List ℕ → Status → Type 0
 ReplayOfTimes log f t out s = Valued log f t out s ⊎ Broken log t out s
 
+-- so of each formula of a core
+abbrev pub OfCore : Form → (Form → Type 0) → Type 0
+OfCore core Holds = (f : Form) → core_of f ≡ core → Holds f
+
+-- with the formula and the log read and tested: the file of times
+abbrev pub ReplayOfFile : Files → Word → Logged → Form → List ℕ → Status → Type 0
+ReplayOfFile files times log f = OnFile files times TIMES_LIMIT named.Times (λ file. OnTimes file log (ReplayOfTimes log f))
+
 -- with the formula and the log read: the formula's hosts and its nodes, and then the file of times
 abbrev pub ReplayOfLog : Files → Word → List ℕ → Form → Logged → List ℕ → Status → Type 0
-ReplayOfLog files times text f log = OnHosts text f log (OnNodes f (OnFile files times TIMES_LIMIT named.Times (λ file. OnTimes file log (ReplayOfTimes log f))))
+ReplayOfLog files times text f log = OnHosts text f log (OnNodes f (ReplayOfFile files times log f))
+
+-- with the question read
+abbrev pub ReplayOfQuestion : Files → Word → Question → List ℕ → Status → Type 0
+ReplayOfQuestion files times q = ReplayOfLog files times q.text.items (form_of q.formula) q.log
 
 -- what `replay` gives
 abbrev pub ReplayOutcome : Files → Word → Word → Word → List ℕ → Status → Type 0

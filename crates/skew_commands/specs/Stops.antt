@@ -1,8 +1,9 @@
 -- What it means that the work of a command ended early, and that it ended.
-use Rattle.std.specs.Prelude.{◌≡◌, ℕ, List, Option, Some, Result, Ok, Err, ℤ}
+use Rattle.std.specs.Prelude.{◌≡◌, ℕ, Bool, true, List, Option, Some, Result, Ok, Err, IsErrOf, ℤ}
 use Rattle.mt_model.specs.Log.{Logged}
 use Rattle.log_read.specs.declared.fault.LogFault.{LogFault}
 use Rattle.mt_model.specs.Form.{Form}
+use Rattle.mt_port.specs.Whole.{IsLonger}
 use Rattle.mtl_parse.specs.declared.fault.FormulaFault.{FormulaFault}
 use Rattle.mtl_parse.specs.FormulaOf.{FormulaOf}
 use Rattle.mtl_parse.specs.Places.{host_byte}
@@ -10,6 +11,7 @@ use Rattle.times_read.specs.declared.fault.TimesFault.{TimesFault}
 use Rattle.times_read.specs.declared.fault.TimesFault.TheVariants as times
 use Rattle.skew_answers.specs.declared.status.Status.{Status}
 use Rattle.skew_answers.specs.Texts.{line}
+use Rattle.skew_commands.specs.declared.refusal.Named.{Named}
 use Rattle.skew_commands.specs.declared.refusal.Refusal.{Refusal}
 use Rattle.skew_commands.specs.declared.refusal.Refusal.TheVariants as refusal
 use Rattle.skew_commands.specs.declared.reply.Reply.{Reply}
@@ -27,6 +29,14 @@ HasReason stop.ReadFailed Reason = Unit {0}
 abbrev pub RefusesFor : {X : Type 0} → Result X Stop → (Refusal → Type 0) → Type 0
 RefusesFor (Ok x) Reason = Unit {0}
 RefusesFor (Err s) Reason = HasReason s Reason
+
+-- where no read fails from here on, and the files are told and those that are read are held, a step never ends with a failed read
+abbrev pub NeverFailsToRead : {X : Type 0} → Type 0 → Bool → Type 0 → Result X Stop → Type 0
+NeverFailsToRead Steady tells Held result = Steady → tells ≡ true → Held → IsErrOf result stop.ReadFailed → ⊥
+
+-- the refusal tells that a file, where it is told, is longer than its limit
+abbrev pub TellsLength : Named → Bool → Option (List ℕ) → ℕ → Refusal → Type 0
+TellsLength named tells file limit r = (r ≡ refusal.Length named) × (tells ≡ true → IsLonger file limit)
 
 -- the work of a command gave what is due, in a reply or in a refusal
 abbrev pub Gives : (List ℕ → Status → Type 0) → Result Reply Stop → Type 0

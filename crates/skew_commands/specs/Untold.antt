@@ -25,6 +25,10 @@ pub record AreRead (text : List ℕ) (f : Form) (l : Logged) : Type 0 where
   pub file_within : length file ≤ LOG_LIMIT
   pub log_read : log_of file ≡ Ok l
 
+-- a formula and a log are refused so, whatever comes after them
+abbrev pub RefusesQuestion : Files → Word → Word → Refusal → Type 0
+RefusesQuestion files formula log r = OnQuestion files formula log NoAnswer (line (text_of r)) (status_of r)
+
 -- some formula and log are refused so, whatever comes after them
 abbrev pub RefusesSomeQuestion : Refusal → Type 0
 RefusesSomeQuestion r = OfSomeQuestion (λ files formula log. OnQuestion files formula log NoAnswer) (line (text_of r)) (status_of r)

@@ -9,11 +9,10 @@ ghost use Rattle.mt_model.specs.Log.{IsWithin};
 ghost use Rattle.mt_model.specs.State.{unknown_host};
 ghost use Rattle.mt_model.specs.declared.limits.TheConstants.{MAX_TIME};
 ghost use Rattle.mt_port.specs.Port.{Opens, Rose, file_of};
-ghost use Rattle.mt_port.specs.Whole.{IsLonger};
 ghost use Rattle.mtl_parse.specs.FormulaOf.{FormulaOf};
 ghost use Rattle.times_read.specs.TimesOf.{times_of};
 ghost use Rattle.log_read.specs.LogOf.{log_of};
-ghost use Rattle.skew_commands.specs.Stops.{NamesHost, RefusesFor, TellsFault, TellsFormulaFault, TellsLogFault};
+ghost use Rattle.skew_commands.specs.Stops.{NamesHost, NeverFailsToRead, RefusesFor, TellsFault, TellsFormulaFault, TellsLength, TellsLogFault};
 
 use crate::refusal::{Named, Refusal};
 use crate::reply::Stop;
@@ -37,11 +36,11 @@ pub fn file<S: Shelf>(
     requires { limit < 2 ^ 31 }
     ensures whole { IfOk result (λ bytes. S.tells shelf.old ≡ true → file_of (S.files shelf.old) name.now ≡ Some bytes.items) }
     ensures within { IfOk result (λ bytes. length bytes.items ≤ limit) }
-    ensures refused { RefusesFor result (λ r. (r ≡ Refusal.Length named) × (S.tells shelf.old ≡ true → IsLonger (file_of (S.files shelf.old) name.now) limit)) }
+    ensures refused { RefusesFor result (TellsLength named (S.tells shelf.old) (file_of (S.files shelf.old) name.now) limit) }
     ensures too_long { RefusesFor result (λ r. r ≡ Refusal.Length named) }
     ensures failed { IsErrOf result Stop.ReadFailed → Rose (S.faults shelf.old) (S.faults shelf.new) }
     ensures told { ¬ IsErrOf result Stop.ReadFailed → S.faults shelf.new ≡ S.faults shelf.old }
-    ensures never { S.steady shelf.old → S.tells shelf.old ≡ true → IsSome (file_of (S.files shelf.old) name.now) → IsErrOf result Stop.ReadFailed → ⊥ }
+    ensures never { NeverFailsToRead (S.steady shelf.old) (S.tells shelf.old) (IsSome (file_of (S.files shelf.old) name.now)) result }
     ensures later { S.faults shelf.old ≤ S.faults shelf.new }
     ensures once { Opens (name.now ∷ []) (S.openings shelf.old) (S.openings shelf.new) }
     ensures steady { S.steady shelf.old → S.steady shelf.new }

@@ -1,8 +1,7 @@
 //! What `replay` answers: the truth of a formula on one timing of a log.
 
 ghost use Rattle.std.specs.Prelude.{◌≡◌, ◌∷◌, [], ◌^◌, ◌<◌, ◌≤◌, true, length, All, IfOk, IsErrOf, IsSome, Ok};
-ghost use Rattle.formula_arena.specs.Cores.{core_of};
-ghost use Rattle.mt_model.specs.Form.{Form, form_of};
+ghost use Rattle.mt_model.specs.Form.{form_of};
 ghost use Rattle.mt_model.specs.Log.{IsWithin};
 ghost use Rattle.mt_model.specs.declared.limits.TheConstants.{MAX_TIME};
 ghost use Rattle.mt_port.specs.Port.{Opens, Rose, file_of};
@@ -11,12 +10,11 @@ ghost use Rattle.skew_answers.specs.Statuses.{IsVerdict};
 ghost use Rattle.skew_answers.specs.Texts.{line};
 ghost use Rattle.skew_commands.specs.Openings.{OpensAtMost, OpensInTurn, OpensMoreOnly, PassesHosts};
 ghost use Rattle.skew_commands.specs.Possible.{OfSomeThird};
-ghost use Rattle.skew_commands.specs.Reads.{HoldsQuestion, HoldsThird};
-ghost use Rattle.skew_commands.specs.ReplayOutcome.{ReplayOfLog, ReplayOfTimes, ReplayOutcome, value_status, value_text};
-ghost use Rattle.skew_commands.specs.Stops.{Gives};
-ghost use Rattle.skew_commands.specs.Tests.{OnFile, OnTimes};
+ghost use Rattle.skew_commands.specs.Reads.{HoldsAfter, HoldsThree};
+ghost use Rattle.skew_commands.specs.ReplayOutcome.{OfCore, ReplayOfFile, ReplayOfQuestion, ReplayOfTimes, ReplayOutcome, value_status, value_text};
+ghost use Rattle.skew_commands.specs.Stops.{Gives, NeverFailsToRead};
+ghost use Rattle.skew_commands.specs.Tests.{OnTimes};
 ghost use Rattle.skew_commands.specs.Untold.{GivesForSome};
-ghost use Rattle.skew_commands.specs.declared.limits.TheConstants.{TIMES_LIMIT};
 
 use crate::files;
 use crate::formula_and_log::{Question, read_question};
@@ -56,7 +54,7 @@ fn replay_of_times(
 ) -> Result<Reply, AllocError>
     requires range { All (IsWithin MAX_TIME) times.now }
     requires count { length times.now ≡ length replayer.old.log.rows }
-    ensures outcome { IfOk result (λ r. (f : Form) → core_of f ≡ replayer.old.core → ReplayOfTimes replayer.old.log f times.now r.text.items r.status) }
+    ensures outcome { IfOk result (λ r. OfCore replayer.old.core (λ f. ReplayOfTimes replayer.old.log f times.now r.text.items r.status)) }
     ensures verdict { IfOk result (λ r. IsVerdict r.status) }
 {
     match replayer.broken(times) {
@@ -76,7 +74,7 @@ fn replay_of_bytes(
     bytes: &[u8],
 ) -> Result<Reply, Stop>
     requires { replayer.old.log ≡ log.now }
-    ensures outcome { (f : Form) → core_of f ≡ replayer.old.core → Gives (OnTimes bytes.now log.now (ReplayOfTimes log.now f)) result }
+    ensures outcome { OfCore replayer.old.core (λ f. Gives (OnTimes bytes.now log.now (ReplayOfTimes log.now f)) result) }
     ensures verdict { IfOk result (λ r. IsVerdict r.status) }
     ensures reads_nothing { IsErrOf result Stop.ReadFailed → ⊥ }
 {
@@ -93,12 +91,12 @@ fn replay_of_file<S: Shelf>(
     times: &str,
 ) -> Result<Reply, Stop>
     requires { replayer.old.log ≡ log.now }
-    ensures outcome { S.tells shelf.old ≡ true → (f : Form) → core_of f ≡ replayer.old.core → Gives (OnFile (S.files shelf.old) times.now TIMES_LIMIT Named.Times (λ file. OnTimes file log.now (ReplayOfTimes log.now f))) result }
-    ensures possible { (f : Form) → core_of f ≡ replayer.old.core → GivesForSome (λ files name. OnFile files name TIMES_LIMIT Named.Times (λ file. OnTimes file log.now (ReplayOfTimes log.now f))) result }
+    ensures outcome { S.tells shelf.old ≡ true → OfCore replayer.old.core (λ f. Gives (ReplayOfFile (S.files shelf.old) times.now log.now f) result) }
+    ensures possible { OfCore replayer.old.core (λ f. GivesForSome (λ files name. ReplayOfFile files name log.now f) result) }
     ensures verdict { IfOk result (λ r. IsVerdict r.status) }
     ensures failed { IsErrOf result Stop.ReadFailed → Rose (S.faults shelf.old) (S.faults shelf.new) }
     ensures told { ¬ IsErrOf result Stop.ReadFailed → S.faults shelf.new ≡ S.faults shelf.old }
-    ensures never { S.steady shelf.old → S.tells shelf.old ≡ true → IsSome (file_of (S.files shelf.old) times.now) → IsErrOf result Stop.ReadFailed → ⊥ }
+    ensures never { NeverFailsToRead (S.steady shelf.old) (S.tells shelf.old) (IsSome (file_of (S.files shelf.old) times.now)) result }
     ensures later { S.faults shelf.old ≤ S.faults shelf.new }
     ensures once { Opens (times.now ∷ []) (S.openings shelf.old) (S.openings shelf.new) }
 {
@@ -115,12 +113,12 @@ fn replay_of_question<S: Shelf>(
 ) -> Result<Reply, Stop>
     requires short { length question.now.text.items < 2 ^ 31 }
     requires reads { FormulaOf question.now.text.items (Ok (form_of question.now.formula)) }
-    ensures outcome { S.tells shelf.old ≡ true → Gives (ReplayOfLog (S.files shelf.old) times.now question.now.text.items (form_of question.now.formula) question.now.log) result }
-    ensures possible { GivesForSome (λ files name. ReplayOfLog files name question.now.text.items (form_of question.now.formula) question.now.log) result }
+    ensures outcome { S.tells shelf.old ≡ true → Gives (ReplayOfQuestion (S.files shelf.old) times.now question.now) result }
+    ensures possible { GivesForSome (λ files name. ReplayOfQuestion files name question.now) result }
     ensures verdict { IfOk result (λ r. IsVerdict r.status) }
     ensures failed { IsErrOf result Stop.ReadFailed → Rose (S.faults shelf.old) (S.faults shelf.new) }
     ensures told { ¬ IsErrOf result Stop.ReadFailed → S.faults shelf.new ≡ S.faults shelf.old }
-    ensures never { S.steady shelf.old → S.tells shelf.old ≡ true → HoldsThird (S.files shelf.old) times.now (form_of question.now.formula) question.now.log → IsErrOf result Stop.ReadFailed → ⊥ }
+    ensures never { NeverFailsToRead (S.steady shelf.old) (S.tells shelf.old) (HoldsAfter question.now (S.files shelf.old) times.now) result }
     ensures later { S.faults shelf.old ≤ S.faults shelf.new }
     ensures openings { OpensAtMost (times.now ∷ []) (S.openings shelf.old) (S.openings shelf.new) }
     ensures in_turn { OpensMoreOnly [] (PassesHosts (form_of question.now.formula) question.now.log) (S.openings shelf.old) (S.openings shelf.new) }
@@ -143,7 +141,7 @@ pub fn replay<S: Shelf>(
     ensures verdict { IfOk result (λ r. IsVerdict r.status) }
     ensures failed { IsErrOf result Stop.ReadFailed → Rose (S.faults shelf.old) (S.faults shelf.new) }
     ensures told { ¬ IsErrOf result Stop.ReadFailed → S.faults shelf.new ≡ S.faults shelf.old }
-    ensures never { S.steady shelf.old → S.tells shelf.old ≡ true → HoldsQuestion (S.files shelf.old) formula.now log.now (HoldsThird (S.files shelf.old) times.now) → IsErrOf result Stop.ReadFailed → ⊥ }
+    ensures never { NeverFailsToRead (S.steady shelf.old) (S.tells shelf.old) (HoldsThree (S.files shelf.old) formula.now log.now times.now) result }
     ensures later { S.faults shelf.old ≤ S.faults shelf.new }
     ensures openings { OpensAtMost (formula.now ∷ log.now ∷ times.now ∷ []) (S.openings shelf.old) (S.openings shelf.new) }
     ensures in_turn { S.tells shelf.old ≡ true → OpensInTurn (S.files shelf.old) formula.now log.now (S.openings shelf.old) (S.openings shelf.new) }

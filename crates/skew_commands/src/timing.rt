@@ -4,7 +4,7 @@ ghost use Rattle.std.specs.Prelude.{◌≡◌, ◌∷◌, [], ◌<◌, ◌≤◌
 ghost use Rattle.mt_port.specs.Port.{Opens, Rose, file_of};
 ghost use Rattle.skew_answers.specs.Statuses.{IsVerdict};
 ghost use Rattle.skew_commands.specs.Possible.{OfSomeLog};
-ghost use Rattle.skew_commands.specs.Stops.{Gives};
+ghost use Rattle.skew_commands.specs.Stops.{Gives, NeverFailsToRead};
 ghost use Rattle.skew_commands.specs.TimesOutcome.{TimesOfLog, TimesOutcome};
 
 use crate::files;
@@ -48,7 +48,7 @@ pub fn times<S: Shelf>(alloc: Global, shelf: &mut S, log: &str) -> Result<Reply,
     ensures verdict { IfOk result (λ r. IsVerdict r.status) }
     ensures failed { IsErrOf result Stop.ReadFailed → Rose (S.faults shelf.old) (S.faults shelf.new) }
     ensures told { ¬ IsErrOf result Stop.ReadFailed → S.faults shelf.new ≡ S.faults shelf.old }
-    ensures never { S.steady shelf.old → S.tells shelf.old ≡ true → IsSome (file_of (S.files shelf.old) log.now) → IsErrOf result Stop.ReadFailed → ⊥ }
+    ensures never { NeverFailsToRead (S.steady shelf.old) (S.tells shelf.old) (IsSome (file_of (S.files shelf.old) log.now)) result }
     ensures later { S.faults shelf.old ≤ S.faults shelf.new }
     ensures once { Opens (log.now ∷ []) (S.openings shelf.old) (S.openings shelf.new) }
 {

@@ -1,10 +1,10 @@
 //! The words after the first word of a command.
 
-ghost use Rattle.std.specs.Prelude.{◌≡◌, ℕ, IfSome, IsSome, MatchOption, None, Some, codes, map, option_map, string_bytes};
-ghost use Rattle.skew_words.specs.Called.{given_in};
+ghost use Rattle.std.specs.Prelude.{◌≡◌, IfSome, IsSome, MatchOption, None, Some, codes, map, option_map, string_bytes};
+ghost use Rattle.skew_words.specs.Called.{GivesAround, GivesNumber, GivesPlain, given_around, given_in, option_in, value_by};
 ghost use Rattle.skew_words.specs.NormalWords.{conflicts_said};
 ghost use Rattle.skew_words.specs.Table.{row_of};
-ghost use Rattle.skew_words.specs.Words.{after, conflicts_in, conflicts_of, given_by, given_of, given_to, operands_of, option_value, plain, with_front};
+ghost use Rattle.skew_words.specs.Words.{after, conflicts_in, conflicts_of, given_of, given_to, operands_of, plain};
 
 use crate::numbers::conflicts;
 use crate::operands::{Operands, is_dashed, is_mark};
@@ -26,9 +26,8 @@ fn attached(word: &String) -> Option<&str>
 
 // The word in which an option writes its number, and the words after it that are left.
 fn value<'a>(option: &'a String, words: &'a [String]) -> Option<(&'a str, &'a [String])>
-    ensures { MatchOption result
-        (option_value (string_bytes option.now) (map string_bytes words.now) ≡ None)
-        (λ r. (n : ℕ) × (conflicts_of r.0.now ≡ Some n) × (option_value (string_bytes option.now) (map string_bytes words.now) ≡ Some (n, map string_bytes r.1.now))) }
+    ensures { let given = value_by option.now words.now in
+        MatchOption result (given ≡ None) (λ r. GivesNumber given r.0.now r.1.now) }
 {
     if option.as_str() == "--conflicts" {
         let (next, rest) = words.split_first()?;
@@ -43,9 +42,7 @@ fn value<'a>(option: &'a String, words: &'a [String]) -> Option<(&'a str, &'a [S
 
 // The words before the first option, the option, and the words after it, if one stands before the first `--`.
 fn split_at_option<'a>(words: &'a [String]) -> Option<(&'a [String], &'a String, &'a [String])>
-    ensures { MatchOption result
-        (given_of (map string_bytes words.now) ≡ option_map plain (operands_of (map string_bytes words.now)))
-        (λ r. given_of (map string_bytes words.now) ≡ option_map (with_front (map string_bytes r.0.now)) (given_by (string_bytes r.1.now) (map string_bytes r.2.now))) }
+    ensures { MatchOption result (GivesPlain words.now) (λ r. GivesAround words.now r.0.now r.1.now r.2.now) }
 {
     for (i, word) in words.iter().enumerate() {
         if is_mark(word) {
@@ -61,7 +58,7 @@ fn split_at_option<'a>(words: &'a [String]) -> Option<(&'a [String], &'a String,
 impl<'a> Given<'a> {
     // What an option gives with the words before it and those after it.
     fn around(front: &'a [String], option: &'a String, words: &'a [String]) -> Option<Given<'a>>
-        ensures given { option_map given_in result ≡ option_map (with_front (map string_bytes front.now)) (given_by (string_bytes option.now) (map string_bytes words.now)) }
+        ensures given { option_map given_in result ≡ given_around front.now option.now words.now }
         ensures number { IfSome result (λ g. IfSome g.conflicts (λ text. IsSome (conflicts_of text.now))) }
     {
         let (text, rest) = value(option, words)?;
@@ -98,7 +95,7 @@ impl<'a> Given<'a> {
     /// What the words after a first word give, and None exactly where they give nothing.
     pub fn to(verb: Verb, words: &'a [String]) -> Option<Given<'a>>
         ensures given { option_map given_in result ≡ given_to verb (map string_bytes words.now) }
-        ensures number { IfSome result (λ g. conflicts_said (row_of verb).takes_conflicts (option_map (λ text. text.now) g.conflicts) ≡ Some (conflicts_in (given_in g))) }
+        ensures number { IfSome result (λ g. conflicts_said (row_of verb).takes_conflicts (option_in g) ≡ Some (conflicts_in (given_in g))) }
     {
         if verb.row().takes_conflicts {
             Given::among(words)
