@@ -1,5 +1,6 @@
 -- What contracts see of the real files and of the standard output.
-use Rattle.std.specs.Prelude.{◌≡◌, Bool, true, false, ℕ, List, Option, None, Result, Ok, Err, IsOk, IsErr}
+use Rattle.std.specs.Prelude.{◌≡◌, Bool, true, false, ℕ, List, take, Option, None, Result, Ok, Err, IsOk, IsErr}
+use Rattle.std.specs.Io.KnownBytes.{Consumes}
 use Rattle.std.specs.declared.io.Error.{Error}
 use Rattle.mt_port.specs.declared.outside.Source.{Source}
 use Rattle.mt_port.specs.declared.outside.Source.TheVariants.{Nothing, Opened, Input}
@@ -27,6 +28,10 @@ abbrev pub left_of : {F I : Type 0} → (F → Option (List ℕ)) → (I → Opt
 left_of file input Nothing = None
 left_of file input (Opened f) = file f
 left_of file input (Input i) = input i
+
+-- n bytes at the front of a buffer are the next ones that a source had left
+abbrev pub GivesNext : {F I : Type 0} → (F → Option (List ℕ)) → (I → Option (List ℕ)) → Source F I → Source F I → List ℕ → ℕ → Type 0
+GivesNext file input old new filled n = Consumes (left_of file input old) (left_of file input new) (take n filled)
 
 -- the standard input is open
 abbrev pub IsInput : {F I : Type 0} → (I → Type 0) → Source F I → Type 0

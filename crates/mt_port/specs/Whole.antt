@@ -1,5 +1,6 @@
 -- What a whole read and a whole write mean.
 use Rattle.std.specs.Prelude.{◌≡◌, ℕ, ◌<◌, ◌≤◌, List, ◌++◌, length, take, Option, Some, IsSomeAnd, Result, IsErrOf}
+use Rattle.mt_port.specs.Port.{Files, file_of}
 use Rattle.mt_port.specs.declared.whole.ReadFault.{ReadFault}
 use Rattle.mt_port.specs.declared.whole.ReadFault.TheVariants.{TooLong}
 
@@ -23,9 +24,9 @@ pub record GaveAtMost (file : Option (List ℕ)) (left : List ℕ) (limit : ℕ)
 abbrev pub IsTooLong : {X : Type 0} → Result X ReadFault → Type 0
 IsTooLong result = IsErrOf result TooLong
 
--- no more bytes of a file were given than the limit, unless it was found too long, and these are left
-abbrev pub GaveWithin : {X : Type 0} → Result X ReadFault → Option (List ℕ) → List ℕ → ℕ → Type 0
-GaveWithin result file left limit = ¬ IsTooLong result → GaveAtMost file left limit
+-- no more bytes of the file of a name were given than the limit, unless it was found too long, and these are left
+abbrev pub GaveWithin : {X : Type 0} → Result X ReadFault → Files → List ℕ → List ℕ → ℕ → Type 0
+GaveWithin result files name left limit = ¬ IsTooLong result → GaveAtMost (file_of files name) left limit
 
 -- a prefix of the bytes was written
 pub record WrotePrefix (old now bytes : List ℕ) : Type 0 where

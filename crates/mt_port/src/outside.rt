@@ -5,7 +5,7 @@ ghost use Rattle.std.specs.Fs.{new_options, with_read};
 ghost use Rattle.std.specs.Io.KnownBytes.{Appends, Consumes, IsAtEnd, Keeps};
 ghost use Rattle.mt_port.specs.Calls.{ToldOfRead, ToldOfWrite};
 ghost use Rattle.mt_port.specs.Memory.{one_more};
-ghost use Rattle.mt_port.specs.Outside.{IsInput, IsOpened, ToldOfOpen, left_of, stands_open};
+ghost use Rattle.mt_port.specs.Outside.{GivesNext, IsInput, IsOpened, ToldOfOpen, left_of, stands_open};
 ghost use Rattle.mt_port.specs.Port.{HasCause};
 ghost use Rattle.mt_port.specs.declared.outside.Source.TheVariants.{Nothing};
 
@@ -182,8 +182,7 @@ impl<R: System> Shelf for FileShelf<'_, R> {
         ensures answer { ToldOfOpen R.File.reads R.Input.reads self.old.source buf.old self.new.source buf.new result }
 
         // Where the open file or input tells what it has left, its next bytes are given, and none only at its end.
-        ensures given { let left = left_of R.File.left R.Input.left in
-            IfOk result (λ n. Consumes (left self.old.source) (left self.new.source) (take n buf.new)) }
+        ensures given { IfOk result (GivesNext R.File.left R.Input.left self.old.source self.new.source buf.new) }
         ensures end { IfOk result (λ n. n ≡ 0 → 0 < length buf.old → IsAtEnd (left_of R.File.left R.Input.left self.new.source)) }
         ensures kept { OnErr result (Keeps (left_of R.File.left R.Input.left self.old.source) (left_of R.File.left R.Input.left self.new.source)) }
     {

@@ -50,7 +50,7 @@ pub fn read_all<S: Shelf>(
     // One byte past the limit is asked for and never more; TooLong says that it was given.
     ensures too_long { IsTooLong result → S.tells shelf.old ≡ true → IsLonger (file_of (S.files shelf.old) name.now) limit }
     ensures given { IsTooLong result → S.tells shelf.old ≡ true → GaveSoMany (file_of (S.files shelf.old) name.now) (S.left shelf.new) (limit + 1) }
-    ensures at_most { S.tells shelf.old ≡ true → S.is_open shelf.new ≡ true → GaveWithin result (file_of (S.files shelf.old) name.now) (S.left shelf.new) limit }
+    ensures at_most { S.tells shelf.old ≡ true → S.is_open shelf.new ≡ true → GaveWithin result (S.files shelf.old) name.now (S.left shelf.new) limit }
 
     // It opens the file and nothing else, and once: so what was given is never lost by an opening after it.
     ensures once { Opens (name.now ∷ []) (S.openings shelf.old) (S.openings shelf.new) }

@@ -11,5 +11,5 @@ mod tolerance_text;
 mod tolerating;
 
 pub use laws::{spans_are_best, tolerances_are_best};
-pub use spanning::span;
-pub use tolerating::tolerance;
+pub use spanning::{Distance, span};
+pub use tolerating::{Widening, tolerance};

@@ -1,12 +1,10 @@
 //! The text of an answer of `span`.
 
-ghost use Rattle.std.specs.Prelude.{◌≡◌, ◌++◌, IfOk, codes, length, string_bytes};
-ghost use Rattle.std.specs.Fmt.{decimal, signed_decimal};
-ghost use Rattle.proof_log.specs.LinesText.{lines_text};
+ghost use Rattle.std.specs.Prelude.{◌≡◌, ◌++◌, IfOk, string_bytes};
 ghost use Rattle.report_text.specs.ReportText.{ended, last_line, section_text};
 ghost use Rattle.report_text.specs.Spelled.{AreSpelledLines};
 ghost use Rattle.skew_best.specs.Spelled.{HasSpelling, IsSpelledWidest};
-ghost use Rattle.skew_best.specs.SpanText.{span_text, unknown_line};
+ghost use Rattle.skew_best.specs.SpanText.{distance_text, span_text, unknown_line};
 
 use crate::sections::{begun, whole};
 use proof_log::Line;
@@ -25,7 +23,7 @@ fn greatest_text(
 ) -> Result<Vec<u8>, AllocError>
     requires witness { HasSpelling witness.now }
     requires beyond { AreSpelledLines beyond.now }
-    ensures { IfOk result (λ text. text.items ≡ ended (codes "span " ++ signed_decimal d) ++ (section_text value witness.now ++ (ended (codes "beyond refuted " ++ decimal (length beyond.now)) ++ lines_text beyond.now ++ ended last_line))) }
+    ensures { IfOk result (λ text. text.items ≡ distance_text value d witness.now beyond.now) }
 {
     let first = format!(in alloc; "span {d}")?;
     let mut text = begun(alloc, first.as_bytes(), value, witness)?;

@@ -14,11 +14,11 @@ ghost use Rattle.skew_answers.specs.Statuses.{IsVerdict};
 ghost use Rattle.skew_commands.specs.Openings.{OpensAtMost, OpensLogInTurn};
 ghost use Rattle.skew_commands.specs.Possible.{OfSomeQuestion};
 ghost use Rattle.skew_commands.specs.Reads.{HoldsQuestion, NoThird};
-ghost use Rattle.skew_commands.specs.Stops.{Gives, RefusesFor};
+ghost use Rattle.skew_commands.specs.Stops.{Gives, NeverFailsToRead, RefusesFor};
 ghost use Rattle.skew_best.specs.EventTests.{TellsEvent, missing_event};
 ghost use Rattle.skew_best.specs.SizeTests.{TellsLarge};
 ghost use Rattle.skew_best.specs.Spelled.{IsSpelledWidest};
-ghost use Rattle.skew_best.specs.SpanOutcome.{SpanOfLog, SpanOutcome, span_status};
+ghost use Rattle.skew_best.specs.SpanOutcome.{SpanOfQuestion, SpanOutcomeOf, span_status};
 ghost use Rattle.skew_best.specs.SpanText.{span_text};
 
 use crate::span_text::written_span;
@@ -29,6 +29,20 @@ use skew_answers::Status;
 use skew_commands::{Question, Refusal, Reply, Stop, files, read_question};
 use std::alloc::{AllocError, Global};
 use verdict_span::{SpanFault, Widest, widest};
+
+/// A greatest distance that is looked for: how long after one event another comes at most, in the log's unit of time, in the
+/// timings that give the formula a value. The events count from 0.
+#[derive(Clone, Copy)]
+pub struct Distance {
+    /// How many conflicts each search may have.
+    pub conflicts: u32,
+    /// The value of the formula.
+    pub value: bool,
+    /// The event from which the distance counts.
+    pub from: u32,
+    /// The event up to which it counts.
+    pub to: u32,
+}
 
 fn status_of(answer: &Widest) -> Status
     ensures status { result ≡ span_status answer.now }
@@ -75,28 +89,31 @@ fn known_events(log: &Log, e: u32, to: u32) -> Result<(), Stop>
 // The greatest distance of two events for a formula and a log, where the formula's hosts are in the log.
 fn greatest_distance(
     alloc: Global,
-    conflicts: u32,
-    value: bool,
-    e: u32,
-    to: u32,
+    distance: Distance,
     log: &Log,
     formula: &Formula,
 ) -> Result<Widest, Stop>
-    requires some { 1 ≤ conflicts }
-    requires most { conflicts ≤ MAX_CONFLICTS }
-    requires apart { e ≢ to }
-    requires row { e < length log.now.rows }
-    requires other { to < length log.now.rows }
+    requires some { 1 ≤ distance.conflicts }
+    requires most { distance.conflicts ≤ MAX_CONFLICTS }
+    requires apart { distance.from ≢ distance.to }
+    requires row { distance.from < length log.now.rows }
+    requires other { distance.to < length log.now.rows }
     requires plain { IsPlain log.now }
     requires known { unknown_host log.now (form_of formula.now) ≡ None }
-    ensures right { IfOk result (WidestRight log.now (form_of formula.now) value e to conflicts) }
-    ensures tells { IfOk result (Tells log.now (form_of formula.now) value e to conflicts) }
+    ensures right { IfOk result (WidestRight log.now (form_of formula.now) distance.value distance.from distance.to distance.conflicts) }
+    ensures tells { IfOk result (Tells log.now (form_of formula.now) distance.value distance.from distance.to distance.conflicts) }
     ensures inconsistent { IfOk result (IsInconsistentExactly log.now) }
     ensures asked { OnOk result (IsAsked log.now (form_of formula.now)) }
     ensures spelled { IfOk result IsSpelledWidest }
     ensures read { IsErrOf result Stop.ReadFailed → ⊥ }
     ensures refused { RefusesFor result (TellsLarge (form_of formula.now) log.now) }
 {
+    let Distance {
+        conflicts,
+        value,
+        from: e,
+        to,
+    } = distance;
     log_is_valid(log);
     match widest(
         alloc,
@@ -118,55 +135,39 @@ fn greatest_distance(
 // What `span` answers for a formula and a log.
 fn span_of_question(
     alloc: Global,
-    conflicts: u32,
-    value: bool,
-    e: u32,
-    to: u32,
+    distance: Distance,
     question: &Question,
 ) -> Result<Reply, Stop>
-    requires some { 1 ≤ conflicts }
-    requires most { conflicts ≤ MAX_CONFLICTS }
-    requires apart { e ≢ to }
+    requires some { 1 ≤ distance.conflicts }
+    requires most { distance.conflicts ≤ MAX_CONFLICTS }
+    requires apart { distance.from ≢ distance.to }
     requires plain { IsPlain question.now.log }
     requires short { length question.now.text.items < 2 ^ 31 }
     requires reads { FormulaOf question.now.text.items (Ok (form_of question.now.formula)) }
-    ensures outcome { Gives (SpanOfLog conflicts value e to question.now.text.items (form_of question.now.formula) question.now.log) result }
+    ensures outcome { Gives (SpanOfQuestion distance question.now) result }
     ensures verdict { IfOk result (λ r. IsVerdict r.status) }
     ensures read { IsErrOf result Stop.ReadFailed → ⊥ }
 {
     files::known_hosts(&question.text, &question.formula, &question.log)?;
     files::few_nodes(alloc, &question.formula)?;
-    known_events(&question.log, e, to)?;
-    let answer = greatest_distance(
-        alloc,
-        conflicts,
-        value,
-        e,
-        to,
-        &question.log,
-        &question.formula,
-    )?;
-    Ok(span_reply(alloc, value, answer)?)
+    known_events(&question.log, distance.from, distance.to)?;
+    let answer = greatest_distance(alloc, distance, &question.log, &question.formula)?;
+    Ok(span_reply(alloc, distance.value, answer)?)
 }
 
-/// What `span` answers for the formula and the log of these names: how long after the event e the event `to` comes at most,
-/// in the log's unit of time, in the timings that give the formula the value. The events count from 0, and are different.
-/// Each search may have so many conflicts.
+/// What `span` answers for the formula and the log of these names: the greatest distance of two different events.
 pub fn span<S: Shelf>(
     alloc: Global,
     shelf: &mut S,
-    conflicts: u32,
-    value: bool,
-    e: u32,
-    to: u32,
+    distance: Distance,
     formula: &str,
     log: &str,
 ) -> Result<Reply, Stop>
-    requires some { 1 ≤ conflicts }
-    requires most { conflicts ≤ MAX_CONFLICTS }
-    requires apart { e ≢ to }
-    ensures outcome { S.tells shelf.old ≡ true → Gives (SpanOutcome (S.files shelf.old) conflicts value e to formula.now log.now) result }
-    ensures possible { Gives (OfSomeQuestion (λ files. SpanOutcome files conflicts value e to)) result }
+    requires some { 1 ≤ distance.conflicts }
+    requires most { distance.conflicts ≤ MAX_CONFLICTS }
+    requires apart { distance.from ≢ distance.to }
+    ensures outcome { S.tells shelf.old ≡ true → Gives (SpanOutcomeOf distance (S.files shelf.old) formula.now log.now) result }
+    ensures possible { Gives (OfSomeQuestion (SpanOutcomeOf distance)) result }
     ensures verdict { IfOk result (λ r. IsVerdict r.status) }
     ensures failed { IsErrOf result Stop.ReadFailed → Rose (S.faults shelf.old) (S.faults shelf.new) }
     ensures told { ¬ IsErrOf result Stop.ReadFailed → S.faults shelf.new ≡ S.faults shelf.old }
@@ -177,5 +178,5 @@ pub fn span<S: Shelf>(
 {
     logs_are_plain();
     let question = read_question(alloc, shelf, formula, log)?;
-    span_of_question(alloc, conflicts, value, e, to, &question)
+    span_of_question(alloc, distance, &question)
 }

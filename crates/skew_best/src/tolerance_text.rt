@@ -4,7 +4,7 @@ ghost use Rattle.std.specs.Prelude.{◌≡◌, ◌++◌, IfOk, OnOk, codes};
 ghost use Rattle.std.specs.Fmt.{decimal};
 ghost use Rattle.report_text.specs.ReportText.{ended, last_line, section_text};
 ghost use Rattle.skew_best.specs.Spelled.{AreSpelledBelow, HasSpelling, IsSpelledTolerance};
-ghost use Rattle.skew_best.specs.ToleranceText.{below_text, tolerance_text};
+ghost use Rattle.skew_best.specs.ToleranceText.{below_text, tolerance_text, widening_text};
 
 use crate::sections::{begun, whole};
 use least_skew::Tolerance;
@@ -34,7 +34,7 @@ fn least_text(
 ) -> Result<Vec<u8>, AllocError>
     requires witness { HasSpelling witness.now }
     requires below { AreSpelledBelow below.now }
-    ensures { IfOk result (λ text. text.items ≡ ended (codes "tolerance " ++ decimal s) ++ (section_text value witness.now ++ (below_text below.now ++ ended last_line))) }
+    ensures { IfOk result (λ text. text.items ≡ widening_text value s witness.now below.now) }
 {
     let first = format!(in alloc; "tolerance {s}")?;
     let mut text = begun(alloc, first.as_bytes(), value, witness)?;

@@ -14,10 +14,10 @@ ghost use Rattle.skew_answers.specs.Statuses.{IsVerdict};
 ghost use Rattle.skew_commands.specs.Openings.{OpensAtMost, OpensLogInTurn};
 ghost use Rattle.skew_commands.specs.Possible.{OfSomeQuestion};
 ghost use Rattle.skew_commands.specs.Reads.{HoldsQuestion, NoThird};
-ghost use Rattle.skew_commands.specs.Stops.{Gives, RefusesFor};
+ghost use Rattle.skew_commands.specs.Stops.{Gives, NeverFailsToRead, RefusesFor};
 ghost use Rattle.skew_best.specs.SizeTests.{TellsLarge};
 ghost use Rattle.skew_best.specs.Spelled.{IsSpelledTolerance};
-ghost use Rattle.skew_best.specs.ToleranceOutcome.{ToleranceOfLog, ToleranceOutcome, tolerance_status};
+ghost use Rattle.skew_best.specs.ToleranceOutcome.{ToleranceOfQuestion, ToleranceOutcomeOf, tolerance_status};
 ghost use Rattle.skew_best.specs.ToleranceText.{tolerance_text};
 
 use crate::tolerance_text::written_tolerance;
@@ -28,6 +28,18 @@ use mt_port::Shelf;
 use skew_answers::Status;
 use skew_commands::{Question, Refusal, Reply, Stop, files, read_question};
 use std::alloc::{AllocError, Global};
+
+/// A least widening that is looked for: by how much all skews of a log have to grow at least, in its unit of time, so that the
+/// formula can have a value.
+#[derive(Clone, Copy)]
+pub struct Widening {
+    /// How many conflicts each search may have.
+    pub conflicts: u32,
+    /// The value of the formula.
+    pub value: bool,
+    /// The greatest widening that is tried.
+    pub max: u64,
+}
 
 fn status_of(answer: &Tolerance) -> Status
     ensures status { result ≡ tolerance_status answer.now }
@@ -56,25 +68,28 @@ fn tolerance_reply(alloc: Global, value: bool, answer: Tolerance) -> Result<Repl
 // The least widening for a formula and a log, where the formula's hosts are in the log.
 fn least_widening(
     alloc: Global,
-    conflicts: u32,
-    value: bool,
-    max: u64,
+    widening: Widening,
     log: &Log,
     formula: &Formula,
 ) -> Result<Tolerance, Stop>
-    requires some { 1 ≤ conflicts }
-    requires most { conflicts ≤ MAX_CONFLICTS }
-    requires range { max ≤ MAX_WIDENING }
+    requires some { 1 ≤ widening.conflicts }
+    requires most { widening.conflicts ≤ MAX_CONFLICTS }
+    requires range { widening.max ≤ MAX_WIDENING }
     requires skews { HasWrittenSkews log.now }
     requires known { unknown_host log.now (form_of formula.now) ≡ None }
-    ensures right { IfOk result (LeastRight log.now (form_of formula.now) value max conflicts) }
-    ensures tells { IfOk result (Tells log.now (form_of formula.now) value max conflicts) }
-    ensures inconsistent { IfOk result (IsInconsistentExactly log.now max) }
-    ensures asked { OnOk result (IsAsked log.now (form_of formula.now) max) }
+    ensures right { IfOk result (LeastRight log.now (form_of formula.now) widening.value widening.max widening.conflicts) }
+    ensures tells { IfOk result (Tells log.now (form_of formula.now) widening.value widening.max widening.conflicts) }
+    ensures inconsistent { IfOk result (IsInconsistentExactly log.now widening.max) }
+    ensures asked { OnOk result (IsAsked log.now (form_of formula.now) widening.max) }
     ensures spelled { IfOk result IsSpelledTolerance }
     ensures read { IsErrOf result Stop.ReadFailed → ⊥ }
-    ensures refused { RefusesFor result (TellsLarge (form_of formula.now) (wide max log.now)) }
+    ensures refused { RefusesFor result (TellsLarge (form_of formula.now) (wide widening.max log.now)) }
 {
+    let Widening {
+        conflicts,
+        value,
+        max,
+    } = widening;
     log_is_valid(log);
     match least(alloc, log, formula, value, max, conflicts) {
         Ok(answer) => Ok(answer),
@@ -88,50 +103,38 @@ fn least_widening(
 // What `tolerance` answers for a formula and a log.
 fn tolerance_of_question(
     alloc: Global,
-    conflicts: u32,
-    value: bool,
-    max: u64,
+    widening: Widening,
     question: &Question,
 ) -> Result<Reply, Stop>
-    requires some { 1 ≤ conflicts }
-    requires most { conflicts ≤ MAX_CONFLICTS }
-    requires range { max ≤ MAX_WIDENING }
+    requires some { 1 ≤ widening.conflicts }
+    requires most { widening.conflicts ≤ MAX_CONFLICTS }
+    requires range { widening.max ≤ MAX_WIDENING }
     requires skews { HasWrittenSkews question.now.log }
     requires short { length question.now.text.items < 2 ^ 31 }
     requires reads { FormulaOf question.now.text.items (Ok (form_of question.now.formula)) }
-    ensures outcome { Gives (ToleranceOfLog conflicts value max question.now.text.items (form_of question.now.formula) question.now.log) result }
+    ensures outcome { Gives (ToleranceOfQuestion widening question.now) result }
     ensures verdict { IfOk result (λ r. IsVerdict r.status) }
     ensures read { IsErrOf result Stop.ReadFailed → ⊥ }
 {
     files::known_hosts(&question.text, &question.formula, &question.log)?;
-    let answer = least_widening(
-        alloc,
-        conflicts,
-        value,
-        max,
-        &question.log,
-        &question.formula,
-    )?;
-    Ok(tolerance_reply(alloc, value, answer)?)
+    let answer = least_widening(alloc, widening, &question.log, &question.formula)?;
+    Ok(tolerance_reply(alloc, widening.value, answer)?)
 }
 
-/// What `tolerance` answers for the formula and the log of these names: by how much all skews have to grow at least, up to
-/// a greatest widening in the log's unit of time, so that the formula can have the value. Each search may have so many
-/// conflicts.
+/// What `tolerance` answers for the formula and the log of these names: the least widening with which the formula can have the
+/// value.
 pub fn tolerance<S: Shelf>(
     alloc: Global,
     shelf: &mut S,
-    conflicts: u32,
-    value: bool,
-    max: u64,
+    widening: Widening,
     formula: &str,
     log: &str,
 ) -> Result<Reply, Stop>
-    requires some { 1 ≤ conflicts }
-    requires most { conflicts ≤ MAX_CONFLICTS }
-    requires range { max ≤ MAX_WIDENING }
-    ensures outcome { S.tells shelf.old ≡ true → Gives (ToleranceOutcome (S.files shelf.old) conflicts value max formula.now log.now) result }
-    ensures possible { Gives (OfSomeQuestion (λ files. ToleranceOutcome files conflicts value max)) result }
+    requires some { 1 ≤ widening.conflicts }
+    requires most { widening.conflicts ≤ MAX_CONFLICTS }
+    requires range { widening.max ≤ MAX_WIDENING }
+    ensures outcome { S.tells shelf.old ≡ true → Gives (ToleranceOutcomeOf widening (S.files shelf.old) formula.now log.now) result }
+    ensures possible { Gives (OfSomeQuestion (ToleranceOutcomeOf widening)) result }
     ensures verdict { IfOk result (λ r. IsVerdict r.status) }
     ensures failed { IsErrOf result Stop.ReadFailed → Rose (S.faults shelf.old) (S.faults shelf.new) }
     ensures told { ¬ IsErrOf result Stop.ReadFailed → S.faults shelf.new ≡ S.faults shelf.old }
@@ -142,5 +145,5 @@ pub fn tolerance<S: Shelf>(
 {
     logs_are_plain();
     let question = read_question(alloc, shelf, formula, log)?;
-    tolerance_of_question(alloc, conflicts, value, max, &question)
+    tolerance_of_question(alloc, widening, &question)
 }

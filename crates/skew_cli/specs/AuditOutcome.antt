@@ -1,6 +1,6 @@
 -- What `audit` answers.
 use Rattle.std.specs.Prelude.{◌≡◌, ◌⊎◌, ℕ, List, codes}
-use Rattle.mt_model.specs.Form.{Form}
+use Rattle.mt_model.specs.Form.{Form, form_of}
 use Rattle.mt_model.specs.Log.{Logged}
 use Rattle.mt_port.specs.Port.{Files}
 use Rattle.report_text.specs.declared.report.Report.{Report}
@@ -13,6 +13,7 @@ use Rattle.skew_answers.specs.declared.status.Status.TheVariants as status
 use Rattle.skew_answers.specs.Texts.{line}
 use Rattle.skew_words.specs.Words.{Word}
 use Rattle.skew_cli.specs.declared.limits.TheConstants.{REPORT_LIMIT}
+use Rattle.skew_commands.specs.declared.formula_and_log.Question.{Question}
 use Rattle.skew_commands.specs.declared.refusal.Named.TheVariants as named
 use Rattle.skew_commands.specs.declared.refusal.Refusal.TheVariants as refusal
 use Rattle.skew_commands.specs.declared.refusal.ReportPart.{ReportPart}
@@ -47,10 +48,18 @@ pub record Rejected (conflicts : ℕ) (f : Form) (log : Logged) (r : Report) (ou
 abbrev pub AuditOfReport : ℕ → Form → Logged → Report → List ℕ → Status → Type 0
 AuditOfReport conflicts f log r out s = Accepted conflicts f log r out s ⊎ Rejected conflicts f log r out s
 
+-- with the report read: the size, and then whether it is accepted
+abbrev pub AuditOfSize : ℕ → Form → Logged → Report → List ℕ → Status → Type 0
+AuditOfSize conflicts f log r = OnSize f log (AuditOfReport conflicts f log r)
+
 -- with the formula and the log read: the formula's hosts and its nodes, then the file of the report, and then the size
 abbrev pub AuditOfLog : Files → ℕ → Word → List ℕ → Form → Logged → List ℕ → Status → Type 0
 AuditOfLog files conflicts report text f log =
-    OnHosts text f log (OnNodes f (OnFile files report REPORT_LIMIT named.Report (λ bytes. OnReport bytes (λ r. OnSize f log (AuditOfReport conflicts f log r)))))
+    OnHosts text f log (OnNodes f (OnFile files report REPORT_LIMIT named.Report (λ bytes. OnReport bytes (AuditOfSize conflicts f log))))
+
+-- with the question read
+abbrev pub AuditOfQuestion : Files → ℕ → Word → Question → List ℕ → Status → Type 0
+AuditOfQuestion files conflicts report q = AuditOfLog files conflicts report q.text.items (form_of q.formula) q.log
 
 -- what `audit` gives
 abbrev pub AuditOutcome : Files → ℕ → Word → Word → Word → List ℕ → Status → Type 0

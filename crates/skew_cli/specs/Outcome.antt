@@ -1,16 +1,17 @@
 -- What a run must give: for words and files, which bytes are written and which status is answered.
-use Rattle.std.specs.Prelude.{◌≡◌, ◌++◌, ℕ, List, [], ◌∷◌, codes, IsSome, MatchOption}
+use Rattle.std.specs.Prelude.{◌≡◌, ◌⊎◌, ◌++◌, ℕ, Bool, true, List, [], ◌∷◌, codes, IsSome, MatchOption}
 use Rattle.std.specs.Option.{option_map_or}
-use Rattle.mt_port.specs.Port.{Files, Openings, file_of}
+use Rattle.mt_port.specs.Port.{Files, Openings, Rose, file_of}
 use Rattle.mt_port.specs.Whole.{WrotePrefix}
 use Rattle.skew_answers.specs.declared.status.Status.{Status}
 use Rattle.skew_answers.specs.declared.status.Status.TheVariants as status
 use Rattle.skew_answers.specs.Statuses.{IsAnswer}
 use Rattle.skew_answers.specs.Texts.{line}
 use Rattle.skew_words.specs.Words.{Audit, Check, Command, Demo, Json, Order, Replay, Span, Times, Tolerance, Trim, Word, command_of}
-use Rattle.skew_commands.specs.Openings.{OpensAtMost, OpensInTurn, OpensMoreOnly, PassesFormula}
+use Rattle.skew_commands.specs.Openings.{OpensAtMost, OpensInTurn, OpensLogInTurn}
 use Rattle.skew_commands.specs.Possible.{OfSomeLog, OfSomeQuestion, OfSomeThird}
-use Rattle.skew_commands.specs.Reads.{HoldsQuestion, HoldsThird, NoThird}
+use Rattle.skew_commands.specs.Refusals.{IsRefusalOf}
+use Rattle.skew_commands.specs.Reads.{Agree, HoldsQuestion, HoldsThree, NoThird}
 use Rattle.skew_commands.specs.TimesOutcome.{TimesOutcome}
 use Rattle.skew_commands.specs.ReplayOutcome.{ReplayOutcome}
 use Rattle.skew_commands.specs.OrderOutcome.{OrderOutcome}
@@ -58,7 +59,7 @@ due_of_question Given formula log = record {
   possible = OfSomeQuestion Given;
   holds = λ files. HoldsQuestion files formula log NoThird;
   named = formula ∷ log ∷ [];
-  in_turn = λ files. OpensMoreOnly (formula ∷ []) (PassesFormula files formula);
+  in_turn = λ files. OpensLogInTurn files formula;
 }
 
 -- of one that reads a third file after these
@@ -66,7 +67,7 @@ abbrev pub due_of_third : (Files → Word → Word → Word → List ℕ → Sta
 due_of_third Given formula log third = record {
   outcome = λ files. Given files formula log third;
   possible = OfSomeThird Given;
-  holds = λ files. HoldsQuestion files formula log (HoldsThird files third);
+  holds = λ files. HoldsThree files formula log third;
   named = formula ∷ log ∷ third ∷ [];
   in_turn = λ files. OpensInTurn files formula log;
 }
@@ -136,3 +137,30 @@ OpensNamedInTurn words files before now = MatchOption (command_of words) (Unit {
 pub record Ends (Due : List ℕ → Status → Type 0) (old now : List ℕ) (s : Status) : Type 0 where
   pub answer : IsAnswer s → (written : List ℕ) × (now ≡ old ++ written) × Due written s
   pub cut : s ≡ status.WriteFailed → (due : List ℕ) × (t : Status) × Due due t × WrotePrefix old now due
+
+-- so it ended for words and a sink that tells its bytes, whatever files agree with those that are held
+abbrev pub EndsFor : {K : Type 0} → List Word → Files → (K → Bool) → (K → List ℕ) → K → K → Status → Type 0
+EndsFor words held tells bytes old now s = tells old ≡ true → (files : Files) → Agree held files → Ends (Outcome words files) (bytes old) (bytes now) s
+
+-- the status is that of what words give, whatever files agree with those that are held
+abbrev pub HasOutcomeFor : List Word → Files → Status → Type 0
+HasOutcomeFor words held s = (files : Files) → Agree held files → HasOutcome words files s
+
+-- the one line of a refusal of this status was written
+abbrev pub AddsRefusal : Status → List ℕ → List ℕ → Type 0
+AddsRefusal s old now = (line : List ℕ) × IsRefusalOf s line × (now ≡ old ++ line)
+
+-- where no read fails from here on, and the files are told and those that are read are held, no failed read is answered
+abbrev pub NeverReadFailed : Type 0 → Bool → Type 0 → Status → Type 0
+NeverReadFailed Steady tells Held s = Steady → tells ≡ true → Held → s ≡ status.ReadFailed → ⊥
+
+-- where a shelf tells its files, they are opened so from one state of it to another
+abbrev pub WhereTold : {S : Type 0} → (S → Bool) → (S → Files) → (S → Openings) → S → S → (Files → Openings → Openings → Type 0) → Type 0
+WhereTold tells files openings old now Opened = tells old ≡ true → Opened (files old) (openings old) (openings now)
+
+-- where a shelf tells its files and holds those that the command of words comes to read, no write failed, and no read failed or was
+-- to fail, an answer is there, or memory ran out
+abbrev pub Completes : {S K : Type 0} → List Word → (S → Bool) → (S → Files) → (S → Type 0) → (S → ℕ) → S → S → (K → ℕ) → K → K → Status → Type 0
+Completes words tells files Steady reads shelf now writes out written s =
+    tells shelf ≡ true → HoldsNamed words (files shelf) → ¬ Rose (writes out) (writes written) → Steady shelf ⊎ ¬ Rose (reads shelf) (reads now)
+    → (s ≡ status.NoMemory) ⊎ IsAnswer s

@@ -5,6 +5,7 @@ use Rattle.report_text.specs.declared.outline.SectionOutline.{SectionOutline}
 use Rattle.report_text.specs.declared.part.Kind.{Kind}
 use Rattle.report_text.specs.declared.part.Kind.TheVariants as kind
 use Rattle.report_text.specs.declared.report.Report.{Report}
+use Rattle.report_text.specs.declared.report.Report.TheVariants as report
 use Rattle.report_text.specs.declared.report.Section.{Section}
 use Rattle.report_text.specs.Outlines.{IsSectionOutline}
 use Rattle.report_text.specs.Parts.{kind_of}
@@ -36,6 +37,10 @@ pub record AreOutlined (events : ℕ) (true_outline false_outline : SectionOutli
   pub outlines_false : IsSectionOutline false_outline on_false
   pub true_spelled : IsSpelledSection events on_true
   pub false_spelled : IsSpelledSection events on_false
+
+-- so of the report with the sections of two outlines
+abbrev pub OfOutlined : ℕ → SectionOutline → SectionOutline → (Report → Type 0) → Type 0
+OfOutlined events true_outline false_outline Holds = (s t : Section) → AreOutlined events true_outline false_outline s t → Holds (report.Verdicts events s t)
 
 -- the bytes are the text of the trimmed report
 pub record IsTrimText (r : Report) (bytes : List ℕ) : Type 0 where

@@ -7,18 +7,16 @@ ghost use Rattle.mt_model.specs.Form.{form_of};
 ghost use Rattle.mt_model.specs.State.{unknown_host};
 ghost use Rattle.mt_port.specs.Port.{Rose};
 ghost use Rattle.mtl_parse.specs.FormulaOf.{FormulaOf};
-ghost use Rattle.report_text.specs.Outlines.{IsOutlineIn, IsOutlineOf};
-ghost use Rattle.report_text.specs.Spelled.{IsSpelled};
-ghost use Rattle.report_text.specs.declared.report.Report.{Report};
+ghost use Rattle.report_text.specs.Outlines.{IsOutlineIn};
+ghost use Rattle.verdict.specs.OfOutlines.{OfOutline};
 ghost use Rattle.skew_answers.specs.Statuses.{IsVerdict};
 ghost use Rattle.skew_answers.specs.Texts.{line};
-ghost use Rattle.skew_cli.specs.AuditOutcome.{AuditOfLog, AuditOfReport, AuditOutcome, refused_part};
+ghost use Rattle.skew_cli.specs.AuditOutcome.{AuditOfQuestion, AuditOfSize, AuditOutcome, refused_part};
 ghost use Rattle.skew_commands.specs.Openings.{OpensAtMost, OpensInTurn, OpensMoreOnly, PassesHosts};
 ghost use Rattle.skew_commands.specs.Possible.{OfSomeThird};
 ghost use Rattle.skew_commands.specs.Reads.{HoldsAfter, HoldsThree};
-ghost use Rattle.skew_commands.specs.Stops.{Gives};
+ghost use Rattle.skew_commands.specs.Stops.{Gives, NeverFailsToRead};
 ghost use Rattle.skew_commands.specs.Untold.{GivesForSome};
-ghost use Rattle.skew_best.specs.SizeTests.{OnSize};
 
 use crate::limits::REPORT_LIMIT;
 use crate::report_file;
@@ -64,7 +62,7 @@ fn audit_of_report(
     requires whole { (bytes : List ℕ) × (length bytes < 2 ^ 31) × IsOutlineIn bytes outline }
     requires known { unknown_host question.now.log (form_of question.now.formula) ≡ None }
     requires few { length (nodes_of (form_of question.now.formula)) ≤ MAX_NODES }
-    ensures outcome { (r : Report) → IsOutlineOf outline.entry r → IsSpelled r → Gives (OnSize (form_of question.now.formula) question.now.log (AuditOfReport conflicts (form_of question.now.formula) question.now.log r)) result }
+    ensures outcome { OfOutline outline.entry (λ r. Gives (AuditOfSize conflicts (form_of question.now.formula) question.now.log r) result) }
     ensures verdict { IfOk result (λ r. IsVerdict r.status) }
     ensures reads_nothing { IsErrOf result Stop.ReadFailed → ⊥ }
 {
@@ -87,8 +85,8 @@ fn audit_of_question<S: Shelf>(
 ) -> Result<Reply, Stop>
     requires short { length question.now.text.items < 2 ^ 31 }
     requires reads { FormulaOf question.now.text.items (Ok (form_of question.now.formula)) }
-    ensures outcome { S.tells shelf.old ≡ true → Gives (AuditOfLog (S.files shelf.old) conflicts report.now question.now.text.items (form_of question.now.formula) question.now.log) result }
-    ensures possible { GivesForSome (λ files name. AuditOfLog files conflicts name question.now.text.items (form_of question.now.formula) question.now.log) result }
+    ensures outcome { S.tells shelf.old ≡ true → Gives (AuditOfQuestion (S.files shelf.old) conflicts report.now question.now) result }
+    ensures possible { GivesForSome (λ files name. AuditOfQuestion files conflicts name question.now) result }
     ensures verdict { IfOk result (λ r. IsVerdict r.status) }
     ensures failed { IsErrOf result Stop.ReadFailed → Rose (S.faults shelf.old) (S.faults shelf.new) }
     ensures told { ¬ IsErrOf result Stop.ReadFailed → S.faults shelf.new ≡ S.faults shelf.old }

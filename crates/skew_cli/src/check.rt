@@ -17,7 +17,7 @@ ghost use Rattle.skew_commands.specs.Openings.{OpensAtMost, OpensLogInTurn};
 ghost use Rattle.skew_commands.specs.Possible.{OfSomeQuestion};
 ghost use Rattle.skew_commands.specs.Reads.{HoldsQuestion, NoThird};
 ghost use Rattle.skew_best.specs.SizeTests.{TellsLarge};
-ghost use Rattle.skew_commands.specs.Stops.{Gives, RefusesFor};
+ghost use Rattle.skew_commands.specs.Stops.{Gives, NeverFailsToRead, RefusesFor};
 
 use mt_model::{Formula, Log};
 use mt_port::Shelf;

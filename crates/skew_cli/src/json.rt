@@ -6,7 +6,7 @@ ghost use Rattle.mt_model.specs.Log.{IsPlain};
 ghost use Rattle.mt_port.specs.Port.{Opens, Rose, file_of};
 ghost use Rattle.skew_answers.specs.Statuses.{IsVerdict};
 ghost use Rattle.skew_commands.specs.Possible.{OfSomeLog};
-ghost use Rattle.skew_commands.specs.Stops.{Gives, RefusesFor};
+ghost use Rattle.skew_commands.specs.Stops.{Gives, NeverFailsToRead, RefusesFor};
 ghost use Rattle.skew_cli.specs.JsonOutcome.{Converted, JsonOutcome, TellsJsonFault};
 
 use crate::limits::JSON_LIMIT;

@@ -1,16 +1,15 @@
 //! What the program does for its words: the command that they are is done, and its answer written.
 
-ghost use Rattle.std.specs.Prelude.{◌≡◌, ◌⊎◌, ◌++◌, ◌≤◌, ℕ, List, true, None, IfOk, IfErr, IsErrOf, codes, map, string_bytes};
-ghost use Rattle.mt_port.specs.Port.{Files, Rose};
-ghost use Rattle.skew_words.specs.Called.{HasFewConflicts, HasSmallWidening, HasTwoEvents, command_in};
+ghost use Rattle.std.specs.Prelude.{◌≡◌, ◌⊎◌, ◌++◌, ◌≤◌, true, None, IfOk, IfErr, IsErrOf, codes};
+ghost use Rattle.mt_port.specs.Port.{Rose};
+ghost use Rattle.skew_words.specs.Called.{HasFewConflicts, HasSmallWidening, HasTwoEvents, command_in, words_of};
 ghost use Rattle.skew_answers.specs.Statuses.{IsAnswer, IsRefusal, IsVerdict};
 ghost use Rattle.skew_answers.specs.Texts.{line};
 ghost use Rattle.skew_words.specs.Words.{command_of};
-ghost use Rattle.skew_commands.specs.Reads.{Agree};
 ghost use Rattle.skew_commands.specs.Openings.{OpensAtMost};
-ghost use Rattle.skew_cli.specs.Outcome.{CommandOutcome, Ends, HasOutcome, HasPossible, HoldsFiles, HoldsNamed, IsPossible, IsPossibleOf, OpensFilesInTurn, OpensNamed, OpensNamedInTurn, Outcome, files_named};
+ghost use Rattle.skew_cli.specs.Outcome.{AddsRefusal, CommandOutcome, Completes, Ends, EndsFor, HasOutcomeFor, HasPossible, HoldsFiles, HoldsNamed, IsPossible, IsPossibleOf, NeverReadFailed, OpensFilesInTurn, OpensNamed, OpensNamedInTurn, WhereTold, files_named};
 ghost use Rattle.skew_commands.specs.Refusals.{IsRefusalOf};
-ghost use Rattle.skew_commands.specs.Stops.{Gives, HasReason};
+ghost use Rattle.skew_commands.specs.Stops.{Gives, HasReason, NeverFailsToRead};
 
 use crate::audit::audit;
 use crate::check::check;
@@ -19,7 +18,7 @@ use crate::json::json;
 use crate::trim::trim;
 use mt_port::{Failed, Shelf, Sink, write_all};
 use skew_answers::Status;
-use skew_best::{span, tolerance};
+use skew_best::{Distance, Widening, span, tolerance};
 use skew_commands::{Reply, Stop, order, replay, times};
 use skew_words::{Call, call_of, spoken_of};
 use std::alloc::Global;
@@ -49,10 +48,10 @@ fn work<S: Shelf>(alloc: Global, shelf: &mut S, call: Call<'_>) -> Result<Reply,
     ensures verdict { IfOk result (λ r. IsVerdict r.status) }
     ensures failed { IsErrOf result Stop.ReadFailed → Rose (S.faults shelf.old) (S.faults shelf.new) }
     ensures told { ¬ IsErrOf result Stop.ReadFailed → S.faults shelf.new ≡ S.faults shelf.old }
-    ensures never { S.steady shelf.old → S.tells shelf.old ≡ true → HoldsFiles (S.files shelf.old) (command_in call.entry) → IsErrOf result Stop.ReadFailed → ⊥ }
+    ensures never { NeverFailsToRead (S.steady shelf.old) (S.tells shelf.old) (HoldsFiles (S.files shelf.old) (command_in call.entry)) result }
     ensures later { S.faults shelf.old ≤ S.faults shelf.new }
     ensures openings { OpensAtMost (files_named (command_in call.entry)) (S.openings shelf.old) (S.openings shelf.new) }
-    ensures in_turn { S.tells shelf.old ≡ true → OpensFilesInTurn (S.files shelf.old) (command_in call.entry) (S.openings shelf.old) (S.openings shelf.new) }
+    ensures in_turn { WhereTold S.tells S.files S.openings shelf.old shelf.new (λ files. OpensFilesInTurn files (command_in call.entry)) }
 {
     match call {
         Call::Times { log } => times(alloc, shelf, log),
@@ -81,7 +80,14 @@ fn work<S: Shelf>(alloc: Global, shelf: &mut S, call: Call<'_>) -> Result<Reply,
             max,
             formula,
             log,
-        } => tolerance(alloc, shelf, conflicts, value, max, formula, log),
+        } => {
+            let widening = Widening {
+                conflicts,
+                value,
+                max,
+            };
+            tolerance(alloc, shelf, widening, formula, log)
+        }
         Call::Span {
             conflicts,
             value,
@@ -89,7 +95,15 @@ fn work<S: Shelf>(alloc: Global, shelf: &mut S, call: Call<'_>) -> Result<Reply,
             to,
             formula,
             log,
-        } => span(alloc, shelf, conflicts, value, from, to, formula, log),
+        } => {
+            let distance = Distance {
+                conflicts,
+                value,
+                from,
+                to,
+            };
+            span(alloc, shelf, distance, formula, log)
+        }
         Call::Demo { seed } => demo(alloc, seed),
     }
 }
@@ -107,10 +121,10 @@ fn reply<S: Shelf>(alloc: Global, shelf: &mut S, call: Call<'_>) -> Result<Reply
     ensures stop { IfErr result (λ s. HasReason s (λ r. ⊥)) }
     ensures failed { IsErrOf result Stop.ReadFailed → Rose (S.faults shelf.old) (S.faults shelf.new) }
     ensures told { ¬ IsErrOf result Stop.ReadFailed → S.faults shelf.new ≡ S.faults shelf.old }
-    ensures never { S.steady shelf.old → S.tells shelf.old ≡ true → HoldsFiles (S.files shelf.old) (command_in call.entry) → IsErrOf result Stop.ReadFailed → ⊥ }
+    ensures never { NeverFailsToRead (S.steady shelf.old) (S.tells shelf.old) (HoldsFiles (S.files shelf.old) (command_in call.entry)) result }
     ensures later { S.faults shelf.old ≤ S.faults shelf.new }
     ensures openings { OpensAtMost (files_named (command_in call.entry)) (S.openings shelf.old) (S.openings shelf.new) }
-    ensures in_turn { S.tells shelf.old ≡ true → OpensFilesInTurn (S.files shelf.old) (command_in call.entry) (S.openings shelf.old) (S.openings shelf.new) }
+    ensures in_turn { WhereTold S.tells S.files S.openings shelf.old shelf.new (λ files. OpensFilesInTurn files (command_in call.entry)) }
 {
     match work(alloc, shelf, call) {
         Err(Stop::Refused(refusal)) => Ok(refusal.reply(alloc)?),
@@ -130,45 +144,42 @@ pub fn run<S: Shelf, K: Sink>(
 ) -> Status
     // Where files and bytes are told, an answer is what the words and files give, for any files
     // that agree with those that the shelf holds.
-    ensures outcome { S.tells shelf.old ≡ true → K.tells out.old ≡ true → (files : Files) → Agree (S.files shelf.old) files
-        → Ends (Outcome (map string_bytes words.now.items) files) (K.bytes out.old) (K.bytes out.new) result }
+    ensures outcome { S.tells shelf.old ≡ true → EndsFor (words_of words.now.items) (S.files shelf.old) K.tells K.bytes out.old out.new result }
     ensures silent { K.tells out.old ≡ true → (result ≡ Status.NoMemory) ⊎ (result ≡ Status.ReadFailed) → K.bytes out.new ≡ K.bytes out.old }
 
     // The status of an answer is one that the words and files give, whatever the sink tells.
-    ensures status { S.tells shelf.old ≡ true → IsAnswer result → (files : Files) → Agree (S.files shelf.old) files → HasOutcome (map string_bytes words.now.items) files result }
+    ensures status { S.tells shelf.old ≡ true → IsAnswer result → HasOutcomeFor (words_of words.now.items) (S.files shelf.old) result }
 
     // Whatever the shelf tells, what is written with an answer is what the words give of some files, and
     // where writing failed it is the beginning of that. Whatever is told, the status is one of those.
-    ensures possible { K.tells out.old ≡ true → Ends (IsPossible (map string_bytes words.now.items)) (K.bytes out.old) (K.bytes out.new) result }
-    ensures possible_status { IsAnswer result → HasPossible (map string_bytes words.now.items) result }
+    ensures possible { K.tells out.old ≡ true → Ends (IsPossible (words_of words.now.items)) (K.bytes out.old) (K.bytes out.new) result }
+    ensures possible_status { IsAnswer result → HasPossible (words_of words.now.items) result }
 
     // The words are refused exactly where they are no command, whatever the shelf tells.
-    ensures words { result ≡ Status.Words → command_of (map string_bytes words.now.items) ≡ None }
-    ensures no_command { command_of (map string_bytes words.now.items) ≡ None → (result ≡ Status.Words) ⊎ (result ≡ Status.WriteFailed) }
+    ensures words { result ≡ Status.Words → command_of (words_of words.now.items) ≡ None }
+    ensures no_command { command_of (words_of words.now.items) ≡ None → (result ≡ Status.Words) ⊎ (result ≡ Status.WriteFailed) }
     ensures refusal { result ≡ Status.Words → K.tells out.old ≡ true → K.bytes out.new ≡ K.bytes out.old ++ line (codes "refused words") }
 
     // What is refused for what a file holds has its one line written, whatever the shelf tells.
-    ensures refused { K.tells out.old ≡ true → IsRefusal result → (line : List ℕ) × IsRefusalOf result line × (K.bytes out.new ≡ K.bytes out.old ++ line) }
+    ensures refused { K.tells out.old ≡ true → IsRefusal result → AddsRefusal result (K.bytes out.old) (K.bytes out.new) }
 
     // A failure of a device is answered only where its count rose, and where it rose it is answered.
     ensures read { result ≡ Status.ReadFailed → Rose (S.faults shelf.old) (S.faults shelf.new) }
     ensures read_told { ¬ (result ≡ Status.ReadFailed) → S.faults shelf.new ≡ S.faults shelf.old }
-    ensures never { S.steady shelf.old → S.tells shelf.old ≡ true → HoldsNamed (map string_bytes words.now.items) (S.files shelf.old) → result ≡ Status.ReadFailed → ⊥ }
+    ensures never { NeverReadFailed (S.steady shelf.old) (S.tells shelf.old) (HoldsNamed (words_of words.now.items) (S.files shelf.old)) result }
     ensures write { result ≡ Status.WriteFailed → Rose (K.faults out.old) (K.faults out.new) }
     ensures write_told { ¬ (result ≡ Status.WriteFailed) → K.faults out.new ≡ K.faults out.old }
 
     // As far as the shelf tells its openings: at most the files that the words name are opened, in their order, each once.
-    ensures openings { OpensNamed (map string_bytes words.now.items) (S.openings shelf.old) (S.openings shelf.new) }
+    ensures openings { OpensNamed (words_of words.now.items) (S.openings shelf.old) (S.openings shelf.new) }
 
     // More than the formula's file is opened only where that passes its tests, and a third file only where all tests before
     // it are passed: so where the shelf tells all its openings, a failed read is never answered where a test of an earlier
     // file fails.
-    ensures in_turn { S.tells shelf.old ≡ true → OpensNamedInTurn (map string_bytes words.now.items) (S.files shelf.old) (S.openings shelf.old) (S.openings shelf.new) }
+    ensures in_turn { WhereTold S.tells S.files S.openings shelf.old shelf.new (OpensNamedInTurn (words_of words.now.items)) }
 
     // Where no device failed, the answer is there, or memory ran out.
-    ensures complete { S.tells shelf.old ≡ true → HoldsNamed (map string_bytes words.now.items) (S.files shelf.old)
-        → ¬ Rose (K.faults out.old) (K.faults out.new) → S.steady shelf.old ⊎ ¬ Rose (S.faults shelf.old) (S.faults shelf.new)
-        → (result ≡ Status.NoMemory) ⊎ IsAnswer result }
+    ensures complete { Completes (words_of words.now.items) S.tells S.files S.steady S.faults shelf.old shelf.new K.faults out.old out.new result }
 {
     let Some(spoken) = spoken_of(words) else {
         return finish(out, b"refused words\n", Status::Words);

@@ -6,15 +6,15 @@ ghost use Rattle.proof_log.specs.declared.line.Line.{Line};
 ghost use Rattle.proof_log.specs.LinesOf.{IsTextOf};
 ghost use Rattle.proof_trim.specs.Placed.{IsTrimmedText};
 ghost use Rattle.report_text.specs.declared.report.Report.{Report};
-ghost use Rattle.report_text.specs.declared.report.Report.TheVariants.{Verdicts};
 ghost use Rattle.report_text.specs.declared.report.Section.{Section};
 ghost use Rattle.report_text.specs.declared.report.Section.TheVariants.{Refuted};
 ghost use Rattle.report_text.specs.Outlines.{IsOutlineIn, IsOutlineOf, IsSectionOutline};
 ghost use Rattle.report_text.specs.Spelled.{IsSpelled, IsSpelledSection};
+ghost use Rattle.verdict.specs.OfOutlines.{OfSection};
 ghost use Rattle.skew_answers.specs.Statuses.{IsVerdict};
-ghost use Rattle.skew_commands.specs.Stops.{Gives, RefusesFor};
+ghost use Rattle.skew_commands.specs.Stops.{Gives, NeverFailsToRead, RefusesFor};
 ghost use Rattle.skew_cli.specs.TrimOutcome.{CanTrim, CanTrimSection, OfSomeReport, TellsSection, TellsUntrimmed, TrimOfReport, TrimOutcome};
-ghost use Rattle.skew_cli.specs.TrimmedText.{AreOutlined, IsSectionLeft, IsTrimText, kind_left, text_left};
+ghost use Rattle.skew_cli.specs.TrimmedText.{AreOutlined, IsSectionLeft, IsTrimText, OfOutlined, kind_left, text_left};
 
 use crate::limits::REPORT_LIMIT;
 use crate::report_file;
@@ -55,10 +55,10 @@ fn trimmed_section(
 ) -> Result<Option<TrimmedText>, Stop>
     requires short { length section.text.now < 2 ^ 31 }
     requires some { (events : ℕ) × (s : Section) × IsSectionOutline section s × IsSpelledSection events s }
-    ensures trimmed { IfOk result (λ o. (events : ℕ) (s : Section) → IsSectionOutline section.entry s → IsSpelledSection events s → IsSectionLeft events section.entry s o) }
-    ensures can { OnOk result ((events : ℕ) (s : Section) → IsSectionOutline section.entry s → IsSpelledSection events s → CanTrimSection s) }
+    ensures trimmed { IfOk result (λ o. (events : ℕ) → OfSection section.entry events (λ s. IsSectionLeft events section.entry s o)) }
+    ensures can { OnOk result ((events : ℕ) → OfSection section.entry events CanTrimSection) }
     ensures reads_nothing { IsErrOf result Stop.ReadFailed → ⊥ }
-    ensures refused { (events : ℕ) (s : Section) → IsSectionOutline section.entry s → IsSpelledSection events s → RefusesFor result (TellsSection part s) }
+    ensures refused { (events : ℕ) → OfSection section.entry events (λ s. RefusesFor result (TellsSection part s)) }
 {
     match section.kind {
         Kind::Refuted(count) => Ok(Some(trimmed_lines(alloc, part, section.text, count)?)),
@@ -93,10 +93,10 @@ fn trimmed_verdicts(
     requires true_short { length on_true.text.now < 2 ^ 31 }
     requires false_short { length on_false.text.now < 2 ^ 31 }
     requires some { (s t : Section) × AreOutlined events on_true on_false s t }
-    ensures trimmed { IfOk result (λ text. (s t : Section) → AreOutlined events on_true.entry on_false.entry s t → IsTrimText (Verdicts events s t) text.items) }
-    ensures can { OnOk result ((s t : Section) → AreOutlined events on_true.entry on_false.entry s t → CanTrim (Verdicts events s t)) }
+    ensures trimmed { IfOk result (λ text. OfOutlined events on_true.entry on_false.entry (λ r. IsTrimText r text.items)) }
+    ensures can { OnOk result (OfOutlined events on_true.entry on_false.entry CanTrim) }
     ensures reads_nothing { IsErrOf result Stop.ReadFailed → ⊥ }
-    ensures refused { (s t : Section) → AreOutlined events on_true.entry on_false.entry s t → RefusesFor result (TellsUntrimmed (Verdicts events s t)) }
+    ensures refused { OfOutlined events on_true.entry on_false.entry (λ r. RefusesFor result (TellsUntrimmed r)) }
 {
     let left_true = trimmed_section(alloc, ReportPart::OnTrue, on_true)?;
     let left_false = trimmed_section(alloc, ReportPart::OnFalse, on_false)?;

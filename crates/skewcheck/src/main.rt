@@ -4,11 +4,10 @@
 ghost use Rattle.std.specs.Prelude.{◌≡◌, ◌≢◌, ◌⊎◌, ◌↔◌, true, IfOk, IsErr, drop};
 ghost use Rattle.std.specs.Process.{exit_status};
 ghost use Rattle.std.specs.Vec.Iter.{into_iter_items};
-ghost use Rattle.mt_port.specs.Port.{Files, Rose};
+ghost use Rattle.mt_port.specs.Port.{Rose};
 ghost use Rattle.skew_answers.specs.Statuses.{IsAnswer, code_of};
-ghost use Rattle.skew_commands.specs.Reads.{Agree};
-ghost use Rattle.skew_cli.specs.Outcome.{Ends, HasPossible, OpensNamed, OpensNamedInTurn, Outcome};
-ghost use Rattle.skewcheck.specs.Ended.{EndsBy, words_in};
+ghost use Rattle.skew_cli.specs.Outcome.{EndsFor, HasPossible, OpensNamed, OpensNamedInTurn, WhereTold};
+ghost use Rattle.skewcheck.specs.Ended.{EndsBy, ExitsFor, IsSilent, OpensGivenInTurn, words_in};
 
 use mt_port::{FileShelf, Shelf, Sink, StdSink};
 use skew_answers::Status;
@@ -35,8 +34,7 @@ fn words_of(alloc: Global, mut arguments: Args) -> Result<Vec<String>, AllocErro
 
 // What a run on the words among these arguments answers.
 fn answer<S: Shelf, K: Sink>(alloc: Global, arguments: Args, shelf: &mut S, out: &mut K) -> Status
-    ensures outcome { S.tells shelf.old ≡ true → K.tells out.old ≡ true → (files : Files) → Agree (S.files shelf.old) files
-        → Ends (Outcome (words_in arguments) files) (K.bytes out.old) (K.bytes out.new) result }
+    ensures outcome { S.tells shelf.old ≡ true → EndsFor (words_in arguments) (S.files shelf.old) K.tells K.bytes out.old out.new result }
     ensures silent { K.tells out.old ≡ true → (result ≡ Status.NoMemory) ⊎ (result ≡ Status.ReadFailed) → K.bytes out.new ≡ K.bytes out.old }
     ensures possible { IsAnswer result → HasPossible (words_in arguments) result }
     ensures read { result ≡ Status.ReadFailed → Rose (S.faults shelf.old) (S.faults shelf.new) }
@@ -44,7 +42,7 @@ fn answer<S: Shelf, K: Sink>(alloc: Global, arguments: Args, shelf: &mut S, out:
     ensures write { result ≡ Status.WriteFailed → Rose (K.faults out.old) (K.faults out.new) }
     ensures write_told { ¬ (result ≡ Status.WriteFailed) → K.faults out.new ≡ K.faults out.old }
     ensures openings { OpensNamed (words_in arguments) (S.openings shelf.old) (S.openings shelf.new) }
-    ensures in_turn { S.tells shelf.old ≡ true → OpensNamedInTurn (words_in arguments) (S.files shelf.old) (S.openings shelf.old) (S.openings shelf.new) }
+    ensures in_turn { WhereTold S.tells S.files S.openings shelf.old shelf.new (OpensNamedInTurn (words_in arguments)) }
 {
     match words_of(alloc, arguments) {
         Ok(words) => run(alloc, &words, shelf, out),
@@ -63,9 +61,8 @@ fn ended<S: Shelf, K: Sink>(
     ensures no_words { IsErr given ↔ (exit_status result ≡ 71) }
 
     // Otherwise it is the number of what a run on the arguments behind the first answers.
-    ensures outcome { S.tells shelf.old ≡ true → K.tells out.old ≡ true → IfOk given (λ arguments. (files : Files) → Agree (S.files shelf.old) files
-        → EndsBy (Ends (Outcome (words_in arguments) files) (K.bytes out.old) (K.bytes out.new)) (exit_status result)) }
-    ensures silent { K.tells out.old ≡ true → (exit_status result ≡ 71) ⊎ (exit_status result ≡ code_of Status.NoMemory) ⊎ (exit_status result ≡ code_of Status.ReadFailed) → K.bytes out.new ≡ K.bytes out.old }
+    ensures outcome { S.tells shelf.old ≡ true → ExitsFor given (S.files shelf.old) K.tells K.bytes out.old out.new (exit_status result) }
+    ensures silent { K.tells out.old ≡ true → IsSilent (exit_status result) → K.bytes out.new ≡ K.bytes out.old }
     ensures possible { IfOk given (λ arguments. EndsBy (λ s. IsAnswer s → HasPossible (words_in arguments) s) (exit_status result)) }
 
     // A failure of a device is told by it where the device's count rose, and nowhere else.
@@ -74,7 +71,7 @@ fn ended<S: Shelf, K: Sink>(
     ensures write { exit_status result ≡ code_of Status.WriteFailed → Rose (K.faults out.old) (K.faults out.new) }
     ensures write_told { exit_status result ≢ code_of Status.WriteFailed → K.faults out.new ≡ K.faults out.old }
     ensures openings { IfOk given (λ arguments. OpensNamed (words_in arguments) (S.openings shelf.old) (S.openings shelf.new)) }
-    ensures in_turn { S.tells shelf.old ≡ true → IfOk given (λ arguments. OpensNamedInTurn (words_in arguments) (S.files shelf.old) (S.openings shelf.old) (S.openings shelf.new)) }
+    ensures in_turn { WhereTold S.tells S.files S.openings shelf.old shelf.new (OpensGivenInTurn given) }
 {
     match given {
         Ok(arguments) => ExitCode::from(answer(alloc, arguments, shelf, out).code()),

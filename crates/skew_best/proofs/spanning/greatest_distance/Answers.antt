@@ -10,7 +10,7 @@ widest-requires-clause-room c = let few = c.requires.plain.extras in omega (arit
 pub returns-in-Ok-clause-spelled : goal.returns-in-Ok-clause-spelled
 returns-in-Ok-clause-spelled c =
     widest-spelled c.args.log.now
-    (form_of c.args.formula.now) c.args.value c.new.result c.new-2.result c.args.conflicts c.log_is_valid.ensures.valid c.requires.most c.in-Ok.answer c.in-Ok.ensures.right
+    (form_of c.args.formula.now) c.args.distance.value c.new.result c.new-2.result c.args.distance.conflicts c.log_is_valid.ensures.valid c.requires.most c.in-Ok.answer c.in-Ok.ensures.right
 
 pub unreachable-requires : goal.unreachable-requires
 unreachable-requires c = let unknown = rw c.in-Err-UnknownHost.field-0-is at c.in-Err-UnknownHost.ensures.fault in cc

@@ -13,23 +13,23 @@ returns-in_err-question-clause-outcome g c = λ tells.
     let p = err_from_is_err_and c.from_residual.result c.from_residual.ensures.1 in
     let held = g.S.Shelf.files c.args.shelf.now in
     rw (p.1, p.2)
-    (question-stopped held c.args.formula.now c.args.log.now (SpanOfLog c.args.conflicts c.args.value c.args.e c.args.to) c.in_err-question.field-0.0 (c.in_err-question.ensures.refused tells))
+    (question-stopped held c.args.formula.now c.args.log.now (SpanOfLog c.args.distance.conflicts c.args.distance.value c.args.distance.from c.args.distance.to) c.in_err-question.field-0.0 (c.in_err-question.ensures.refused tells))
 
 pub returns-clause-outcome : goal.returns-clause-outcome
 returns-clause-outcome g c = λ tells.
     let held = g.S.Shelf.files c.args.shelf.now in
     let q = c.in_ok-question.question in
-    question-given held c.args.formula.now c.args.log.now (SpanOfLog c.args.conflicts c.args.value c.args.e c.args.to) q.text.items
+    question-given held c.args.formula.now c.args.log.now (SpanOfLog c.args.distance.conflicts c.args.distance.value c.args.distance.from c.args.distance.to) q.text.items
     (form_of q.formula) q.log c.span_of_question.result (c.in_ok-question.ensures.read tells)
     c.span_of_question.ensures.outcome
 
 pub returns-in_err-question-clause-possible : goal.returns-in_err-question-clause-possible
 returns-in_err-question-clause-possible g c =
     let p = err_from_is_err_and c.from_residual.result c.from_residual.ensures.1 in
-    rw (p.1, p.2) (question-refused (λ files. SpanOfLog c.args.conflicts c.args.value c.args.e c.args.to) c.in_err-question.field-0.0 c.in_err-question.ensures.some_refused)
+    rw (p.1, p.2) (question-refused (λ files. SpanOfLog c.args.distance.conflicts c.args.distance.value c.args.distance.from c.args.distance.to) c.in_err-question.field-0.0 c.in_err-question.ensures.some_refused)
 
 pub returns-clause-possible : goal.returns-clause-possible
 returns-clause-possible g c =
     let q = c.in_ok-question.question in
     some-question-given q.text.items (form_of q.formula) q.log c.in_ok-question.ensures.some_read c.span_of_question.result
-    (SpanOfLog c.args.conflicts c.args.value c.args.e c.args.to) c.span_of_question.ensures.outcome
+    (SpanOfLog c.args.distance.conflicts c.args.distance.value c.args.distance.from c.args.distance.to) c.span_of_question.ensures.outcome

@@ -15,9 +15,9 @@ returns-in_err-answer-clause-outcome c =
     let p = err_from_is_err_and c.from_residual-in_err-answer.result c.from_residual-in_err-answer.ensures.1 in
     let q = c.args.question.now in
     let f = form_of q.formula in
-    let widest = wide c.args.max q.log in
-    let tolerated = Tolerated c.args.conflicts c.args.value c.args.max f q.log in
-    rw (p.1, p.2) (reason-weaker c.in_err-answer.field-0.0 (TellsLarge f widest) (At (ToleranceOfLog c.args.conflicts c.args.value c.args.max q.text.items f q.log))
+    let widest = wide c.args.widening.max q.log in
+    let tolerated = Tolerated c.args.widening.conflicts c.args.widening.value c.args.widening.max f q.log in
+    rw (p.1, p.2) (reason-weaker c.in_err-answer.field-0.0 (TellsLarge f widest) (At (ToleranceOfLog c.args.widening.conflicts c.args.widening.value c.args.widening.max q.text.items f q.log))
     (λ r told. hosts-known q.text.items f q.log (OnNodes f (OnSize f widest tolerated)) (line (text_of r)) (status_of r) c.in_ok-known_hosts.ensures.known (large-refused f widest tolerated r told))
     c.in_err-answer.ensures.refused)
 
@@ -25,9 +25,9 @@ pub returns-clause-outcome : goal.returns-clause-outcome
 returns-clause-outcome c =
     let q = c.args.question.now in
     let f = form_of q.formula in
-    let widest = wide c.args.max q.log in
+    let widest = wide c.args.widening.max q.log in
     let reply = c.in_ok-tolerance_reply.field-0 in
-    let tolerated : Tolerated c.args.conflicts c.args.value c.args.max f q.log reply.text.items reply.status =
+    let tolerated : Tolerated c.args.widening.conflicts c.args.widening.value c.args.widening.max f q.log reply.text.items reply.status =
     record {
       answer = c.in_ok-answer.answer;
       right = c.in_ok-answer.ensures.right;
@@ -37,6 +37,6 @@ returns-clause-outcome c =
       status = c.in_ok-tolerance_reply.ensures.status;
     } in
     let asked = c.in_ok-answer.ensures.asked in
-    hosts-known q.text.items f q.log (OnNodes f (OnSize f widest (Tolerated c.args.conflicts c.args.value c.args.max f q.log))) reply.text.items reply.status c.in_ok-known_hosts.ensures.known
-    (nodes-few f (OnSize f widest (Tolerated c.args.conflicts c.args.value c.args.max f q.log)) reply.text.items reply.status asked.few
-    (size-small f widest (Tolerated c.args.conflicts c.args.value c.args.max f q.log) reply.text.items reply.status asked.small tolerated))
+    hosts-known q.text.items f q.log (OnNodes f (OnSize f widest (Tolerated c.args.widening.conflicts c.args.widening.value c.args.widening.max f q.log))) reply.text.items reply.status c.in_ok-known_hosts.ensures.known
+    (nodes-few f (OnSize f widest (Tolerated c.args.widening.conflicts c.args.widening.value c.args.widening.max f q.log)) reply.text.items reply.status asked.few
+    (size-small f widest (Tolerated c.args.widening.conflicts c.args.widening.value c.args.widening.max f q.log) reply.text.items reply.status asked.small tolerated))
