@@ -133,11 +133,7 @@ fn greatest_distance(
 }
 
 // What `span` answers for a formula and a log.
-fn span_of_question(
-    alloc: Global,
-    distance: Distance,
-    question: &Question,
-) -> Result<Reply, Stop>
+fn span_of_question(alloc: Global, distance: Distance, question: &Question) -> Result<Reply, Stop>
     requires some { 1 ≤ distance.conflicts }
     requires most { distance.conflicts ≤ MAX_CONFLICTS }
     requires apart { distance.from ≢ distance.to }
