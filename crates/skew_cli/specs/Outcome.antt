@@ -138,7 +138,7 @@ pub record Ends (Due : List ℕ → Status → Type 0) (old now : List ℕ) (s :
   pub answer : IsAnswer s → (written : List ℕ) × (now ≡ old ++ written) × Due written s
   pub cut : s ≡ status.WriteFailed → (due : List ℕ) × (t : Status) × Due due t × WrotePrefix old now due
 
--- so it ended for words and a sink that tells its bytes, whatever files agree with those that are held
+-- the same for words, where the sink tells its bytes, whatever files agree with those that are held
 abbrev pub EndsFor : {K : Type 0} → List Word → Files → (K → Bool) → (K → List ℕ) → K → K → Status → Type 0
 EndsFor words held tells bytes old now s = tells old ≡ true → (files : Files) → Agree held files → Ends (Outcome words files) (bytes old) (bytes now) s
 
@@ -148,7 +148,7 @@ HasOutcomeFor words held s = (files : Files) → Agree held files → HasOutcome
 
 -- the one line of a refusal of this status was written
 abbrev pub AddsRefusal : Status → List ℕ → List ℕ → Type 0
-AddsRefusal s old now = (line : List ℕ) × IsRefusalOf s line × (now ≡ old ++ line)
+AddsRefusal s old now = (text : List ℕ) × IsRefusalOf s text × (now ≡ old ++ text)
 
 -- where no read fails from here on, and the files are told and those that are read are held, no failed read is answered
 abbrev pub NeverReadFailed : Type 0 → Bool → Type 0 → Status → Type 0
@@ -158,9 +158,9 @@ NeverReadFailed Steady tells Held s = Steady → tells ≡ true → Held → s �
 abbrev pub WhereTold : {S : Type 0} → (S → Bool) → (S → Files) → (S → Openings) → S → S → (Files → Openings → Openings → Type 0) → Type 0
 WhereTold tells files openings old now Opened = tells old ≡ true → Opened (files old) (openings old) (openings now)
 
--- where a shelf tells its files and holds those that the command of words comes to read, no write failed, and no read failed or was
--- to fail, an answer is there, or memory ran out
+-- where a shelf tells its files and holds those that the command of words comes to read, no write failed, and no read could fail or
+-- none did, an answer is there, or memory ran out
 abbrev pub Completes : {S K : Type 0} → List Word → (S → Bool) → (S → Files) → (S → Type 0) → (S → ℕ) → S → S → (K → ℕ) → K → K → Status → Type 0
-Completes words tells files Steady reads shelf now writes out written s =
-    tells shelf ≡ true → HoldsNamed words (files shelf) → ¬ Rose (writes out) (writes written) → Steady shelf ⊎ ¬ Rose (reads shelf) (reads now)
+Completes words tells files Steady reads shelf shelf_now writes sink sink_now s =
+    tells shelf ≡ true → HoldsNamed words (files shelf) → ¬ Rose (writes sink) (writes sink_now) → Steady shelf ⊎ ¬ Rose (reads shelf) (reads shelf_now)
     → (s ≡ status.NoMemory) ⊎ IsAnswer s
