@@ -75,7 +75,7 @@ fn lower(
     requires numbers { All IsNumber numbers.old }
     requires order_room { length order.old.items < vec_capacity order.old }
     requires former_room { length former.old.items < vec_capacity former.old }
-    ensures numbers { numbers.new ≡ slice_set numbers.old (edge_at edges.now place).from (number_of numbers.old (edge_at edges.now place).to +ℤ (edge_at edges.now place).bound) }
+    ensures numbers { let edge = edge_at edges.now place in numbers.new ≡ slice_set numbers.old edge.from (number_of numbers.old edge.to +ℤ edge.bound) }
     ensures order { order.new.items ≡ order.old.items ++ place ∷ [] }
     ensures former { former.new.items ≡ former.old.items ++ number_of numbers.old (edge_at edges.now place).from ∷ [] }
     ensures order_room { vec_capacity order.old ≤ vec_capacity order.new }
