@@ -2,7 +2,6 @@
 use Rattle.std.specs.Prelude.{◌≡◌, ℕ, ◌+◌, ◌<◌, ◌≤◌, List, length, take, IsSome}
 use Rattle.std.specs.declared.result.Result.{Result}
 use Rattle.std.specs.declared.result.Result.TheVariants.{Ok, Err}
-use Rattle.neg_cycle.specs.declared.system.Edge.{Edge}
 use Rattle.difference_graph.specs.Graphs.{Constraints, HasSameLimits}
 use Rattle.clause_db.specs.declared.lit.Lit.{Lit}
 use Rattle.clause_db.specs.Clauses.{clause_at}
@@ -16,7 +15,7 @@ use Rattle.propagate.specs.Clauses.{HasReasons, IsFalsified}
 use Rattle.propagate.specs.Watched.{AreWatched}
 use Rattle.propagate.specs.Best.{AreLastToFallFrom}
 use Rattle.propagate.specs.Closed.{Closed}
-use Rattle.propagate.specs.Steps.{InStep, IsLinked, IsRefused, HasRoomFor, LacksLast}
+use Rattle.propagate.specs.Steps.{HasRoomFor, IsLinked, IsRefused, KeepsStep, LosesLast}
 
 -- literals of the present level were added, each with a reason
 pub record IsGrown (old new : Assigned) : Type 0 where
@@ -84,7 +83,7 @@ pub record IsProgress (clauses : LinkedClauses) (old new : Assigned × Constrain
   pub known : length old.0.watching.watches ≤ length new.0.watching.watches
   pub last : (n : ℕ) → AreLastToFallFrom n old.0 clauses.db.now → AreLastToFallFrom n new.0 clauses.db.now
   pub extended : IsExtended old.1 new.1
-  pub in_step : (base : List Edge) → InStep old.0 clauses.db.now clauses.links.now base old.1 → InStep new.0 clauses.db.now clauses.links.now base new.1
+  pub in_step : KeepsStep clauses.db.now clauses.links.now old new
 
 -- what is so where the literal's edge was refused
 pub record IsStopped (clauses : LinkedClauses) (old : Assigned × Constraints) (l : Lit) (new : Assigned × Constraints) : Type 0 where
@@ -94,7 +93,7 @@ pub record IsStopped (clauses : LinkedClauses) (old : Assigned × Constraints) (
   pub extended : IsExtended old.1 new.1
   pub last : IsLast new.0 l
   pub refused : IsRefused clauses.links.now l new.1
-  pub lacks_last : (base : List Edge) → InStep old.0 clauses.db.now clauses.links.now base old.1 → LacksLast new.0 clauses.db.now clauses.links.now base new.1
+  pub lacks_last : LosesLast clauses.db.now clauses.links.now old new
 
 -- a clause that is false
 pub record IsConflict (t : Assigned) (db : List (List Lit)) (c : ℕ) : Type 0 where

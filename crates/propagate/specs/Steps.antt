@@ -35,6 +35,18 @@ pub record LacksLast (t : Assigned) (db : List (List Lit)) (links : List (Option
   pub some : 0 < length t.entries
   pub step : IsInStep (literals (take (length t.entries - 1) t.entries)) t db links base g
 
+-- what is in step on these clauses and links by the old trail and graph is so by the new ones
+abbrev pub KeepsStep : List (List Lit) → List (Option (Edge × Edge)) → Assigned × Constraints → Assigned × Constraints → Type 0
+KeepsStep db links old new = (base : List Edge) → InStep old.0 db links base old.1 → InStep new.0 db links base new.1
+
+-- what is in step on these clauses and links by the old trail and graph lacks the edge of the last literal by the new ones
+abbrev pub LosesLast : List (List Lit) → List (Option (Edge × Edge)) → Assigned × Constraints → Assigned × Constraints → Type 0
+LosesLast db links old new = (base : List Edge) → InStep old.0 db links base old.1 → LacksLast new.0 db links base new.1
+
+-- what lacks the edge of the last literal by the old trail and graph is in step by the new ones
+abbrev pub RegainsStep : Assigned × Constraints → Assigned × Constraints → Type 0
+RegainsStep old new = (db : List (List Lit)) (links : List (Option (Edge × Edge))) (base : List Edge) → LacksLast old.0 db links base old.1 → InStep new.0 db links base new.1
+
 -- however many different unassigned variables have edges, the graph has room for an edge of each
 abbrev pub HasRoomFor : Assigned → List (Option (Edge × Edge)) → Constraints → Type 0
 HasRoomFor t links g = (vars : List ℕ) → AllPairs (λ v w. v ≢ w) vars

@@ -7,7 +7,7 @@ ghost use Rattle.difference_graph.specs.Graphs.{HasSameLimits, HasSolution, IfKe
 ghost use Rattle.clause_db.specs.declared.lit.Lit.{Lit};
 ghost use Rattle.propagate.specs.Links.{edge_of};
 ghost use Rattle.propagate.specs.Trails.{IsUnassigned, cut_to, decided, mark_of};
-ghost use Rattle.propagate.specs.Steps.{AreMarksHeld, InStep, IsLinked, IsRefused, LacksLast};
+ghost use Rattle.propagate.specs.Steps.{AreMarksHeld, IsLinked, IsRefused, KeepsStep, LosesLast, RegainsStep};
 ghost use Rattle.propagate.specs.Closed.{Closed, ClosedAt};
 
 use crate::unit::push_edge;
@@ -35,8 +35,8 @@ impl Trail {
         ensures kept { IfKept result (graph.new.edges ≡ graph.old.edges ++ option_to_list (edge_of links.now lit)) }
         ensures same { IfRefused result (graph.new.edges ≡ graph.old.edges) }
         ensures refused { IfRefused result (IsRefused links.now lit graph.new) }
-        ensures in_step { IfKept result ((db : List (List Lit)) (base : List Edge) → InStep self.old db links.now base graph.old → InStep self.new db links.now base graph.new) }
-        ensures lacks_last { IfRefused result ((db : List (List Lit)) (base : List Edge) → InStep self.old db links.now base graph.old → LacksLast self.new db links.now base graph.new) }
+        ensures in_step { IfKept result ((db : List (List Lit)) → KeepsStep db links.now (self.old, graph.old) (self.new, graph.new)) }
+        ensures lacks_last { IfRefused result ((db : List (List Lit)) → LosesLast db links.now (self.old, graph.old) (self.new, graph.new)) }
 
         // Where nothing was left to propagate, the levels below the new one are closed.
         ensures closed { (db : List (List Lit)) → Closed self.old db → ClosedAt self.old db (length self.old.levels) → Closed self.new db }
@@ -55,8 +55,8 @@ impl Trail {
         ensures unmoved { level ≡ length self.old.levels → (self.new ≡ self.old) × (graph.new.edges ≡ graph.old.edges) }
 
         // To be in step is kept, and comes back where an edge was missing and a level is undone.
-        ensures in_step { (db : List (List Lit)) (links : List (Option (Edge × Edge))) (base : List Edge) → InStep self.old db links base graph.old → InStep self.new db links base graph.new }
-        ensures after_refusal { level < length self.old.levels → (db : List (List Lit)) (links : List (Option (Edge × Edge))) (base : List Edge) → LacksLast self.old db links base graph.old → InStep self.new db links base graph.new }
+        ensures in_step { (db : List (List Lit)) (links : List (Option (Edge × Edge))) → KeepsStep db links (self.old, graph.old) (self.new, graph.new) }
+        ensures after_refusal { level < length self.old.levels → RegainsStep (self.old, graph.old) (self.new, graph.new) }
         ensures closed { (db : List (List Lit)) → ((m : ℕ) → m < level → ClosedAt self.old db m) → Closed self.new db }
     {
         if level < self.level() {

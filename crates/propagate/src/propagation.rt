@@ -1,12 +1,11 @@
 //! Unit propagation, with the edges of what it assigns.
 
-ghost use Rattle.std.specs.Prelude.{◌≡◌, List, length, IfOk, OnOk, OnErr};
-ghost use Rattle.neg_cycle.specs.declared.system.Edge.{Edge};
+ghost use Rattle.std.specs.Prelude.{◌≡◌, length, IfOk, OnOk, OnErr};
 ghost use Rattle.propagate.specs.Trails.{IsUnpropagated};
 ghost use Rattle.propagate.specs.Clauses.{AreSettled, HasReasons};
 ghost use Rattle.propagate.specs.Watched.{AreAllWatched, AreWatched};
 ghost use Rattle.propagate.specs.Best.{AreHighestFrom};
-ghost use Rattle.propagate.specs.Steps.{HasRoomFor, InStep, IsLinked, IsRefused, LacksLast};
+ghost use Rattle.propagate.specs.Steps.{HasRoomFor, IsLinked, IsRefused, KeepsStep, LosesLast};
 ghost use Rattle.propagate.specs.Closed.{Closed, ClosedAt};
 ghost use Rattle.propagate.specs.Reach.{IfClause, IfQuiet, IfTheory, IsAtWork, IsConflict, IsExtended, IsGrown, IsLast, IsReached, UnlessQuiet, UnlessTheory};
 
@@ -55,9 +54,9 @@ impl Trail {
 
         // To be in step is kept, but for the edge that was refused; so at Quiet the edge of each
         // assigned literal is held.
-        ensures in_step { IfOk result (λ r. UnlessTheory r ((base : List Edge) → InStep self.old db.now links.now base graph.old → InStep self.new db.now links.now base graph.new)) }
-        ensures lacks_last { IfOk result (λ r. IfTheory r (λ _. (base : List Edge) → InStep self.old db.now links.now base graph.old → LacksLast self.new db.now links.now base graph.new)) }
-        ensures memory { OnErr result ((base : List Edge) → InStep self.old db.now links.now base graph.old → InStep self.new db.now links.now base graph.new) }
+        ensures in_step { IfOk result (λ r. UnlessTheory r (KeepsStep db.now links.now (self.old, graph.old) (self.new, graph.new))) }
+        ensures lacks_last { IfOk result (λ r. IfTheory r (λ _. LosesLast db.now links.now (self.old, graph.old) (self.new, graph.new))) }
+        ensures memory { OnErr result (KeepsStep db.now links.now (self.old, graph.old) (self.new, graph.new)) }
 
         // The levels below the present one stay closed, and at Quiet the present one is.
         ensures closed { Closed self.old db.now → Closed self.new db.now }
