@@ -1,13 +1,13 @@
 //! The walk down the trail that resolves a false clause with the reasons of its literals.
 
-ghost use Rattle.std.specs.Prelude.{ℕ, ◌+◌, ◌<◌, ◌∷◌, length, reverse, IfNone, IfOk, IfSome, OnOk};
+ghost use Rattle.std.specs.Prelude.{ℕ, ◌<◌, length, IfNone, IfOk, IfSome, OnOk};
 ghost use Rattle.clause_db.specs.Clauses.{clause_at};
 ghost use Rattle.propagate.specs.Trails.{IsTrail};
 ghost use Rattle.propagate.specs.Clauses.{HasReasons, IsFalsified};
 ghost use Rattle.analyze.specs.Marks.{AreBelow};
 ghost use Rattle.analyze.specs.Asserting.{HasHere};
-ghost use Rattle.analyze.specs.Resolving.{IsAside, IsAway, IsWork};
-ghost use Rattle.analyze.specs.Working.{IsWorking};
+ghost use Rattle.analyze.specs.Resolving.{IsAside, IsAway};
+ghost use Rattle.analyze.specs.Working.{HasTaken, IsWorking};
 
 use crate::mark::{has_mark_here, mark};
 use crate::places::{level_at, reason_at};
@@ -46,7 +46,7 @@ fn step(trail: &Trail, db: &Db, place: u32, work: &mut Work) -> Result<(), Alloc
     requires trail { IsTrail trail.now }
     requires reasons { HasReasons trail.now db.now }
     requires below { AreBelow place work.old.marked.keys }
-    ensures work { OnOk result ((conflict : ℕ) → IsWork trail.now db.now conflict (place + 1) (place ∷ work.old.marked.keys) work.old.aside.items (reverse work.old.hints.items) → IsWorking trail.now db.now conflict place work.new) }
+    ensures work { OnOk result ((conflict : ℕ) → HasTaken trail.now db.now conflict place work.old → IsWorking trail.now db.now conflict place work.new) }
 {
     match resolvent(trail, place, &work.marked) {
         Some(reason) => {
