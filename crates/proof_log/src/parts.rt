@@ -1,14 +1,11 @@
 //! The words of a text that is known to be that of lines, handed out one item after another. Nothing here takes memory.
 
-ghost use Rattle.std.specs.Prelude.{◌≡◌, ◌∷◌, ◌++◌, [], ℕ, List, MatchOption};
+ghost use Rattle.std.specs.Prelude.{◌≡◌, ◌∷◌, [], ℕ, List, MatchOption};
 ghost use Rattle.std.specs.Fmt.{decimal};
-ghost use Rattle.mt_model.specs.declared.step.Step.{Step};
-ghost use Rattle.axiom_rules.specs.declared.literal.Literal.{Literal};
-ghost use Rattle.proof_log.specs.declared.line.Hint.{Hint};
 ghost use Rattle.proof_log.specs.declared.line.Line.{Line};
 ghost use Rattle.proof_log.specs.LinesOf.{IsTextOf};
 ghost use Rattle.proof_log.specs.LinesText.{Word, hint_words, literal_words, step_words};
-ghost use Rattle.proof_log.specs.Parts.{IsHeadWords};
+ghost use Rattle.proof_log.specs.Parts.{HasRead, IsHeadWords, Reads};
 ghost use Rattle.proof_log.specs.Reading.{words_after};
 ghost use Rattle.proof_log.specs.Spelled.{IsNumber, IsSpelledHint, IsSpelledLiteral, IsSpelledStep};
 
@@ -45,7 +42,7 @@ pub fn next_words(bytes: &[u8]) -> Option<(LineWords, &[u8])>
 
 /// The number with which the words of a line go on, and the words after it.
 pub fn read_count(words: &[u8]) -> (u32, &[u8])
-    ensures number { (n : ℕ) (after : List Word) → IsNumber n → words_after words.now ≡ decimal n ∷ after → (result.0 ≡ n) × (words_after result.1.now ≡ after) }
+    ensures number { (n : ℕ) (after : List Word) → IsNumber n → words_after words.now ≡ decimal n ∷ after → HasRead n after result }
 {
     match next_number(words) {
         Some(read) => read,
@@ -55,21 +52,21 @@ pub fn read_count(words: &[u8]) -> (u32, &[u8])
 
 /// The step with which the words of a line go on, and the words after it.
 pub fn read_step(words: &[u8]) -> Option<(Step, &[u8])>
-    ensures step { (s : Step) (after : List Word) → IsSpelledStep s → words_after words.now ≡ step_words s ++ after → MatchOption result ⊥ (λ r. (r.0 ≡ s) × (words_after r.1.now ≡ after)) }
+    ensures step { Reads IsSpelledStep step_words words.now result }
 {
     next_step(words)
 }
 
 /// The literal with which the words of a line go on, and the words after it.
 pub fn read_literal(words: &[u8]) -> Option<(Literal, &[u8])>
-    ensures literal { (l : Literal) (after : List Word) → IsSpelledLiteral l → words_after words.now ≡ literal_words l ++ after → MatchOption result ⊥ (λ r. (r.0 ≡ l) × (words_after r.1.now ≡ after)) }
+    ensures literal { Reads IsSpelledLiteral literal_words words.now result }
 {
     next_literal(words)
 }
 
 /// The hint with which the words of a line go on, and the words after it.
 pub fn read_hint(words: &[u8]) -> Option<(Hint, &[u8])>
-    ensures hint { (h : Hint) (after : List Word) → IsSpelledHint h → words_after words.now ≡ hint_words h ++ after → MatchOption result ⊥ (λ r. (r.0 ≡ h) × (words_after r.1.now ≡ after)) }
+    ensures hint { Reads IsSpelledHint hint_words words.now result }
 {
     next_hint(words)
 }
