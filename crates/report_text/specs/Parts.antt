@@ -1,5 +1,6 @@
 -- The lines that say what follows them, and what stands at the front of bytes.
-use Rattle.std.specs.Prelude.{◌≡◌, ℕ, Bool, true, List, ◌++◌, length, codes, ℤ}
+use Rattle.std.specs.Prelude.{◌≡◌, ℕ, Bool, true, List, ◌++◌, length, codes, Option, MatchOption, ℤ}
+use Rattle.std.specs.Borrow.{Bor}
 use Rattle.std.specs.Fmt.{decimal, signed_decimal}
 use Rattle.mt_model.specs.declared.limits.TheConstants.{MAX_TIME}
 use Rattle.mt_model.specs.Log.{IsWithin}
@@ -38,6 +39,10 @@ pub record IsFront {X : Type 0} (Is : X → Type 0) (text : X → List ℕ) (byt
 -- the bytes begin with the text of no value
 abbrev pub NoFront : {X : Type 0} → (X → Type 0) → (X → List ℕ) → List ℕ → Type 0
 NoFront Is text bytes = (x : _) (rest : List ℕ) → Is x → bytes ≡ text x ++ rest → ⊥
+
+-- where the bytes begin with the text of a value, that is read, and what follows its text
+abbrev pub ReadsFront : {X : Type 0} → (X → Type 0) → (X → List ℕ) → List ℕ → Option (X × Bor (List ℕ)) → Type 0
+ReadsFront Is text bytes found = (x : _) (after : List ℕ) → Is x → bytes ≡ text x ++ after → MatchOption found ⊥ (λ r. (r.0 ≡ x) × (r.1.now ≡ after))
 
 -- the number of lines that a section's first line states, if it states one, is below 2^32
 abbrev pub IsKind : Kind → Type 0

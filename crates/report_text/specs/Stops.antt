@@ -39,6 +39,10 @@ pub record AreItems {X : Type 0} (Is : X → Type 0) (text : X → List ℕ) (co
   pub each : All Is items
   pub are : flat_map text items ≡ bytes
 
+-- so many items that have this text are the ones that were found
+abbrev pub FindsItems : {X : Type 0} → (X → Type 0) → (X → List ℕ) → ℕ → List ℕ → List X → Type 0
+FindsItems Is text count bytes found = (items : List _) → length items ≡ count → All Is items → flat_map text items ≡ bytes → found ≡ items
+
 -- so many items were read, and the rest follows
 pub record AreRead {X : Type 0} (Is : X → Type 0) (text : X → List ℕ) (count : ℕ) (bytes : List ℕ) (items : List X) (rest : List ℕ) : Type 0 where
   pub full : length items ≡ count

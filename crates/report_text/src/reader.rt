@@ -1,7 +1,6 @@
 //! Reports from their text.
 
-ghost use Rattle.std.specs.Prelude.{◌≡◌, ◌<◌, ◌^◌, length, All, IfOk, List, ℕ, ℤ};
-ghost use Rattle.std.specs.List.{flat_map};
+ghost use Rattle.std.specs.Prelude.{◌≡◌, ◌<◌, ◌^◌, length, IfOk, List, ℕ};
 ghost use Rattle.mt_model.specs.declared.limits.TheConstants.{MAX_TIME};
 ghost use Rattle.mt_model.specs.Log.{IsWithin};
 ghost use Rattle.proof_log.specs.LinesOf.{IsTextOf};
@@ -9,7 +8,7 @@ ghost use Rattle.report_text.specs.Outlines.{IsOutlineIn, IsOutlineOf, IsSection
 ghost use Rattle.report_text.specs.ReportOf.{Answers, IsCutShort, IsFaultyAtEnd};
 ghost use Rattle.report_text.specs.ReportText.{bound_text, time_text};
 ghost use Rattle.report_text.specs.Spelled.{IsSpelled, IsSpelledBound, IsSpelledSection};
-ghost use Rattle.report_text.specs.Stops.{AreItems};
+ghost use Rattle.report_text.specs.Stops.{AreItems, FindsItems};
 
 use crate::fault::ReportFault;
 use crate::items::{read_bounds, read_times};
@@ -25,7 +24,7 @@ use std::alloc::{AllocError, Global};
 /// The times whose lines the text is. The error only says that memory ran out.
 pub fn times_of(alloc: Global, count: u32, text: &[u8]) -> Result<Times, AllocError>
     requires { AreItems (IsWithin MAX_TIME) time_text count text.now }
-    ensures times { IfOk result (λ found. (times : List ℤ) → length times ≡ count → All (IsWithin MAX_TIME) times → flat_map time_text times ≡ text.now → found ≡ times) }
+    ensures times { IfOk result (FindsItems (IsWithin MAX_TIME) time_text count text.now) }
 {
     let mut times = Times::new(alloc);
     match read_times(&mut times, count, text) {
@@ -38,7 +37,7 @@ pub fn times_of(alloc: Global, count: u32, text: &[u8]) -> Result<Times, AllocEr
 /// The bounds whose lines the text is. The error only says that memory ran out.
 pub fn steps_of(alloc: Global, count: u32, text: &[u8]) -> Result<Steps, AllocError>
     requires { AreItems IsSpelledBound bound_text count text.now }
-    ensures steps { IfOk result (λ found. (steps : List Step) → length steps ≡ count → All IsSpelledBound steps → flat_map bound_text steps ≡ text.now → found ≡ steps) }
+    ensures steps { IfOk result (FindsItems IsSpelledBound bound_text count text.now) }
 {
     let mut steps = Steps::new(alloc);
     match read_bounds(&mut steps, count, text) {
