@@ -38,6 +38,10 @@ is_lesson (line.Learn lits hints) = has_some lits
 abbrev pub lessons : List Line → ℕ
 lessons lines = count_by is_lesson lines
 
+-- so of each valid log, formula and value that the problem fits
+abbrev pub OfFitting : Problem → (Logged → Form → Bool → Type 0) → Type 0
+OfFitting p Holds = (log : Logged) (f : Form) (v : Bool) → IsLog log → Fits (sought_of log f v) p → Holds log f v
+
 -- a model; or lines that refute, with fewer lessons than the budget; or lines that spend the budget over the problem's rules; of
 -- lines there are at most twice as many as the budget
 abbrev pub IsFound : Problem → ℕ → Logged → Form → Bool → Found → Type 0

@@ -1,5 +1,6 @@
 pub mod Budgets
 pub mod Orders
+pub mod Linked
 pub mod Walking
 pub mod Assignments
 pub mod Recording

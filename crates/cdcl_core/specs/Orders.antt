@@ -1,12 +1,14 @@
 -- Order atoms as differences of nodes: node e + 1 is row e. A variable stands for the atom at its place.
-use Rattle.std.specs.Prelude.{◌≡◌, ℕ, ◌+◌, ◌<◌, List, length, filter, Bool, true, false, Option, Some, None, is_some, slice_index_or, ℤ, pos, ◌-ℤ◌, neg_ℤ}
+use Rattle.std.specs.Prelude.{◌≡◌, ℕ, ◌+◌, ◌<◌, List, [], ◌∷◌, ◌++◌, length, filter, Bool, true, false, Option, Some, None, is_some, slice_index_or, ℤ, pos, ◌-ℤ◌, neg_ℤ}
 use Rattle.mt_model.specs.declared.limits.TheConstants.{MAX_ORDER}
 use Rattle.mt_model.specs.declared.step.Step.{Step}
 use Rattle.mt_model.specs.declared.step.Step.TheVariants as step
 use Rattle.mt_model.specs.Log.{IsWithin}
 use Rattle.neg_cycle.specs.declared.system.Edge.{Edge}
+use Rattle.neg_cycle.specs.Systems.{IsEdge, IsNegativeCycle, VisitsOnce}
+use Rattle.difference_graph.specs.Graphs.{Constraints}
 use Rattle.clause_db.specs.declared.lit.Lit.{Lit}
-use Rattle.propagate.specs.Links.{edges_at}
+use Rattle.propagate.specs.Links.{edge_in, edges_at}
 use Rattle.axiom_rules.specs.declared.literal.Atom.{Atom}
 use Rattle.axiom_rules.specs.declared.literal.Atom.TheVariants.{Order, Node, First, Same, Wit, Span, Gap}
 use Rattle.axiom_rules.specs.declared.literal.Literal.{Literal}
@@ -47,6 +49,11 @@ order_edges (Same e x) = None
 order_edges (Wit k i j) = None
 order_edges (Span k i j) = None
 order_edges (Gap k i m) = None
+
+-- the held edges close a walk of negative sum with the edge of an order in this sense, and the graph gives the walk
+abbrev pub RefusesOrder : Constraints → Atom → Bool → Type 0
+RefusesOrder g atom positive = (edge : Edge) × (edge_in (order_edges atom) positive ≡ Some edge) × IsEdge g.nodes edge
+    × IsNegativeCycle (g.edges ++ edge ∷ []) g.cycle × VisitsOnce (g.edges ++ edge ∷ []) g.cycle
 
 -- an order with its sense, as a step
 abbrev pub sensed_step : Bool → Atom → Option Step

@@ -1,5 +1,5 @@
 -- Clauses with the hints that cite them, and lines that derive.
-use Rattle.std.specs.Prelude.{◌≡◌, ℕ, zero, suc, ◌+◌, ◌^◌, ◌<◌, Bool, true, false, IsTrue, List, length, map, Some, All, slice_index_or}
+use Rattle.std.specs.Prelude.{◌≡◌, ℕ, zero, suc, ◌+◌, ◌^◌, ◌<◌, Bool, true, false, IsTrue, List, [], ◌∷◌, ◌++◌, length, map, Some, All, slice_index_or}
 use Rattle.mt_model.specs.Form.{Form}
 use Rattle.mt_model.specs.Log.{Logged, IsLog}
 use Rattle.clause_db.specs.declared.lit.Lit.{Lit}
@@ -15,6 +15,8 @@ use Rattle.proof_log.specs.declared.line.Line.{Line}
 use Rattle.proof_log.specs.declared.line.Line.TheVariants as line
 use Rattle.proof_log.specs.Derivations.{Derives, clause_of_hint, is_in_range}
 use Rattle.proof_log.specs.Spelled.{IsNumber, IsSpelledHint}
+use Rattle.analyze.specs.declared.conflict.Learned.{Learned}
+use Rattle.cdcl_core.specs.declared.derived.Derived.{Derived}
 use Rattle.cdcl_core.specs.Orders.{IsOrderAmong, read_lit}
 
 -- the hint that cites a clause
@@ -53,6 +55,10 @@ pub record IsRecord (log : Logged) (f : Form) (v : Bool) (atoms : List Atom) (db
   pub cited : AreCited (sought_of log f v) atoms db cites lines
   pub derives : Derives log f v lines
 
+-- where the old lines derive and later ones can cite the clauses, so it is with the new ones
+abbrev pub KeepsRecord : Logged → Form → Bool → List Atom → Derived → Derived → Type 0
+KeepsRecord log f v atoms old new = IsRecord log f v atoms old.db old.cites old.lines → IsRecord log f v atoms new.db new.cites new.lines
+
 -- a rule's number and its four arguments are in the ranges of their types
 pub record IsRuleInRange (r : Rule) : Type 0 where
   pub number : r.number < 2 ^ 8
@@ -73,3 +79,8 @@ HasNumbers (Gap k i m) = IsNumber k × IsNumber i × IsNumber m
 abbrev pub IsLearnLine : List Literal → List Hint → Line → Type 0
 IsLearnLine lits hints (line.Cycle steps) = ⊥
 IsLearnLine lits hints (line.Learn own cited) = (own ≡ lits) × (cited ≡ hints) × All (λ l. HasNumbers l.atom) own
+
+-- one line was added, a Learn line of what was learned
+abbrev pub AddsLearnLine : List Atom → Learned → Derived → Derived → Type 0
+AddsLearnLine atoms learned old new =
+    (line : Line) × IsLearnLine (read_clause atoms learned.lits) (map (cite_at old.cites) learned.hints) line × (new.lines ≡ old.lines ++ line ∷ [])

@@ -5,14 +5,12 @@ use Rattle.mt_model.specs.Form.{Form}
 use Rattle.mt_model.specs.Log.{Logged}
 use Rattle.neg_cycle.specs.declared.system.Edge.{Edge}
 use Rattle.skew_bounds.specs.Edges.{AreEdges}
-use Rattle.clause_db.specs.declared.lit.Lit.{Lit}
 use Rattle.axiom_rules.specs.declared.literal.Atom.{Atom}
-use Rattle.axiom_rules.specs.declared.rule.Rule.{Rule}
 use Rattle.cdcl_core.specs.declared.derived.Derived.{Derived}
 use Rattle.cdcl_core.specs.declared.settling.TheConstants.{MAX_SETTLED}
 use Rattle.cdcl_core.specs.Founds.{lessons}
-use Rattle.cdcl_core.specs.Recording.{IsRecord, IsSettled, cite_at}
-use Rattle.cdcl_core.specs.Spending.{IsSpending}
+use Rattle.cdcl_core.specs.Recording.{IsSettled, KeepsRecord, cite_at}
+use Rattle.cdcl_core.specs.Spending.{KeepsSpending}
 
 -- the clauses are the same, and so are the hints but for those that named nothing; no line that came is a lesson, and the lines derive as
 -- before and are spent on the same
@@ -22,6 +20,5 @@ pub record HasSettled (atoms : List Atom) (bounds : List Bound) (edges : List Ed
   pub kept : (c : ℕ) → IsSettled (cite_at old.cites c) → IsSettled (cite_at new.cites c)
   pub few : (new.lines ≡ old.lines) ⊎ (length new.lines ≤ MAX_SETTLED)
   pub lesson_count : lessons new.lines ≡ lessons old.lines
-  pub derives : (log : Logged) (f : Form) (v : Bool) → AreEdges log bounds edges → IsRecord log f v atoms old.db old.cites old.lines → IsRecord log f v atoms new.db new.cites new.lines
-  pub spending : (log : Logged) (f : Form) (v : Bool) (rules : List Rule) (table : List Atom) (known : List (List Lit)) → IsSpending log f v rules table known old.cites old.lines
-      → IsSpending log f v rules table known new.cites new.lines
+  pub derives : (log : Logged) (f : Form) (v : Bool) → AreEdges log bounds edges → KeepsRecord log f v atoms old new
+  pub spending : KeepsSpending old new

@@ -13,6 +13,7 @@ use Rattle.proof_log.specs.declared.line.Hint.{Hint}
 use Rattle.proof_log.specs.declared.line.Hint.TheVariants as hint
 use Rattle.proof_log.specs.declared.line.Line.{Line}
 use Rattle.proof_log.specs.Freshness.{Fresh, IsLearnAt, Used, clauses_of, learnt, named_rules}
+use Rattle.cdcl_core.specs.declared.derived.Derived.{Derived}
 use Rattle.cdcl_core.specs.Extending.{Extends}
 use Rattle.cdcl_core.specs.Recording.{read_clause}
 
@@ -32,6 +33,11 @@ pub record IsSpending (log : Logged) (f : Form) (v : Bool) (rules : List Rule) (
   pub learnt_known : All (Contains (map (read_clause atoms) known)) (learnt lines)
   pub occur : All (OccursInRules (sought_of log f v)) atoms
   pub own : All (All (λ l. Contains atoms l.atom)) (learnt lines)
+
+-- what the old lines were spent on the new ones are spent on too
+abbrev pub KeepsSpending : Derived → Derived → Type 0
+KeepsSpending old new = (log : Logged) (f : Form) (v : Bool) (rules : List Rule) (table : List Atom) (known : List (List Lit))
+    → IsSpending log f v rules table known old.cites old.lines → IsSpending log f v rules table known new.cites new.lines
 
 -- the clauses begin with known ones, of which the levels below the present one leave nothing to propagate
 pub record IsQuietBelow (known db : List (List Lit)) (t : Assigned) : Type 0 where

@@ -8,7 +8,7 @@ ghost use Rattle.clause_db.specs.Hinted.{HintsAreUsed, HintsRefute};
 ghost use Rattle.clause_db.specs.Literals.{HasVarsOnce, negation};
 ghost use Rattle.analyze.specs.Asserting.{HasTwoAbove, IsAsserting, IsJump, IsUnitBelow};
 ghost use Rattle.cdcl_core.specs.Recording.{IsSettled, cite_at};
-ghost use Rattle.cdcl_core.specs.Turns.{AreRefuting, HasStoppedIn, IsFalseIn};
+ghost use Rattle.cdcl_core.specs.Turns.{HasStoppedIn, IsFalseIn, RefuteMidway};
 
 use crate::descent::Conflict;
 use crate::lines::{add_cycle, add_learned, learnt};
@@ -156,7 +156,7 @@ impl SearchState {
     ) -> Result<Option<Lines>, AllocError>
         requires level { self.old.trail.levels ≡ [] }
         requires conflicted { IsFalseIn self.old conflict }
-        ensures refuted { IfOk result (λ o. IfSome o (λ lines. (p : Problem) (n : ℕ) → IsMidway p self.old n conflict → AreRefuting p self.old.theory.whole n lines)) }
+        ensures refuted { IfOk result (λ o. IfSome o (RefuteMidway self.old conflict)) }
         ensures whole { IfOk result (λ o. IfNone o (self.old.theory.whole ≡ false)) }
     {
         let hints = refute(alloc, &self.trail, &self.derived.db, conflict)?;
@@ -176,7 +176,7 @@ impl SearchState {
         requires conflicted { IsFalseIn self.old conflict }
         requires refute { HintsRefute self.old.derived.db [] hints.now }
         requires settled { All (λ c. IsSettled (cite_at self.old.derived.cites c)) hints.now }
-        ensures refuted { IfOk result (λ lines. (p : Problem) (n : ℕ) → IsMidway p self.old n conflict → AreRefuting p self.old.theory.whole n lines) }
+        ensures refuted { IfOk result (RefuteMidway self.old conflict) }
     {
         // Each atom has one variable.
         let _ = self.theory.atoms.len();

@@ -1,24 +1,16 @@
 //! Lines with their clauses.
 
-ghost use Rattle.std.specs.Prelude.{◌≡◌, ◌+◌, ◌-◌, ◌^◌, ◌<◌, [], ◌∷◌, ◌++◌, Bool, List, length, map, All, IfOk, OnOk};
-ghost use Rattle.mt_model.specs.Form.{Form};
-ghost use Rattle.mt_model.specs.Log.{Logged};
-ghost use Rattle.neg_cycle.specs.declared.system.Edge.{Edge};
+ghost use Rattle.std.specs.Prelude.{◌≡◌, ◌+◌, ◌-◌, ◌^◌, ◌<◌, [], ◌∷◌, ◌++◌, length, map, All, IfOk, OnOk};
 ghost use Rattle.neg_cycle.specs.declared.system.TheConstants.{MAX_NODES};
-ghost use Rattle.clause_db.specs.declared.lit.Lit.{Lit};
 ghost use Rattle.clause_db.specs.Literals.{HasVarsOnce};
 ghost use Rattle.proof_log.specs.declared.line.Hint.TheVariants as hint;
-ghost use Rattle.proof_log.specs.declared.line.Line.{Line};
-ghost use Rattle.skew_bounds.specs.Edges.{AreEdges};
-ghost use Rattle.axiom_rules.specs.declared.literal.Atom.{Atom};
-ghost use Rattle.axiom_rules.specs.declared.rule.Rule.{Rule};
 ghost use Rattle.cdcl_core.specs.Founds.{lessons};
 ghost use Rattle.propagate.specs.Trails.{literals};
 ghost use Rattle.cdcl_core.specs.Orders.{AreLinks, IsOrderAmong, linked};
-ghost use Rattle.cdcl_core.specs.Recording.{IsLearnLine, IsRecord, IsSettled, cite_at, read_clause};
-ghost use Rattle.cdcl_core.specs.Running.{IsConflicted, IsStuck, IsStuckOver};
+ghost use Rattle.cdcl_core.specs.Recording.{AddsLearnLine, IsLearnLine, IsSettled, cite_at, read_clause};
+ghost use Rattle.cdcl_core.specs.Running.{IsFalseWhereStuck, IsStuckOver, KeepsRecordWhereStuck};
 ghost use Rattle.cdcl_core.specs.Extending.{Extends};
-ghost use Rattle.cdcl_core.specs.Spending.{IsSpending};
+ghost use Rattle.cdcl_core.specs.Spending.{KeepsSpending};
 
 use crate::derived::{Derived, read_hints, read_lits};
 use crate::walk::{denied, steps_of};
@@ -54,12 +46,9 @@ pub fn add_cycle(
     ensures lines { OnOk result (length derived.new.lines ≡ length derived.old.lines + 1) }
     ensures lessons { OnOk result (lessons derived.new.lines ≡ lessons derived.old.lines) }
     ensures settled { OnOk result (All IsSettled derived.old.cites → All IsSettled derived.new.cites) }
-    ensures conflicted { IfOk result (λ c. (base : List Edge) (l : Lit) → length base ≡ length bounds.now → IsStuck derived.old.db links.now base trail.now graph.now l
-        → IsConflicted derived.new.db links.now base trail.now graph.now c) }
-    ensures derives { OnOk result ((log : Logged) (f : Form) (v : Bool) (base : List Edge) (l : Lit) → AreEdges log bounds.now base → IsStuck derived.old.db links.now base trail.now graph.now l
-        → IsRecord log f v atoms.now derived.old.db derived.old.cites derived.old.lines → IsRecord log f v atoms.now derived.new.db derived.new.cites derived.new.lines) }
-    ensures spending { OnOk result ((log : Logged) (f : Form) (v : Bool) (rules : List Rule) (table : List Atom) (known : List (List Lit)) → IsSpending log f v rules table known derived.old.cites derived.old.lines
-        → IsSpending log f v rules table known derived.new.cites derived.new.lines) }
+    ensures conflicted { IfOk result (IsFalseWhereStuck (length bounds.now) derived.old.db derived.new.db links.now trail.now graph.now) }
+    ensures derives { OnOk result (KeepsRecordWhereStuck bounds.now atoms.now links.now trail.now graph.now derived.old derived.new) }
+    ensures spending { OnOk result (KeepsSpending derived.old derived.new) }
 {
     // The held edges have a solution, and each atom has one variable.
     graphs_are_solved(graph);
@@ -101,7 +90,7 @@ pub fn add_learned(
     requires line_room { length derived.old.lines < 2 ^ 32 - 1 }
     ensures clause { OnOk result (derived.new.db ≡ derived.old.db ++ learned.now.lits ∷ []) }
     ensures cite { OnOk result (derived.new.cites ≡ derived.old.cites ++ hint.Line (length derived.old.lines + 1) ∷ []) }
-    ensures line { OnOk result ((line : Line) × IsLearnLine (read_clause atoms.now learned.now.lits) (map (cite_at derived.old.cites) learned.now.hints) line × (derived.new.lines ≡ derived.old.lines ++ line ∷ [])) }
+    ensures line { OnOk result (AddsLearnLine atoms.now learned.now derived.old derived.new) }
 {
     let lits = learned.lits.as_slice();
     let line = learnt(alloc, atoms, derived, lits, learned.hints.as_slice())?;

@@ -2,6 +2,7 @@
 
 ghost use Rattle.std.specs.Prelude.{◌≡◌, ◌-◌, ◌<◌, ◌≤◌, [], length, take, OnOk};
 ghost use Rattle.propagate.specs.Trails.{literals};
+ghost use Rattle.cdcl_core.specs.Linked.{AreCutTo};
 ghost use Rattle.cdcl_core.specs.Orders.{linked};
 
 use clause_db::Lit;
@@ -50,7 +51,7 @@ impl LinkedLits {
 
     /// Leaves those of a trail that went back to so many literals, of which so many have an edge.
     pub fn cut(&mut self, len: u32, held: usize)
-        ensures shorter { len < self.old.seen → (self.new.seen ≡ len) × (self.new.lits.items ≡ take held self.old.lits.items) }
+        ensures shorter { len < self.old.seen → AreCutTo len held self.old self.new }
         ensures same { self.old.seen ≤ len → (self.new.seen ≡ self.old.seen) × (self.new.lits.items ≡ self.old.lits.items) }
     {
         if len < self.seen {
@@ -61,8 +62,7 @@ impl LinkedLits {
 
     /// Leaves those of a trail that went back, of which the graph holds the edges behind so many of the base.
     pub fn go_back(&mut self, trail: &Trail, graph: &Graph, base: usize)
-        ensures shorter { length trail.now.entries < self.old.seen → (self.new.seen ≡ length trail.now.entries)
-            × (self.new.lits.items ≡ take (length graph.now.edges - base) self.old.lits.items) }
+        ensures shorter { length trail.now.entries < self.old.seen → AreCutTo (length trail.now.entries) (length graph.now.edges - base) self.old self.new }
         ensures same { self.old.seen ≤ length trail.now.entries → (self.new.seen ≡ self.old.seen) × (self.new.lits.items ≡ self.old.lits.items) }
     {
         let edges = graph.mark() as usize;

@@ -1,17 +1,12 @@
 //! The search.
 
-ghost use Rattle.std.specs.Prelude.{◌^◌, ◌<◌, ◌≤◌, ◌≡◌, ◌↔◌, ◌*◌, [], false, Bool, List, Some, length, All, IfNone, IfOk, IfSome, IsTrue};
+ghost use Rattle.std.specs.Prelude.{◌^◌, ◌<◌, ◌≤◌, ◌≡◌, ◌↔◌, ◌*◌, [], false, List, Some, length, All, IfNone, IfOk, IfSome, IsTrue};
 ghost use Rattle.cdcl_core.specs.declared.found.Found.TheVariants as answer;
 ghost use Rattle.proof_log.specs.declared.line.Line.{Line as ProofLine};
-ghost use Rattle.mt_model.specs.Form.{Form};
-ghost use Rattle.mt_model.specs.Log.{Logged, IsLog};
-ghost use Rattle.axiom_rules.specs.Sought.{sought_of};
-ghost use Rattle.proof_log.specs.FreshLaws.{IsRefutedByRules};
-ghost use Rattle.mtl_encode.specs.Problems.{Fits};
 ghost use Rattle.mtl_encode.specs.declared.problem.Problem.{Problem};
-ghost use Rattle.cdcl_core.specs.Founds.{IfSpent, IsFound, IsPosed};
+ghost use Rattle.cdcl_core.specs.Founds.{IfSpent, IsFound, IsPosed, OfFitting};
 ghost use Rattle.cdcl_core.specs.Searching.{IsSearch};
-ghost use Rattle.cdcl_core.specs.Turns.{IsAnswer};
+ghost use Rattle.cdcl_core.specs.Turns.{IsAnswer, RulesRefuteNone};
 
 use crate::Found;
 use crate::assignment::potentials_of;
@@ -31,12 +26,12 @@ pub fn search(alloc: Global, problem: Problem, budget: u32) -> Result<Found, All
     requires some { 1 ≤ budget }
     requires most { budget ≤ 1000000 }
     requires posed { IsPosed problem }
-    ensures found { IfOk result (λ found. (log : Logged) (f : Form) (v : Bool) → IsLog log → Fits (sought_of log f v) problem → IsFound problem budget log f v found) }
+    ensures found { IfOk result (λ found. OfFitting problem (λ log f v. IsFound problem budget log f v found)) }
 
     // The budget isn't spent where it is three to the number of atoms, or more; nor where unit
     // propagation over the rules alone refutes the value.
     ensures bounded { IfOk result (λ found. IfSpent found (budget < 3 ^ length problem.atoms)) }
-    ensures refuted_by_rules { IfOk result (λ found. IfSpent found ((log : Logged) (f : Form) (v : Bool) → IsLog log → Fits (sought_of log f v) problem → IsRefutedByRules (sought_of log f v) problem.rules → ⊥)) }
+    ensures refuted_by_rules { IfOk result (λ found. IfSpent found (RulesRefuteNone problem)) }
 {
     match search_by(alloc, problem, &[], budget)? {
         Some(found) => Ok(found),

@@ -1,13 +1,11 @@
 //! The lines of assumed orders, which are written where a line cites them.
 
-ghost use Rattle.std.specs.Prelude.{◌≡◌, ◌<◌, [], ◌∷◌, ◌++◌, length, All, IfOk, IfSome, IsTrue, OnOk, Some};
+ghost use Rattle.std.specs.Prelude.{◌≡◌, ◌<◌, [], ◌∷◌, length, All, IfOk, IfSome, IsTrue, OnOk};
 ghost use Rattle.neg_cycle.specs.declared.system.TheConstants.{MAX_NODES};
 ghost use Rattle.difference_graph.specs.Graphs.{HasSameLimits};
-ghost use Rattle.cdcl_core.specs.Orders.{IsOrderAmong, atom_at, order_edges as edges_of_order};
+ghost use Rattle.cdcl_core.specs.Orders.{IsOrderAmong, RefusesOrder, atom_at, order_edges as edges_of_order};
 ghost use Rattle.cdcl_core.specs.Recording.{IsSettled, cite_at, is_open};
 ghost use Rattle.cdcl_core.specs.Settling.{HasSettled};
-ghost use Rattle.neg_cycle.specs.declared.system.Edge.{Edge};
-ghost use Rattle.neg_cycle.specs.Systems.{IsEdge, IsNegativeCycle, VisitsOnce};
 ghost use Rattle.clause_db.specs.Clauses.{clause_at};
 ghost use Rattle.clause_db.specs.Literals.{negation};
 ghost use Rattle.propagate.specs.Links.{edge_in};
@@ -73,7 +71,7 @@ fn record(
     requires low { lit.var < length theory.now.atoms }
     requires open { IsTrue (is_open (cite_at derived.old.cites clause)) }
     requires literal { clause_at derived.old.db clause ≡ lit ∷ [] }
-    requires refused { (edge : Edge) × (edge_in (edges_of_order (atom_at theory.now.atoms lit.var)) (negation lit).positive ≡ Some edge) × IsEdge ground.now.nodes edge × IsNegativeCycle (ground.now.edges ++ edge ∷ []) ground.now.cycle × VisitsOnce (ground.now.edges ++ edge ∷ []) ground.now.cycle }
+    requires refused { RefusesOrder ground.now (atom_at theory.now.atoms lit.var) (negation lit).positive }
     ensures settled { OnOk result (HasSettled theory.now.atoms theory.now.bounds ground.now.edges derived.old derived.new) }
     ensures done { IfOk result (λ done. IsTrue done → IsSettled (cite_at derived.new.cites clause)) }
 {

@@ -1,10 +1,9 @@
 //! The start of a search.
 
-ghost use Rattle.std.specs.Prelude.{◌≡◌, ◌+◌, ◌≤◌, ◌<◌, [], List, length, All, IfOk, IsTrue};
+ghost use Rattle.std.specs.Prelude.{◌≡◌, ◌+◌, ◌≤◌, ◌<◌, [], length, All, IfOk, IsTrue};
 ghost use Rattle.cdcl_core.specs.Founds.{IsPosed};
-ghost use Rattle.clause_db.specs.declared.lit.Lit.{Lit};
 ghost use Rattle.cdcl_core.specs.Orders.{AreLinks, HasAllLinks};
-ghost use Rattle.cdcl_core.specs.Running.{IsRun};
+ghost use Rattle.cdcl_core.specs.Running.{IsRunWithAny};
 ghost use Rattle.cdcl_core.specs.Searching.{IsGround, IsSearch};
 
 use crate::conflict::Theory;
@@ -41,7 +40,7 @@ impl Start {
         ensures nodes { IfOk result (λ s. s.graph.nodes ≡ problem.now.nodes) }
         ensures room { IfOk result (λ s. length problem.now.edges + length problem.now.atoms ≤ s.graph.capacity) }
         ensures ground { IfOk result (λ s. IsGround problem.now s.ground) }
-        ensures run { IfOk result (λ s. (db : List (List Lit)) → All (All (λ l. l.var < length problem.now.atoms)) db → IsRun db s.links problem.now.edges s.trail s.graph) }
+        ensures run { IfOk result (λ s. IsRunWithAny (length problem.now.atoms) s.links problem.now.edges s.trail s.graph) }
     {
         // The nodes of a formula name each other, so the atoms of the rules are in range.
         cores_are_cores();
