@@ -3,6 +3,7 @@
 ghost use Rattle.std.specs.Prelude.{◌≢◌, ◌↔◌, IsTrue, All, Any, Contains};
 ghost use Rattle.hint_refutation.specs.Propagation.{ClosedUnder, IsConsistent, IsSettled};
 ghost use Rattle.axiom_rules.specs.Literals.{negated};
+ghost use Rattle.logic_table.specs.Open.{IsOpen};
 
 use axiom_rules::Literal;
 use hint_refutation::settled_is_closed;
@@ -32,7 +33,7 @@ fn is_consistent(held: &[Literal]) -> bool
 
 // Whether a literal of the clause other than this one isn't false.
 fn has_other_open(clause: &[Literal], held: &[Literal], one: Literal) -> bool
-    ensures { IsTrue result → Any (λ l. (l ≢ one) × (Contains held.now (negated l) → ⊥)) clause.now }
+    ensures { IsTrue result → Any (λ l. (l ≢ one) × IsOpen held.now l) clause.now }
 {
     clause
         .iter()
@@ -41,7 +42,7 @@ fn has_other_open(clause: &[Literal], held: &[Literal], one: Literal) -> bool
 
 // Whether two literals of the clause aren't false.
 fn has_two_open(clause: &[Literal], held: &[Literal]) -> bool
-    ensures { IsTrue result → Any (λ l. (Contains held.now (negated l) → ⊥) × Any (λ m. (m ≢ l) × (Contains held.now (negated m) → ⊥)) clause.now) clause.now }
+    ensures { IsTrue result → Any (λ l. IsOpen held.now l × Any (λ m. (m ≢ l) × IsOpen held.now m) clause.now) clause.now }
 {
     clause.iter().any(|one| !has(held, one.negated()) && has_other_open(clause, held, *one))
 }

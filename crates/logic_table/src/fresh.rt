@@ -1,12 +1,10 @@
 //! The test that a learnt line is new to what is known.
 
-ghost use Rattle.std.specs.Prelude.{◌≡◌, ◌≤◌, Bool, IsTrue, length, map, IfOk};
-ghost use Rattle.mt_model.specs.Form.{Form};
-ghost use Rattle.mt_model.specs.Log.{Logged};
+ghost use Rattle.std.specs.Prelude.{◌≤◌, IsTrue, length, map, IfOk};
 ghost use Rattle.hint_refutation.specs.Propagation.{Misses};
 ghost use Rattle.axiom_rules.specs.Literals.{negated};
-ghost use Rattle.axiom_rules.specs.Sought.{sought_of};
 ghost use Rattle.proof_log.specs.Freshness.{Fresh, IsNew};
+ghost use Rattle.proof_check.specs.Answering.{OfSought};
 
 use crate::closed::{are_denied, has, is_closed, propagated};
 use crate::known::known;
@@ -51,7 +49,7 @@ pub fn is_fresh(
 ) -> Result<bool, AllocError>
     requires first { 1 ≤ place }
     requires within { place ≤ length lines.now }
-    ensures fresh { IfOk result (λ b. IsTrue b → (log : Logged) (f : Form) (v : Bool) → sought.now ≡ sought_of log f v → Fresh log f v rules.now lines.now place) }
+    ensures fresh { IfOk result (λ b. IsTrue b → OfSought sought.now (λ log f v. Fresh log f v rules.now lines.now place)) }
 {
     let clauses = known(alloc, sought, rules, lines, place)?;
     match &lines[place - 1] {
