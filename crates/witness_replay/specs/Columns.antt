@@ -3,6 +3,9 @@ use Rattle.std.specs.Prelude.{◌≡◌, ◌<◌, ℕ, List, length, Bool, true,
 use Rattle.std.specs.Option.{option_map_or}
 use Rattle.mt_model.specs.declared.tree.Interval.{Interval}
 use Rattle.mt_model.specs.Frame.{reaches}
+use Rattle.mt_model.specs.Log.{Logged}
+use Rattle.mt_model.specs.State.{state}
+use Rattle.mt_model.specs.Timing.{time_of}
 use Rattle.formula_arena.specs.declared.direction.Direction.{Direction}
 use Rattle.witness_replay.specs.declared.operators.Operator.{Operator}
 use Rattle.witness_replay.specs.Directions.{rows_from, is_near}
@@ -15,6 +18,10 @@ value_at column e = slice_index_or column e false
 pub record IsColumn (rows : ℕ) (test : ℕ → Bool) (column : List Bool) : Type 0 where
   pub full : length column ≡ rows
   pub each : (e : ℕ) → e < rows → value_at column e ≡ test e
+
+-- the state of a host's proposition at each row
+abbrev pub AreStates : Logged → List ℤ → ℕ → List ℕ → List Bool → Type 0
+AreStates log t host name column = IsColumn (length t) (λ e. state log t (time_of t e) host name) column
 
 -- a row, where there is one, is near row e, and not after the first gap, where there is one
 abbrev pub is_reached : Direction → List ℤ → Interval → Option ℕ → Option ℕ → ℕ → Bool

@@ -2,10 +2,10 @@
 
 ghost use Rattle.std.specs.Prelude.{◌≡◌, ◌&&◌, not, length, All};
 ghost use Rattle.mt_model.specs.Log.{IsWithin};
-ghost use Rattle.mt_model.specs.State.{state_named, state as state_of};
+ghost use Rattle.mt_model.specs.State.{state_named};
 ghost use Rattle.mt_model.specs.Timing.{time_of};
 ghost use Rattle.mt_model.specs.declared.limits.TheConstants.{MAX_TIME};
-ghost use Rattle.witness_replay.specs.Columns.{IsColumn, reaches_by, value_at};
+ghost use Rattle.witness_replay.specs.Columns.{AreStates, IsColumn, reaches_by, value_at};
 ghost use Rattle.witness_replay.specs.Timelines.{IsTimeline};
 
 use crate::operators::{Operator, is_reached};
@@ -27,8 +27,7 @@ fn fill_states_of(log: &Log, timeline: Timeline, proposition: Proposition, colum
     requires count { length timeline.times.now ≡ length log.now.rows }
     requires timeline { IsTimeline timeline.times.now timeline.moments.now }
     requires room { length column.old ≡ length timeline.times.now }
-    ensures { let t = timeline.entry.times.now in
-        IsColumn (length t) (λ e. state_of log.now t (time_of t e) proposition.entry.host proposition.entry.name.now) column.new }
+    ensures { AreStates log.now timeline.entry.times.now proposition.entry.host proposition.entry.name.now column.new }
 {
     let Timeline { times, moments } = timeline;
     let mut latest = Latest::new();

@@ -1,10 +1,10 @@
 //! The state of a proposition at one instant after the other, by the rows that change it and those that
 //! pulse it.
 
-ghost use Rattle.std.specs.Prelude.{◌≡◌, ◌<◌, ◌≤◌, ◌+◌, ◌&&◌, ◌||◌, length, option_map, None, All, IfSome, nat_lt, int_le, true, false};
+ghost use Rattle.std.specs.Prelude.{◌≡◌, ◌<◌, ◌≤◌, ◌+◌, ◌&&◌, ◌||◌, length, None, All, IfSome, nat_lt, int_le, true, false};
 ghost use Rattle.std.specs.Option.{option_map_or};
 ghost use Rattle.mt_model.specs.State.{change_at, effect_of, is_pulse_at, is_pulse_of};
-ghost use Rattle.witness_replay.specs.Effects.{changed_to, is_pulsing};
+ghost use Rattle.witness_replay.specs.Effects.{change_by, changed_to, is_pulsing};
 ghost use Rattle.witness_replay.specs.LatestChanges.{AreAfter, AreBy, IsLatest};
 ghost use Rattle.witness_replay.specs.LatestPulses.{is_pulsed_at};
 ghost use Rattle.witness_replay.specs.Timelines.{AreRising, moment_at};
@@ -45,8 +45,7 @@ fn act_effect(act: &Act, name: &Name) -> Option<Effect>
 // What a row does to a proposition.
 fn row_effect(log: &Log, proposition: Proposition, e: usize) -> Option<Effect>
     requires { e < length log.now.rows }
-    ensures change { let p = proposition.entry in
-        option_map (λ sets. record { row = e; sets = sets }) (changed_to result) ≡ change_at log.now p.host p.name.now e }
+    ensures change { change_by e result ≡ change_at log.now proposition.entry.host proposition.entry.name.now e }
     ensures pulse { is_pulsing result ≡ is_pulse_at log.now proposition.entry.host proposition.entry.name.now e }
 {
     let row = &log.rows()[e];
