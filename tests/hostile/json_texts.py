@@ -67,9 +67,9 @@ def nested(front, back, depth, inside=b""):
 
 def refused(title, data, line, most=None):
     """A file that `json` refuses."""
-    return Case("json", title, ["json", "j"], {"j": data}, (66,), line, most)
+    return Case("json", title, ["json", "j"], {"j": data}, (66,), line, most=most)
 
 
 def written(title, data, text, most=None):
     """A file that is a log, with the text that is written of it."""
-    return Case("json", title, ["json", "j"], {"j": data}, (0,), text.partition(b"\n")[0], most, text)
+    return Case("json", title, ["json", "j"], {"j": data}, (0,), text.partition(b"\n")[0], most=most, text=text)
