@@ -8,6 +8,7 @@ least one was run or left out.
 
 import argparse
 import re
+import signal
 import subprocess
 import sys
 import unittest
@@ -20,6 +21,9 @@ BESIDE = "--side-by-side"
 WRONG_WORDS = 64
 PART = "--part"  # one of the processes of those: its cases need not be any
 CLOSING = re.compile(r"^(\d+) passed, (\d+) failed$", re.M)
+
+
+ENDING = (signal.SIGHUP, signal.SIGINT, signal.SIGQUIT, signal.SIGTERM)
 
 
 class Counts(NamedTuple):
@@ -35,8 +39,17 @@ def case_of(test):
     return getattr(test, "test_case", test)
 
 
+def heed_signals():
+    """Has the programs that cases begin heed signals which `nohup`, or a shell of its commands in the background, has them
+    ignore. One that is ignored stays so in a program that is begun, and one that has a handler doesn't."""
+    for number in ENDING:
+        if signal.getsignal(number) == signal.SIG_IGN:
+            signal.signal(number, lambda *_: None)
+
+
 def run(folder, words):
     """Runs the cases of a folder, and tells of those that are left out."""
+    heed_signals()
     done = unittest.main(None, argv=["unittest", "discover", "-s", folder, *words], exit=False).result
     for test, reason in done.skipped:
         print(f"left out: {folder}, {case_of(test).id()}: {reason}")

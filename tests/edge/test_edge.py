@@ -210,21 +210,10 @@ class Input(Rooms):
         self.assertEqual((process.stdout.read(), process.wait(PATIENCE)), (TIMES, 0))
 
 
-ENDING = (signal.SIGTERM, signal.SIGINT, signal.SIGHUP)
-
-
-def heed_signals():
-    """Has the program heed what `nohup`, or a shell of its commands in the background, has them ignore."""
-    for number in ENDING:
-        signal.signal(number, signal.SIG_DFL)
-
-
 class Signals(Rooms):
     def reading(self):
         """The program while it waits for the rest of the standard input."""
-        process = self.started(
-            ["times", "-"], stdin=subprocess.PIPE, stdout=subprocess.PIPE, bufsize=0, preexec_fn=heed_signals,
-        )
+        process = self.started(["times", "-"], stdin=subprocess.PIPE, stdout=subprocess.PIPE, bufsize=0)
         process.stdin.write(HEADER.encode())
         self.until_it_waits(process)
         return process
@@ -241,7 +230,7 @@ class Signals(Rooms):
         self.fail("the program doesn't read")
 
     def test_signals_end_it_and_nothing_is_written(self):
-        for number in ENDING:
+        for number in (signal.SIGTERM, signal.SIGINT, signal.SIGHUP):
             process = self.reading()
             process.send_signal(number)
             self.assertEqual((process.wait(PATIENCE), process.stdout.read()), (-number, b""))

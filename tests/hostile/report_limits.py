@@ -10,6 +10,7 @@ from case import TWO_ROWS, Blank, audit, log_of, trim
 
 LENGTH = 1_073_741_824
 MEBIBYTE = 1_048_576
+LONGEST = 10  # seconds of a judgement that is linear, twice what was measured, where a checker that isn't takes 20 to 60
 NUMBER = 2**32  # the least number that a report can't have
 COEFFICIENT = 10**21  # the greatest magnitude of an order's number
 TIME = 10**19
@@ -245,8 +246,8 @@ def naming_many_literals():
     for title, hinted in (("spans without a gap", spans()), ("pulses", pulses()), ("long lines", long_lines())):
         formula, log, report = hinted
         size = f"{len(report) / MEBIBYTE:.1f} MiB"
-        yield audit(f"{size} of hints to clauses of {title}", report, 5, at(b"false", 0), formula, log, seconds=5)
-        yield trim(f"{size} of hints to clauses of {title}, to trim", report, 0, TITLE[:-1], most=6, seconds=5)
+        yield audit(f"{size} of hints to clauses of {title}", report, 5, at(b"false", 0), formula, log, seconds=LONGEST)
+        yield trim(f"{size} of hints to clauses of {title}, to trim", report, 0, TITLE[:-1], most=6, seconds=LONGEST)
 
 
 def spans():

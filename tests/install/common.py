@@ -3,7 +3,6 @@
 import atexit
 import os
 import shutil
-import signal
 import subprocess
 import tempfile
 import unittest
@@ -53,17 +52,11 @@ def expected():
     ])
 
 
-def heed_signals():
-    """Has a command heed what a shell lets its commands in the background ignore."""
-    for number in (signal.SIGINT, signal.SIGQUIT):
-        signal.signal(number, signal.SIG_DFL)
-
-
 def installed(*words, before=(), cwd=None, script=ROOT / "install", **environment):
     """How a run of ./install ended, with words before its own as of a command that runs it for another user."""
     return subprocess.run(
         [*before, script, *words], stdin=subprocess.DEVNULL, capture_output=True, text=True, timeout=PATIENCE,
-        env={**os.environ, **environment}, cwd=cwd, preexec_fn=heed_signals,
+        env={**os.environ, **environment}, cwd=cwd,
     )
 
 

@@ -13,6 +13,17 @@ ROOT = Path(__file__).resolve().parents[2]
 PATIENCE = 60
 HEAD = f"import sys\nsys.path.insert(0, {str(ROOT / 'tests')!r})\nimport ends\n"
 
+SIGNALLED = """
+import signal, subprocess, unittest
+
+class Case(unittest.TestCase):
+    def test(self):
+        for number in (signal.SIGHUP, signal.SIGINT, signal.SIGQUIT, signal.SIGTERM):
+            process = subprocess.Popen(["sleep", "50"])
+            process.send_signal(number)
+            self.assertEqual(process.wait(10), -number)
+"""
+
 # Each script with words that are wrong for it: an option that it hasn't, and where it has operands, none of them.
 UNKNOWN = ["--no-such-option"]
 COMPARISONS = sorted(path.name for path in (ROOT / "tests" / "reference").glob("compare*.py") if path.stem != "compare_best")
@@ -180,6 +191,14 @@ class Scripts(unittest.TestCase):
     def test_wrong_words_for_cases_side_by_side(self):
         done = self.outcome("tests/unittests.py", str(ROOT / "tests" / "names"), "--side-by-side", *UNKNOWN)
         self.assertEqual((done.returncode, done.stderr), (64, ""))
+
+    def test_cases_heed_signals_that_are_ignored(self):
+        """What `nohup`, or a shell in the background, has its commands ignore ends a program that a case begins."""
+        with tempfile.TemporaryDirectory() as folder:
+            Path(folder, "test_signals.py").write_text(SIGNALLED)
+            words = ["sh", "-c", 'trap "" HUP INT QUIT TERM; exec "$@"', "", sys.executable, str(ROOT / "tests" / "unittests.py"), folder]
+            done = subprocess.run(words, capture_output=True, text=True, timeout=PATIENCE)
+        self.assertEqual((done.returncode, done.stdout), (0, "1 passed, 0 failed\n"), done.stderr)
 
     def test_files_that_are_not_there(self):
         lacking = "No such file or directory"
