@@ -100,17 +100,6 @@ module _ (t : Assigned) (trail : IsTrail t) (before v place : ℕ) (within : pla
     only = λ k has. elim (insert_only old place k has) [ inl was ↦ inl was | inr at ↦ inr (rw (← at) less, rw (← at) within, rw (← at) var) ];
   })
 
-  pub put_none : before ≤ place → new ≡ old → IsPut t.entries before v old new
-  put_none past is = rw is (record {
-    kept = λ k has. has;
-    added = λ k k_less k_in same. let at = distinct t trail k place k_in within (same ∙ sym var) in absurd (omega (arith, at, k_less, past));
-    only = λ k has. inl has;
-  })
-
--- what a clause's literals mark, one literal at a time
-pub marked_none : (t : Assigned) (before : ℕ) (old : List ℕ) → IsMarkedBy t.entries before [] old old
-marked_none t before old = record { kept = λ k marked. marked; added = λ k l front within has same. absurd (omega (arith, has.1)); only = λ k marked. inl marked }
-
 pub marked_more : (t : Assigned) (before : ℕ) (front : List Lit) (x : Lit) (old new newer : List ℕ) → IsMarkedBy t.entries before front old new
     → IsPut t.entries before x.var new newer → IsMarkedBy t.entries before (front ++ x ∷ []) old newer
 marked_more t before front x old new newer by put = record {

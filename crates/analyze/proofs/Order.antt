@@ -1,6 +1,5 @@
 -- How the literals of a trail lie by place, by variable and by level.
-use Rattle.std.proofs.Common.{◌≡◌, ◌∙◌, ap, sym, subst, ℕ, ◌+◌, ◌<◌, ◌≤◌, ◌⊎◌, inl, inr, List, length, take, arith, Some}
-use Rattle.std.specs.Prelude.{IsNone}
+use Rattle.std.proofs.Common.{◌≡◌, ◌∙◌, ap, sym, subst, ℕ, ◌<◌, ◌≤◌, ◌⊎◌, inl, inr, List, length, take, arith, Some}
 use Rattle.std.specs.List.{Contains}
 use Rattle.std.proofs.lemmas.Bool.{cases_eq, cases_lt}
 use Rattle.std.proofs.lemmas.List.{get_or-take, get_or_default, length-take}
@@ -54,26 +53,6 @@ module _ (t : Assigned) (trail : IsTrail t) where
         let again = (levels.reached (level_of t.entries k) k j_in k_in).0 (omega (arith, start, le)) in
         absurd (omega (arith, again))
   ]
-
-  -- before a decision all levels are lower
-  pub decision_rises : (k : ℕ) → k < length t.entries → IsNone (entry_at t.entries k).reason → (i : ℕ) → i < k → level_of t.entries i < level_of t.entries k
-  decision_rises k k_in none i less =
-      let at = levels.only k k_in none in
-      let first : level_of t.entries k ≡ at.0 + 1 = subst (λ (m : ℕ). level_of t.entries m ≡ at.0 + 1) at.2 (levels.first at.0 at.1) in
-      elim (cases_lt (level_of t.entries i) (level_of t.entries k)) [
-        | inl lower ↦ lower
-        | inr high ↦
-            let start = (levels.reached at.0 i at.1 (omega (arith, less, k_in))).1 (omega (arith, high, first)) in
-            let is = at.2 in
-            absurd (omega (arith, start, is, less))
-      ]
-
-  -- a decision's level is above 0
-  pub decision_above : (k : ℕ) → k < length t.entries → IsNone (entry_at t.entries k).reason → 0 < level_of t.entries k
-  decision_above k k_in none =
-      let at = levels.only k k_in none in
-      let first : level_of t.entries k ≡ at.0 + 1 = subst (λ (m : ℕ). level_of t.entries m ≡ at.0 + 1) at.2 (levels.first at.0 at.1) in
-      omega (arith, first)
 
 -- a literal of the front of a trail is at a place before the front's end
 pub front_at : (xs : List Entry) (n : ℕ) (l : Lit) → Contains (literals (take n xs)) l → (k : ℕ) × (k < n) × (k < length xs) × ((entry_at xs k).lit ≡ l)

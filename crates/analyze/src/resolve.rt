@@ -46,7 +46,7 @@ fn step(trail: &Trail, db: &Db, place: u32, work: &mut Work) -> Result<(), Alloc
     requires trail { IsTrail trail.now }
     requires reasons { HasReasons trail.now db.now }
     requires below { AreBelow place work.old.marked.keys }
-    ensures work { OnOk result ((conflict : ℕ) → HasTaken trail.now db.now conflict place work.old → IsWorking trail.now db.now conflict place work.new) }
+    ensures work { OnOk result ((c : ℕ) → HasTaken trail.now db.now c place work.old → IsWorking trail.now db.now c place work.new) }
 {
     match resolvent(trail, place, &work.marked) {
         Some(reason) => {

@@ -29,10 +29,6 @@ module _ (p : Change → Bool) where
   Falls [] = Unit {0}
   Falls (c ∷ cs) = (first_passes cs ≡ true → p c ≡ true) × Falls cs
 
-  or-none : (o q : Option Change) → o ≡ None → option_or o q ≡ q
-  or-none None q is = refl
-  or-none (Some c) q is = absurd (cc)
-
   -- where the first change does not pass, none does
   pub first-none : (cs : List Change) → Falls cs → first_passes cs ≡ false → last_of cs ≡ None
   first-none [] falls h = refl

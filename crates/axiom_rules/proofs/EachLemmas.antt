@@ -14,7 +14,7 @@ use Rattle.axiom_rules.specs.declared.part.Part.TheVariants.{Says, Known}
 use Rattle.axiom_rules.specs.Adding.{with_part, with_parts}
 use Rattle.axiom_rules.specs.Each.{AreBefore, IsNew, event_in, is_other, part_at}
 use Rattle.axiom_rules.specs.Literals.{has_literal, negated, no, same_literal, yes}
-use Rattle.axiom_rules.specs.Parts.{after, clause_of_parts, order, same}
+use Rattle.axiom_rules.specs.Parts.{after, clause_of_parts, same}
 use Rattle.axiom_rules.proofs.AddingLemmas.{clause_grows}
 use Rattle.axiom_rules.proofs.PartLemmas.{literals_same}
 use Rattle.axiom_rules.proofs.PartsMade.{OfParts, of-clause}
@@ -130,9 +130,6 @@ others-before each parts start c others empty is =
 abbrev pub AreBeforeRest : Each → List ℕ → ℕ → List Literal → Type 0
 AreBeforeRest each events i c = (j : ℕ) → i ≤ j → j < length events → AreBefore each (slice_index events j) c
 
-pub before-rest : (each : Each) (events : List ℕ) (c : List Literal) → AreBefore each 0 c → AreBeforeRest each events 0 c
-before-rest each events c before j from low = before-more each 0 (slice_index events j) c (omega arith) before
-
 -- with the part of the event at a place added, of those after it
 pub rest-added : (each : Each) (events : List ℕ) (i : ℕ) (c d : List Literal) (p : Part) → AllPairs (λ x y. x < y) events → i < length events
     → p ≡ part_at each (slice_index events i) → with_part c p ≡ Ok d
@@ -143,13 +140,3 @@ rest-added each events i c d p rising here is added before j from low =
     let upto = part-added each x c d p is (part-new each x c p is now) added now in
     let less : x < slice_index events j = rising i j 0 (omega (arith, from)) low in
     before-more each (x + 1) (slice_index events j) d (omega (arith, less)) upto
-
--- an order isn't written for an event at one instant
-pub order-other : (e f x : ℕ) (c : ℤ) → is_other (each.Same e) (order f x c) ≡ true
-order-other e f x c = go (f == x) (nat_lt f x)
-  where
-    go : (equal less : Bool)
-        → is_other (each.Same e) (let p : Part = (if equal then Known (int_le (pos 0) c) else Says (if less then yes (Order f x c) else no (Order x f (neg_ℤ c -ℤ pos 1)))) in p) ≡ true
-    go true less = refl
-    go false true = refl
-    go false false = refl

@@ -5,7 +5,7 @@ use Rattle.std.specs.List.{list_any, range_with_len}
 use Rattle.std.specs.Option.{option_map_or}
 use Rattle.std.proofs.lemmas.Int.{ints}
 use Rattle.std.proofs.lemmas.Bool.{and_parts, cases_Bool, or_left, or_right, not-false, not_from_false}
-use Rattle.std.proofs.lemmas.Bool.Decides.{Decides-int_eq, nat_tests}
+use Rattle.std.proofs.lemmas.Bool.Decides.{Decides-int_eq}
 use Rattle.std.specs.Ordering.{int_eq}
 use Rattle.std.proofs.lemmas.Option.{get_or_from_slice_get, slice_get_read}
 use Rattle.mt_model.specs.declared.tree.Interval.{Interval}
@@ -99,9 +99,6 @@ apart-times x y differ le = elim (cases_Bool (int_le y x)) [
   | inl ge ↦ let same : x ≡ y = omega (arith, ints) in absurd (apart (int_eq x y) ((Decides-int_eq x y).1 same) differ)
   | inr fails ↦ fails
 ]
-
-below-of : (m n : ℕ) → nat_lt m n ≡ true → m < n
-below-of m n h = grind (arith, nat_tests)
 
 module _ (log : Logged) (t : List ℤ) (trees : List Form) (root : ℕ) (value : Bool) where
   abbrev s : Sought

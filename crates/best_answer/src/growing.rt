@@ -54,7 +54,8 @@ impl Growing {
         }
     }
 
-    /// By how much the bounds can grow with the sums of all walks of a derivation below 0, as far as this.
+    /// By how much the bounds can grow with the sums of all walks of a derivation below 0, as far as this. No clause says
+    /// that they can: it is a guess, and the derivation is judged anew by whoever follows it.
     pub fn room(self, log: &Log, lines: &[Line], most: u128) -> u128
         ensures at_most { result ≤ most }
     {

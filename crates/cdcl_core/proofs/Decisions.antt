@@ -1,9 +1,8 @@
 -- What is decided, and what values satisfy.
 use Rattle.std.proofs.Common.{◌≡◌, ◌↔◌, ◌∙◌, ap, subst, ℕ, ◌+◌, ◌<◌, inl, inr, List, [], ◌∷◌, ◌++◌, length, map, Bool, false, Option, None, arith, ℤ, ◌-ℤ◌, ◌≤ℤ◌}
 use Rattle.std.specs.Prelude.{IfSome, IsTrue, int_le}
-use Rattle.std.proofs.lemmas.Bool.{cases_lt}
 use Rattle.std.proofs.lemmas.Int.{ints}
-use Rattle.std.proofs.lemmas.List.{get_or-map, get_or_append_left, get_or_past, get_or_push}
+use Rattle.std.proofs.lemmas.List.{get_or-map, get_or_append_left, get_or_push}
 use Rattle.std.proofs.lemmas.Option.{get_or_from_slice_get, slice_get_within}
 use Rattle.neg_cycle.specs.declared.system.Edge.{Edge}
 use Rattle.neg_cycle.specs.Systems.{Meets, number_of}
@@ -59,13 +58,4 @@ pub order_values_next : (links : List (Option (Edge × Edge))) (numbers : List �
 order_values_next links numbers values v b count old here w low = elim (below_or_last w v low) [
   | inl less ↦ rw (get_or_append_left values (b ∷ []) false w (omega (arith, less, count))) (old w less)
   | inr is ↦ rw is (rw (get_or_push values b false v count) here)
-]
-
--- beyond the last value there are no edges
-pub order_values_all : (links : List (Option (Edge × Edge))) (numbers : List ℤ) (values : List Bool) (vars : ℕ) → length links ≡ vars
-    → ((w : ℕ) → w < vars → IfSome (edges_at links w) (λ both. IsTrue (value_at values w) ↔ Meets numbers both.0))
-    → AreOrderValues links numbers values
-order_values_all links numbers values vars count below w = elim (cases_lt w vars) [
-  | inl less ↦ below w less
-  | inr past ↦ rw (get_or_past links w None (omega (arith, past, count))) tt
 ]

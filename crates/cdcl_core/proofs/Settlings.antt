@@ -44,17 +44,6 @@ pub no_lesson : (lines : List Line) (steps : List Step) → lessons (lines ++ li
 no_lesson lines steps = let more = lessons_more lines (line.Cycle steps) in omega (arith, more)
 
 module _ (atoms : List Atom) (bounds : List Bound) (edges : List Edge) where
-  pub settled_same : (d : Derived) → HasSettled atoms bounds edges d d
-  settled_same d = record {
-    clauses = refl;
-    count = refl;
-    kept = λ c settled. settled;
-    few = inl refl;
-    lesson_count = refl;
-    derives = λ log f v are old. old;
-    spending = λ log f v rules table known old. old;
-  }
-
   pub settled_more : (old mid new : Derived) → HasSettled atoms bounds edges old mid → HasSettled atoms bounds edges mid new → HasSettled atoms bounds edges old new
   settled_more old mid new first second = record {
     clauses = second.clauses ∙ first.clauses;

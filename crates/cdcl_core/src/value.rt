@@ -114,8 +114,7 @@ pub fn search_value(
     }
 }
 
-/// The same where nothing is known of the log but that its problem is small enough where it admits a timing: where it
-/// admits none, a line refutes the value.
+/// The same where nothing is known of the log but that its problem is small enough where it admits a timing.
 pub fn search_log(
     alloc: Global,
     question: Question,

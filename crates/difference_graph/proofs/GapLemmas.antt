@@ -12,7 +12,7 @@ use Rattle.std.proofs.lemmas.List.Sums.{sum_by-cons}
 use Rattle.neg_cycle.specs.declared.system.Edge.{Edge}
 use Rattle.neg_cycle.specs.declared.system.TheConstants.{MAX_BOUND}
 use Rattle.neg_cycle.specs.Systems.{IsWithin, Meets, number_of}
-use Rattle.difference_graph.specs.Gaps.{IsNumber, IsNearNumber, count_below, IsNextBelow, IsFound, IsRaisedBelow}
+use Rattle.difference_graph.specs.Gaps.{IsNumber, count_below, IsNextBelow, IsFound, IsRaisedBelow}
 
 -- a number below the level is raised, and it is that of a node
 pub record IsMoved (level by : ℤ) (old new : List ℤ) (v : ℕ) : Type 0 where
@@ -142,24 +142,9 @@ pub level_near : (level lower : ℤ) (count fewer nodes more : ℕ) → level �
     → pos (count * 2 ^ 90) ≤ℤ (level +ℤ pos (nodes * 2 ^ 90)) → pos (fewer * 2 ^ 90) ≤ℤ (lower +ℤ pos (more * 2 ^ 90))
 level_near level lower count fewer nodes more bound less same near = omega (arith, ints, bound, less, same, near)
 
--- and is a number
-pub level_number : (level : ℤ) (count nodes : ℕ) → nodes ≤ 2 ^ 20 → level ≤ℤ pos 0 → pos (count * 2 ^ 90) ≤ℤ (level +ℤ pos (nodes * 2 ^ 90)) → IsNumber level
-level_number level count nodes few top near = record { low = omega (arith, ints, few, near); high = top }
-
 -- the next number below a level is a number
 pub next_number : (numbers : List ℤ) (level next : ℤ) → All IsNumber numbers → IsNextBelow numbers level next → IsNumber next
 next_number numbers level next each n = subst IsNumber n.held (each n.place (pos 0) n.within)
-
-pub count_start : (numbers : List ℤ) → count_below (pos 0) numbers ≤ length numbers
-count_start [] = omega arith
-count_start (x ∷ xs) =
-    let rest = count_start xs in
-    let first : cond (int_lt x (pos 0)) 1 0 ≤ 1 = grind (arith, ints) in
-    omega (arith, first, rest, count_cons (pos 0) x xs)
-
--- a number that is not below a near level is near
-pub number_near : (level x : ℤ) (count nodes : ℕ) → nodes ≤ 2 ^ 20 → pos (count * 2 ^ 90) ≤ℤ (level +ℤ pos (nodes * 2 ^ 90)) → level ≤ℤ x → IsNumber x → IsNearNumber x
-number_near level x count nodes few near above number = record { low = omega (arith, ints, few, near, above); high = number.high }
 
 -- one number more was looked at
 pub found_takes : (xs : List ℤ) (x level : ℤ) (found : Option ℤ) → IsFound xs level found → x <ℤ level → IfSome found (λ best. best <ℤ x) → IsFound (xs ++ x ∷ []) level (Some x)

@@ -74,21 +74,6 @@ module _ (edges : List Edge) (numbers : List ℤ) where
   entry_waits : (p : ℕ) → p < length edges → IsWaiting edges numbers (entry_of edges numbers p)
   entry_waits p within = record { within = within; by = inl (omega (arith, ints)) }
 
-  -- the edges that end at the node are looked at from the last one on
-  pub queue_from : (node mark : ℕ) (ws : List Missed) → IsQueue edges numbers node (length edges) ws → IsLastMark edges (length edges) node mark → IsQueue edges numbers node mark ws
-  queue_from node mark ws q m = record {
-    each = q.each;
-    once = q.once;
-    behind = λ k d within to. absurd (omega (arith, (q.each k d within).within, q.behind k d within to));
-    waits = λ r below missed. elim (q.waits r below missed) [
-      | inl at ↦ elim (cases_lt r mark) [
-        | inl before ↦ inl (at.0, before)
-        | inr past ↦ absurd (m.none r past below at.0)
-      ]
-      | inr held ↦ inr held
-    ];
-  }
-
   -- the edge just before the mark ends at the node
   module _ (node mark end : ℕ) (ws : List Missed) (q : IsQueue edges numbers node mark ws) (some : 0 < mark) (few : mark ≤ length edges) (to : (edge_at edges (mark - 1)).to ≡ node) where
     not_yet : All (λ w. w.place ≢ mark - 1) ws

@@ -8,7 +8,6 @@ use Rattle.std.proofs.lemmas.List.{get_or_default, length_push}
 use Rattle.std.proofs.lemmas.List.Elements.{All-push, All-contains}
 use Rattle.neg_cycle.specs.declared.system.Edge.{Edge}
 use Rattle.neg_cycle.specs.Systems.{IsSystem, Meets, edge_at, number_of, LeadsTo, sum_of_bounds, IsNegativeCycle}
-use Rattle.neg_cycle.proofs.LabelLemmas.{all_met}
 use Rattle.difference_graph.specs.Gaps.{IsNumber, IsNearNumber}
 use Rattle.difference_graph.specs.Repairs.{slack, IsTightest, BeginsNone, LeadsOn, IsTrace, IsLowered, IsRepair, MeetsOthers}
 use Rattle.difference_graph.proofs.TreeLemmas.{begins_last, begins_still, tree_push, tree_nil, tree_short}
@@ -199,10 +198,6 @@ module _ (edges : List Edge) (end : ℕ) (old : List ℤ) (others : MeetsOthers 
       let number : IsNearNumber (number_of old v) = near v (pos 0) within in
       let is : IsNumber (number_of new v) = record { low = omega (arith, ints, number.low, r.floor v); high = omega (arith, ints, number.high, fell v) } in
       rw (get_or_default new v d (pos 0) below) is
-
-  -- where no edge is missed, all are met
-  pub repaired : (p : ℕ) → IsTightest edges new p → pos 0 ≤ℤ slack new (edge_at edges p) → All (Meets new) edges
-  repaired p t least = all_met new edges (λ q below. omega (arith, ints, t.least q below, least))
 
   -- along edges that are just met or missed, the numbers fall by the sum of the bounds at least
   tight_sum : (a b : ℕ) (walk : List ℕ) → LeadsTo edges a walk b → All (λ q. slack new (edge_at edges q) ≤ℤ pos 0) walk → (sum_of_bounds edges walk +ℤ number_of new b) ≤ℤ number_of new a

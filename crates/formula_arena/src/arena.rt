@@ -9,7 +9,7 @@ ghost use Rattle.formula_arena.specs.Nodes.{Extends, has_form, IsArena, IsAt, no
 ghost use Rattle.formula_arena.specs.Shapes.{IsNode};
 ghost use Rattle.formula_arena.specs.Table.{IsOver, tree_of_proposition, tree_over};
 ghost use Rattle.formula_arena.specs.Growth.{IsGrown, with_subtrees, with_tree};
-ghost use Rattle.formula_arena.specs.Walks.{AreHeld, IsMade, IsTaken, IsTaskTaken, Join, Negation, operands, step_in, steps_in, tree_by, waiting_in};
+ghost use Rattle.formula_arena.specs.Walks.{AreHeld, IsMade, IsTaskTaken, Join, Negation, operands, step_in, tree_by, waiting_in};
 
 use crate::ArenaFault;
 use crate::node::{Core, Operator, Proposition};

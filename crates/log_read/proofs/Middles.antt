@@ -17,15 +17,6 @@ AllPairs-middle R xs y ys pairs k d within =
     let both = pairs k (length xs) d within (omega (arith, length-append xs (y ∷ ys))) in
     rw (get_or_append_left xs (y ∷ ys) d k within, get_or_at xs y ys d (length xs) refl) at both
 
--- what holds of a list holds of its front
-pub All-front : {X : Type 0} (P : X → Type 0) (xs ys : List X) → All P (xs ++ ys) → All P xs
-All-front P xs ys all k d within = subst P (get_or_append_left xs ys d k within) (all k d (omega (arith, length-append xs ys)))
-
-pub AllPairs-front : {X : Type 0} (R : X → X → Type 0) (xs ys : List X) → AllPairs R (xs ++ ys) → AllPairs R xs
-AllPairs-front R xs ys pairs i j d before within =
-    let both = pairs i j d before (omega (arith, length-append xs ys)) in
-    rw (get_or_append_left xs ys d i (omega arith), get_or_append_left xs ys d j within) at both
-
 -- the first place that passes is the one that is found
 pub position-found : {X : Type 0} (p : X → Bool) (xs : List X) (i : ℕ) (d : X) → i < length xs → ((k : ℕ) → k < i → p (get_or xs k d) ≡ false) → p (get_or xs i d) ≡ true → position p xs ≡ Some i
 position-found p xs i d within before here =

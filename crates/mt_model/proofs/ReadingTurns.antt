@@ -1,8 +1,8 @@
 -- Readings of clocks, one by one, and the reading of a row.
-use Rattle.std.proofs.Common.{◌≡◌, ◌∙◌, sym, refl, ap, arith, ℕ, suc, ◌+◌, ◌<◌, ◌≤◌, inl, inr, subst, List, [], ◌∷◌, ◌++◌, length, get_or, take, Option, Some, None, All}
-use Rattle.std.specs.Prelude.{IfSome, nat_lt}
+use Rattle.std.proofs.Common.{◌≡◌, ◌∙◌, sym, refl, ap, arith, ℕ, suc, ◌+◌, ◌<◌, ◌≤◌, inl, inr, subst, List, [], ◌∷◌, ◌++◌, length, get_or, take, Option, Some, None}
+use Rattle.std.specs.Prelude.{IfSome}
 use Rattle.std.proofs.Math.Seq.{get_or-append_seam, take-append_seam, take-suc}
-use Rattle.std.proofs.lemmas.Bool.{cases_Bool, cases_eq, ltb-false, ltb-true}
+use Rattle.std.proofs.lemmas.Bool.{cases_eq}
 use Rattle.std.proofs.lemmas.List.{get_or_append_left, length-append, length-take-le, take-append-le, take_all}
 use Rattle.std.proofs.lemmas.List.Elements.{All-push}
 use Rattle.mt_model.specs.declared.reading.Reading.{Reading}
@@ -86,19 +86,3 @@ module _ (xs : List Reading) (i : ℕ) (x : Reading) (within : i < length xs) (i
 
 pub turn-all : (xs : List Reading) (i next : ℕ) → length xs ≤ i → AreReadUpTo (take i xs) next → AreReadUpTo xs next
 turn-all xs i next end before = subst (λ ys. AreReadUpTo ys next) (take_all i xs end) before
-
--- as many clocks are read as there are
-pub read-count : (xs : List Reading) (clocks next : ℕ) → AreReadUpTo xs next → All (λ r. r.clock < clocks) xs → ((k : ℕ) → k < clocks → IsRead k xs) → next ≡ clocks
-read-count xs clocks next read each all = elim (cases_eq next clocks) [
-  | inl same ↦ same
-  | inr other ↦ elim (cases_Bool (nat_lt next clocks)) [
-    | inl less ↦ absurd (unread (all next (ltb-true _ _ less)))
-    | inr more ↦ absurd (beyond (read.read clocks (let n = ltb-false _ _ more in omega (arith, n, other))))
-  ]
-]
-  where
-    unread : IsRead next xs → ⊥
-    unread (i, y, within, at, is) = let low = rw at at (read.below i y within) in omega (arith, low, is)
-
-    beyond : IsRead clocks xs → ⊥
-    beyond (i, y, within, at, is) = let low = rw at at (each i y within) in omega (arith, low, is)

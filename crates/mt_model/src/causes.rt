@@ -2,7 +2,7 @@
 
 ghost use Rattle.std.specs.Prelude.{◌≡◌, ◌↔◌, ◌<◌, length, position, IfSome, IsTrue, Some};
 ghost use Rattle.mt_model.specs.Log.{sent_by};
-ghost use Rattle.mt_model.specs.Timing.{host_of, is_send_of, previous_row, send_of};
+ghost use Rattle.mt_model.specs.Timing.{is_send_of, previous_row, send_of};
 
 use crate::spans::host_at;
 use crate::{Log, Row};

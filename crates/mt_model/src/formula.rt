@@ -2,7 +2,7 @@
 
 ghost use Rattle.std.specs.Prelude.{◌≡◌, ◌↔◌, ◌≤◌, ◌<◌, ◌+◌, ◌^◌, ◌&&◌, not, true, length, IsTrue, IsSome, IfSome, IfOk, IfErr, OnOk, Some, None};
 ghost use Rattle.std.specs.List.{list_all};
-ghost use Rattle.mt_model.specs.Form.{Form, IsFormula, form_of, height_of, intervals_of, is_interval, is_named, propositions_of};
+ghost use Rattle.mt_model.specs.Form.{IsFormula, form_of, height_of, intervals_of, is_interval, is_named, propositions_of};
 ghost use Rattle.mt_model.specs.Name.{is_name, is_reserved};
 ghost use Rattle.mt_model.specs.State.{unknown_from, unknown_host};
 

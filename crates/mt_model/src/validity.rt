@@ -1,7 +1,7 @@
 //! When hosts, rows, resyncs, clocks, readings and extra bounds make a valid log.
 
 ghost use Rattle.std.specs.Prelude.{◌≡◌, ◌↔◌, ◌≤◌, length, IsTrue, IfSome, Any, Some, All, AllPairs};
-ghost use Rattle.mt_model.specs.Log.{IsLog, IsHost, HasDelays, IsRow, IsExtra, AreRows, SendSame, IsSent, log_of, sent_by, received_by};
+ghost use Rattle.mt_model.specs.Log.{IsLog, IsHost, HasDelays, IsRow, IsExtra, AreRows, SendSame, IsSent, log_of, received_by};
 
 use crate::causes::sends;
 use crate::name::is_reserved_name;

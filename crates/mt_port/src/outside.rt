@@ -15,7 +15,12 @@ use std::io::{self, ErrorKind, Printer};
 use std::marker::Model;
 
 /// How often a call is made that signals break off.
-const TRIES: u32 = 65_536;
+pub const TRIES: u32 = 65_536;
+
+/// The number that limits how often.
+pub fn limit_is_a_number()
+    ensures tries { TRIES ≡ 65536 }
+{}
 
 // Reads the next bytes of an inlet to the front of a buffer.
 //

@@ -11,7 +11,7 @@ pub struct Failed;
 ///
 /// A shelf may tell which files it holds. Where it does, the clauses say which bytes each call gives.
 pub trait Shelf {
-    /// How many calls failed. It only grows, up to `2^64 - 1`.
+    /// A count that rises where a call fails, and nowhere else, up to `2^64 - 1`.
     ghost faults: { Self → ℕ };
 
     /// That openings were asked for of just these names, the last one first, as far as the shelf tells that.
@@ -74,7 +74,7 @@ pub trait Shelf {
 ///
 /// A sink may tell which bytes it took. Where it does, the clauses say which bytes each call adds.
 pub trait Sink {
-    /// How many calls failed. It only grows, up to `2^64 - 1`.
+    /// A count that rises where a call fails, and nowhere else, up to `2^64 - 1`.
     ghost faults: { Self → ℕ };
 
     /// Whether it tells its bytes. Where it doesn't, `bytes` means nothing.

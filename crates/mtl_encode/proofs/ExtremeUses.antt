@@ -68,9 +68,6 @@ module _ (x : Extremes) (t : List ℤ) (rows : ℕ) (bounded : BoundsTimes x t r
     abbrev D : Direction
     D = u.direction
 
-    apart-by : ℤ
-    apart-by = distance log t trees u.direction j i
-
     low-end : nearest x u.direction i j ≤ℤ distance log t trees u.direction j i
     low-end = at-least u.direction i j a b
 

@@ -1,11 +1,10 @@
 -- All variables in another order, and the place of each one.
-use Rattle.std.proofs.Common.{◌≡◌, ◌∙◌, sym, ap, subst, ℕ, ◌+◌, ◌<◌, List, length, set, Some, inl, inr, arith}
+use Rattle.std.proofs.Common.{◌≡◌, ◌∙◌, sym, ap, subst, ℕ, ◌<◌, List, length, Some, arith}
 use Rattle.std.specs.Prelude.{◌≢◌, ◌==◌, All, AllPairs, Contains, slice_get, slice_index, slice_index_or}
 use Rattle.std.specs.List.{range_with_len}
 use Rattle.std.specs.List.Sorted.{IsPermutation}
 use Rattle.std.proofs.lemmas.Bool.Decides.{Decides-eqb}
-use Rattle.std.proofs.lemmas.Bool.{cases_eq}
-use Rattle.std.proofs.lemmas.List.{get_or-set_other, get_or-set_same, get_or_default}
+use Rattle.std.proofs.lemmas.List.{get_or_default}
 use Rattle.std.proofs.lemmas.List.FromFn.{get_or-range_with_len, length-range_with_len}
 use Rattle.std.proofs.lemmas.List.Sorted.{All-permutation, Contains-permutation, length_permutation}
 use Rattle.std.proofs.lemmas.Map.Keys.{IsDistinct-IsPermutation}
@@ -43,19 +42,6 @@ order-of n order is = record {
       (IsDistinct-IsPermutation (λ x y. x == y) eq-flips (range_with_len 0 n) order is (IsDistinct-from_AllPairs Decides-eqb (range_with_len 0 n) (range-apart n)));
   every = λ v low. Contains-permutation (range_with_len 0 n) order v is (v, omega (arith, low, length-range_with_len 0 n), range-at n v v low);
 }
-
--- one place more is set
-pub place-set : (order places : List ℕ) (n size : ℕ) → IsOrder size order → length places ≡ size → n < length order
-    → ((m : ℕ) → m < n → slice_index places (slice_index order m) ≡ m)
-    → (m : ℕ) → m < n + 1 → slice_index (set places (slice_index order n) n) (slice_index order m) ≡ m
-place-set order places n size is count low before m below = elim (cases_eq m n) [
-  | inl here ↦
-      let within : slice_index order n < length places = omega (arith, is.below n 0 low, count) in
-      rw here (get_or-set_same places (slice_index order n) n 0 within)
-  | inr other ↦
-      let less : m < n = grind (arith, below, other) in
-      get_or-set_other places (slice_index order n) (slice_index order m) n 0 (is.apart m n 0 less low) ∙ before m less
-]
 
 -- atoms that are taken in an order have moved to the places in it
 pub taken-moved : (old new : List Atom) (order places : List ℕ) → IsOrder (length old) order → ArePlaces order places → AreTaken old order new → AreMoved old new places

@@ -1,14 +1,13 @@
 -- Clauses over other variables read as they did.
-use Rattle.std.proofs.Common.{◌≡◌, ◌∙◌, sym, refl, subst, ℕ, suc, ◌+◌, ◌<◌, ◌≤◌, true, false, List, [], ◌∷◌, ◌++◌, length, map, get_or, Some, ◌⊎◌, inl, inr, arith}
+use Rattle.std.proofs.Common.{◌≡◌, ◌∙◌, sym, refl, subst, ℕ, suc, ◌<◌, ◌≤◌, true, false, List, [], ◌∷◌, length, map, get_or, Some, inl, inr, arith}
 use Rattle.std.specs.Prelude.{All, Any, Contains, slice_get, slice_index, slice_index_or}
 use Rattle.std.specs.Cmp.{IsEquivalence, both_ways}
 use Rattle.std.specs.List.{AllByRecursion, IsDistinct}
 use Rattle.std.proofs.lemmas.Bool.{cases_Bool}
-use Rattle.std.proofs.lemmas.List.{get_or-map, get_or_append_left, get_or_default, length-map}
-use Rattle.std.proofs.Math.Seq.{get_or-append_seam}
+use Rattle.std.proofs.lemmas.List.{get_or-map, get_or_default, length-map}
 use Rattle.std.proofs.lemmas.Map.Keys.{IsDistinct-cons}
 use Rattle.std.proofs.lemmas.Map.Made.{length-le_from_is_member}
-use Rattle.std.proofs.lemmas.Option.{get_or_from_slice_get, slice_get-get_or, slice_get_within}
+use Rattle.std.proofs.lemmas.Option.{slice_get-get_or, slice_get_within}
 use Rattle.mt_model.proofs.Members.{Among, any_some, some_any}
 use Rattle.clause_db.specs.declared.lit.Lit.{Lit}
 use Rattle.clause_db.specs.Clauses.{clause_at}
@@ -17,12 +16,12 @@ use Rattle.axiom_rules.specs.declared.literal.Atom.{Atom}
 use Rattle.axiom_rules.specs.declared.literal.Atom.TheVariants.{First}
 use Rattle.axiom_rules.specs.declared.literal.Literal.{Literal}
 use Rattle.axiom_rules.specs.declared.rule.Rule.{Rule}
-use Rattle.axiom_rules.specs.Atoms.{AreOnce, IsVar, with_atom}
+use Rattle.axiom_rules.specs.Atoms.{AreOnce, IsVar}
 use Rattle.axiom_rules.specs.Literals.{same_atom, yes}
 use Rattle.axiom_rules.specs.Sought.{Sought}
 use Rattle.axiom_rules.proofs.AddingLemmas.{atom-itself}
 use Rattle.axiom_rules.proofs.PartLemmas.{atoms_same}
-use Rattle.mtl_encode.proofs.AtomGrowth.{Keeps, all-atom, parts-read, read-at, read-atom}
+use Rattle.mtl_encode.proofs.AtomGrowth.{parts-read, read-at, read-atom}
 use Rattle.mtl_encode.proofs.RangeLemmas.{among-at, place-of}
 use Rattle.mtl_encode.specs.declared.clauses.Clauses.{Clauses}
 use Rattle.mtl_encode.specs.Growth.{AreClauses}
@@ -118,25 +117,3 @@ clauses-below s held are n d low =
     let e : Rule = record { number = 0; args = [] } in
     let is = are.clauses n (slice_index_or held.rules n e) (slice_get-get_or held.rules n e (omega (arith, low, are.count))) in
     rw (get_or_default held.db n d [] low) (lits-below held.atoms (clause_at held.db n) is.clause is.read)
-
--- the atom of a variable is among the atoms
-pub contains-var : (atoms : List Atom) (v : ℕ) (a : Atom) → IsVar atoms v a → Contains atoms a
-contains-var atoms v a is = (v, slice_get_within atoms v a is, get_or_from_slice_get atoms v a a is)
-
-pub only-next : (atoms old new : List Atom) (a : Atom) → All (Contains atoms) old → Contains atoms a → new ≡ with_atom old a → All (Contains atoms) new
-only-next atoms old new a all in_ is = rw is (all-atom (Contains atoms) old a all in_)
-
--- the place of one atom more
-pub place-next : (atoms old new : List Atom) (list : List ℕ) (v x : ℕ) (a : Atom) → length list ≡ v → IsVar atoms v a → Keeps old new → IsVar new x a
-    → ((w : ℕ) (b : Atom) → w < v → IsVar atoms w b → IsVar old (slice_index list w) b) → (w : ℕ) (b : Atom) → w < v + 1 → IsVar atoms w b → IsVar new (slice_index (list ++ x ∷ []) w) b
-place-next atoms old new list v x a count at keeps is before w b low is-w = elim (before_or_last w v low) [
-  | inl less ↦ let same = get_or_append_left list (x ∷ []) 0 w (omega (arith, less, count)) in rw same (keeps (slice_index list w) b (before w b less is-w))
-  | inr last ↦
-      let here : w ≡ length list = omega (arith, last, count) in
-      let place : slice_index (list ++ x ∷ []) w ≡ x = rw here (get_or-append_seam list x [] 0) in
-      let same : a ≡ b = (let both : IsVar atoms v b = rw last at is-w in cc) in
-      rw place (subst (IsVar new x) same is)
-]
-  where
-    before_or_last : (w v : ℕ) → w < v + 1 → (w < v) ⊎ (w ≡ v)
-    before_or_last w v low = grind arith

@@ -73,6 +73,10 @@ module _ (s : Sought) (out : Rule → Bool) (number : ℕ) (counts : List ℕ) w
 abbrev pub left_by : Differences → Sought → ℕ → List ℕ → List Rule
 left_by d s number counts = with_none s (out_by d s) number counts
 
+-- the same of those with these first three arguments
+abbrev pub three_left_by : Differences → Sought → ℕ → List ℕ → ℕ → ℕ → ℕ → List Rule
+three_left_by d s number counts a b c = with_three s (out_by d s) number counts a b c
+
 -- the rules of a number that are kept
 abbrev pub of_number : Sought → (Rule → Bool) → ℕ → List Rule
 of_number s out number = option_map_or (λ row. with_none s out number (map (count_of s) row.arguments)) (row_of number) []

@@ -126,7 +126,7 @@ struct Asked {
 }
 
 /// The clauses of instances that a value sought asks for, and whether some were left out for there being too many of their
-/// kind.
+/// kind. No clause speaks of the latter: whoever searches may take it as a hint that more can be asked for.
 #[derive(Drop)]
 pub struct AskedClauses {
     pub clauses: Clauses,

@@ -1,10 +1,7 @@
 //! The problem of a question and a value.
 
-ghost use Rattle.std.specs.Prelude.{◌≡◌, ◌≢◌, ◌+◌, AllPairs, Bool, List, length, IfOk, ℤ};
+ghost use Rattle.std.specs.Prelude.{◌≡◌, ◌≢◌, ◌+◌, AllPairs, length, IfOk};
 ghost use Rattle.mt_model.specs.Form.{Form};
-ghost use Rattle.mt_model.specs.Timing.{Admissible};
-ghost use Rattle.mt_model.specs.Truth.{truth};
-ghost use Rattle.skew_bounds.specs.RowTimes.{times_of};
 ghost use Rattle.skew_bounds.specs.System.{IsSystemOf};
 ghost use Rattle.skew_bounds.specs.Tight.{IsConsistent, IsTight};
 ghost use Rattle.formula_arena.specs.Nodes.{IsArena, nodes_of};

@@ -5,7 +5,7 @@ ghost use Rattle.skew_bounds.specs.Differences.{Differences};
 ghost use Rattle.axiom_rules.specs.Clauses.{clause_of};
 ghost use Rattle.axiom_rules.specs.NodeShapes.{reach_in, shape_at};
 ghost use Rattle.mtl_encode.specs.Growth.{AreClauses, Gains, HasRoom};
-ghost use Rattle.mtl_encode.specs.Instances.{count_of as count_of_argument, instances, is_of_reach as is_number_of_reach, of_number, out_by, rule_at, with_none, with_one, with_three, left_by};
+ghost use Rattle.mtl_encode.specs.Instances.{count_of as count_of_argument, instances, is_of_reach as is_number_of_reach, of_number, out_by, rule_at, left_by, three_left_by, with_one};
 ghost use Rattle.mtl_encode.specs.Seconds.{AreCounts, AreEvents};
 
 use crate::clauses::Clauses;
@@ -85,8 +85,7 @@ pub struct Source<'a> {
 impl Source<'_> {
     // Whether rules of the number are about the events of a span, and no span is needed from event i to event j.
     fn passes_over_span(self, number: u8, k: u32, i: u32, j: u32) -> bool
-        ensures { let s = self.entry in
-            result ≡ true → (counts : List ℕ) → with_three s.rules.now (out_by s.tight.now s.rules.now) number counts k i j ≡ [] }
+        ensures { result ≡ true → (counts : List ℕ) → three_left_by self.entry.tight.now self.entry.rules.now number counts k i j ≡ [] }
     {
         is_needless_over_span(number) && needs_no_span(self.rules, self.tight, k, i, j)
     }

@@ -1,5 +1,5 @@
 -- The tokens of a text, byte by byte.
-use Rattle.std.proofs.Common.{◌≡◌, ◌∙◌, sym, ap, refl, arith, zero, suc, ℕ, ◌+◌, ◌-◌, ◌<◌, true, false, List, [], ◌∷◌, ◌++◌, append_assoc, length, drop, get_or, drop-cons, add-one, Result, Ok, Err}
+use Rattle.std.proofs.Common.{◌≡◌, ◌∙◌, sym, ap, refl, arith, zero, suc, ℕ, ◌+◌, ◌-◌, ◌<◌, false, List, [], ◌∷◌, ◌++◌, append_assoc, length, drop, get_or, drop-cons, add-one, Result, Ok, Err}
 use Rattle.mtl_parse.specs.declared.fault.FormulaFault.{FormulaFault}
 use Rattle.mtl_parse.specs.declared.fault.FormulaFault.TheVariants as fault
 use Rattle.mtl_parse.specs.Tokens.{Placed, Token, Lexeme, Found, NoToken, BadNumber, is_blank, then_tokens, tokens_from, tokens_of, with_token}
@@ -14,9 +14,6 @@ module _ (bytes : List ℕ) (i b : ℕ) (within : i < length bytes) (is : b ≡ 
   passed-part belong some =
       let more : belong ≡ suc (belong - 1) = omega arith in
       ap (λ n. tokens_from n i (drop i bytes)) more ∙ ap (tokens_from (suc (belong - 1)) i) (from-next bytes i b within is)
-
-  pub passed-blank : is_blank b ≡ true → tokens_from 0 i (drop i bytes) ≡ tokens_from 0 (i + 1) (drop (i + 1) bytes)
-  passed-blank blank = ap (tokens_from 0 i) (from-next bytes i b within is) ∙ rw blank refl
 
   pub passed-lexeme : is_blank b ≡ false → tokens_from 0 i (drop i bytes) ≡ then_tokens i (first_lexeme (drop i bytes)) (λ more. tokens_from more (i + 1) (drop (i + 1) bytes))
   passed-lexeme blank =

@@ -1,8 +1,8 @@
 -- What the code's tokens, operands and parser are.
-use Rattle.std.specs.Prelude.{ℕ, List, [], ◌∷◌, map, reverse}
+use Rattle.std.specs.Prelude.{ℕ, List, [], ◌∷◌, Option, map, reverse}
 use Rattle.mt_model.specs.Form.{Form, form_of}
 use Rattle.mtl_parse.specs.Tokens.{Infix, U, S, Prefix, F, G, O, H, Token, Open, Close, OpenBracket, CloseBracket, Comma, Dot, Bang, Ampersand, Bar, Arrow, InfixLetter, PrefixLetter, Number, Word, Placed, Lexeme, Found, NoToken, BadNumber, lexeme_at}
-use Rattle.mtl_parse.specs.Machine.{Letter, OfOne, OfTwo, Pending, Opened, Negation, Timed, LeftOfAnd, LeftOfOr, LeftOfImplies, Stage, Wanted, HostRead, DotRead, LetterRead, BracketRead, LowRead, CommaRead, HighRead, Read, State, Completed, tall}
+use Rattle.mtl_parse.specs.Machine.{Letter, OfOne, OfTwo, Pending, Opened, Negation, Timed, LeftOfAnd, LeftOfOr, LeftOfImplies, Stage, Wanted, HostRead, DotRead, LetterRead, BracketRead, LowRead, CommaRead, HighRead, Read, State, Completed, capped, step_read, tall}
 use Rattle.mtl_parse.specs.declared.token.Infix.{Infix as ScannedInfix}
 use Rattle.mtl_parse.specs.declared.token.Infix.TheVariants as infix_of
 use Rattle.mtl_parse.specs.declared.token.Prefix.{Prefix as ScannedPrefix}
@@ -109,3 +109,7 @@ stage_in (stage_of.Read operand) = Read (form_in operand)
 -- what was read
 abbrev pub state_in : Parser → State
 state_in parser = record { stack = stack_in parser.stack.items; stage = stage_in parser.stage }
+
+-- what a token after an operand makes of what is pending
+abbrev pub read_after : List KeptPending → Operand → ScannedToken → Option State
+read_after stack operand token = step_read capped (stack_in stack) (form_in operand) (token_in token)

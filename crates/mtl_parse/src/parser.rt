@@ -2,8 +2,8 @@
 
 ghost use Rattle.std.specs.Prelude.{◌≡◌, ◌∷◌, IfOk, IfErr, Ok, Err, Some, None, option_map, true, ◌≢◌};
 ghost use Rattle.mtl_parse.specs.Tokens.{Word};
-ghost use Rattle.mtl_parse.specs.Machine.{LeftOfAnd, LeftOfImplies, LeftOfOr, Wanted, after_word, begin, capped, closed, complete, finish, finished, high_bound, is_sound, left_of, letter_after, read_one, refusal_behind, step_bracket, step_comma, step_dot, step_high, step_host, step_letter, step_low, step_read, step_wanted};
-ghost use Rattle.mtl_parse.specs.States.{completed_in, form_in, infix_in, letter_in, pending_in, placed_in, stack_in, state_in, token_in};
+ghost use Rattle.mtl_parse.specs.Machine.{LeftOfAnd, LeftOfImplies, LeftOfOr, Wanted, after_word, begin, capped, closed, complete, finish, finished, high_bound, is_sound, left_of, letter_after, read_one, refusal_behind, step_bracket, step_comma, step_dot, step_high, step_host, step_letter, step_low, step_wanted};
+ghost use Rattle.mtl_parse.specs.States.{completed_in, form_in, infix_in, letter_in, pending_in, placed_in, read_after, stack_in, state_in, token_in};
 
 use crate::FormulaFault;
 use crate::operand::Operand;
@@ -315,8 +315,8 @@ fn step_read(
     token: Token<'_>,
     byte: u32,
 ) -> Result<Parser, FormulaFault>
-    ensures ok { IfOk result (λ p. step_read capped (stack_in stack.items) (form_in operand) (token_in token.entry) ≡ Some (state_in p)) }
-    ensures none { IfErr result (λ e. e ≢ FormulaFault.Memory → step_read capped (stack_in stack.items) (form_in operand) (token_in token.entry) ≡ None) }
+    ensures ok { IfOk result (λ p. read_after stack.items operand token.entry ≡ Some (state_in p)) }
+    ensures none { IfErr result (λ e. e ≢ FormulaFault.Memory → read_after stack.items operand token.entry ≡ None) }
     ensures fault { IfErr result (λ e. e ≢ FormulaFault.Memory → e ≡ refusal_behind (stack_in stack.items) byte) }
 {
     match token {

@@ -59,21 +59,6 @@ module _ (denied : List Literal) (places : List ℕ) (l : Literal) (given new li
     found = found_still;
   }
 
--- where nothing is listed or was found
-pub right_empty : (denied : List Literal) (places : List ℕ) (given list other : List Literal) (gapless : List Atom) → IsAssumedRight denied places given list gapless → IsAssumedRight denied places other [] []
-right_empty denied places given list other gapless right = record {
-  sorted = right.sorted;
-  listed = all_from (Contains other) [] (λ m has. absurd (contains_none m has));
-  found = all_from (IsGapless (map negated denied ++ other)) [] (λ a has. absurd (contains_none a has));
-}
-
-pub right_forgot : (denied : List Literal) (places : List ℕ) (given list : List Literal) (gapless : List Atom) → IsAssumedRight denied places given list gapless → IsAssumedRight denied places given list []
-right_forgot denied places given list gapless right = record {
-  sorted = right.sorted;
-  listed = right.listed;
-  found = all_from (IsGapless (map negated denied ++ given)) [] (λ a has. absurd (contains_none a has));
-}
-
 gap_parts : (k i m l j n : ℕ) → Gap k i m ≡ Gap l j n → (k ≡ l) × (i ≡ j) × (m ≡ n)
 gap_parts k i m l j n is = (cc, cc, cc)
 

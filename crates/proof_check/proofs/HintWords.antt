@@ -31,9 +31,6 @@ module _ (s : Sought) (lines : List Line) (n : ℕ) (start : List Literal) (word
     pub words_left : rest ≡ flat_map hint_words (drop i hints)
     pub so_far : AreRefuting s lines n assumed (drop i hints) ↔ AreRefuting s lines n start hints
 
-  pub none_taken_yet : (hints : List Hint) → AreGiven hints → HintsTaken 0 words start hints
-  none_taken_yet hints given = record { words_left = given.words_are; so_far = (λ are. are, λ are. are) }
-
   pub hints_end : (i : ℕ) (rest : List Word) (assumed : List Literal) → count ≤ i → ((hints : List Hint) → AreGiven hints → HintsTaken i rest assumed hints)
       → (hints : List Hint) → AreGiven hints → IsTrue false ↔ AreRefuting s lines n start hints
   hints_end i rest assumed past before hints given = ends_none s lines n start hints assumed i (omega (arith, past, given.all)) (before hints given).so_far

@@ -2,7 +2,7 @@
 use Rattle.std.proofs.Common.{◌≡◌, ◌∙◌, sym, ap, refl, subst, ℕ, zero, suc, ◌+◌, ◌<◌, ◌≤◌, Bool, true, false, IsTrue, ◌↔◌, inl, inr, if◌then◌else◌, List, [], ◌∷◌, ◌++◌, length, length-append, get_or, take, drop, arith, nat_eq, eq-eqb, eqb-true, append-nil}
 use Rattle.std.specs.Prelude.{Contains, slice_set}
 use Rattle.std.proofs.lemmas.Bool.{cases_Bool, cases_lt, false_from_ne_true}
-use Rattle.std.proofs.lemmas.List.{append_assoc, drop_more, drop-set-lt, length-drop, length-set, length-take-le, take_all, take_more, take_more_set}
+use Rattle.std.proofs.lemmas.List.{append_assoc, drop_more, drop-set-lt, length-drop, length-set, length-take-le, take_more, take_more_set}
 use Rattle.axiom_rules.specs.declared.literal.Literal.{Literal}
 use Rattle.axiom_rules.specs.Literals.{has_literal}
 use Rattle.axiom_rules.specs.Parts.{each_once}
@@ -39,9 +39,6 @@ pub record AreMarked (lits : List Literal) (n : ℕ) (marks : List Bool) : Type 
   pub count : length marks ≡ n
   pub once : marked marks (take n lits) ≡ each_once (take n lits)
 
-pub none_marked : (lits : List Literal) → AreMarked lits 0 []
-none_marked lits = record { count = refl; once = refl }
-
 marked_push : {X : Type 0} (bs : List Bool) (b : Bool) (xs : List X) (x : X) → length bs ≡ length xs → marked (bs ++ b ∷ []) (xs ++ x ∷ []) ≡ marked bs xs ++ (if b then x ∷ [] else [])
 marked_push [] true [] x same = refl
 marked_push [] false [] x same = refl
@@ -69,20 +66,12 @@ marked_more lits n marks b below first before = record {
       ∙ once_push (take n lits) (literal_at lits n) b first ∙ ap each_once (sym next);
 }
 
-pub marked_all : (lits : List Literal) (n : ℕ) (marks : List Bool) → n ≡ length lits → AreMarked lits n marks → (length marks ≡ length lits) × (marked marks lits ≡ each_once lits)
-marked_all lits n marks all before =
-    let whole : take n lits ≡ lits = take_all n lits (omega (arith, all)) in
-    (before.count ∙ all, subst (λ ls. marked marks ls ≡ each_once ls) whole before.once)
-
 -- of the elements from a start on, those that are marked among the first so many have moved together
 pub record IsPacked {X : Type 0} (old : List X) (start : ℕ) (marks : List Bool) (n : ℕ) (end : ℕ) (now : List X) : Type 0 where
   pub short : end ≤ start + n
   pub size : length now ≡ length old
   pub front : take end now ≡ take start old ++ marked (take n marks) (drop start old)
   pub later : drop (start + n) now ≡ drop (start + n) old
-
-pub packed_none : {X : Type 0} (old : List X) (start : ℕ) (marks : List Bool) → IsPacked old start marks 0 start old
-packed_none old start marks = record { short = omega arith; size = refl; front = sym (append-nil (take start old)); later = refl }
 
 marked_next : {X : Type 0} (bs : List Bool) (xs : List X) (i : ℕ) (d : Bool) (e : X) → i < length bs → i < length xs
     → marked (take (i + 1) bs) xs ≡ marked (take i bs) xs ++ (if get_or bs i d then get_or xs i e ∷ [] else [])
@@ -140,7 +129,3 @@ module _ {X : Type 0} (old : List X) (start : ℕ) (marks : List Bool) (n end : 
         ∙ ap (λ zs. take start old ++ zs) (sym (grown ∙ (rw (kept, ← same_read, ← is) refl)));
     later = let e : start + (n + 1) ≡ start + n + 1 = omega arith in rw e (drop-set-lt (start + n + 1) now end y (omega (arith, packed.short)) ∙ same_later);
   }
-
-pub packed_all : {X : Type 0} (old : List X) (start : ℕ) (marks : List Bool) (n end : ℕ) (now : List X) → length marks ≤ n → IsPacked old start marks n end now
-    → take end now ≡ take start old ++ marked marks (drop start old)
-packed_all old start marks n end now all packed = packed.front ∙ ap (λ bs. take start old ++ marked bs (drop start old)) (take_all n marks all)

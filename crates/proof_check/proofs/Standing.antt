@@ -7,7 +7,7 @@ use Rattle.hint_refutation.specs.Laws.{IsMet}
 use Rattle.hint_refutation.proofs.Lists.{any_found, any_from, contains_cases, contains_first, contains_later, contains_none, any_true}
 use Rattle.axiom_rules.specs.declared.literal.Literal.{Literal}
 use Rattle.axiom_rules.specs.Parts.{each_once}
-use Rattle.axiom_rules.proofs.AddingLemmas.{among-once, once-among}
+use Rattle.axiom_rules.proofs.AddingLemmas.{among-once}
 
 -- what stands in a list, in the words of both
 pub among_stands : {X : Type 0} (xs : List X) (x : X) → Among xs x → Contains xs x
@@ -18,10 +18,6 @@ among_stands (y ∷ ys) x (inr there) = contains_later y x ys (among_stands ys x
 pub stands_among : {X : Type 0} (xs : List X) (x : X) → Contains xs x → Among xs x
 stands_among [] x has = absurd (contains_none x has)
 stands_among (y ∷ ys) x has = elim (contains_cases y x ys has) [ inl here ↦ inl here | inr there ↦ inr (stands_among ys x there) ]
-
--- each literal once: the same literals
-pub once_stands : (ls : List Literal) (m : Literal) → Contains (each_once ls) m → Contains ls m
-once_stands ls m has = among_stands ls m (once-among ls m (stands_among (each_once ls) m has))
 
 pub stands_once : (ls : List Literal) (m : Literal) → Contains ls m → Contains (each_once ls) m
 stands_once ls m has = among_stands (each_once ls) m (among-once ls m (stands_among ls m has))

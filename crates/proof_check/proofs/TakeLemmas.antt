@@ -17,8 +17,7 @@ use Rattle.axiom_rules.specs.contracts.literal.LiteralPartialEq.TheImpl.{eq-valu
 use Rattle.axiom_rules.specs.Literals.{negated, same_literal}
 use Rattle.axiom_rules.proofs.AddingLemmas.{literal-itself, negated-twice}
 use Rattle.axiom_rules.proofs.PartLemmas.{literals_same}
-use Rattle.proof_check.specs.Refutation.{AreThose, GivesNext, IsNeither}
-use Rattle.proof_check.proofs.ThoseLemmas.{those_behind}
+use Rattle.proof_check.specs.Refutation.{IsNeither}
 
 -- the comparison of literals is that of the definition
 literal_is : (l m : Literal) → literal_eq.it l m ≡ same_literal l m
@@ -161,7 +160,3 @@ module _ (assumed : List Literal) where
     open_all i u most least is =
         let same : i ≡ length clause = omega (arith, most, least) in
         subst (λ (ls : List Literal). IsOpen ls u) (ap (λ n. take n clause) same ∙ take-length clause) is
-
--- what is assumed after a clause that gives a literal
-pub given_next : (front keys old clause new : List Literal) (u : Literal) → front ++ keys ≡ old → Gives negated old clause u → AreThose (u ∷ keys) new → GivesNext old clause (front ++ new)
-given_next front keys old clause new u same gives grown = record { literal = u; gives = gives; assumed = subst (λ ls. AreThose (u ∷ ls) (front ++ new)) same (those_behind front keys new u grown) }

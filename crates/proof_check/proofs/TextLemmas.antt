@@ -1,5 +1,5 @@
 -- Lines that are judged as they are read from their text.
-use Rattle.std.proofs.Common.{◌≡◌, ◌∙◌, sym, ap, refl, subst, cond, ℕ, ◌+◌, ◌<◌, ◌≤◌, List, [], ◌∷◌, ◌++◌, length, length-append, length-drop, get_or, take, drop, arith}
+use Rattle.std.proofs.Common.{◌≡◌, ◌∙◌, sym, ap, subst, cond, ℕ, ◌+◌, ◌-◌, ◌<◌, ◌≤◌, List, [], ◌∷◌, ◌++◌, length, length-drop, get_or, take, drop, arith}
 use Rattle.std.proofs.lemmas.List.{drop_more, take_all, take_more}
 use Rattle.std.proofs.lemmas.List.Sums.{sum_by-append}
 use Rattle.axiom_rules.specs.declared.literal.Literal.{Literal}
@@ -9,17 +9,15 @@ use Rattle.proof_log.specs.Derivations.{IsEmptyAt, clause_of_line}
 use Rattle.proof_log.specs.Freshness.{is_learn, learn_lines}
 use Rattle.proof_log.specs.declared.parts.LineWords.{LineWords}
 use Rattle.proof_log.specs.LinesOf.{IsTextOf}
-use Rattle.proof_log.specs.LinesText.{line_text, lines_text}
 use Rattle.proof_log.specs.Parts.{AreWordsOf, IsHeadWords}
 use Rattle.proof_log.specs.Spelled.{IsSpelled}
 use Rattle.proof_check.specs.declared.check.Check.{Check}
 use Rattle.proof_check.specs.declared.check.Check.TheVariants as check
-use Rattle.proof_check.specs.Answering.{AreJudged, IsAnswer, OfSought}
+use Rattle.proof_check.specs.Answering.{AreJudged, IsAnswer, OfSought, right_lines}
 use Rattle.proof_check.specs.Judging.{IsNext}
 use Rattle.proof_check.specs.Keeping.{lines_with}
 use Rattle.proof_check.proofs.AnswerLemmas.{judged_all, judged_more, judged_wrong}
 use Rattle.mt_list.proofs.Lists.{parts_same}
-use Rattle.proof_log.proofs.ReadingLines.{line_some}
 
 -- the element that comes next in a list, and what follows it
 record IsNextOf {X : Type 0} (xs : List X) (n : ℕ) (x : X) (ys : List X) : Type 0 where
@@ -48,24 +46,6 @@ pub record AreTaken (s : Sought) (text : List ℕ) (kept : List (List Literal)) 
   pub each : (lines : List Line) → IsTextOf text lines → AreJudgedTo s kept rest count lines
   pub room : length kept + length rest ≤ length text
   pub few : count ≤ length kept
-
-pub none_taken_yet : (s : Sought) (text : List ℕ) → AreTaken s text [] text 0
-none_taken_yet s text = record {
-  each = λ lines is. record {
-    within = omega arith;
-    judged = record { good = λ log f v sought m least most. absurd (omega (arith, least, most)); same = refl };
-    text = is;
-    learnt = refl;
-  };
-  room = omega arith;
-  few = omega arith;
-}
-
--- what follows the first of the lines of a text is shorter than the text
-pub rest_shorter : (text : List ℕ) (lines : List Line) (ws : LineWords) (rest : List ℕ) → IsTextOf text lines → IsHeadWords lines ws rest → length rest < length text
-rest_shorter text lines ws rest is head =
-    let whole : text ≡ line_text head.line ++ lines_text head.others = is.text ∙ ap lines_text head.split in
-    omega (arith, ap length whole, length-append (line_text head.line) (lines_text head.others), ap length head.text.text, line_some head.line)
 
 module _ (s : Sought) (text : List ℕ) (kept : List (List Literal)) (rest : List ℕ) (count : ℕ) (before : AreTaken s text kept rest count) (ws : LineWords) (after : List ℕ)
     (head : (lines : List Line) → IsTextOf rest lines → IsHeadWords lines ws after) where
@@ -105,6 +85,13 @@ module _ (s : Sought) (text : List ℕ) (kept : List (List Literal)) (rest : Lis
     few = omega (arith, before.few, size, one);
   }
 
+-- the Learn lines before a line that is wrong
+pub counted_wrong : (s : Sought) (text : List ℕ) (kept : List (List Literal)) (rest : List ℕ) (count : ℕ) → AreTaken s text kept rest count → (n : ℕ) → n ≡ length kept + 1
+    → (lines : List Line) → IsTextOf text lines → count ≡ learn_lines (right_lines (check.Wrong n) lines)
+counted_wrong s text kept rest count before n number lines is =
+    let less : n - 1 ≡ length kept = omega (arith, number) in
+    (before.each lines is).learnt ∙ ap (λ k. learn_lines (take k lines)) (sym less)
+
 -- where nothing is left
 module _ (s : Sought) (text : List ℕ) (kept : List (List Literal)) (rest : List ℕ) (count : ℕ) (before : AreTaken s text kept rest count)
     (none : (lines : List Line) → IsTextOf rest lines → lines ≡ []) where
@@ -117,5 +104,11 @@ module _ (s : Sought) (text : List ℕ) (kept : List (List Literal)) (rest : Lis
       → (lines : List Line) → IsTextOf text lines → OfSought s (λ log f v. IsAnswer log f v lines c)
   taken_all c refutes derives lines is = judged_all s lines (length kept) kept c (whole lines is) (before.each lines is).judged refutes derives
 
-  pub counted_all : (lines : List Line) → IsTextOf text lines → count ≡ learn_lines lines
+  counted_all : (lines : List Line) → IsTextOf text lines → count ≡ learn_lines lines
   counted_all lines is = (before.each lines is).learnt ∙ ap learn_lines (ap (λ k. take k lines) (whole lines is) ∙ take_all (length lines) lines (omega arith))
+
+  pub counted_right : (c : Check) → (IsEmptyAt (lines_with kept) (length kept) → c ≡ check.Refutes) → ((IsEmptyAt (lines_with kept) (length kept) → ⊥) → c ≡ check.Derives)
+      → (lines : List Line) → IsTextOf text lines → count ≡ learn_lines (right_lines c lines)
+  counted_right check.Refutes refutes derives lines is = counted_all lines is
+  counted_right check.Derives refutes derives lines is = counted_all lines is
+  counted_right (check.Wrong n) refutes derives lines is = absurd (cc (derives (λ empty. absurd (cc (refutes empty)))))

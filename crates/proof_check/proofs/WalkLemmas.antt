@@ -1,5 +1,5 @@
 -- Walks that go on, and walks that stop.
-use Rattle.std.proofs.Common.{◌≡◌, ◌∙◌, sym, ap, refl, subst, ℕ, zero, suc, ◌+◌, ◌-◌, ◌*◌, ◌^◌, ◌<◌, ◌≤◌, List, [], ◌∷◌, ◌++◌, length, take, map, Option, Some, None, inl, inr, ◌↔◌, Bool, true, false, IsTrue, ℤ, pos, ◌+ℤ◌, ◌<ℤ◌, arith, length-append}
+use Rattle.std.proofs.Common.{◌≡◌, ◌∙◌, sym, ap, refl, subst, ℕ, zero, suc, ◌+◌, ◌-◌, ◌*◌, ◌^◌, ◌<◌, ◌≤◌, List, [], ◌∷◌, ◌++◌, length, take, map, Option, Some, None, ◌↔◌, Bool, true, false, IsTrue, ℤ, pos, ◌+ℤ◌, ◌<ℤ◌, arith, length-append}
 use Rattle.std.specs.Prelude.{◌≢◌, IfSome, option_map, All}
 use Rattle.std.proofs.lemmas.Int.{ints}
 use Rattle.std.proofs.lemmas.List.Elements.{All-nil, All-cons, All-head, All-tail}
@@ -13,7 +13,7 @@ use Rattle.mt_model.specs.Walks.{Conflict, Edge, HasEdges, IsClosedWalk, LeadsTo
 use Rattle.neg_cycle.specs.declared.system.Edge.{Edge as SystemEdge}
 use Rattle.skew_bounds.specs.Edges.{edge_in}
 use Rattle.proof_check.specs.declared.walk.Walk.{Walk}
-use Rattle.proof_check.specs.Cycles.{FollowOneAnother, IsCycle, IsPlace, IsWalk, bound_edge_of}
+use Rattle.proof_check.specs.Cycles.{FollowOneAnother, IsCycle, bound_edge_of}
 use Rattle.proof_check.specs.Walking.{BeginsAt, Covers, Follows, Goes, IsCyclic, IsJoined, IsNear, Stops, StopsAt, with_edge}
 use Rattle.mt_list.proofs.Lists.{found_same}
 
@@ -41,21 +41,9 @@ near_more n m a b sum bound =
 take_front : {X : Type 0} (xs ys : List X) → take (length xs) (xs ++ ys) ≡ xs
 take_front xs ys = take-append-le (length xs) xs ys (omega arith) ∙ take-length xs
 
--- a sum of few bounds has room
-pub near_few : (n : ℕ) (x : ℤ) → n < 2 ^ 32 → IsNear (n * 2 ^ 90) x → IsNear (2 ^ 122) x
-near_few n x few near = record { low = omega (arith, ints, near.low, few); high = omega (arith, ints, near.high, few) }
-
 near_edge : (o : Option SystemEdge) (x : Edge) → IfSome o (λ e. IsNear (2 ^ 90) e.bound) → option_map edge_in o ≡ Some x → IsNear (2 ^ 90) x.bound
 near_edge None x near is = absurd (cc)
 near_edge (Some e) x near is = let same : edge_in e ≡ x = cc in subst (λ (y : Edge). IsNear (2 ^ 90) y.bound) same near
-
--- and with one more
-pub near_next : (n : ℕ) (w further : Walk) (o : Option SystemEdge) → 1 ≤ n → IsNear ((n - 1) * 2 ^ 90) w.sum → IfSome o (λ e. IsNear (2 ^ 90) e.bound)
-    → Goes w (option_map edge_in o) further → IsNear (n * 2 ^ 90) further.sum
-near_next n w further o some near bound goes =
-    let same : n - 1 + 1 ≡ n = omega (arith, some) in
-    subst (λ (v : Walk). IsNear (n * 2 ^ 90) v.sum) (sym goes.is)
-    (subst (λ k. IsNear (k * 2 ^ 90) (w.sum +ℤ goes.x.bound)) same (near_more (n - 1) (2 ^ 90) w.sum goes.x.bound near (near_edge o goes.x bound goes.there)))
 
 module _ (edge : Step → Option Edge) where
   pub covers_none : (a : ℕ) → Covers edge [] (record { start = a; «end» = a; sum = pos 0 })
@@ -210,28 +198,6 @@ module _ (edge : Step → Option Edge) where
               λ joined. stops_push steps s w covers begins (subst (Stops w) is stops) (subst (IsJoined edge) (ap (λ k. take k (steps ++ s ∷ [])) (sym size) ∙ take-length (steps ++ s ∷ [])) joined);
         }
 
-  -- the first step has no edge
-  pub stops_first : (s : Step) → edge s ≡ None → StopsAt edge (s ∷ []) 1
-  stops_first s none = record {
-    some = omega arith;
-    within = omega arith;
-    before = record { edges = []; found = refl; joined = tt };
-    loose = λ joined. go joined.edges joined.found;
-  }
-    where
-      go : (edges : List Edge) → map edge (s ∷ []) ≡ map Some edges → ⊥
-      go [] found = cc
-      go (x ∷ xs) found = let is : edge s ≡ Some x = cc in let both : None ≡ Some x = sym none ∙ is in cc
-
-  -- where steps stopped, they stop with one more
-  pub stopped_more : (steps : List Step) (s : Step) (n : ℕ) → StopsAt edge steps n → StopsAt edge (steps ++ s ∷ []) n
-  stopped_more steps s n stops = record {
-    some = stops.some;
-    within = omega (arith, stops.within, length-append steps (s ∷ []));
-    before = subst (IsJoined edge) (sym (take-append-le (n - 1) steps (s ∷ []) (omega (arith, stops.within)))) stops.before;
-    loose = λ joined. stops.loose (subst (IsJoined edge) (take-append-le n steps (s ∷ []) stops.within) joined);
-  }
-
   -- a walk goes on
   pub along_more : (steps : List Step) (s : Step) (w : Walk) → Follows edge steps w → BeginsAt edge (steps ++ s ∷ []) w.start
   along_more steps s w follows = begins_more steps s w.start follows.begins
@@ -285,17 +251,6 @@ module _ (log : Logged) where
   bound_same (Extra k) is = refl
   bound_same (Order e f c) is = absurd is
 
-  pub unbound_none : (s : Step) → (IsBound s → ⊥) → bound_edge_of log s ≡ None
-  unbound_none (Low e) not = absurd (not tt)
-  unbound_none (High e) not = absurd (not tt)
-  unbound_none (Rise f) not = absurd (not tt)
-  unbound_none (Message r) not = absurd (not tt)
-  unbound_none (Late r) not = absurd (not tt)
-  unbound_none (Under r) not = absurd (not tt)
-  unbound_none (Over r) not = absurd (not tt)
-  unbound_none (Extra k) not = absurd (not tt)
-  unbound_none (Order e f c) not = refl
-
   bounds_found : (steps : List Step) (edges : List Edge) → map (bound_edge_of log) steps ≡ map Some edges → All IsBound steps × HasEdges log steps edges
   bounds_found [] [] found = (All-nil IsBound, refl)
   bounds_found [] (x ∷ xs) found = absurd (cc)
@@ -323,24 +278,3 @@ module _ (log : Logged) where
   cyclic_cycle steps cyclic =
       let both = bounds_found steps cyclic.edges cyclic.found in
       record { bounds = both.0; conflict = record { edges = cyclic.edges; found = both.1; closed = cyclic.closed; negative = cyclic.negative } }
-
-  joined_walk : (steps : List Step) → IsJoined (bound_edge_of log) steps → IsWalk log steps
-  joined_walk steps joined = record { edges = joined.edges; found = joined.found; joined = joined.joined }
-
-  walk_joined : (steps : List Step) → IsWalk log steps → IsJoined (bound_edge_of log) steps
-  walk_joined steps walk = record { edges = walk.edges; found = walk.found; joined = walk.joined }
-
-  -- the place that is named
-  pub stopped_place : (steps : List Step) (n : ℕ) → StopsAt (bound_edge_of log) steps n → IsPlace log steps n
-  stopped_place steps n stops = inl (record {
-    some = stops.some;
-    within = stops.within;
-    before = joined_walk (take (n - 1) steps) stops.before;
-    loose = λ walk. stops.loose (walk_joined (take n steps) walk);
-  })
-
-  pub along_place : (steps : List Step) (w : Walk) → Follows (bound_edge_of log) steps w → (n : ℕ) → n ≡ length steps → IsPlace log steps n
-  along_place steps w follows n is = inr (joined_walk steps (covers_joined (bound_edge_of log) steps w follows.covers), is)
-
-  pub start_place : (steps : List Step) → steps ≡ [] → IsPlace log steps 0
-  start_place steps none = inr (record { edges = []; found = ap (map (bound_edge_of log)) none; joined = tt }, sym (ap length none))

@@ -1,5 +1,5 @@
 -- What is answered for lines.
-use Rattle.std.specs.Prelude.{◌≡◌, ◌↔◌, ◌+◌, ◌≤◌, ℕ, Bool, List, length, map, take, All, Some}
+use Rattle.std.specs.Prelude.{◌≡◌, ◌↔◌, ◌+◌, ◌-◌, ◌≤◌, ℕ, Bool, List, length, map, take, All, Some}
 use Rattle.mt_model.specs.Form.{Form}
 use Rattle.mt_model.specs.Log.{Logged}
 use Rattle.axiom_rules.specs.declared.literal.Literal.{Literal}
@@ -24,6 +24,12 @@ pub record IsAnswer (log : Logged) (f : Form) (v : Bool) (lines : List Line) (an
   pub refutes : (answer ≡ check.Refutes) ↔ Refutes log f v lines
   pub derives : (answer ≡ check.Derives) ↔ Derives log f v lines
   pub wrong : (n : ℕ) → (answer ≡ check.Wrong n) ↔ FirstWrong log f v lines n
+
+-- the lines that an answer says are right: all, or those before the first wrong one
+abbrev pub right_lines : Check → List Line → List Line
+right_lines check.Refutes lines = lines
+right_lines check.Derives lines = lines
+right_lines (check.Wrong n) lines = take (n - 1) lines
 
 -- the first n lines are good
 abbrev pub AreGood : Logged → Form → Bool → List Line → ℕ → Type 0

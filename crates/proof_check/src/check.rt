@@ -11,7 +11,7 @@ pub enum Check {
     Wrong(u32),
 }
 
-/// What the lines of a text are, and how many of those that were read are Learn lines.
+/// What the lines of a text are, and how many of the right ones, as far as the first wrong one, are Learn lines.
 #[derive(Clone, Copy, PartialEq, Eq)]
 pub struct TextCheck {
     pub check: Check,

@@ -11,7 +11,7 @@ ghost use Rattle.axiom_rules.specs.Sought.{sought_of};
 ghost use Rattle.proof_log.specs.Derivations.{Derives, FirstWrong, Refutes};
 ghost use Rattle.proof_log.specs.Freshness.{learn_lines};
 ghost use Rattle.proof_log.specs.LinesOf.{IsTextOf};
-ghost use Rattle.proof_check.specs.Answering.{OfSought, OfText};
+ghost use Rattle.proof_check.specs.Answering.{OfSought, OfText, right_lines};
 
 use crate::check::{Check, TextCheck};
 use crate::laws::refuted_is_no_value;
@@ -93,14 +93,15 @@ impl Checker {
     }
 
     /// The same for lines of which the bytes are the text. They are read one after another, and of each its clause alone is
-    /// kept. Lines that derive are counted in full.
+    /// kept. The Learn lines are counted, those before the first wrong line where there is one. Of bytes that are the text of
+    /// no lines nothing is said.
     pub fn check_text(&mut self, text: &[u8]) -> Result<TextCheck, AllocError>
         requires few { length text.now < 2 ^ 31 }
         ensures refutes { IfOk result (λ t. OfText self.old text.now (λ log f v lines. (t.check ≡ Check.Refutes) ↔ Refutes log f v lines)) }
         ensures derives { IfOk result (λ t. OfText self.old text.now (λ log f v lines. (t.check ≡ Check.Derives) ↔ Derives log f v lines)) }
         ensures wrong { IfOk result (λ t. OfText self.old text.now (λ log f v lines. (n : ℕ) → (t.check ≡ Check.Wrong n) ↔ FirstWrong log f v lines n)) }
         ensures excludes { IfOk result (λ t. OfText self.old text.now (λ log f v lines. t.check ≡ Check.Refutes → IsValue log f v → ⊥)) }
-        ensures learn { IfOk result (λ t. (lines : List Line) → IsTextOf text.now lines → t.check ≡ Check.Derives → t.learn_lines ≡ learn_lines lines) }
+        ensures learn { IfOk result (λ t. (lines : List Line) → IsTextOf text.now lines → t.learn_lines ≡ learn_lines (right_lines t.check lines)) }
         ensures kept { self.new ≡ self.old }
     {
         refuted_is_no_value();

@@ -8,7 +8,7 @@ ghost use Rattle.proof_log.specs.Derivations.{IsEmptyAt, clause_of_line};
 ghost use Rattle.proof_log.specs.Freshness.{learn_lines};
 ghost use Rattle.proof_log.specs.LinesOf.{IsTextOf};
 ghost use Rattle.proof_log.specs.Parts.{AreWordsOf, IsHeadWords, OfLine};
-ghost use Rattle.proof_check.specs.Answering.{IsAnswer, IsSpelledFront, OfSought, with_unspelled as with_unspelled_of};
+ghost use Rattle.proof_check.specs.Answering.{IsAnswer, IsSpelledFront, OfSought, right_lines, with_unspelled as with_unspelled_of};
 ghost use Rattle.proof_check.specs.Judging.{IsNext};
 ghost use Rattle.proof_check.specs.Keeping.{closed_only, lines_with, with_closed};
 
@@ -85,11 +85,11 @@ fn learn_lines_with(count: u32, words: LineWords) -> u32
     }
 }
 
-/// What the lines of a text are, and how many of those that were read are Learn lines.
+/// What the lines of a text are, and how many of the right ones are Learn lines.
 pub fn check_lines_of(alloc: Global, rules: &Rules, text: &[u8]) -> Result<TextCheck, AllocError>
     requires { length text.now < 2 ^ 31 }
     ensures answer { IfOk result (λ t. (lines : List Line) → IsTextOf text.now lines → OfSought rules.now (λ log f v. IsAnswer log f v lines t.check)) }
-    ensures learn { IfOk result (λ t. (lines : List Line) → IsTextOf text.now lines → t.check ≡ Check.Derives → t.learn_lines ≡ learn_lines lines) }
+    ensures learn { IfOk result (λ t. (lines : List Line) → IsTextOf text.now lines → t.learn_lines ≡ learn_lines (right_lines t.check lines)) }
 {
     let table = EdgeTable::of(alloc, rules.log())?;
     let mut kept = Clauses::new(alloc);

@@ -6,7 +6,6 @@ use Rattle.std.specs.List.{flat_map, join_with_byte, slice_split}
 use Rattle.std.proofs.lemmas.List.{append-nil, append_cancel_right}
 use Rattle.std.proofs.lemmas.List.Splits.{join_with_byte-slice_split, length-slice_split}
 use Rattle.memchr.specs.Find.{is_byte}
-use Rattle.mt_model.specs.declared.step.Step.{Step}
 use Rattle.axiom_rules.specs.declared.literal.Literal.{Literal}
 use Rattle.proof_log.specs.declared.line.Hint.{Hint}
 use Rattle.proof_log.specs.declared.line.Line.{Line}
@@ -32,9 +31,6 @@ readable-spelled (line.Learn lits hints) is once = record { lit_count = is.0.few
 pub spelled-once : (l : Line) → IsSpelled l → HasAtomsOnce l
 spelled-once (line.Cycle steps) is = tt
 spelled-once (line.Learn lits hints) is = is.once
-
-abbrev AreSteps : List Word → List Step × List Word → Type 0
-AreSteps ws = IsRead (counted_words step_in step_words IsSpelledStep step-read) (AreCounted step_in step_words IsSpelledStep step-read) ws
 
 abbrev AreLiterals : List Word → List Literal × List Word → Type 0
 AreLiterals ws = IsRead (counted_words literal_in literal_words IsSpelledLiteral literal-read) (AreCounted literal_in literal_words IsSpelledLiteral literal-read) ws

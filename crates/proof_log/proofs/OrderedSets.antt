@@ -1,5 +1,5 @@
 -- Sets whose order tells their keys apart.
-use Rattle.std.proofs.Common.{Ordering, ◌≡◌, ◌∙◌, sym, ap, subst, refl, Bool, true, false, cond, not, ◌↔◌, ◌⊎◌, inl, inr, arith}
+use Rattle.std.proofs.Common.{Ordering, ◌≡◌, ◌∙◌, sym, ap, subst, refl, Bool, true, false, cond, ◌↔◌, ◌⊎◌, inl, inr}
 use Rattle.std.specs.Prelude.{Contains, IsTrue}
 use Rattle.std.specs.BTreeSet.{BTreeSet, Updates, contains}
 use Rattle.std.specs.Cmp.{IsTotalOrder, tied_itself}
@@ -33,10 +33,3 @@ module _ {K : Type 0} {R : K → K → Ordering} (order : IsTotalOrder R) (exact
       | inr same ↦ inr (subst (λ (p : K). eq_by_cmp R k p ≡ true) same (ap is_eq (tied_itself order k)))
     ])),
   )
-
-  -- what the answer of an insertion says of the set before it
-  pub had_old : (old : BTreeSet K) (k : K) (added : Bool) → added ≡ not (contains R old k) → added ≡ false → Contains old.keys k
-  had_old old k added is kept = (has old k).0 (grind arith)
-
-  pub lacks_added : (old : BTreeSet K) (k : K) (added : Bool) → added ≡ not (contains R old k) → added ≡ true → Contains old.keys k → ⊥
-  lacks_added old k added is new there = let found = (has old k).1 there in absurd (grind arith)

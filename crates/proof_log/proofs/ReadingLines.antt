@@ -4,18 +4,18 @@ use Rattle.std.specs.Prelude.{All, MatchOption}
 use Rattle.std.specs.List.{join_with_byte, slice_split}
 use Rattle.std.proofs.Math.Seq.{split_at}
 use Rattle.std.proofs.lemmas.Bool.Decides.{nat_tests}
-use Rattle.std.proofs.lemmas.List.{append-nil, append_cancel_left, nil_from_length}
+use Rattle.std.proofs.lemmas.List.{append-nil, append_cancel_left}
 use Rattle.std.proofs.lemmas.List.Concat.{flat_map-append}
 use Rattle.std.proofs.lemmas.List.Elements.{All-head, All-nil, All-push, All-tail}
 use Rattle.std.proofs.lemmas.List.Splits.{length-slice_split, slice_split_at, slice_split_none}
-use Rattle.memchr.specs.Find.{NoneBefore, Nowhere, Passes, is_byte}
+use Rattle.memchr.specs.Find.{NoneBefore, Passes, is_byte}
 use Rattle.proof_log.specs.declared.fault.LineFault.{LineFault}
 use Rattle.proof_log.specs.declared.fault.LineFault.TheVariants as fault
 use Rattle.proof_log.specs.declared.line.Line.{Line}
 use Rattle.proof_log.specs.LinesOf.{BeginsWithLine, IsFaultyAt, IsLine, IsTextOf, LinesOf}
 use Rattle.proof_log.specs.LinesText.{line_text, line_words, lines_text, newline, space}
 use Rattle.proof_log.specs.Spelled.{IsSpelled}
-use Rattle.proof_log.proofs.Cuts.{cut-at, cut-none}
+use Rattle.proof_log.proofs.Cuts.{cut-at}
 use Rattle.proof_log.proofs.LineReading.{one-line}
 use Rattle.proof_log.proofs.PlainWords.{joined-lacks, plain-line}
 
@@ -24,9 +24,6 @@ pub record AreReadUpTo (bytes : List ℕ) (lines : List Line) (rest : List ℕ) 
   pub spelled : All IsSpelled lines
   pub text : bytes ≡ lines_text lines ++ rest
   pub room : length lines + length rest ≤ length bytes
-
-pub none-read : (bytes : List ℕ) → AreReadUpTo bytes [] bytes
-none-read bytes = record { spelled = All-nil IsSpelled; text = refl; room = omega arith }
 
 abbrev joined : Line → List ℕ
 joined l = join_with_byte space (line_words l)
@@ -85,14 +82,6 @@ module _ (rest : List ℕ) (end : ℕ) (first : NoneBefore (Passes (is_byte newl
 
     pub faulty-line : ((l : Line) → IsLine (take end rest) l → ⊥) → (n : ℕ) → n ≡ length lines + 1 → IsFaultyAt bytes n
     faulty-line none n place = record { before = lines; rest = rest; split = before.text; spelled = before.spelled; place = place; some = omega (arith, first.high); faulty = not-begun none }
-
-pub faulty-end : (bytes : List ℕ) (lines : List Line) (rest : List ℕ) → AreReadUpTo bytes lines rest → 1 ≤ length rest
-    → Nowhere (Passes (is_byte newline) rest) 0 (length rest) → (n : ℕ) → n ≡ length lines + 1 → IsFaultyAt bytes n
-faulty-end bytes lines rest before some nowhere n place =
-    record { before = lines; rest = rest; split = before.text; spelled = before.spelled; place = place; some = some; faulty = no-newline rest (cut-none newline rest nowhere) }
-
-pub all-read : (bytes : List ℕ) (lines : List Line) (rest : List ℕ) → AreReadUpTo bytes lines rest → length rest ≡ 0 → IsTextOf bytes lines
-all-read bytes lines rest before empty = record { spelled = before.spelled; text = before.text ∙ ap (λ t. lines_text lines ++ t) (nil_from_length rest empty) ∙ append-nil (lines_text lines) }
 
 -- two ways of taking bytes apart are one
 record AreSame (xs ys : List Line) (a b : List ℕ) : Type 0 where

@@ -81,14 +81,6 @@ before-le (false ∷ marks) (l ∷ lines) (suc i) = let rest = before-le marks l
 
 -- ---- one mark is set
 
-pub set-kept : (marks : List Bool) (i n : ℕ) → IsMarked marks n → IsMarked (set marks i true) n
-set-kept marks i zero is = is
-set-kept [] i (suc n) is = is
-set-kept (mark ∷ marks) zero (suc zero) is = refl
-set-kept (mark ∷ marks) zero (suc (suc n)) is = is
-set-kept (mark ∷ marks) (suc i) (suc zero) is = is
-set-kept (mark ∷ marks) (suc i) (suc (suc n)) is = set-kept marks i (suc n) is
-
 pub set-there : (marks : List Bool) (i : ℕ) → i < length marks → IsMarked (set marks i true) (suc i)
 set-there [] i within = let never : ⊥ = omega arith in absurd never
 set-there (mark ∷ marks) zero within = refl

@@ -1,10 +1,9 @@
 -- The literals of a clause that are best watched.
-use Rattle.std.proofs.Common.{◌≡◌, ◌≢◌, ◌∙◌, ap, sym, refl, ℕ, ◌<◌, ◌≤◌, ◌⊎◌, inl, inr, List, [], ◌∷◌, ◌++◌, length, get_or, arith, Option, Some, None}
+use Rattle.std.proofs.Common.{◌≡◌, ◌≢◌, ◌∙◌, ap, refl, ℕ, ◌<◌, ◌≤◌, ◌⊎◌, inl, inr, List, [], ◌∷◌, ◌++◌, length, get_or, arith, Option, Some, None}
 use Rattle.std.specs.List.{All, Contains}
-use Rattle.std.proofs.lemmas.Bool.{cases_lt}
 use Rattle.std.proofs.lemmas.List.Elements.{All-push, All-weaker, Contains-append_left, Contains-push}
 use Rattle.clause_db.specs.declared.lit.Lit.{Lit}
-use Rattle.clause_db.specs.Literals.{negation, HasVarsOnce}
+use Rattle.clause_db.specs.Literals.{negation}
 use Rattle.propagate.specs.declared.entry.Entry.{Entry}
 use Rattle.propagate.specs.declared.best.Falsified.{Falsified}
 use Rattle.propagate.specs.Trails.{Assigned, entry_at, literals, IsTrail}
@@ -12,23 +11,10 @@ use Rattle.propagate.specs.Watched.{IsTrueAt, IsTrueUpTo}
 use Rattle.propagate.specs.Best.{AreFalseWithin, IsBest, IsLastFalse, IsSeen}
 use Rattle.propagate.proofs.ClauseLemmas.{literal_held}
 use Rattle.propagate.proofs.PlaceLemmas.{at_up_to, same_literal, up_to_more, up_to_top}
-use Rattle.std.proofs.lemmas.Option.{same_Some}
 
 -- a literal that isn't false is best
 pub open_best : (es : List Entry) (clause : List Lit) (beside : Option Lit) (l : Lit) → Contains clause l → beside ≢ Some l → (Contains (literals es) (negation l) → ⊥) → IsBest es clause beside l
 open_best es clause beside l has other open_here = record { has = has; differs = other; last = λ k within is. absurd (open_here (literal_held es k (negation l) within is)) }
-
--- where all were seen, and all are false, the one that became so last is best
-pub last_best : (t : Assigned) (clause : List Lit) (beside : Option Lit) (f : Falsified) → IsTrail t → IsLastFalse t.entries clause beside f → IsBest t.entries clause beside f.lit
-last_best t clause beside f trail seen = record {
-  has = seen.has;
-  differs = seen.differs;
-  last = λ k within is.
-      let at = seen.at in
-      let same = same_literal t k at.0 (negation f.lit) trail within at.1 is at.2 in
-      let level = ap (λ j. (entry_at t.entries j).level) same ∙ at.3 in
-      rw level seen.others;
-}
 
 -- where all others are false, one that became false at the present level is best
 pub top_best : (t : Assigned) (clause : List Lit) (beside : Option Lit) (l : Lit) → IsTrail t → Contains clause l → beside ≢ Some l
@@ -97,16 +83,6 @@ module _ (es : List Entry) (front : List Lit) (x : Lit) (beside : Option Lit) wh
     | inl kept ↦ rw kept.0 (false_sooner m f known kept.1 at)
     | inr new ↦ rw new.0 (false_later m f known new.1 other at)
   ]
-
--- a clause whose literals are all the same has no two
-pub no_two : (clause : List Lit) (l : Lit) → HasVarsOnce clause → All (λ x. Some l ≡ Some x) clause → length clause < 2
-no_two clause l once same = elim (cases_lt (length clause) 2) [
-  | inl short ↦ short
-  | inr two ↦
-      let first : l ≡ get_or clause 0 l = same_Some _ _ (same 0 l (omega (arith, two))) in
-      let second : l ≡ get_or clause 1 l = same_Some _ _ (same 1 l (omega (arith, two))) in
-      absurd (once 0 1 l (omega arith) (omega (arith, two)) (ap (λ (x : Lit). x.var) (sym first ∙ second)))
-]
 
 pub no_one : (clause : List Lit) → All (λ x. None ≡ Some x) clause → length clause < 2
 no_one [] none = omega arith

@@ -1,5 +1,5 @@
 -- The stored edges, as those of a variable are set.
-use Rattle.std.proofs.Common.{◌≡◌, ◌≢◌, ◌∙◌, ap, sym, refl, ℕ, zero, suc, ◌+◌, ◌<◌, ◌≤◌, ◌^◌, inl, inr, List, [], ◌∷◌, ◌++◌, length, map, set, get_or, arith, Option, Some, None, cond, get_or-set_same, get_or-set_other, length-set}
+use Rattle.std.proofs.Common.{◌≡◌, ◌≢◌, ◌∙◌, ap, sym, refl, ℕ, zero, suc, ◌+◌, ◌<◌, ◌≤◌, inl, inr, List, [], ◌∷◌, ◌++◌, length, map, set, get_or, arith, Option, Some, None, cond, get_or-set_same, get_or-set_other, length-set}
 use Rattle.std.specs.Prelude.{replicate}
 use Rattle.std.specs.List.{count_by, slice_get}
 use Rattle.std.proofs.lemmas.Bool.{cases_eq}
@@ -63,12 +63,6 @@ module _ (places : List (Option ℕ)) (edges : List Pair) (capacity v : ℕ) (wi
         let both = rw none at (sum_by-set (λ x. cond (is_free x) 1 0) places v (Some (length edges)) None within) in
         omega (arith, both)
 
-    pub more_room : length edges < capacity
-    more_room = let fewer = one_fewer in let all = old.all in let room = old.room in omega (arith, fewer, all, room)
-
-    pub more_few : length edges < 2 ^ 32
-    more_few = let fewer = one_fewer in let all = old.all in let few = old.few in omega (arith, fewer, all, few)
-
     pub more_places : (more : ℕ) → capacity ≤ more → ArePlaces (set places v (Some (length edges))) (length (edges ++ y ∷ [])) more
     more_places more larger = record {
       below = λ w k is. elim (cases_eq w v) [
@@ -110,9 +104,6 @@ module _ (places : List (Option ℕ)) (edges : List Pair) (capacity v : ℕ) (wi
 
   -- a variable that had edges
   module _ (old : ArePlaces places (length edges) capacity) (k : ℕ) (is : get_or places v None ≡ Some k) where
-    pub again_places : ArePlaces places (length (set edges k y)) capacity
-    again_places = rw (length-set edges k y) old
-
     other_pair : (w : ℕ) (r : Option ℕ) → w ≢ v → get_or places w None ≡ r → pair_at (set edges k y) r ≡ pair_at edges r
     other_pair w None other at = refl
     other_pair w (Some j) other at = get_set_other edges k j y (λ same. other (old.apart w v j at (is ∙ ap (λ (n : ℕ). Some n) (sym same))))

@@ -26,7 +26,7 @@ use Rattle.propagate.proofs.WatchedLemmas.{guards_fewer, guards_longer, known_at
 use Rattle.propagate.proofs.GuardLemmas.{guard_next, guards_stay, other_in}
 use Rattle.propagate.proofs.FallLemmas.{last_best, last_moved}
 use Rattle.propagate.proofs.ReachLemmas.{grown_entry, last_grown, progress_rewatched}
-use Rattle.propagate.proofs.VisitLemmas.{guards_moved, moved_anew, moved_known, moved_listed, moved_off, moved_unwatched, moved_within, next_grown, progress_again, since_before, visited_moved, visited_stay}
+use Rattle.propagate.proofs.VisitLemmas.{guards_moved, moved_anew, moved_listed, moved_off, moved_unwatched, moved_within, next_grown, progress_again, since_before, visited_moved, visited_stay}
 
 -- the next literal to propagate is in range, and its level is that of its place
 pub next_below : (t : Assigned) (f : Lit) → IsTrail t → IsNextFalse t f → f.var < t.vars
@@ -87,9 +87,6 @@ module _ (t : Assigned) (f o best : Lit) (c place : ℕ) (trail : IsTrail t) (in
 
   pub step_listed : IsListed s.watching c p
   step_listed = moved_listed t.watching s.watching (watching s.watching (set s.watching.watches c (Some p))) t.watching f p c place within second known apart here lists_added refl other_listed
-
-  pub step_known : c < length s.watching.watches
-  step_known = moved_known t.watching s.watching (watching s.watching (set s.watching.watches c (Some p))) t.watching f p c place within second known apart here lists_added refl
 
   module _ (u : Assigned) (anew : u ≡ rewatched s (watching s.watching (set s.watching.watches c (Some p))) s.propagated) where
     lists_anew : u.watching ≡ watching s.watching (set s.watching.watches c (Some p))

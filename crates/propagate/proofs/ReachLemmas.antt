@@ -23,7 +23,7 @@ use Rattle.propagate.specs.Clauses.{HasReasons, IsReason}
 use Rattle.propagate.specs.Watched.{AreWatched}
 use Rattle.propagate.specs.Best.{AreLastToFall, AreLastToFallFrom, IsLastToFall}
 use Rattle.propagate.specs.Steps.{InStep, IsInStep, IsRefused, HasRoomFor, LacksLast}
-use Rattle.propagate.specs.Reach.{HasStopped, IfClause, IfQuiet, IfTheory, IsAtWork, IsConflict, IsGrown, IsExtended, IsLast, IsProgress, IsReached, IsStopped, IsToldAs, UnlessQuiet, UnlessTheory}
+use Rattle.propagate.specs.Reach.{HasStopped, IfClause, IfQuiet, IfTheory, IsAtWork, IsConflict, IsGrown, IsExtended, IsLast, IsProgress, IsStopped, IsToldAs, UnlessQuiet, UnlessTheory}
 use Rattle.propagate.specs.declared.propagation.Reached.{Reached}
 use Rattle.propagate.specs.declared.propagation.Reached.TheVariants as reached
 use Rattle.propagate.specs.declared.stop.Stop.{Stop}
@@ -193,10 +193,6 @@ module _ (clauses : LinkedClauses) (a b c : Assigned) (g h i : Constraints) (fir
   stop_more (stop.Clause k) second = (progress_more second.0, second.1)
   stop_more (stop.Theory u) second = stopped_more u second
   stop_more stop.Memory second = progress_more second
-
-  pub reached_more : {T : Type 0} (r : Result T Stop) → IsReached clauses (b, h) r (c, i) → IsReached clauses (a, g) r (c, i)
-  reached_more (Ok x) second = progress_more second
-  reached_more (Err s) second = stop_more s second
 
 -- a literal of a clause whose others are false, and that is assigned now
 module _ (t : Assigned) (clauses : LinkedClauses) (g h : Constraints) (u : Lit) (c : ℕ) (held : c < length clauses.db.now) (leaves : LeavesOnly negation (literals t.entries) (clause_at clauses.db.now c) u)

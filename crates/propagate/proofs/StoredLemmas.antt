@@ -7,7 +7,7 @@ use Rattle.clause_db.specs.declared.lit.Lit.{Lit}
 use Rattle.propagate.specs.declared.entry.Entry.{Entry}
 use Rattle.propagate.specs.declared.entry.Level.{Level}
 use Rattle.propagate.specs.declared.watch.Watch.{Watch}
-use Rattle.propagate.specs.Watching.{Watching, AreListed, IsListed, IsUnwatched, list_in, with_list, lists_at, satisfying, unwatched, watch_at, watchers_of, watching}
+use Rattle.propagate.specs.Watching.{Watching, AreListed, IsListed, IsUnwatched, list_in, with_list, lists_at, unwatched, watch_at, watchers_of, watching}
 use Rattle.propagate.specs.Stored.{IsStored}
 use Rattle.propagate.proofs.UnwatchedLemmas.{unwatched_longer, unwatched_set}
 use Rattle.propagate.proofs.WatchingLemmas.{all_listed_more, all_listed_less, all_listed_up, all_listed_set}
@@ -92,7 +92,3 @@ module _ (xs : List Entry) (places : List (Option ℕ)) (ls : List Level) (w : W
       → IsSome (watch_at w c) → IsListed w c q
       → IsStored xs places ls (record { watches = watches; watchers = w.watchers; satisfied = w.satisfied }) n ec lc
   stored_set c q watches is within some new = rw is (stored_watching (watching w (set w.watches c (Some q))) refl (let satisfied = stored.trail.satisfied in omega (arith, satisfied, ap length (unwatched_set w.watches c c q refl some))) (all_listed_set w c q within new stored.trail.listed))
-
-  -- one clause more that counts as satisfied
-  pub stored_satisfied : (k : ℕ) → k ≤ length (unwatched w.watches) → IsStored xs places ls (satisfying w k) n ec lc
-  stored_satisfied k most = stored_watching (satisfying w k) refl most (λ c p is. let here = stored.trail.listed c p is in record { first = here.first; second = here.second })

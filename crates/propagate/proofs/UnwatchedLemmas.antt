@@ -5,9 +5,6 @@ use Rattle.std.proofs.lemmas.List.{get_or_append_left, length_push}
 use Rattle.propagate.specs.declared.watch.Watch.{Watch}
 use Rattle.propagate.specs.Watching.{unwatched, unwatched_from}
 
-none_some : {p : Watch} → None ≡ Some p → ⊥
-none_some e = cc
-
 some_none : {p : Watch} → Some p ≡ None → ⊥
 some_none e = cc
 

@@ -321,9 +321,6 @@ module _ (w v u x : Watching) (l : Lit) (p : Watch) (c place : ℕ) (within : l.
   pub moved_listed : Contains (watchers_of w p.first) c → IsListed v c p
   moved_listed has = rw added (record { first = listed_more w p.second c second p.first c has; second = listed_new w p.second c second })
 
-  pub moved_known : c < length v.watches
-  moved_known = rw kept_watches known
-
   pub moved_within : place < length (watchers_of u l)
   moved_within = rw kept_list here.within
 
@@ -366,13 +363,3 @@ module _ (w v u x : Watching) (l : Lit) (p : Watch) (c place : ℕ) (within : l.
           let elsewhere : j ≢ place = λ same. other (sym at ∙ ap (λ k. get_or (watchers_of w l) k 0) same ∙ here.is) in
           let to = removed_left (watchers_of w l) place here.within j in_j elsewhere in
           (to.0, to.2 le, to.1, to.3 ∙ at)
-
--- where nothing but perhaps the lists changed
-pub lists_anew : (w v : Watching) (c : ℕ) (p : Watch) → v.watches ≡ w.watches → v.satisfied ≡ w.satisfied → IsRewatched w v c p
-lists_anew w v c p same satisfied = record {
-  count = ap length same;
-  others = λ d other. ap (λ xs. get_or xs d None) same;
-  here = inl (ap (λ xs. get_or xs c None) same);
-  short = ap unwatched same;
-  satisfied = satisfied;
-}

@@ -1,5 +1,5 @@
 -- How large a size is at most.
-use Rattle.std.proofs.Common.{◌≡◌, refl, ℕ, zero, suc, ◌≤◌, ◌+◌, ◌*◌, ◌^◌, Bool, true, false, cond, List, [], ◌∷◌, length, inl, inr, add-one, arith}
+use Rattle.std.proofs.Common.{◌≡◌, refl, ℕ, zero, suc, ◌≤◌, ◌+◌, ◌*◌, ◌^◌, Bool, true, false, List, [], ◌∷◌, length, inl, inr, add-one, arith}
 use Rattle.std.specs.Prelude.{count_by, sum_by}
 use Rattle.std.specs.List.{range_with_len}
 use Rattle.std.proofs.Math.Nat.{mul-le-mul_left, suc-mul}
@@ -26,9 +26,6 @@ sum-range-from f a (suc n) j at =
 
 pub sum-range : (f : ℕ → ℕ) (n : ℕ) → sum_by f (range_with_len 0 (n + 1)) ≡ sum_by f (range_with_len 0 n) + f n
 sum-range f n = rw add-one (sum-range-from f 0 n n (omega arith))
-
-pub count-range : (p : ℕ → Bool) (n : ℕ) → count_by p (range_with_len 0 (n + 1)) ≡ count_by p (range_with_len 0 n) + cond (p n) 1 0
-count-range p n = sum-range (λ k. cond (p k) 1 0) n
 
 module _ (x : Extremes) (rows : ℕ) where
   pub live-few : (direction : Direction) (I : Interval) (i : ℕ) → count_by (is_live x direction I i) (range_with_len 0 rows) ≤ rows

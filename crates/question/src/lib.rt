@@ -18,4 +18,4 @@ pub use laws::{sizes_are_unique, sizes_fall, small_cubes_are_small};
 pub use nodes::Nodes;
 pub use question::{Question, question_is_asked};
 pub use settled::Settled;
-pub use size::{MAX_SIZE, size_of};
+pub use size::{MAX_SIZE, limit_is_a_number, size_of};

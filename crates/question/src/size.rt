@@ -16,6 +16,11 @@ use skew_bounds::Tight;
 /// The greatest size of a problem.
 pub const MAX_SIZE: u128 = 4_194_304;
 
+/// The number that limits the size.
+pub fn limit_is_a_number()
+    ensures size { MAX_SIZE ≡ 4194304 }
+{}
+
 // Whether the distance of two events may be in an interval.
 fn is_live(tight: &Tight, direction: Direction, interval: &Interval, i: u32, j: u32) -> bool
     ensures { result ≡ is_live_pair (extremes_of tight.now) direction interval.now i j }

@@ -1,23 +1,16 @@
 -- What stands at the front of bytes, and what a line says.
-use Rattle.std.proofs.Common.{◌≡◌, ◌∙◌, sym, ap, subst, arith, ℕ, ◌+◌, ◌<◌, ◌≤◌, ◌^◌, Bool, true, List, [], ◌∷◌, ◌++◌, append_assoc, length, get_or, take, drop, add-one, Option, Some, None, codes, ℤ}
+use Rattle.std.proofs.Common.{◌≡◌, ◌∙◌, sym, ap, subst, arith, ℕ, ◌+◌, ◌^◌, Bool, true, List, [], ◌++◌, Option, Some, None, codes, ℤ}
 use Rattle.std.specs.Prelude.{IfSome, MatchOption}
 use Rattle.std.specs.Fmt.{decimal, signed_decimal}
-use Rattle.std.proofs.Math.Seq.{split_at}
-use Rattle.std.proofs.lemmas.Bool.Decides.{nat_tests}
 use Rattle.std.proofs.lemmas.Int.{ints}
-use Rattle.std.proofs.lemmas.List.{append_cancel_left, get_or-take, length-take-le}
-use Rattle.memchr.specs.Find.{NoneBefore, Passes, is_byte}
+use Rattle.std.proofs.lemmas.List.{append_cancel_left}
 use Rattle.mt_model.specs.declared.limits.TheConstants.{MAX_TIME}
-use Rattle.mt_model.specs.declared.step.Step.{Step}
 use Rattle.mt_model.specs.declared.step.Step.TheVariants as step
 use Rattle.mt_model.specs.Log.{IsWithin}
-use Rattle.mt_model.specs.Texts.{step_text}
 use Rattle.decimal.specs.Laws.{WritesNumber, WritesSigned}
 use Rattle.decimal.specs.Numbers.{number_below, signed_up_to}
 use Rattle.decimal.proofs.Printed.{number-below-printed}
 use Rattle.decimal.proofs.Written.{number-sound, signed-sound}
-use Rattle.proof_log.specs.LinesText.{newline}
-use Rattle.proof_log.specs.Spelled.{IsNumber}
 use Rattle.proof_log.proofs.Cuts.{lacks}
 use Rattle.report_text.specs.declared.part.Kind.{Kind}
 use Rattle.report_text.specs.declared.part.Kind.TheVariants as kind
@@ -25,29 +18,11 @@ use Rattle.report_text.specs.declared.part.Opening.{Opening}
 use Rattle.report_text.specs.declared.part.Opening.TheVariants as opening
 use Rattle.report_text.specs.Parts.{IsCut, IsKind, IsLineOf, IsNumbered, IsOpening, kind_line, opening_line}
 use Rattle.report_text.specs.ReportOf.{LacksNewline}
-use Rattle.report_text.specs.ReportText.{ended, value_word}
-use Rattle.report_text.specs.Spelled.{IsSpelledBound}
+use Rattle.report_text.specs.ReportText.{ended}
 use Rattle.report_text.proofs.Cutting.{same-line}
 use Rattle.report_text.proofs.LineTexts.{time-printed}
 
--- bytes are cut at the place of their first newline
-pub first-cut : (w : List ℕ) (n : ℕ) → NoneBefore (Passes (is_byte newline) w) 0 (length w) n → Passes (is_byte newline) w n → IsCut w (take n w) (drop (n + 1) w)
-first-cut w n first here =
-    let size : length (take n w) ≡ n = length-take-le n w (omega (arith, first.high)) in
-    record { lacks = lacks newline (take n w) (λ k low below pass. before k low (omega (arith, below, size)) pass); split = split }
-  where
-    before : (k : ℕ) → 0 ≤ k → k < n → is_byte newline (get_or (take n w) k 0) ≡ true → ⊥
-    before k low under pass = first.before k low under (ap (is_byte newline) (sym (get_or-take n w k 0 under)) ∙ pass)
-
-    split : w ≡ ended (take n w) ++ drop (n + 1) w
-    split =
-        let is : get_or w n 0 ≡ newline = grind (arith, nat_tests) in
-        rw add-one (split_at w n 0 first.high) ∙ ap (λ b. take n w ++ b ∷ drop (n + 1) w) is ∙ sym (append_assoc (take n w) (newline ∷ []) (drop (n + 1) w))
-
 -- a line of some words and a number
-
-pub no-prefix : (words line : List ℕ) → ((rest : List ℕ) → line ≡ words ++ rest → ⊥) → (n : ℕ) → IsNumbered words line n → ⊥
-no-prefix words line none n is = none (decimal n) (sym is.text)
 
 module _ (words line digits : List ℕ) (begins : line ≡ words ++ digits) where
   pub no-number : number_below (2 ^ 32) digits ≡ None → (n : ℕ) → IsNumbered words line n → ⊥
@@ -77,52 +52,9 @@ module _ (line : List ℕ) where
   abbrev pub Lacking : List ℕ → Type 0
   Lacking words = (n : ℕ) → IsNumbered words line n → ⊥
 
-  pub is-bound : (s : Step) (words : List ℕ) (n : ℕ) → IsNumbered words line n → (IsNumber n → IsSpelledBound s) → step_text s ≡ words ++ decimal n → IsLineOf IsSpelledBound step_text line s
-  is-bound s words n is spelled text = record { is = spelled is.number; text = text ∙ is.text }
-
-  pub no-step : Lacking (codes "low ") → Lacking (codes "high ") → Lacking (codes "rise ") → Lacking (codes "message ") → Lacking (codes "late ") → Lacking (codes "under ") → Lacking (codes "over ") → Lacking (codes "extra ") → (s : Step) → IsLineOf IsSpelledBound step_text line s → ⊥
-  no-step low high rise message late under over extra (step.Low e) is = low e (record { number = is.is; text = is.text })
-  no-step low high rise message late under over extra (step.High e) is = high e (record { number = is.is; text = is.text })
-  no-step low high rise message late under over extra (step.Rise e) is = rise e (record { number = is.is; text = is.text })
-  no-step low high rise message late under over extra (step.Message e) is = message e (record { number = is.is; text = is.text })
-  no-step low high rise message late under over extra (step.Late e) is = late e (record { number = is.is; text = is.text })
-  no-step low high rise message late under over extra (step.Under e) is = under e (record { number = is.is; text = is.text })
-  no-step low high rise message late under over extra (step.Over e) is = over e (record { number = is.is; text = is.text })
-  no-step low high rise message late under over extra (step.Extra k) is = extra k (record { number = is.is; text = is.text })
-  no-step low high rise message late under over extra (step.Order e f c) is = is.is
-
   -- the first line of a section
 
-  module _ (v : Bool) where
-    pub no-value : ((rest : List ℕ) → line ≡ value_word v ++ rest → ⊥) → (k : Kind) → IsLineOf IsKind (kind_line v) line k → ⊥
-    no-value none kind.Witness is = none (codes " witness") (sym is.text)
-    no-value none (kind.Refuted n) is = none (codes " refuted " ++ decimal n) (sym is.text)
-    no-value none (kind.Unknown n) is = none (codes " unknown " ++ decimal n) (sym is.text)
-
-    module _ (words : List ℕ) (begins : line ≡ value_word v ++ words) where
-      pub is-witness : words ≡ codes " witness" → IsLineOf IsKind (kind_line v) line kind.Witness
-      is-witness is = record { is = tt; text = ap (λ w. value_word v ++ w) (sym is) ∙ sym begins }
-
-      pub is-refuted : (n : ℕ) → IsNumbered (codes " refuted ") words n → IsLineOf IsKind (kind_line v) line (kind.Refuted n)
-      is-refuted n is = record { is = is.number; text = ap (λ w. value_word v ++ w) is.text ∙ sym begins }
-
-      pub is-unknown : (n : ℕ) → IsNumbered (codes " unknown ") words n → IsLineOf IsKind (kind_line v) line (kind.Unknown n)
-      is-unknown n is = record { is = is.number; text = ap (λ w. value_word v ++ w) is.text ∙ sym begins }
-
-      pub no-kind : (words ≡ codes " witness" → ⊥) → ((n : ℕ) → IsNumbered (codes " refuted ") words n → ⊥) → ((n : ℕ) → IsNumbered (codes " unknown ") words n → ⊥) → (k : Kind) → IsLineOf IsKind (kind_line v) line k → ⊥
-      no-kind witness refuted unknown kind.Witness is = witness (append_cancel_left (value_word v) words (codes " witness") (sym begins ∙ sym is.text))
-      no-kind witness refuted unknown (kind.Refuted n) is =
-          refuted n (record { number = is.is; text = append_cancel_left (value_word v) (codes " refuted " ++ decimal n) words (is.text ∙ begins) })
-      no-kind witness refuted unknown (kind.Unknown n) is =
-          unknown n (record { number = is.is; text = append_cancel_left (value_word v) (codes " unknown " ++ decimal n) words (is.text ∙ begins) })
-
   -- the line after the number of events
-
-  pub is-walk : (n : ℕ) → IsNumbered (codes "inconsistent ") line n → IsLineOf IsOpening opening_line line (opening.Inconsistent n)
-  is-walk n is = record { is = is.number; text = is.text }
-
-  pub is-section : (k : Kind) → IsLineOf IsKind (kind_line true) line k → IsLineOf IsOpening opening_line line (opening.OnTrue k)
-  is-section k is = record { is = is.is; text = is.text }
 
   pub no-opening : Lacking (codes "inconsistent ") → ((k : Kind) → IsLineOf IsKind (kind_line true) line k → ⊥) → (o : Opening) → IsLineOf IsOpening opening_line line o → ⊥
   no-opening walk section (opening.Inconsistent n) is = walk n (record { number = is.is; text = is.text })

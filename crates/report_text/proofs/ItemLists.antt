@@ -5,7 +5,7 @@ use Rattle.std.specs.List.{flat_map}
 use Rattle.std.proofs.Math.ListN.{replicate}
 use Rattle.std.proofs.lemmas.List.{append-nil, length-replicate}
 use Rattle.std.proofs.lemmas.List.Concat.{flat_map-append}
-use Rattle.std.proofs.lemmas.List.Elements.{All-append, All-cons, All-head, All-nil, All-push, All-replicate, All-tail}
+use Rattle.std.proofs.lemmas.List.Elements.{All-append, All-cons, All-head, All-push, All-replicate, All-tail}
 use Rattle.report_text.specs.Outlines.{ArePassed}
 use Rattle.report_text.specs.Parts.{IsFront, NoFront}
 use Rattle.report_text.specs.ReportOf.{AreLines}
@@ -41,9 +41,6 @@ module _ {X : Type 0} (Is : X → Type 0) (spelling : X → List ℕ) (are : Are
     pub each : All Is items
     pub split : bytes ≡ flat_map text items ++ rest
 
-  pub none-read : (count : ℕ) (bytes : List ℕ) → AreReadUpTo count bytes [] bytes
-  none-read count bytes = record { few = omega arith; each = All-nil Is; split = refl }
-
   pub one-more : (count : ℕ) (bytes : List ℕ) (items : List X) (rest : List ℕ) (x : X) (after : List ℕ) → AreReadUpTo count bytes items rest → length items < count → IsFront Is text rest x after
       → AreReadUpTo count bytes (items ++ x ∷ []) after
   one-more count bytes items rest x after before more front = record {
@@ -61,9 +58,6 @@ module _ {X : Type 0} (Is : X → Type 0) (spelling : X → List ℕ) (are : Are
     pub items : List X
     pub size : length items ≡ passed
     pub read : AreReadUpTo count bytes items rest
-
-  pub none-passed : (count : ℕ) (bytes : List ℕ) → ArePassedUpTo count bytes 0 bytes
-  none-passed count bytes = record { items = []; size = refl; read = none-read count bytes }
 
   pub one-passed : (count : ℕ) (bytes : List ℕ) (passed : ℕ) (rest : List ℕ) (x : X) (after : List ℕ) → ArePassedUpTo count bytes passed rest → passed < count → IsFront Is text rest x after
       → ArePassedUpTo count bytes (passed + 1) after

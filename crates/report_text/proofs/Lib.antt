@@ -13,5 +13,4 @@ pub mod CutShort
 pub mod Spellings
 pub mod Walks
 pub mod RightLines
-mod OutlineTexts
 mod HandedParts

@@ -21,9 +21,6 @@ pub record AreLined {X : Type 0} (Is : X → Type 0) (spelling : X → List ℕ)
   pub some : (t : List ℕ) × M t
 
 module _ {X : Type 0} (Is : X → Type 0) (spelling : X → List ℕ) where
-  abbrev Text : X → List ℕ
-  Text x = ended (spelling x)
-
   -- bytes with no newline begin with no such line
   pub uncut : AreSpellings Is spelling → (bytes : List ℕ) → LacksNewline bytes → NoFront Is (λ x. ended (spelling x)) bytes
   uncut are bytes none x rest is begins = no-line bytes (spelling x) rest none (are.lacks x is) begins

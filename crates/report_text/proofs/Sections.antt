@@ -27,7 +27,7 @@ use Rattle.report_text.specs.ReportOf.{AreLines}
 use Rattle.report_text.specs.ReportText.{body_text, bound_text, ended, entries_text, section_line, section_text, time_text, walk_text}
 use Rattle.report_text.specs.Spelled.{IsSpelledBound, IsSpelledSection}
 use Rattle.report_text.specs.Stops.{AreEntries, AreItems, AreRead, AreVerdicts, IsBody, IsOfKind, IsOn, IsSectionText, Stopped}
-use Rattle.report_text.proofs.ItemLists.{items-apart, items-lines, some-items}
+use Rattle.report_text.proofs.ItemLists.{items-apart, items-lines}
 use Rattle.report_text.proofs.LineTexts.{joined, kinds-spelled, lines-spelled, openings-spelled, times-spelled}
 use Rattle.report_text.proofs.Lined.{AreLined, same-front}
 use Rattle.report_text.proofs.Stopping.{GoesOn, IsFrontOf, stopped-as}
@@ -120,12 +120,6 @@ module _ (events : ℕ) where
         → MatchResult r (λ rest. ArePassed IsSpelledLine line_text n bytes rest.now) (Stopped (AreItems IsSpelledLine line_text n) bytes) → Followed k bytes r
     after-unknown k is bytes (Ok rest) p = rw is (section.Unknown p.items, unknown-front n few bytes p.items rest.now p.read)
     after-unknown k is bytes (Err f) p = rw is (stopped-as (AreItems IsSpelledLine line_text n) (AreEntries events (kind.Unknown n)) (unknown-forth n few) (unknown-back n) bytes f p)
-
-  -- there is a section of each kind
-  pub some-entries : (k : Kind) → IsKind k → (t : List ℕ) × AreEntries events k t
-  some-entries kind.Witness is = (_, witness-forth _ (some-items (IsWithin MAX_TIME) signed_decimal times-spelled (pos 0) zero-time events))
-  some-entries (kind.Refuted n) is = (_, refuted-forth n is _ (some-items IsSpelledLine joined lines-spelled (line.Cycle []) no-steps n))
-  some-entries (kind.Unknown n) is = (_, unknown-forth n is _ (some-items IsSpelledLine joined lines-spelled (line.Cycle []) no-steps n))
 
   -- sections of one kind are equal where their lines begin the same bytes
   pub entries-apart : (k : Kind) (a b : Section) (s t : List ℕ) → IsOfKind events k a → IsOfKind events k b → entries_text a ++ s ≡ entries_text b ++ t → (a ≡ b) × (s ≡ t)

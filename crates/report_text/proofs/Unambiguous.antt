@@ -29,9 +29,6 @@ front-is bytes before rest left split size =
     let count : length bytes - left ≡ length before = omega (arith, ap length split, length-append before rest, size) in
     ap (λ n. take n bytes) count ∙ ap (take (length before)) split ∙ take-append_seam before rest
 
-pub left-within : (bytes : List ℕ) (left : ℕ) → IsStoppedAt IsReport bytes left → left ≤ length bytes
-left-within bytes left p = omega (arith, ap length p.split, length-append p.before p.rest, p.size)
-
 -- where reading stopped
 pub faulty-stopped : (bytes : List ℕ) (left : ℕ) → IsStoppedAt IsReport bytes left → IsFaultyAt bytes (lines_in (take (length bytes - left) bytes) + 1)
 faulty-stopped bytes left p = record {

@@ -1,5 +1,5 @@
 -- Texts of parts of a report, and where reading one of them stops.
-use Rattle.std.specs.Prelude.{◌≡◌, ℕ, Bool, false, List, ◌++◌, length, All}
+use Rattle.std.specs.Prelude.{◌≡◌, ℕ, ℤ, Bool, false, List, ◌++◌, length, All}
 use Rattle.std.specs.List.{flat_map}
 use Rattle.report_text.specs.declared.part.Kind.{Kind}
 use Rattle.report_text.specs.declared.report.Section.{Section}
@@ -103,6 +103,9 @@ pub record IsMarked (bytes : List ℕ) : Type 0 where
 -- the texts of so many times, bounds of a walk, or lines of a derivation
 abbrev pub AreTimes : ℕ → List ℕ → Type 0
 AreTimes count bytes = AreItems (IsWithin MAX_TIME) time_text count bytes
+
+abbrev pub AreTimesRead : ℕ → List ℕ → List ℤ → List ℕ → Type 0
+AreTimesRead count bytes times rest = AreRead (IsWithin MAX_TIME) time_text count bytes times rest
 
 abbrev pub AreBounds : ℕ → List ℕ → Type 0
 AreBounds count bytes = AreItems IsSpelledBound bound_text count bytes

@@ -8,7 +8,7 @@ ghost use Rattle.proof_log.specs.Spelled.{IsSpelled as IsSpelledLine};
 ghost use Rattle.report_text.specs.Outlines.{ArePassed};
 ghost use Rattle.report_text.specs.ReportText.{bound_text, time_text};
 ghost use Rattle.report_text.specs.Spelled.{IsSpelledBound};
-ghost use Rattle.report_text.specs.Stops.{AreBounds, AreDerivation, AreRead, AreTimes, Stopped};
+ghost use Rattle.report_text.specs.Stops.{AreBounds, AreDerivation, AreRead, AreTimes, AreTimesRead, Stopped};
 
 use crate::front::{after_line, next_bound, next_time};
 use crate::stop::Stop;
@@ -18,7 +18,7 @@ use std::alloc::Global;
 /// So many times.
 pub fn read_times<'a>(times: &mut Times, count: u32, bytes: &'a [u8]) -> Result<&'a [u8], Stop>
     requires { times.old ≡ [] }
-    ensures { MatchResult result (λ rest. AreRead (IsWithin MAX_TIME) time_text count bytes.now times.new rest.now) (Stopped (AreTimes count) bytes.now) }
+    ensures { MatchResult result (λ rest. AreTimesRead count bytes.now times.new rest.now) (Stopped (AreTimes count) bytes.now) }
 {
     let mut rest = bytes;
     while times.len() < count as usize {

@@ -3,7 +3,7 @@
 ghost use Rattle.std.specs.Prelude.{◌↔◌, All, IfOk, IsTrue};
 ghost use Rattle.mt_model.specs.declared.limits.TheConstants.{MAX_TIME};
 ghost use Rattle.mt_model.specs.Log.{IsWithin};
-ghost use Rattle.proof_log.specs.Spelled.{IsNumber, IsSpelled as IsSpelledLine};
+ghost use Rattle.proof_log.specs.Spelled.{IsSpelled as IsSpelledLine};
 ghost use Rattle.report_text.specs.Spelled.{AreSpelledBounds, AreSpelledLines, AreSpelledVerdicts, IsSpelled, IsSpelledBound, IsSpelledInconsistent, IsSpelledSection, IsSpelledWitness};
 
 use crate::front::is_time;

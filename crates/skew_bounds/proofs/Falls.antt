@@ -122,19 +122,6 @@ module _ (potential numbers : List ℤ) (waiting : List Waiting) (edge : Edge) (
 
 -- the edges before one, and that one
 module _ (potential : List ℤ) (node : ℕ) where
-  pub lowered-none : (numbers : List ℤ) (waiting : List Waiting) → IsLowered potential node [] numbers waiting numbers waiting
-  lowered-none numbers waiting = record {
-    count = refl;
-    met = All-nil (Meets numbers);
-    own = refl;
-    lower = λ v. omega (arith, ints);
-    above = λ y a all floor. floor;
-    waits = λ v. inl refl;
-    kept = λ w contains. contains;
-    nodes = λ all. all;
-    less = omega arith;
-  }
-
   pub lowered-more : (edges : List Edge) (edge : Edge) (old now new : List ℤ) (before between after : List Waiting) → All (λ e. e.to ≡ node) edges
       → IsLowered potential node edges old before now between → IsLowered potential node (edge ∷ []) now between new after → IsLowered potential node (edges ++ edge ∷ []) old before new after
   lowered-more edges edge old now new before between after ends first second = record {

@@ -1,8 +1,8 @@
 -- The readings of a log's rows, row by row.
-use Rattle.std.proofs.Common.{◌≡◌, ◌∙◌, refl, sym, ap, arith, ℕ, suc, ◌+◌, ◌==◌, ◌<◌, inl, inr, Bool, true, false, not, List, length, get_or, Option, Some, None, ℤ, ◌+ℤ◌, ◌-ℤ◌}
+use Rattle.std.proofs.Common.{◌≡◌, ◌∙◌, refl, sym, ap, arith, ℕ, suc, ◌+◌, ◌==◌, ◌<◌, inl, inr, Bool, true, not, List, length, get_or, Option, Some, None, ℤ, ◌+ℤ◌, ◌-ℤ◌}
 use Rattle.std.specs.Prelude.{FitsSigned, IfSome, int_le}
 use Rattle.std.specs.Int.{w128}
-use Rattle.std.proofs.lemmas.Bool.{cases_Bool, eq-eqb, ne_eqb}
+use Rattle.std.proofs.lemmas.Bool.{cases_Bool, eq-eqb}
 use Rattle.std.proofs.lemmas.Int.{ints}
 use Rattle.std.proofs.lemmas.List.FromFn.{get_or-map-range_with_len, length-map-range_with_len}
 use Rattle.mt_model.specs.declared.reading.Reading.{Reading}
@@ -59,15 +59,3 @@ module _ (log : Logged) (t : List ℤ) (k e : ℕ) where
       let next : e + 1 ≡ suc e = omega arith in
       let reads_it : reads log k e ≡ true = rw found (eq-eqb k r.clock (sym same)) in
       rw (next, reads_it) refl
-
-  pub greatest-other : (r : Reading) → reading_of log e ≡ Some r → (r.clock ≡ k → ⊥) → greatest_below log t k (e + 1) ≡ greatest_below log t k e
-  greatest-other r found other =
-      let next : e + 1 ≡ suc e = omega arith in
-      let not_read : reads log k e ≡ false = rw found (ne_eqb k r.clock (λ same. other (sym same))) in
-      rw (next, not_read) refl
-
-  pub greatest-none : reading_of log e ≡ None → greatest_below log t k (e + 1) ≡ greatest_below log t k e
-  greatest-none found =
-      let next : e + 1 ≡ suc e = omega arith in
-      let not_read : reads log k e ≡ false = rw found refl in
-      rw (next, not_read) refl

@@ -21,9 +21,6 @@ at-end [] x y (suc j) is = absurd (cc)
 at-end (z ∷ xs) x y zero is = inl is
 at-end (z ∷ xs) x y (suc j) is = elim (at-end xs x y j is) [ inl old ↦ inl old | inr new ↦ let n : length (z ∷ xs) ≡ suc j = omega (arith, new.0) in inr (n, new.1) ]
 
-pub none-yet : (log : Logged) → AreFirstRows log [] 0
-none-yet log = record { count = refl; rows = λ e row is. absurd (cc) }
-
 pub one-more : (log : Logged) (table : List RowEdges) (k : ℕ) (row : RowEdges) → AreFirstRows log table k → AreRowEdges log k row → AreFirstRows log (table ++ row ∷ []) (k + 1)
 one-more log table k row first is = record {
   count = omega (arith, length_push table row, first.count);

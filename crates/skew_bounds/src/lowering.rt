@@ -1,6 +1,6 @@
 //! Numbers of nodes that are lowered until they meet edges (Bellman 1958, Ford 1956).
 
-ghost use Rattle.std.specs.Prelude.{◌≡◌, ◌<◌, ◌∷◌, [], length, slice_set, All, IfNone, IfSome, OnOk, ◌+ℤ◌, ◌-ℤ◌, ◌<ℤ◌, IsPermutation};
+ghost use Rattle.std.specs.Prelude.{◌≡◌, ◌<◌, ◌∷◌, length, slice_set, All, IfNone, IfSome, OnOk, ◌+ℤ◌, ◌-ℤ◌, ◌<ℤ◌, IsPermutation};
 ghost use Rattle.std.specs.BinaryHeap.{heap_items};
 ghost use Rattle.mt_model.specs.Log.{IsWithin};
 ghost use Rattle.mt_model.specs.declared.limits.TheConstants.{MAX_TIME};

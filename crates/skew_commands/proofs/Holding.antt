@@ -34,10 +34,6 @@ module _ (files : Files) (formula log : Word) (Next : Form → Logged → Type 0
       let on_file : (l : Logged) → length q.file ≤ LOG_LIMIT → log_of q.file ≡ Ok l → Next f l = rw q.file_held at (on_text f q.text_within q.formula_read) in
       on_file l q.file_within q.log_read
 
-  -- the formula is held
-  pub formula-held : HoldsQuestion files formula log Next → IsSome (file_of files formula)
-  formula-held = some-only (file_of files formula) (λ text. (f : Form) → length text ≤ FORMULA_LIMIT → FormulaOf text (Ok f) → HoldsLog files log Next f)
-
   -- and the log, once the formula is read
   pub log-held : (text : List ℕ) (f : Form) → file_of files formula ≡ Some text → length text ≤ FORMULA_LIMIT → FormulaOf text (Ok f)
       → HoldsQuestion files formula log Next → IsSome (file_of files log)

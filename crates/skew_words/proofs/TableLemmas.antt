@@ -20,16 +20,6 @@ fold-next f r z xs i d within = rw (drop-cons xs i d within, add-one) refl
 abbrev pub FitsFrom : List Operand → List Word → ℕ → Type 0
 FitsFrom os ws i = are_operands os ws ≡ are_operands (drop i os) (drop i ws)
 
-module _ (os : List Operand) (ws : List Word) (i : ℕ) (o : Operand) (w : Word) (in_operands : i < length os) (in_words : i < length ws) where
-  first-is : are_operands (drop i os) (drop i ws) ≡ are_operands (get_or os i o ∷ drop (i + 1) os) (get_or ws i w ∷ drop (i + 1) ws)
-  first-is = rw (drop-cons os i o in_operands, drop-cons ws i w in_words, add-one) refl
-
-  pub fits-next : FitsFrom os ws i → is_of_kind (kind_of (get_or os i o)) (get_or ws i w) ≡ true → FitsFrom os ws (i + 1)
-  fits-next so_far fits = so_far ∙ first-is ∙ rw fits refl
-
-  pub fits-not : FitsFrom os ws i → is_of_kind (kind_of (get_or os i o)) (get_or ws i w) ≡ false → are_operands os ws ≡ false
-  fits-not so_far differs = so_far ∙ first-is ∙ rw differs refl
-
 -- a word more on both sides
 fits-more : (o : Operand) (os : List Operand) (w : Word) (ws : List Word) → are_operands os ws ≡ false → are_operands (o ∷ os) (w ∷ ws) ≡ false
 fits-more o os w ws differ = go (is_of_kind (kind_of o) w) refl

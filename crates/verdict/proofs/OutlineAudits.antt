@@ -1,16 +1,17 @@
 -- What an audit says of a section by its outline.
-use Rattle.std.proofs.Common.{◌≡◌, ◌∙◌, ◌↔◌, sym, subst, refl, ℕ, Bool, List, inl, inr, Option, Some, None, Ok, Err}
+use Rattle.std.proofs.Common.{◌≡◌, ◌∙◌, ◌↔◌, ap, sym, subst, refl, ℕ, Bool, List, inl, inr, Option, Some, None, Ok, Err}
 use Rattle.std.specs.Prelude.{IfOk, Result}
 use Rattle.mt_model.specs.Form.{Form}
 use Rattle.mt_model.specs.Log.{Logged}
 use Rattle.axiom_rules.specs.Sought.{Sought, sought_of}
 use Rattle.proof_log.specs.declared.line.Line.{Line}
 use Rattle.proof_log.specs.Derivations.{Derives, FirstWrong, Refutes}
+use Rattle.proof_log.specs.Freshness.{learn_lines}
 use Rattle.proof_log.specs.LinesOf.{IsTextOf}
 use Rattle.proof_check.specs.declared.check.Check.{Check}
 use Rattle.proof_check.specs.declared.check.Check.TheVariants as check
 use Rattle.proof_check.specs.declared.check.TextCheck.{TextCheck}
-use Rattle.proof_check.specs.Answering.{IsAnswer, OfSought}
+use Rattle.proof_check.specs.Answering.{IsAnswer, OfSought, right_lines}
 use Rattle.report_text.specs.declared.outline.SectionOutline.{SectionOutline}
 use Rattle.report_text.specs.declared.part.Kind.TheVariants as kind
 use Rattle.report_text.specs.declared.report.Section.{Section}
@@ -19,6 +20,7 @@ use Rattle.report_text.specs.Outlines.{IsSectionOutline}
 use Rattle.report_text.specs.Spelled.{IsSpelledSection}
 use Rattle.report_text.proofs.ReadBack.{found-refuted, found-unknown, lines-found, outlined-refuted, outlined-unknown}
 use Rattle.verdict.specs.AuditPlace.{IsJudgedAt}
+use Rattle.verdict.specs.OfOutlines.{CountsLearnLines}
 
 -- what was answered for the lines of a text
 pub text_answer : {E : Type 0} (r : Result TextCheck E) (s : Sought) (log : Logged) (f : Form) (v : Bool) (text : List ℕ) → s ≡ sought_of log f v
@@ -28,6 +30,12 @@ pub text_answer : {E : Type 0} (r : Result TextCheck E) (s : Sought) (log : Logg
     → IfOk r (λ t. (lines : List Line) → IsTextOf text lines → IsAnswer log f v lines t.check)
 text_answer (Ok t) s log f v text is refutes derives wrong = λ lines of. record { refutes = refutes lines of log f v is; derives = derives lines of log f v is; wrong = wrong lines of log f v is }
 text_answer (Err e) s log f v text is refutes derives wrong = tt
+
+-- how many Learn lines a text has that derives
+pub text_learn : {E : Type 0} (r : Result TextCheck E) (text : List ℕ) → IfOk r (λ t. (lines : List Line) → IsTextOf text lines → t.learn_lines ≡ learn_lines (right_lines t.check lines))
+    → IfOk r (λ t. (lines : List Line) → IsTextOf text lines → CountsLearnLines t lines)
+text_learn (Ok t) text counted = λ lines is derives. counted lines is ∙ ap (λ k. learn_lines (right_lines k lines)) derives
+text_learn (Err e) text counted = tt
 
 module _ (log : Logged) (f : Form) (budget : ℕ) (v : Bool) (lines : List Line) (c : Check) (answer : IsAnswer log f v lines c) where
   -- of a refuted section

@@ -1,6 +1,6 @@
 //! The audit of reports, each by its text.
 
-ghost use Rattle.std.specs.Prelude.{◌≡◌, ◌↔◌, ◌<◌, ◌^◌, ℕ, length, IfErr, IfOk, OnOk};
+ghost use Rattle.std.specs.Prelude.{◌≡◌, ◌↔◌, ◌<◌, ◌^◌, length, IfErr, IfOk, OnOk};
 ghost use Rattle.mt_model.specs.Form.{form_of};
 ghost use Rattle.report_text.specs.Outlines.{IsOutlineIn, IsOutlineOf};
 ghost use Rattle.report_text.specs.ReportText.{report_text};

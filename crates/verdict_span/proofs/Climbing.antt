@@ -1,5 +1,5 @@
 -- How the room above a distance gets less.
-use Rattle.std.proofs.Common.{◌≡◌, ◌↔◌, ◌∙◌, sym, refl, subst, arith, ℕ, ◌+◌, ◌≤◌, Bool, List, length, IfOk, IsTrue, Result, ℤ, pos, ◌+ℤ◌, ◌-ℤ◌, ◌≤ℤ◌}
+use Rattle.std.proofs.Common.{◌≡◌, ◌↔◌, ◌∙◌, sym, refl, subst, arith, ℕ, ◌+◌, ◌≤◌, Bool, List, length, IfOk, IsTrue, Result, ℤ, pos, ◌+ℤ◌, ◌≤ℤ◌}
 use Rattle.std.proofs.lemmas.Int.{ints}
 use Rattle.formula_arena.specs.Nodes.{nodes_of}
 use Rattle.mt_model.specs.Form.{Form}
@@ -13,8 +13,7 @@ use Rattle.skew_bounds.specs.Tight.{IsGreatestDifference, IsTight, difference}
 use Rattle.proof_check.specs.Laws.{RefutedIsNoValue}
 use Rattle.proof_log.specs.declared.line.Line.{Line}
 use Rattle.proof_log.specs.Derivations.{Refutes}
-use Rattle.cdcl_core.specs.declared.value.Searched.{Searched}
-use Rattle.cdcl_core.specs.Values.{GivesValue, IsSearched, RefuteEachValue, RefutesWithin}
+use Rattle.cdcl_core.specs.Values.{GivesValue, RefuteEachValue, RefutesWithin}
 use Rattle.best_answer.proofs.SmallSizes.{small-within}
 use Rattle.verdict_span.specs.Spaced.{CanBeSpaced, spaced}
 use Rattle.verdict_span.proofs.Extras.{extras-keep-truth, spaced-valid, the-extra, unspaced}
@@ -37,10 +36,6 @@ module _ (log : Logged) (f : Form) (v : Bool) (e to : ℕ) where
   pub refuted-at : (c d : ℤ) (budget : ℕ) (lines : List Line) → c ≡ d → RefutesWithin (spaced e to c log) f v budget lines → RefutesWithin (spaced e to d log) f v budget lines
   refuted-at c d budget lines same refuted = subst (λ (x : ℤ). RefutesWithin (spaced e to x log) f v budget lines) same refuted
 
-  -- lines that refute for a distance refute for one that is less by nothing
-  pub refutes-here : (c : ℤ) (lines : List Line) → Refutes (spaced e to c log) f v lines → Refutes (spaced e to (c -ℤ pos 0) log) f v lines
-  refutes-here c lines refutes = let same : c ≡ c -ℤ pos 0 = omega (arith, ints) in subst (λ (x : ℤ). Refutes (spaced e to x log) f v lines) same refutes
-
   -- the one line that refutes each value
   pub refuted-by-one : (c : ℤ) (budget : ℕ) (lines : List Line) → 1 ≤ budget → RefuteEachValue (spaced e to c log) lines → length lines ≡ 1 → RefutesWithin (spaced e to c log) f v budget lines
   refuted-by-one c budget lines some each one = let none = (each f v).1 in record { refutes = (each f v).0; few_lessons = omega (arith, none, some); few = omega (arith, one, some) }
@@ -54,10 +49,6 @@ module _ (log : Logged) (f : Form) (v : Bool) (e to : ℕ) where
       let below = below-refuted refutes log f v e to (low +ℤ pos (room + 1)) budget lines (spaced-valid log e to (low +ℤ pos (room + 1)) valid pair range) refuted t gives.admissible gives.value in
       omega (arith, ints, below)
 
--- lines that refute for a distance refute for the same one, written in another way
-pub refutes-at : (log : Logged) (f : Form) (v : Bool) (e to : ℕ) (c d : ℤ) (lines : List Line) → c ≡ d → Refutes (spaced e to c log) f v lines → Refutes (spaced e to d log) f v lines
-refutes-at log f v e to c d lines same refutes = subst (λ (x : ℤ). Refutes (spaced e to x log) f v lines) same refutes
-
 -- a greatest distance, written in another way
 pub greatest-at : (log : Logged) (e to : ℕ) (c d : ℤ) → IsGreatestDifference log e to c → c ≡ d → IsGreatestDifference log e to d
 greatest-at log e to c d is same = subst (λ (x : ℤ). IsGreatestDifference log e to x) same is
@@ -70,11 +61,6 @@ refute-at r log e to c d each same = subst (λ (x : ℤ). IfOk r (RefuteEachValu
 pub whether-at : {X : Type 0} (r : Result Bool X) (log : Logged) (f : Form) (v : Bool) (e to : ℕ) (c d : ℤ) (lines : List Line) → IfOk r (λ b. IsTrue b ↔ Refutes (spaced e to c log) f v lines) → c ≡ d
     → IfOk r (λ b. IsTrue b ↔ Refutes (spaced e to d log) f v lines)
 whether-at r log f v e to c d lines told same = subst (λ (x : ℤ). IfOk r (λ b. IsTrue b ↔ Refutes (spaced e to x log) f v lines)) same told
-
--- what a search for a distance gives, written in another way
-pub searched-at : {X : Type 0} (r : Result Searched X) (log : Logged) (f : Form) (v : Bool) (e to budget : ℕ) (c d : ℤ) → IfOk r (IsSearched (spaced e to c log) f v budget) → c ≡ d
-    → IfOk r (IsSearched (spaced e to d log) f v budget)
-searched-at r log f v e to budget c d found same = subst (λ (x : ℤ). IfOk r (IsSearched (spaced e to x log) f v budget)) same found
 
 -- the problem of the log with the extra bound is small enough where that of the log is
 pub small-spaced : SizesFall → (log : Logged) (f : Form) (e to : ℕ) (times : List ℤ) (d : Differences) → Admissible log times → IsTight log d → IsSmall log (nodes_of f) → (c : ℤ) → IsSmall (spaced e to c log) (nodes_of f)

@@ -1,6 +1,6 @@
 //! The nearest row from a row on at which a side has a value, told for one row after the other in one pass.
 
-ghost use Rattle.std.specs.Prelude.{◌≡◌, ◌<◌, ◌≤◌, ◌+◌, ◌-◌, ◌&&◌, nat_lt, length, All, IfSome, None, option_map};
+ghost use Rattle.std.specs.Prelude.{◌≡◌, ◌<◌, ◌≤◌, ◌+◌, ◌-◌, ◌&&◌, length, All, IfSome, None, option_map};
 ghost use Rattle.mt_model.specs.Log.{IsWithin};
 ghost use Rattle.mt_model.specs.declared.limits.TheConstants.{MAX_TIME};
 ghost use Rattle.witness_replay.specs.Directions.{is_far as is_far_from};

@@ -4,7 +4,7 @@ use Rattle.proof_log.specs.Parts.{AreWordsOf}
 use Rattle.proof_log.specs.Spelled.{IsSpelled}
 use Rattle.proof_check.specs.Judging.{IsNext}
 use Rattle.proof_check.specs.Keeping.{Kept}
-use Rattle.proof_check.proofs.TextLemmas.{counted_all, taken_all, taken_more, taken_wrong}
+use Rattle.proof_check.proofs.TextLemmas.{counted_right, counted_wrong, taken_all, taken_more, taken_wrong}
 use Rattle.proof_check.proofs.taking.check_lines_of.Goals as goal
 
 pub returns-then-not-branch-clause-answer : goal.returns-then-not-branch-clause-answer
@@ -37,4 +37,10 @@ returns-clause-answer c =
 
 pub returns-clause-learn : goal.returns-clause-learn
 returns-clause-learn c =
-    λ lines is derives. counted_all c.args.rules.now c.args.text.now c.loop-words.kept.closed c.loop-words.rest.now c.loop-words.learn_lines c.loop-words.invariant.0 c.in_default.ensures.head lines is
+    counted_right c.args.rules.now c.args.text.now c.loop-words.kept.closed c.loop-words.rest.now c.loop-words.learn_lines c.loop-words.invariant.0
+    c.in_default.ensures.head c.check_of-check.result c.check_of-check.ensures.refutes c.check_of-check.ensures.derives
+
+pub returns-then-not-branch-clause-learn : goal.returns-then-not-branch-clause-learn
+returns-then-not-branch-clause-learn c =
+    let number : c.len.result + 1 ≡ length c.loop-words.kept.closed + 1 = omega (arith, c.len.ensures.count) in
+    counted_wrong c.args.rules.now c.args.text.now c.loop-words.kept.closed c.loop-words.rest.now c.loop-words.learn_lines c.loop-words.invariant.0 (c.len.result + 1) number

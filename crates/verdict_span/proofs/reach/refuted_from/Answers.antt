@@ -1,6 +1,5 @@
 use Rattle.std.proofs.Common.{arith}
 use Rattle.std.proofs.lemmas.Int.{ints}
-use Rattle.verdict_span.proofs.Climbing.{refutes-at}
 use Rattle.verdict_span.proofs.reach.refuted_from.Goals as goal
 
 pub gap-requires : goal.gap-requires
