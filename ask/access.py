@@ -6,7 +6,7 @@ import heapq
 import re
 from typing import Callable, Dict, Iterator, List, NamedTuple, Optional, Pattern, Sequence, Tuple
 
-from ask.events import WRONG, Event, Fields, Rows, filled
+from ask.events import WRONG, Cuts, Event, Fields, Rows, filled
 from ask.stamps import MONTHS, Stamp, iso_moment, later, stamp_of
 from ask.texts import BYTE_ORDER_MARK, Source, Trouble
 from ask.words import USAGE, listed, shortened
@@ -210,7 +210,7 @@ class AccessWords(NamedTuple):
     duration: str = ""
 
 
-def access_events(sources: Sequence[Source], form: Format, words: AccessWords) -> List[Event]:
+def access_events(sources: Sequence[Source], form: Format, words: AccessWords, cuts: Cuts) -> List[Event]:
     """The events of the requests of files, on hosts on which no two requests are at once."""
     if words.duration and words.duration not in form.keys:
         raise Trouble(USAGE, f"--duration: the format has no {words.duration}. It has: {listed(form.keys)}")
@@ -221,17 +221,17 @@ def access_events(sources: Sequence[Source], form: Format, words: AccessWords) -
     only = set(words.only)
     kept = [request for request in requests if not only or request.fields[words.id] in only]
     on_their_hosts = enumerate(on_hosts(kept, words.host))
-    return [event for number, (host, request) in on_their_hosts for event in events_of(number, host, request, words)]
+    return [event for number, (host, request) in on_their_hosts for event in events_of(number, host, request, words, cuts)]
 
 
-def events_of(number: int, host: str, request: Request, words: AccessWords) -> Iterator[Event]:
+def events_of(number: int, host: str, request: Request, words: AccessWords, cuts: Cuts) -> Iterator[Event]:
     """The events of a request: it begins and ends, or is one moment where it isn't known how long it took."""
     id_, begin = request.fields.get(words.id, ""), 2 * number
     for name, stamp, place in (("begin", request.began, begin), ("end", request.ended, begin + 1)):
         if name in request.known:
             default = BOTH[name] if len(request.known) == 2 else [(words.without_kind, "asked")]
             for kind, pattern in words.rows.get(name, default):
-                shown = filled(pattern, request.fields, request.where)
+                shown = filled(pattern, request.fields, request.where, cuts)
                 event = Event(host, stamp, f"of the {name}", kind, shown, id_, request.where, None, name, place, words.host)
                 if request.read_at is not None and stamp != request.read_at:
                     event = event._replace(read_at=request.read_at)

@@ -99,6 +99,30 @@ class Event(NamedTuple):
     clock: Optional[FileClock] = None
 
 
+class Cuts:
+    """What was cut off of fields, and those of which several became one."""
+
+    def __init__(self) -> None:
+        self.first: Dict[Tuple[str, int, str], str] = {}
+        self.several: Dict[Tuple[str, int], Tuple[str, str]] = {}
+
+    def beginning(self, key: str, letters: int, value: str) -> str:
+        """The first letters of a field."""
+        cut = value[:letters]
+        first = self.first.setdefault((key, letters, cut), value)
+        if first != value:
+            self.several.setdefault((key, letters), (first, value))
+        return cut
+
+    def warnings(self) -> List[str]:
+        """What is said of each field of which several values became one."""
+        return [
+            f"{{{key}:.{letters}}} is the same for {shortened(first)!r} and {shortened(other)!r}, so that rows of both have "
+            f"one name; more letters tell them apart"
+            for (key, letters), (first, other) in self.several.items()
+        ]
+
+
 @dataclass
 class Found:
     """What files have: events in their order, the hosts that are declared, and how long messages to them took.
@@ -115,6 +139,7 @@ class Found:
     unit: Optional[str] = None  # of the log, where the words name none
     notes: List[str] = field(default_factory=list)
     warnings: List[str] = field(default_factory=list)
+    cuts: Cuts = field(default_factory=Cuts)
     named: Dict[str, List[str]] = field(default_factory=dict)  # the hosts that a word names beside those of that name
     shown: Dict[str, str] = field(default_factory=dict)  # hosts of parts, each with its name in its part
 
@@ -246,7 +271,7 @@ def read_events(source: Source, keys: Keys, rows: Rows, found: Found) -> None:
         machine = "_".join([part(fields, key, where) for key in keys.keys_of_machine()])
         duration = fields.get(keys.duration, "").strip() if keys.duration else ""
         for kind, pattern in rows_of(fields, name, keys, rows, where):
-            shown = filled(pattern, fields, where)
+            shown = filled(pattern, fields, where, found.cuts)
             found.events.append(Event(
                 host, stamp, text, kind, shown, id_, where, limits.get(host), name, found.count, machine, duration,
                 clock=clocks.get(host),
@@ -321,7 +346,7 @@ def rows_of(fields: Fields, name: str, keys: Keys, rows: Rows, where: str) -> Li
     return [(kind, name.replace("{", "{{}"))]
 
 
-def filled(pattern: str, fields: Fields, where: str) -> str:
+def filled(pattern: str, fields: Fields, where: str, cuts: Cuts) -> str:
     """A pattern with the fields that it names in braces in their places, of `{KEY:.12}` the first 12 letters."""
     if "{" not in pattern:
         return pattern
@@ -333,7 +358,9 @@ def filled(pattern: str, fields: Fields, where: str) -> str:
         if found.group(3):
             raise Trouble(USAGE, f"{shortened(pattern)!r} has a brace that isn't closed")
         cut = CUT.fullmatch(found.group(2))
-        return part(fields, cut.group(1), where)[: int(cut.group(2))] if cut else part(fields, found.group(2), where)
+        if cut is None:
+            return part(fields, found.group(2), where)
+        return cuts.beginning(cut.group(1), int(cut.group(2)), part(fields, cut.group(1), where))
 
     return BRACED.sub(field_of, pattern)
 

@@ -8,6 +8,7 @@ from typing import Any, Dict, List, NamedTuple, Optional, Sequence
 from ask.cautions import (
     Caution, caution_facts, cautions_of, cautions_of_names, cautions_without_runs, values_of_status, wants_runs,
 )
+from ask.ends import OutOfTime
 from ask.logs import Fault, Log
 from ask.program import STOPPED, Program, Stopped
 from ask.question import VERDICTS, Question, accepted_tree, log_with_rows, report_of_run
@@ -106,6 +107,13 @@ class LongTable(Table):
         return self.read
 
     def line(self, name: str, formula: Source, shown: str) -> Line:
+        try:
+            return self.line_in_time(name, formula, shown)
+        except (Stopped, OutOfTime):
+            return Line(name, shown, STOPPED, sentence=stopped_words(shown, self.source))
+
+    def line_in_time(self, name: str, formula: Source, shown: str) -> Line:
+        """The same where the time suffices."""
         tree = accepted_tree(formula_on_hosts(self.program, formula, self.source, self.read).formula)
         asked = LongQuestion(self.program, formula, self.source, self.read, tree, self.options)
         try:
@@ -117,8 +125,6 @@ class LongTable(Table):
         setting = setting_of(asked, self.arguments, progress)
         try:
             verdict = verdict_of_slices(self.whole, setting)
-        except Stopped:
-            return Line(name, shown, STOPPED, sentence=stopped_words(shown, self.source))
         finally:
             progress.end()
         if self.is_warned_by_runs:

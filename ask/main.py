@@ -6,8 +6,9 @@ import argparse
 import functools
 import gc
 import sys
-from typing import List, NoReturn, Sequence
+from typing import Any, Dict, Iterator, List, NoReturn, Sequence
 
+from ask.cautions import WARNED
 from ask.commands import audit, between, check, deadline, draw, each, log, split, tolerance
 from ask.ends import ended, limit_time, run_script
 from ask.program import STOPPED, Stopped
@@ -43,9 +44,12 @@ class Parser(argparse.ArgumentParser):
 
 def seconds(text: str) -> float:
     """A number of seconds above 0."""
-    value = float(text)
+    try:
+        value = float(text)
+    except ValueError:
+        value = 0.0
     if not 0 < value < 10**7:
-        raise ValueError(text)
+        raise argparse.ArgumentTypeError(f"it is a number of seconds above 0 and below 10,000,000, and not {text!r}")
     return value
 
 
@@ -57,7 +61,7 @@ def common_words() -> argparse.ArgumentParser:
     words.add_argument(
         "--program", metavar="FILE", help="the program; else SKEWCHECK of the environment, the built or installed one, or that of the path",
     )
-    words.add_argument("--seconds", type=seconds, metavar="S", help="stop where all of it takes longer")
+    words.add_argument("--seconds", type=seconds, metavar="S", help="stop where all of it takes longer (check tries 100 conflicts then)")
     return words
 
 
@@ -109,7 +113,17 @@ def finished(words: Sequence[str]) -> int:
         raise Trouble(STOPPED, "stopped, since a run took longer than --seconds allows") from None
     if not arguments.quiet:
         print_answer(answer, arguments.json)
+    elif answer.status == WARNED:
+        for sentence in warnings_in(answer.facts):
+            say(f"ask: warning: {sentence}")
     return answer.status
+
+
+def warnings_in(facts: Dict[str, Any]) -> Iterator[str]:
+    """The sentences of the warnings of an answer, with the names of those that are of a line."""
+    yield from (warning["sentence"] for warning in facts.get("warnings", []))
+    for line in facts.get("lines", []):
+        yield from (f"{line['name']}: {warning['sentence']}" for warning in line["warnings"])
 
 
 def names() -> List[str]:

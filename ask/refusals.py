@@ -157,11 +157,21 @@ OTHER_SPELLINGS = {
 }
 
 
+OTHER_WORDS = {b"AND": "a conjunction is &", b"OR": "a disjunction is |", b"NOT": "a negation is !", b"IMPLIES": "an implication is ->"}
+OPEN_INTERVAL = re.compile(rb"[FGOHUS]\s*\[\s*(?:[0-9]+|\?)\s*,\s*(?:[0-9]+|inf|\?)\s*\Z")
+
+
 def spelling_hint(number: str, before: bytes, rest: bytes) -> str:
     """What else the words may be meant to be where they are refused."""
     sign = rest[:1].decode("ascii", "replace")
     if sign in OTHER_SPELLINGS and (number == "1" or number == "2" and before.endswith(rest[:1])):
         return f": {OTHER_SPELLINGS[sign]}"
+    great = re.match(rb"[A-Z]+", rest)
+    if number == "1" and great:
+        begun = before[-1:] if before[-1:].isupper() else b""  # as of OR, whose O is an operator
+        return f": {OTHER_WORDS.get(begun + great.group(), 'names are in small letters')}"
+    if number == "2" and OPEN_INTERVAL.search(before[-100:]):
+        return ": the interval has no ]"
     word = re.search(rb"(?<![a-z0-9_.])([a-z][a-z0-9_]*)\Z", before.rstrip(b" \t\r\n"))
     if number == "2" and word and word.group(1) not in (b"true", b"false"):
         name = shortened(word.group(1).decode())

@@ -9,7 +9,8 @@ from ask.texts import Trouble
 from ask.words import USAGE, listed, row_words, shortened
 
 MOST_WORD = 100  # letters; a host and a name have fewer
-RULE = "a number from 0, line:N, or HOST.NAME where one row fits"
+KINDS = ("set", "clear", "pulse", "send", "recv", "note")
+RULE = "a number from 0, line:N, or HOST.NAME where one row fits, as set:HOST.NAME where one of a kind does"
 
 
 def row_of(log: Log, word: str) -> int:
@@ -42,15 +43,22 @@ def row_at_line(log: Log, word: str) -> int:
 
 
 def row_named(log: Log, word: str) -> int:
-    """The one row of a host that has a name."""
-    host, _, name = word.partition(".")
+    """The one row of a host that has a name, of a kind where one stands before it."""
+    kind, _, rest = word.rpartition(":")
+    if kind and kind not in KINDS:
+        raise Trouble(USAGE, f"{shortened(word)!r} names no row: it is {RULE}, and the kinds are {listed(KINDS)}")
+    host, _, name = rest.partition(".")
     number = log.host_numbered(host)
     if number is None:
         raise Trouble(USAGE, f"{word}: the log has no host {host!r}. Its hosts: {listed([h.name for h in log.hosts])}")
     names = list(dict.fromkeys(row.name for row in log.rows if row.host == number))
-    found = [event for event, row in enumerate(log.rows) if row.host == number and row.name == name]
+    found = [
+        event for event, row in enumerate(log.rows)
+        if row.host == number and row.name == name and kind in ("", row.kind)
+    ]
     if not found:
-        raise Trouble(USAGE, f"{word}: no row of {host} is named {name!r}. Its names: {listed(names) or 'none'}")
+        what = f"{kind} row" if kind else "row"
+        raise Trouble(USAGE, f"{word}: no {what} of {host} is named {name!r}. Its names: {listed(names) or 'none'}")
     if len(found) > 1:
         fitting = listed([f"line:{log.rows[event].line} ({log.rows[event].kind})" for event in found])
         raise Trouble(USAGE, f"{word}: {len(found)} rows fit. Say which: {fitting}")

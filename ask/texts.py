@@ -220,12 +220,48 @@ def wait_for_writer(descriptor: int) -> None:
 
 
 def write_text(name: str, text: str) -> None:
-    """Writes a file that the command names."""
+    """Writes a file that the command names: whole, or what was there stays, unless it can't be replaced as a file."""
+    data = text.encode("utf-8", "backslashreplace")
     try:
-        with open(name, "w", encoding="utf-8", errors="backslashreplace", newline="\n", opener=open_to_write) as file:
-            file.write(text)
+        place = os.path.realpath(name)
+        if is_replaceable(name, place):
+            replace_file(place, data)
+        else:
+            with open(name, "wb", opener=open_to_write) as file:
+                file.write(data)
     except (OSError, ValueError) as error:
         raise Trouble(CANNOT_WRITE, f"{escaped(name)} can't be written: {reason_of(error)}") from None
+
+
+def is_replaceable(name: str, place: str) -> bool:
+    """Whether a name leads to no file, or to one that nobody misses: a regular one of one's own, under no other name.
+
+    What stands in /dev and /proc is a stream that somebody has open, as of `--notes /dev/stderr` and `>(..)`.
+    """
+    if os.path.abspath(name).startswith(("/dev/", "/proc/")) or not os.access(os.path.dirname(place), os.W_OK | os.X_OK):
+        return False
+    try:
+        found = os.stat(name)
+    except FileNotFoundError:
+        return True
+    is_own = found.st_uid == os.geteuid() and found.st_nlink == 1
+    return stat.S_ISREG(found.st_mode) and is_own and os.access(place, os.W_OK)
+
+
+def replace_file(place: str, data: bytes) -> None:
+    """Puts a file with these bytes in place of one, or of none, and leaves nothing else behind."""
+    mode = stat.S_IMODE(os.lstat(place).st_mode) if os.path.lexists(place) else None
+    new = os.path.join(os.path.dirname(place), f".ask-{os.getpid()}-{time.time_ns()}.new")
+    try:
+        with open(new, "xb") as file:
+            file.write(data)
+            if mode is not None:
+                os.fchmod(file.fileno(), mode)
+        os.replace(new, place)
+    except BaseException:
+        with contextlib.suppress(OSError):
+            os.unlink(new)
+        raise
 
 
 def open_to_write(name: str, flags: int) -> int:

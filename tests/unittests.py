@@ -8,7 +8,6 @@ least one was run or left out.
 
 import argparse
 import re
-import signal
 import subprocess
 import sys
 import unittest
@@ -17,13 +16,12 @@ from typing import NamedTuple
 
 sys.dont_write_bytecode = True  # leaves no compiled files beside the sources
 
+from heeding import heed_signals
+
 BESIDE = "--side-by-side"
 WRONG_WORDS = 64
 PART = "--part"  # one of the processes of those: its cases need not be any
 CLOSING = re.compile(r"^(\d+) passed, (\d+) failed$", re.M)
-
-
-ENDING = (signal.SIGHUP, signal.SIGINT, signal.SIGQUIT, signal.SIGTERM)
 
 
 class Counts(NamedTuple):
@@ -37,14 +35,6 @@ class Counts(NamedTuple):
 def case_of(test):
     """The case that a result speaks of, which may be a part of one (`subTest`)."""
     return getattr(test, "test_case", test)
-
-
-def heed_signals():
-    """Has the programs that cases begin heed signals which `nohup`, or a shell of its commands in the background, has them
-    ignore. One that is ignored stays so in a program that is begun, and one that has a handler doesn't."""
-    for number in ENDING:
-        if signal.getsignal(number) == signal.SIG_IGN:
-            signal.signal(number, lambda *_: None)
 
 
 def run(folder, words):

@@ -3,14 +3,16 @@
 from __future__ import annotations
 
 import argparse
-from typing import Any, Dict, Optional, Tuple, Union
+from typing import Any, Dict, List, Optional, Tuple, Union
 
-from ask.cautions import add_strict_words, cautions_wanted, cautions_without_runs, values_of_status, with_cautions
+from ask.cautions import (
+    Caution, add_strict_words, cautions_wanted, cautions_without_runs, values_of_status, wants_runs, with_cautions,
+)
 from ask.commands.check import refuse_wrong_conflicts
 from ask.formulas import Tree, grows_truer, is_higher, read_formula, stray_mark, subtrees, with_number
 from ask.logs import Fault, Log
 from ask.macros import add_formula_words, formula_answer, written_out
-from ask.program import Run, program_of
+from ask.program import Run, Stopped, program_of
 from ask.question import (
     REFUSED, Question, accepted_log, answered, run_facts, run_lines, shown_formula, sources_of, text_of_source,
 )
@@ -18,12 +20,14 @@ from ask.refusals import file_hint
 from ask.texts import Source, Trouble, place_of
 from ask.units import add_unit_words, scale_of_source, unit_facts
 from ask.windows.answer import Progress, setting_of
-from ask.windows.asking import Whole
+from ask.windows.asking import Setting, Whole
 from ask.windows.bounds import Contradiction
+from ask.windows.cautions import cautions_of_long_log
 from ask.windows.least_number import Numbers, Undecided
 from ask.windows.longlog import LongLog
 from ask.windows.opening import LongQuestion, add_window_words, long_log_of, question_of
 from ask.windows.shape import Shape, shape_of
+from ask.windows.verdict import verdict_of_slices
 from ask.words import USAGE, Answer, bold
 from ask.written import as_written, place_written, with_number_in
 
@@ -287,13 +291,27 @@ class LongSearch(Search):
         progress = Progress(not self.arguments.quiet)
         setting = setting_of(self.at_least, self.arguments, progress)
         try:
-            answer, number = self.answer_at(Numbers(whole, setting, self.shape_at, self.rises))
-        except Undecided as undecided:
-            answer, number = self.unknown(undecided.number), undecided.number
+            try:
+                answer, number = self.answer_at(Numbers(whole, setting, self.shape_at, self.rises))
+            except Undecided as undecided:
+                answer, number = self.unknown(undecided.number), undecided.number
+            cautions = self.cautions_at(number, whole, setting)
         finally:
             progress.end()
+        return with_cautions(answer, cautions, self.arguments)
+
+    def cautions_at(self, number: int, whole: Whole, setting: Setting) -> List[Caution]:
+        """The warnings on the formula with a number: those that windows tell too, where the words want them."""
         tree = self.tree and with_number(self.tree, number)
-        return with_cautions(answer, cautions_without_runs(self.question.formula, self.at_least.log, tree), self.arguments)
+        told = cautions_without_runs(self.question.formula, self.at_least.log, tree)
+        if not (tree and wants_runs(self.arguments)):
+            return told
+        asked = self.question_at(number, self.at_least.log)
+        whole.take_shape(shape_of(asked.tree))
+        try:
+            return cautions_of_long_log(asked, whole, setting, verdict_of_slices(whole, setting))
+        except Stopped:
+            return [*told, Caution("unasked", "whether the formula is true for nothing isn't known: that was stopped")]
 
     def answer_at(self, numbers: Numbers) -> Tuple[Answer, int]:
         """The answer at the edge, and the number that it is about."""

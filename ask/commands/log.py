@@ -57,12 +57,12 @@ def add_words(commands: "argparse._SubParsersAction[argparse.ArgumentParser]", c
     words.set_defaults(do=do)
 
 
-def add_words_on_events(words: argparse._ArgumentGroup) -> None:
-    """Adds the words on what an event is, and what it becomes."""
+def add_words_on_events(words: argparse._ArgumentGroup, has_id: bool = True) -> None:
+    """Adds the words on what an event is, and what it becomes, with or without its id."""
     words.add_argument(
         "--host", default="host", metavar="KEY[,KEY]", help="the key of the host; several are joined with _",
     )
-    for key in ("name", "kind", "id"):
+    for key in ("name", "kind", *["id"] * has_id):
         words.add_argument(f"--{key}", default=key, metavar="KEY", help=f"the key of the {key}; else {key}")
     words.add_argument("--time", metavar="KEY", help="the key of the time; else time, or the finest of --access")
     words.add_argument(
@@ -237,7 +237,7 @@ def making_of_files(arguments: argparse.Namespace, found: Found) -> Making:
     making = making_of(found.events, arguments.unit or found.unit)
     making.spellings, making.named, making.shown = spellings.hosts, found.named, found.shown
     making.notes += found.notes + spellings.notes()
-    making.warnings += found.warnings + warnings_of_rows(arguments, found)
+    making.warnings += found.warnings + found.cuts.warnings() + warnings_of_rows(arguments, found)
     return making
 
 
@@ -270,7 +270,7 @@ def found_in_files(arguments: argparse.Namespace) -> Found:
     if arguments.access is not None:
         form = format_of(arguments.access)
         words = AccessWords(arguments.time, arguments.id, arguments.only, rows, arguments.as_host, without_kind, field)
-        found.events = access_events([input_file(name) for name in arguments.files], form, words)
+        found.events = access_events([input_file(name) for name in arguments.files], form, words, found.cuts)
         return found
     keys = Keys(
         tuple(arguments.host.split(",")), arguments.time or "time", arguments.name, arguments.kind, arguments.id,

@@ -41,10 +41,10 @@ def add_words(commands: "argparse._SubParsersAction[argparse.ArgumentParser]", c
     words.add_argument("--into", required=True, metavar="FOLDER", help="where the logs go; it is made, or empty")
     words.add_argument("--unit", choices=list(UNITS), help="of the logs; else the coarsest that keeps all digits")
     words.add_argument("--notes", metavar="NOTES", help="the file for what was changed")
-    add_words_on_events(words.add_argument_group("what an event is, and what it becomes"))
+    add_words_on_events(words.add_argument_group("what an event is, and what it becomes"), has_id=False)
     add_words_on_traces(words.add_argument_group("spans of traces (docs/real-logs.md)"))
     add_words_on_clocks(words.add_argument_group("clocks and messages; without a HOST it is for all hosts"))
-    words.set_defaults(do=do, only=[])
+    words.set_defaults(do=do, only=[], id="id")
 
 
 def do(arguments: argparse.Namespace) -> Answer:

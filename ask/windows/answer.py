@@ -186,12 +186,8 @@ class LongReading:
             f"The log has {rows}. {counted(len(answers), 'window')} of at most {counted(asker.largest, 'row')} "
             f"{'covers' if len(answers) == 1 else 'cover'} it; {counted(asker.runs, 'run')} of the program told of them."
         )]
-        if may:
-            count = f"{grouped(len(may))} of them"
-            self.lines.append(f"It can be {word} in {count}:")
-            self.lines += [f"  {self.window_words(said)}" for said in may[:MOST_WINDOWS_SHOWN]]
-            more = len(may) - MOST_WINDOWS_SHOWN
-            self.lines += [f"  and {counted(more, 'window')} more"] * (more > 0)
+        self.say_those(f"It is {word} by every timing in", [said for said in may if said.can_hold is False])
+        self.say_those(f"It can be {word} in", [said for said in may if said.can_hold is not False])
         if self.verdict.in_the_way:
             way = self.verdict.in_the_way
             self.lines.append(f"{counted(len(way), 'window')} left open whether it can be {word}:")
@@ -205,6 +201,14 @@ class LongReading:
             "in_the_way": [self.window_facts(said) for said in self.verdict.in_the_way],
             "left": self.verdict.left,
         }
+
+    def say_those(self, words: str, those: Sequence[Said]) -> None:
+        """The windows of which something is so, the first of them by their moments."""
+        if those:
+            more = len(those) - MOST_WINDOWS_SHOWN
+            self.lines.append(f"{words} {grouped(len(those))} of them:")
+            self.lines += [f"  {self.window_words(said)}" for said in those[:MOST_WINDOWS_SHOWN]]
+            self.lines += [f"  and {counted(more, 'window')} more"] * (more > 0)
 
     def window_words(self, said: Said) -> str:
         """A window by the moments of its slice and its lines."""

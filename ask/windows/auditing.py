@@ -97,8 +97,11 @@ class Audit:
                 continue
             try:
                 report = self.folder.report_of(entry.name)
+                is_kept = self.folder.has_files_of(window)
             except Trouble as trouble:
                 raise Fault(trouble.message) from None
+            if not is_kept:
+                raise Fault(f"the log or the formula that is kept of {where} is another")
             if verdict_of(report) != entry.status:
                 raise Fault(f"the report of {where} has another status than the index says")
             yield Job((entry, report), ["audit", *self.options], [window.formula, window.log, report])

@@ -145,6 +145,11 @@ class Folder(Keep):
         self.write(self.path(name, "formula"), window.formula)
         self.write(self.path(name, "report"), report)
 
+    def has_files_of(self, window: Window) -> bool:
+        """Whether the log and the formula that are kept of a window are its own."""
+        kept = [self.read(self.path(name_of(window), ending), MOST_INDEX) for ending in ("csv", "formula")]
+        return kept == [window.log, window.formula]
+
     def report_of(self, name: str) -> bytes:
         """The report of a window."""
         return self.read(self.path(name, "report"), MOST_INDEX)

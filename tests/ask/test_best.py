@@ -26,7 +26,7 @@ class Between(unittest.TestCase):
         for words, least, greatest in (
             (["answered.csv", "0", "1"], 1, 9), (["answered.csv", "1", "0"], -9, -1), (["together.csv", "0", "1"], 0, 0),
             (["checkout.csv", "0", "3"], 1, 8000), (["checkout.csv", "0", "5"], 5000, 13000), (["ping.csv", "0", "3"], 5, 57),
-            (["no_ping.csv", "0", "3"], 1, 61),
+            (["no_ping.csv", "0", "3"], 1, 61), (["lease.csv", "set:a.holds", "clear:a.holds"], 90, 110),
         ):
             facts = facts_of(["between", *words], 0)
             self.assertEqual((facts["least"], facts["greatest"]), (least, greatest), words)
@@ -41,7 +41,8 @@ class Between(unittest.TestCase):
             ("checkout.csv", "7", "numbered from 0 to 6"), ("checkout.csv", "line:3", "4 to 10"), ("checkout.csv", "line:x", "4 to 10"),
             ("checkout.csv", "web.done", "asked, m1, m2, shown"), ("checkout.csv", "app.done", "web, pay"),
             ("checkout.csv", "done", "HOST.NAME"), ("checkout.csv", "9" * 5000, "numbered from 0"), ("checkout.csv", "-1", "usage"),
-            ("checkout.csv", "3", "both are"), ("lease.csv", "a.holds", "line:4 (set), line:5 (clear)"), ("checkout.csv", "", "names no row"),
+            ("checkout.csv", "3", "both are"), ("lease.csv", "a.holds", "line:4 (set), line:5 (clear)"), ("checkout.csv", "", "names no row"), ("lease.csv", "on:a.holds", "the kinds are set"),
+            ("lease.csv", "note:a.holds", "no note row of a"),
         ):
             ended, _, said = asked(["between", log, row, "3"], EXAMPLES)
             self.assertEqual(ended, 64, said)

@@ -3,6 +3,7 @@
 import json
 import os
 import re
+import resource
 import signal
 import subprocess
 import sys
@@ -57,6 +58,54 @@ class Streams(unittest.TestCase):
     def test_a_closed_input_and_a_closed_error_change_no_answer(self):
         for turns in ("<&-", "2>&-", "2>/dev/full", "<&- 2>&-"):
             self.assertEqual(turned(LEASE, turns)[0], 2, turns)
+
+    def test_an_output_that_is_full_in_its_midst_is_75(self):
+        for unbuffered in ("", "1"):
+            with self.subTest(unbuffered), tempfile.TemporaryDirectory() as folder, open(Path(folder, "log"), "wb") as output:
+                done = self.made_within(4096, folder, stdout=output, env={**os.environ, "PYTHONUNBUFFERED": unbuffered})
+                self.assertEqual((done.returncode, done.stderr), (75, b"ask: the standard output can't be written: File too large\n"))
+
+    def test_a_file_stays_where_another_can_not_be_written(self):
+        with tempfile.TemporaryDirectory() as folder:
+            log = Path(folder, "log")
+            log.write_text("before")
+            log.chmod(0o640)
+            done = self.made_within(4096, folder, "-o", "log")
+            self.assertEqual((done.returncode, done.stderr), (75, b"ask: log can't be written: File too large\n"))
+            self.assertEqual((log.read_text(), sorted(os.listdir(folder))), ("before", ["events", "log"]))
+            self.assertEqual(self.made_within(10**6, folder, "-o", "log").returncode, 0)
+            self.assertEqual((log.stat().st_mode & 0o777, log.read_text().count("\n")), (0o640, 902))
+            self.assertEqual(sorted(os.listdir(folder)), ["events", "log", "log.notes"])
+
+    def test_a_file_under_two_names_stays_one(self):
+        with tempfile.TemporaryDirectory() as folder:
+            Path(folder, "log").write_text("before")
+            os.link(Path(folder, "log"), Path(folder, "other"))
+            os.symlink("log", Path(folder, "link"))
+            self.assertEqual(self.made_within(10**6, folder, "-o", "link").returncode, 0)
+            self.assertEqual(Path(folder, "other").read_text().count("\n"), 902)
+            self.assertTrue(Path(folder, "link").is_symlink())
+
+    def test_streams_that_are_named_as_files(self):
+        with tempfile.TemporaryDirectory() as folder:
+            for name, turns in (("/dev/stdout", "| cat"), ("/dev/stderr", "2>&1 | cat"), ("/dev/fd/7", "7>&1 | cat"), ("/dev/stdout", "> kept")):
+                with self.subTest(name, turns=turns):
+                    Path(folder, "events").write_text('{"time": 1, "host": "a", "name": "x"}\n')
+                    done = subprocess.run(
+                        ["bash", "-o", "pipefail", "-c", f'"$@" {turns}; status=$?; [ ! -e kept ] || cat kept; exit $status', "bash", *ASK, "log", "events",
+                         "--skew", "1", "--notes", os.devnull, "--output", name, "--quiet"],
+                        cwd=folder, capture_output=True, timeout=PATIENCE,
+                    )
+                    self.assertEqual((done.returncode, done.stdout[-10:]), (0, b"note,a,1,x\n"[-10:]), done)
+
+    def made_within(self, most, folder, *words, **streams):
+        """How `ask log` of 900 events ended where no file may have more bytes."""
+        events = "".join(f'{{"time": {number}, "host": "a", "name": "x"}}\n' for number in range(900))
+        Path(folder, "events").write_text(events)
+        return subprocess.run(
+            [*ASK, "log", "events", "--skew", "1", "--notes", os.devnull, *words], cwd=folder, stderr=subprocess.PIPE, timeout=PATIENCE,
+            preexec_fn=lambda: resource.setrlimit(resource.RLIMIT_FSIZE, (most, most)), **{"stdout": subprocess.DEVNULL, **streams},
+        )
 
     def test_a_closed_input_can_not_be_read(self):
         status, said = turned(["check", "-", "lease.csv"], "<&-")

@@ -15,7 +15,7 @@ from common import PATIENCE, ROOT, asked
 from ask import logs
 from ask.access import Request, format_of, on_hosts
 from ask.clocks import Clock, ClockStep, Update
-from ask.events import filled, name_map
+from ask.events import Cuts, filled, name_map
 from ask.formulas import read_formula
 from ask.making import Line
 from ask.page import page_of
@@ -260,7 +260,7 @@ class Names(unittest.TestCase):
     def test_fields_in_braces(self):
         fields = {"k": "value", "": "empty"}
         for pattern, wanted in (("r{k}_x", "rvalue_x"), ("{k:.3}", "val"), ("{{}k}", "{k}"), ("{}", "empty"), ("no", "no"), ("}{k}", "}value")):
-            self.assertEqual(filled(pattern, fields, "here"), wanted)
+            self.assertEqual(filled(pattern, fields, "here", Cuts()), wanted)
 
 
 class Requests(unittest.TestCase):

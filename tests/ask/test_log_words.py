@@ -81,6 +81,13 @@ class Names(Made):
         log = self.made(event(1, "A", "GO") + event(2, "a", "go"), "--skew", "1", "--same-name")[0]
         self.assertEqual(log, HEAD + "host,a,1,0\nnote,a,1,go\nnote,a,2,go\n")
 
+    def test_fields_of_which_letters_were_cut(self):
+        text = event(1, id="order-1") + event(2, id="order-2") + event(3, id="other")
+        for pattern, count in (("r_{id:.5}", 1), ("r_{id:.7}", 0), ("r_{id}", 0), ("r_{id:.1}", 1)):
+            _, notes, said = self.made(text, "--skew", "1", "--row", f"x=pulse:{pattern}")
+            self.assertEqual(said.count("so that rows of both have one name"), count, said)
+            self.assertEqual(notes.count("is the same for 'order-1' and 'order-2'"), count, notes)
+
     def test_declarations_of_one_host_have_to_agree(self):
         text = HEAD + "host,A,1,0\nhost,a,2,0\nset,A,1,p\nset,a,2,p\n"
         self.refused(text, ["--same-name"], 66, "another skew or gap")

@@ -19,8 +19,9 @@ import schema
 import windows_agreement
 
 from ask import logs
+from ask.ends import OutOfTime
 from ask.formulas import read_formula
-from ask.program import find_program
+from ask.program import Stopped, find_program
 from ask.texts import Trouble
 from ask.windows import cuts, guard, shape, window
 from ask.windows.asking import Whole
@@ -366,6 +367,18 @@ class Folders(unittest.TestCase):
         self.assertEqual((audited, facts_of_text(text)["verdict"]), (0, facts["verdict"]))
         self.assertEqual(schema.complaint("audit", facts_of_text(text)), "")
 
+    def test_files_that_were_changed(self):
+        self.assertLess(asked(self.words, self.folder)[0], 3)
+        for ending in ("csv", "formula"):
+            files = {file: file.read_bytes() for file in Path(self.folder, "k", "windows").rglob(f"*.{ending}")}
+            for file, data in files.items():
+                file.write_bytes(data + b"\n")
+            ended, text, _ = asked(["audit", "k"], self.folder)
+            self.assertEqual((ended, "is another" in text), (5, True), text)
+            for file, data in files.items():
+                file.write_bytes(data)
+        self.assertEqual(asked(["audit", "k"], self.folder)[0], 0)
+
     def test_a_run_that_was_broken_off_goes_on(self):
         with mock.patch("ask.windows.keeping.Folder.take", side_effect=[None] * 3 + [KeyboardInterrupt]):
             self.assertEqual(asked(self.words, self.folder)[0], 130)
@@ -451,11 +464,30 @@ class Commands(unittest.TestCase):
         ended, text, said = asked(["deadline", "G (a.p -> F[?,9] b.q)", "l", "--json"], self.folder)
         self.assertEqual((ended, facts_of_text(text).get("number")), (0, 1), said)
 
+    def test_warnings_of_a_deadline(self):
+        for formula, kinds in (("G (a.p -> F[0,?] b.q)", []), ("G ((a.p & !a.p) -> F[0,?] b.q)", ["never"])):
+            ended, text, said = asked(["deadline", formula, "l", "--json", "--strict"], self.folder)
+            self.assertEqual([warning["kind"] for warning in facts_of_text(text)["warnings"]], kinds, said)
+            self.assertEqual(ended, 65 if kinds else 0)
+            self.assertEqual(asked(["deadline", formula, "l"], self.folder)[0], 0)
+
     def test_each(self):
         ended, text, said = asked(["each", "G ({} -> F[0,9] b.q)", "l", "--over", r"\w+\.[pq]", "--json"], self.folder)
         facts = facts_of_text(text)
         self.assertEqual([(line["name"], line["status"]) for line in facts["lines"]], [("a.p", 0), ("b.q", 0)], said)
         self.assertEqual((ended, schema.complaint("each", facts)), (0, ""))
+
+    def test_windows_that_decide_stand_first(self):
+        ended, text, said = asked(["check", "G (a.p -> G[0,9] !b.q)", "l"], self.folder)
+        heads = [line for line in text.splitlines() if line.startswith("It ")]
+        self.assertEqual((ended, heads[0][:30]), (1, "It is false by every timing in"), said)
+
+    def test_lines_for_which_no_time_is_left(self):
+        words = ["each", "G ({} -> F[0,9] b.q)", "l", "--over", r"\w+\.[pq]", "--json"]
+        for end in (Stopped, OutOfTime):
+            with mock.patch("ask.lines.verdict_of_slices", side_effect=end):
+                ended, text, said = asked(words, self.folder)
+            self.assertEqual((ended, [line["status"] for line in facts_of_text(text)["lines"]]), (124, [124, 124]), said)
 
     def test_strict(self):
         self.assertEqual(asked(["check", "G (a.x -> b.q)", "l", "--strict"], self.folder)[0], 65)

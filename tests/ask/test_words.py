@@ -36,7 +36,9 @@ class Quiet(unittest.TestCase):
         for words, status in COMMANDS:
             self.assertEqual(asked([*words, "--quiet"], EXAMPLES), (status, "", ""), words)
             self.assertEqual(asked([*words, "--quiet", "--json"], EXAMPLES), (status, "", ""), words)
-        self.assertEqual(asked(["check", "a.aksed", "answered.csv", "--quiet", "--strict"], EXAMPLES), (65, "", ""))
+        status, text, said = asked(["check", "a.aksed", "answered.csv", "--quiet", "--strict"], EXAMPLES)
+        self.assertEqual((status, text, said.count("\n")), (65, "", 1))
+        self.assertTrue(said.startswith("ask: warning: a.aksed (line 1, column 1) is false throughout"), said)
         self.assertEqual(asked(["--version", "--quiet"]), (0, "", ""))
 
     def test_refusals_are_told(self):
