@@ -233,5 +233,7 @@ def run_scripts(program, kind):
 if __name__ == "__main__":
     sys.path.insert(0, str(Path(__file__).resolve().parents[1]))
     import ends
+    import heeding
 
+    heeding.heed_signals()
     ends.run(main)

@@ -213,18 +213,23 @@ def output_complaint(run, ended):
     return ""
 
 
+PICTURE = re.compile(r"<svg\b.*?</svg>", re.S)
+OF_A_PAGE = {"svg": 0, "script": 2, "header": 1}  # beside its pictures
+
+
 def picture_complaint(text, is_svg):
     """What is wrong with a picture, or the page of one."""
-    begins = text.find("<svg")
     try:
-        ElementTree.fromstring(text if is_svg else text[begins : text.index("</svg>") + 6])
-    except (ElementTree.ParseError, ValueError) as error:
+        for picture in [text] if is_svg else PICTURE.findall(text):
+            ElementTree.fromstring(picture)
+    except ElementTree.ParseError as error:
         return f"the picture is no XML: {error}"
     if is_svg:
         return ""
     page = Page()
     page.feed(text)
-    return "" if page.counts == {"svg": 1, "script": 1, "header": 1} else f"the page has {page.counts}"
+    is_right = {**page.counts, "svg": 0} == OF_A_PAGE and page.counts["svg"] == len(PICTURE.findall(text)) > 0
+    return "" if is_right else f"the page has {page.counts}"
 
 
 class Page(HTMLParser):

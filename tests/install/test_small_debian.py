@@ -216,7 +216,7 @@ class Package(WithRoom):
     def test_fields(self):
         self.assertEqual(
             [self.field(name) for name in ("Package", "Architecture", "Maintainer", "Depends", "Suggests")],
-            ["skewcheck", "amd64", "Tavgnir <skewcheck@tavgnir.invalid>", "libc6 (>= 2.34), python3 (>= 3.8)", "parallel, jq"],
+            ["skewcheck", "amd64", "Tavgnir <skewcheck@tavgnir.invalid>", "libc6 (>= 2.34), python3 (>= 3.9)", "parallel, jq"],
         )
         self.assertRegex(self.field("Version"), r"^[0-9]+(\.[0-9]+)*(\+git[0-9]{14}\.[0-9a-f]{12}(\+changed)?)?$")
         self.assertGreater(int(self.field("Installed-Size")), Path(PROGRAM).stat().st_size // 1024)
