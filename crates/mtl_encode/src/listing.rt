@@ -5,7 +5,7 @@ ghost use Rattle.skew_bounds.specs.Differences.{Differences};
 ghost use Rattle.axiom_rules.specs.Clauses.{clause_of};
 ghost use Rattle.axiom_rules.specs.NodeShapes.{reach_in, shape_at};
 ghost use Rattle.mtl_encode.specs.Growth.{AreClauses, Gains, HasRoom};
-ghost use Rattle.mtl_encode.specs.Instances.{count_of as count_of_argument, instances, is_of_reach as is_number_of_reach, of_number, out_by, rule_at, left_by, three_left_by, with_one};
+ghost use Rattle.mtl_encode.specs.Instances.{count_of as count_of_argument, instances, is_of_reach as is_number_of_reach, left_by, of_number, out_by, rule_at, three_left_by, with_one};
 ghost use Rattle.mtl_encode.specs.Seconds.{AreCounts, AreEvents};
 
 use crate::clauses::Clauses;

@@ -104,6 +104,7 @@ pub record IsMarked (bytes : List ℕ) : Type 0 where
 abbrev pub AreTimes : ℕ → List ℕ → Type 0
 AreTimes count bytes = AreItems (IsWithin MAX_TIME) time_text count bytes
 
+-- so many times were read, and the rest follows
 abbrev pub AreTimesRead : ℕ → List ℕ → List ℤ → List ℕ → Type 0
 AreTimesRead count bytes times rest = AreRead (IsWithin MAX_TIME) time_text count bytes times rest
 
