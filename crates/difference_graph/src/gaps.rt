@@ -10,7 +10,7 @@ use neg_cycle::{MAX_BOUND, MAX_NODES};
 // How far below 0 a number may be where an edge is to be met.
 const NEAR: i128 = 1 << 113;
 
-// Brings all numbers near to 0, and keeps the differences between them where all are small.
+/// Brings all numbers near to 0, and keeps the differences between them where all are small.
 pub fn bring_near(numbers: &mut [i128])
     requires some { 0 < length numbers.old }
     requires few { length numbers.old ≤ MAX_NODES }

@@ -60,8 +60,9 @@ impl Graph {
         })
     }
 
-    /// The same over as many nodes as there are numbers, which it begins with, as near as a graph's may be: where these meet
-    /// the edges to come, each is added at once.
+    /// A graph over as many nodes as there are numbers that holds no edge, and begins with these numbers, all
+    /// moved down alike so that none is above 0. An edge that they meet is added without more work. What its
+    /// numbers are no clause says.
     pub fn near(alloc: Global, numbers: &[i128], capacity: u32) -> Result<Graph, AllocError>
         requires some { 0 < length numbers.now }
         requires few_nodes { length numbers.now ≤ MAX_NODES }
@@ -116,8 +117,9 @@ impl Graph {
         }
     }
 
-    /// The walk that the edge closes which the last call refused, by the places of its edges in
-    /// order. The number of held edges stands for the refused edge. After another call it is free.
+    /// The walk that the edge closes which the last push refused, by the places of its edges in order. The
+    /// number of held edges stands for the refused edge. After any other call that changes the graph nothing
+    /// is said of it.
     pub fn cycle(&self) -> &[u32]
         ensures cycle { result.now ≡ self.now.cycle }
     {

@@ -22,7 +22,7 @@ pub struct Held {
     pub before: Vec<u32>,
 }
 
-// No edge over so many nodes, with room for so many edges.
+/// No edge over so many nodes, with room for so many edges.
 pub fn no_edges(alloc: Global, nodes: usize, capacity: usize) -> Result<Held, AllocError>
     ensures edges { IfOk result (λ held. held.edges.items ≡ []) }
     ensures incoming { IfOk result (λ held. AreIncoming held.edges.items held.last.items held.before.items) }
@@ -39,7 +39,7 @@ pub fn no_edges(alloc: Global, nodes: usize, capacity: usize) -> Result<Held, Al
     })
 }
 
-// Adds an edge at the end.
+/// Adds an edge at the end.
 pub fn hold(held: &mut Held, edge: Edge)
     requires end { edge.to < length held.old.last.items }
     requires incoming { AreIncoming held.old.edges.items held.old.last.items held.old.before.items }
@@ -57,7 +57,7 @@ pub fn hold(held: &mut Held, edge: Edge)
     push_within(&mut held.edges, edge);
 }
 
-// Releases the last edge.
+/// Releases the last edge.
 pub fn release_last(held: &mut Held)
     requires some { 0 < length held.old.edges.items }
     requires incoming { AreIncoming held.old.edges.items held.old.last.items held.old.before.items }
@@ -74,7 +74,7 @@ pub fn release_last(held: &mut Held)
     held.edges.truncate(place);
 }
 
-// Releases the last edges, so that as many are left as at the mark.
+/// Releases the last edges, so that as many are left as at the mark.
 pub fn release_to(held: &mut Held, mark: usize)
     requires mark { mark ≤ length held.old.edges.items }
     requires incoming { AreIncoming held.old.edges.items held.old.last.items held.old.before.items }

@@ -8,7 +8,7 @@ ghost use Rattle.difference_graph.specs.Repairs.{slack};
 use crate::subtraction::difference;
 use neg_cycle::Edge;
 
-// Whether the numbers meet an edge.
+/// Whether the numbers meet an edge.
 pub fn is_met(numbers: &[i128], edge: Edge) -> bool
     requires edge { IsEdge (length numbers.now) edge }
     requires numbers { All IsNumber numbers.now }
@@ -17,7 +17,7 @@ pub fn is_met(numbers: &[i128], edge: Edge) -> bool
     slack_of(numbers, edge) >= 0
 }
 
-// How far the numbers are from missing an edge.
+/// How far the numbers are from missing an edge.
 pub fn slack_of(numbers: &[i128], edge: Edge) -> i128
     requires edge { IsEdge (length numbers.now) edge }
     requires numbers { All IsNumber numbers.now }

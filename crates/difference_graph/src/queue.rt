@@ -13,8 +13,8 @@ use crate::waiting::{Missed, next_waiting, wait};
 use neg_cycle::Edge;
 use std::collections::BinaryHeap;
 
-// Puts the edge at a place among those that wait, if the numbers miss it. Gives the place in place of
-// that, if the edge begins at the end.
+/// Puts the edge at a place among those that wait, if the numbers miss it. Gives the place in place of
+/// that, if the edge begins at the end.
 pub fn enqueue_missed(
     edges: &[Edge],
     place: u32,
@@ -44,8 +44,8 @@ pub fn enqueue_missed(
     None
 }
 
-// Puts the edges that end at a node among those that wait, where the numbers miss them. Gives the
-// place of one that begins at the end, if the numbers miss such an edge.
+/// Puts the edges that end at a node among those that wait, where the numbers miss them. Gives the
+/// place of one that begins at the end, if the numbers miss such an edge.
 pub fn enqueue_incoming(
     held: &Held,
     node: u32,
@@ -77,7 +77,7 @@ pub fn enqueue_incoming(
     None
 }
 
-// Takes out the edge that the numbers miss by most, if they miss one.
+/// Takes out the edge that the numbers miss by most, if they miss one.
 pub fn next_missed(
     edges: &[Edge],
     numbers: &[i128],

@@ -16,9 +16,9 @@ use crate::work::Work;
 use mt_list::push_within;
 use neg_cycle::Edge;
 
-// Lowers numbers until they meet all edges, where those before the last one are met already. The node
-// at its end keeps its number: where it would be lowered, the edges that asked for it close a walk of
-// negative sum, which is put into the work's walk, and the numbers are put back.
+/// Lowers numbers until they meet all edges, where those before the last one are met already. The node
+/// at its end keeps its number: where it would be lowered, the edges that asked for it close a walk of
+/// negative sum, which is put into the work's walk, and the numbers are put back.
 pub fn repair(held: &Held, place: u32, numbers: &mut [i128], work: &mut Work) -> Push
     requires place { place + 1 ≡ length held.now.edges.items }
     requires system { IsSystem (length numbers.old) held.now.edges.items }

@@ -7,8 +7,8 @@ ghost use Rattle.difference_graph.specs.Repairs.{LeadsOn, IsTree, IsTrace};
 use mt_list::push_within;
 use neg_cycle::Edge;
 
-// The walk over the edge at a place, and from there over the edges of the tree, to where that edge
-// begins. Of the tree's edges the later ones come first, since each leads to an earlier one.
+/// The walk over the edge at a place, and from there over the edges of the tree, to where that edge
+/// begins. Of the tree's edges the later ones come first, since each leads to an earlier one.
 pub fn trace(edges: &[Edge], order: &[u32], place: u32, walk: &mut Vec<u32>)
     requires place { place < length edges.now }
     requires tree { IsTree edges.now (edge_at edges.now place).from order.now }

@@ -15,7 +15,7 @@ pub struct Missed {
     pub place: u32,
 }
 
-// Puts an edge among those that wait, without taking memory.
+/// Puts an edge among those that wait, without taking memory.
 pub fn wait(waiting: &mut BinaryHeap<Missed>, edge: Missed)
     requires order { IsOrdered (heap_items waiting.old) }
     requires room { length (heap_items waiting.old) < heap_capacity waiting.old }
@@ -27,7 +27,7 @@ pub fn wait(waiting: &mut BinaryHeap<Missed>, edge: Missed)
     pushed.unwrap()
 }
 
-// Takes out an edge that was missed by most.
+/// Takes out an edge that was missed by most.
 pub fn next_waiting(waiting: &mut BinaryHeap<Missed>) -> Option<Missed>
     requires order { IsOrdered (heap_items waiting.old) }
     ensures order { IsOrdered (heap_items waiting.new) }

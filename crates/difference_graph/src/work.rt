@@ -21,7 +21,7 @@ pub struct Work {
     pub walk: Vec<u32>,
 }
 
-// Nothing to work on, with room for so many nodes and edges.
+/// Nothing to work on, with room for so many nodes and edges.
 pub fn no_work(alloc: Global, nodes: usize, capacity: usize) -> Result<Work, AllocError>
     requires few { nodes ≤ MAX_NODES }
     ensures room { IfOk result (HasWorkRoom nodes capacity) }

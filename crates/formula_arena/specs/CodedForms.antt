@@ -63,6 +63,7 @@ with_piece (OfAlways I) fs = over_last (Always I) fs
 with_piece (OfOnce I) fs = over_last (Once I) fs
 with_piece (OfHistorically I) fs = over_last (Historically I) fs
 
+-- the forms after these pieces, the last one first
 abbrev pub forms_of : List Piece → List Form → List Form
 forms_of [] fs = fs
 forms_of (p ∷ ps) fs = forms_of ps (with_piece p fs)
@@ -87,9 +88,11 @@ forms_of-pieces_of (Always I f) ps fs = forms_of-pieces_of f (OfAlways I ∷ ps)
 forms_of-pieces_of (Once I f) ps fs = forms_of-pieces_of f (OfOnce I ∷ ps) fs
 forms_of-pieces_of (Historically I f) ps fs = forms_of-pieces_of f (OfHistorically I ∷ ps) fs
 
+-- a form as its pieces
 abbrev pub written : Form → List Piece
 written f = pieces_of f []
 
+-- the form that pieces write
 abbrev pub read : List Piece → Form
 read ps = first_of_forms (forms_of ps [])
 

@@ -47,6 +47,7 @@ pub record IsArena (trees : List Form) : Type 0 where
   pub once : (j k : ℕ) → j < length trees → k < length trees → tree_at trees j ≡ tree_at trees k → j ≡ k
   pub children_first : (k : ℕ) → k < length trees → All (StandsBefore trees k) (children_of (tree_at trees k))
 
+-- whether a tree is a proposition
 abbrev pub is_proposition : Form → Bool
 is_proposition (Prop host name) = true
 is_proposition _ = false

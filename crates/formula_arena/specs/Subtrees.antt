@@ -47,6 +47,7 @@ same_bound None None = true
 same_bound (Some m) (Some n) = m == n
 same_bound _ _ = false
 
+-- whether two intervals are equal
 abbrev pub same_interval : Interval → Interval → Bool
 same_interval I J = (I.low == J.low) && same_bound I.high J.high
 

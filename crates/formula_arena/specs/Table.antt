@@ -7,6 +7,7 @@ use Rattle.formula_arena.specs.declared.node.Core.TheVariants as core
 use Rattle.formula_arena.specs.declared.node.Proposition.{Proposition}
 use Rattle.formula_arena.specs.Nodes.{IsArena, IsAt, propositions_in, tree_at}
 
+-- a proposition as a tree
 abbrev pub tree_of_proposition : Proposition → Form
 tree_of_proposition p = Prop p.host p.name
 

@@ -99,8 +99,9 @@ impl Arena {
     }
 
     /// Adds the nodes of a formula that aren't there, in the order of the formula's nodes, and answers
-    /// the node of its core. `TooManyNodes` comes exactly where more than 512 nodes would be held. After
-    /// a fault the arena holds its old nodes, and perhaps further ones after them.
+    /// the node of its core. Where more than 512 nodes would be held the answer is `TooManyNodes` or want of
+    /// memory, elsewhere never `TooManyNodes`. After a fault the arena holds its old nodes, and perhaps
+    /// further ones after them.
     pub fn intern(&mut self, f: &Formula) -> Result<NodeId, ArenaFault>
         ensures node { IfOk result (λ id. IsAt self.new id (core_of (form_of f.now))) }
         ensures nodes { OnOk result (self.new ≡ with_nodes_of self.old (form_of f.now)) }

@@ -9,6 +9,7 @@ pub enum ArenaFault {
     /// The arena would hold more than 512 nodes.
     #[error("more than 512 nodes")]
     TooManyNodes,
+    /// There is no memory.
     #[error("out of memory")]
     Memory,
 }

@@ -97,8 +97,8 @@ impl Progress {
     }
 }
 
-/// Finishes events until each that is left waits for another one. There are so many hosts as the width
-/// says; these are the host of each event, and the table of its causes.
+/// Finishes events until each that is left waits for another one. `width` is the number of hosts, `hosts` has
+/// the host of each event, and `table` its causes.
 pub fn finish_all(
     alloc: Global,
     width: usize,

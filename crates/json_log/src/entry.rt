@@ -36,7 +36,7 @@ pub struct Delays {
     pub most: Option<i128>,
 }
 
-// The entry of a word that an object gives with the name at a key, its skew and its gap.
+/// The entry of a word that an object gives with the name at a key, its skew and its gap.
 pub fn span<'a>(kind: &'a str, named: Key, value: &'a Value) -> Option<Entry<'a>>
     ensures { option_map record_in result ≡ span_record kind.now named (view value.now) }
 {
@@ -72,7 +72,7 @@ fn read_delays(items: &[Value]) -> Option<Delays>
     }
 }
 
-// The latency record of a host.
+/// The latency record of a host.
 pub fn latency(value: &Value) -> Option<Entry<'_>>
     ensures { option_map record_in result ≡ latency_record (view value.now) }
 {
@@ -125,7 +125,7 @@ fn bound<'a>(kind: &'a str, value: &'a Value) -> Option<Entry<'a>>
     })
 }
 
-// The record of an event of a kind.
+/// The record of an event of a kind.
 pub fn event<'a>(kind: &'a str, value: &'a Value) -> Option<Entry<'a>>
     ensures { option_map record_in result ≡ record_of_kind (view value.now) kind.now }
 {

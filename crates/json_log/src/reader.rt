@@ -34,16 +34,15 @@ fn records(alloc: Global, bytes: &[u8]) -> Result<RecordList, JsonFault>
 /// The file is one JSON value in UTF-8, as `serde_json` reads it: an object with the keys `hosts` and
 /// `events` and no other, both of them arrays. An entry of `hosts` is an object of a `name`, a `skew`
 /// and a `gap`, and perhaps a `latency`, an array of a least delay and a greatest one or `null`. An entry
-/// of `events` is an object of a `kind`, a `host`, a `time` and a `name`, or, for the kind `resync`, of
-/// a `kind`, a `host`, a `skew` and a `gap`, for the kind `clock`, of a `kind`, a `host`, a `clock` and an
-/// `error`, and for the kind `bound`, of a `kind`, a `later` row, an `earlier` one and how much `most` is
-/// between them. Hosts, names, clocks and kinds are strings, and all else whole numbers, those of rows from
-/// 0 and the others in the log's one unit of time.
+/// of `events` is an object of a `kind`, a `host`, a `time` and a `name`, the kind being neither `host` nor
+/// `latency`; or, for the kind `resync`, of a `kind`, a `host`, a `skew` and a `gap`, for the kind `clock`, of
+/// a `kind`, a `host`, a `clock` and an `error`, and for the kind `bound`, of a `kind`, a `later` row, an
+/// `earlier` one and how much `most` is between them. Hosts, names, clocks and kinds are strings, and all else
+/// whole numbers, those of rows from 0 and the others in the log's one unit of time.
 ///
 /// The log is that of the records that these entries stand for, of version 3 where some event is of the
-/// kind `clock` or `bound` and else of version 2, and so are its faults: the
-/// header is record 1, and after it come for each host its own record and that of its latency, and then
-/// one for each event.
+/// kind `clock` or `bound` and else of version 2. A fault of the log is that of these records: record 1 is
+/// the header, then come for each host its own record and that of its latency, and then one for each event.
 pub fn read_json(alloc: Global, bytes: &[u8]) -> Result<Log, JsonFault>
     requires { length bytes.now < 2 ^ 30 }
     ensures answer { MatchResult result (λ log. json_log_of bytes.now ≡ Ok log) (λ f. (f ≡ JsonFault.Memory) ⊎ (json_log_of bytes.now ≡ Err f)) }

@@ -20,7 +20,7 @@ use Rattle.log_read.specs.LogOf.{fault_of, is_delayed, is_empty, known_in}
 use Rattle.log_read.specs.LogText.{has_latency, latency_fields, most_text}
 use Rattle.log_read.specs.Reading.{with_record}
 use Rattle.log_read.specs.Records.{Listing, delay_in, delayed, delayed_by, greatest_in, latency_in, latency_of, latency_with, least_in, place_of_host, with_delays}
-use Rattle.mt_model.proofs.Clocks.{find-none}
+use Rattle.mt_model.proofs.HostSpans.{find-none}
 use Rattle.log_read.proofs.ClearHosts.{AreHosts, four_clear}
 use Rattle.log_read.proofs.Listing.{listing}
 use Rattle.log_read.proofs.Middles.{All-middle, AllPairs-middle}

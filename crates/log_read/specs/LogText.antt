@@ -17,9 +17,11 @@ use Rattle.log_read.specs.declared.version.Version.TheVariants as version
 use Rattle.log_read.specs.Records.{Record}
 use Rattle.log_read.specs.LogOf.{log_of}
 
+-- the byte between fields
 abbrev pub comma : ℕ
 comma = 44
 
+-- the byte that ends a line
 abbrev pub newline : ℕ
 newline = 10
 
@@ -55,7 +57,7 @@ version_for log =
     else if (length log.resyncs == 0) && not (list_any has_latency log.hosts) && not (list_any has_pulse log.rows) then version.One
     else version.Two
 
--- the fields `kind`, `skewlog2` or `skewlog3`, `host`, `time`, `name`
+-- the word of the version, which is `kind`, `skewlog2` or `skewlog3`, and the fields `host`, `time` and `name`
 abbrev pub header : Version → Record
 header version.One = codes "kind" ∷ codes "host" ∷ codes "time" ∷ codes "name" ∷ []
 header version.Two = codes "skewlog2" ∷ codes "host" ∷ codes "time" ∷ codes "name" ∷ []

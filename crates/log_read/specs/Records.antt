@@ -258,6 +258,7 @@ pub record Listing : Type 0 where
   pub readings : List Reading
   pub bounds : List Extra
 
+-- what records list
 abbrev pub listed : List Record → Listing
 listed records = record {
   hosts = hosts_in records;
@@ -282,6 +283,7 @@ abbrev pub delayed_by : Option Latency → Host → Host
 delayed_by None h = h
 delayed_by (Some l) h = with_delays h l.least l.most
 
+-- the host with the latency that these state of it
 abbrev pub delayed : List Latency → Host → Host
 delayed latencies h = delayed_by (latency_of latencies h.name) h
 

@@ -11,25 +11,45 @@ use thiserror::Error;
 /// from 1, the header included.
 #[derive(Clone, Copy, Debug, Error)]
 pub enum LogFault {
+    /// The header is none of the three.
     Header { place: u32 },
+    /// A record has not four fields.
     Width { place: u32 },
+    /// A record is of no kind that the file's version knows.
     Kind { place: u32 },
+    /// A host record has a word that names no host.
     HostName { place: u32 },
+    /// A host of the name was declared before.
     DuplicateHost { place: u32 },
+    /// A record is of a host that wasn't declared before it.
     UnknownHost { place: u32 },
+    /// A number is out of form or of range.
     Number { place: u32 },
+    /// A word is no name.
     Name { place: u32 },
+    /// The message was sent before.
     DoubleSend { place: u32 },
+    /// The message is sent nowhere.
     UnmatchedReceive { place: u32 },
+    /// There is no row.
     NoEvent,
+    /// A host is declared above the 64th.
     TooManyHosts { place: u32 },
+    /// A row stands behind the 1,024th.
     TooManyEvents { place: u32 },
+    /// A host has a second latency.
     DoubleLatency { place: u32 },
+    /// A greatest delay is below the least one.
     LatencyRange { place: u32 },
+    /// A clock is named above the 1,024th.
     TooManyClocks { place: u32 },
+    /// A bound is of one row alone.
     SameRow { place: u32 },
+    /// A bound stands behind the 1,048,575th.
     TooManyBounds { place: u32 },
+    /// A bound is of a row that the log hasn't.
     NoRow { place: u32 },
+    /// There is no memory.
     Memory,
 }
 

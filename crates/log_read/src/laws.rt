@@ -7,12 +7,13 @@ pub fn logs_are_valid()
     ensures { LogsAreValid }
 {}
 
-/// The log that a file's bytes are can be stated by a file again: its skews are written ones, and it has no more extra bounds than a file may state.
+/// The log that a file's bytes are can be stated by a file again: no skew is above the greatest, and there are
+/// no more extra bounds, than a file may state.
 pub fn logs_are_plain()
     ensures { LogsArePlain }
 {}
 
-/// A law: want of memory is no fault of a file.
+/// Want of memory is no fault of a file.
 pub fn no_file_lacks_memory()
     ensures { NoFileLacksMemory }
 {}

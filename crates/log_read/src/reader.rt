@@ -132,8 +132,8 @@ pub fn read_records(alloc: Global, records: &RecordList) -> Result<Log, LogFault
 
 /// The log that the bytes of a file are, read as records of comma-separated fields.
 ///
-/// A field may stand in double quotes. Blank lines and a byte order mark at the start are passed
-/// over, and no record has their number. The faults are those of `read_records`.
+/// A field may stand in double quotes. Blank lines, and a byte order mark at the start, are passed over
+/// and not counted. The faults are those of `read_records`.
 pub fn read_log(alloc: Global, bytes: &[u8]) -> Result<Log, LogFault>
     requires { length bytes.now < 2 ^ 31 }
     ensures answer { Answers result (log_of bytes.now) }

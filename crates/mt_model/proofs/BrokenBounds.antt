@@ -12,7 +12,7 @@ use Rattle.std.proofs.lemmas.List.FromFn.{get_or-range_with_len, length-range_wi
 use Rattle.std.proofs.lemmas.Option.{cond_some, option_and_then_some}
 use Rattle.mt_model.specs.declared.bound.Bound.{Bound}
 use Rattle.mt_model.specs.declared.bound.Bound.TheVariants as bound
-use Rattle.mt_model.specs.Bounds.{IsBetweenRows, UnbrokenIsAdmissible, bounds_of, breaks, breaks_edge, first_broken, is_ahead, meets, read_one, shift_of, step_of}
+use Rattle.mt_model.specs.Bounds.{IsBetweenRows, UnbrokenIsAdmissible, bounds_of, breaks, breaks_edge, first_broken, is_too_far_ahead, meets, read_one, shift_of, step_of}
 use Rattle.mt_model.specs.Clocks.{ClocksAgree, offsets_of}
 use Rattle.mt_model.specs.Log.{IsLog, Logged}
 use Rattle.mt_model.specs.Timing.{Admissible, AreOffsets, clock_of, error_of, previous_row, send_of}
@@ -102,7 +102,7 @@ module _ (log : Logged) (t : List ℤ) (valid : IsLog log) where
   read_one-from : (e f k : ℕ) → clock_of log e ≡ Some k → clock_of log f ≡ Some k → read_one log e f ≡ true
   read_one-from e f k first second = rw first (reads-from log k f second)
 
-  ahead-then : (e f k : ℕ) → clock_of log e ≡ Some k → clock_of log f ≡ Some k → is_ahead log t e f ≡ false
+  ahead-then : (e f k : ℕ) → clock_of log e ≡ Some k → clock_of log f ≡ Some k → is_too_far_ahead log t e f ≡ false
       → (shift_of log t e -ℤ shift_of log t f) ≤ℤ (error_of log e +ℤ error_of log f)
   ahead-then e f k first second h = go (int_le (shift_of log t e -ℤ shift_of log t f) (error_of log e +ℤ error_of log f)) refl (rw (read_one-from e f k first second) at h)
     where
@@ -129,16 +129,16 @@ module _ (log : Logged) (t : List ℤ) (valid : IsLog log) where
         | inl before ↦
             let row : is_row log f ≡ true = grind (arith, nat_tests) in
             let under = rw row at (under_listed log (λ b. breaks log t b ≡ false) all f k in-f second) in
-            ahead-then e f k first second (none-before (λ g. is_ahead log t g f) f e under (ltb-true _ _ before))
+            ahead-then e f k first second (none-before (λ g. is_too_far_ahead log t g f) f e under (ltb-true _ _ before))
         | inr after ↦
             let row : is_row log e ≡ true = grind (arith, nat_tests) in
             let over = rw row at (over_listed log (λ b. breaks log t b ≡ false) all e k in-e first) in
-            ahead-then e f k first second (none-before (λ g. is_ahead log t e g) e f over (let n = ltb-false _ _ after in omega (arith, n, other)))
+            ahead-then e f k first second (none-before (λ g. is_too_far_ahead log t e g) e f over (let n = ltb-false _ _ after in omega (arith, n, other)))
       ]
     ]
 
   module _ (agree : ClocksAgree log t) where
-    ahead-from : (e f : ℕ) → e < length log.rows → f < length log.rows → is_ahead log t e f ≡ false
+    ahead-from : (e f : ℕ) → e < length log.rows → f < length log.rows → is_too_far_ahead log t e f ≡ false
     ahead-from e f in-e in-f = go (clock_of log e) (clock_of log f) refl refl
       where
         go : (o p : Option ℕ) → clock_of log e ≡ o → clock_of log f ≡ p
@@ -159,12 +159,12 @@ module _ (log : Logged) (t : List ℤ) (valid : IsLog log) where
         let below : f < e = simp length-range_with_len at within in
         ap p (get_or-range_with_len 0 e f d below ∙ zero-add f) ∙ fails f below)
 
-    unbroken-read : (e : ℕ) (b : Bool) → is_row log e ≡ b → ((b && list_any (λ f. is_ahead log t f e) (range_with_len 0 e)) ≡ false) × ((b && list_any (λ f. is_ahead log t e f) (range_with_len 0 e)) ≡ false)
+    unbroken-read : (e : ℕ) (b : Bool) → is_row log e ≡ b → ((b && list_any (λ f. is_too_far_ahead log t f e) (range_with_len 0 e)) ≡ false) × ((b && list_any (λ f. is_too_far_ahead log t e f) (range_with_len 0 e)) ≡ false)
     unbroken-read e false is = (refl, refl)
     unbroken-read e true is =
         let within = ltb-true _ _ is in (
-          none-ahead (λ f. is_ahead log t f e) e (λ f low. ahead-from f e (omega (arith, low, within)) within),
-          none-ahead (λ f. is_ahead log t e f) e (λ f low. ahead-from e f within (omega (arith, low, within))),
+          none-ahead (λ f. is_too_far_ahead log t f e) e (λ f low. ahead-from f e (omega (arith, low, within)) within),
+          none-ahead (λ f. is_too_far_ahead log t e f) e (λ f low. ahead-from e f within (omega (arith, low, within))),
         )
 
 module _ (log : Logged) (t : List ℤ) (valid : IsLog log) (count : length t ≡ length log.rows) where

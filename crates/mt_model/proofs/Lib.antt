@@ -14,7 +14,7 @@ pub mod BrokenBounds
 pub mod Conflicts
 pub mod PreviousRows
 pub mod Resyncs
-pub mod Clocks
+pub mod HostSpans
 pub mod PlacesInOrder
 pub mod LastPassing
 mod VersionOneCases

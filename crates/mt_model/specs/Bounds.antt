@@ -67,8 +67,8 @@ abbrev pub read_one : Logged → ℕ → ℕ → Bool
 read_one log e f = option_map_or (λ k. option_map_or (λ m. k == m) (clock_of log f) false) (clock_of log e) false
 
 -- rows e and f read one clock, and e is ahead of f by more than both errors
-abbrev pub is_ahead : Logged → List ℤ → ℕ → ℕ → Bool
-is_ahead log t e f = read_one log e f && not (int_le (shift_of log t e -ℤ shift_of log t f) (error_of log e +ℤ error_of log f))
+abbrev pub is_too_far_ahead : Logged → List ℤ → ℕ → ℕ → Bool
+is_too_far_ahead log t e f = read_one log e f && not (int_le (shift_of log t e -ℤ shift_of log t f) (error_of log e +ℤ error_of log f))
 
 -- the bound is between rows or the zero moment
 abbrev pub IsBetweenRows : Bound → Type 0
@@ -92,8 +92,8 @@ breaks log t (bound.High e) = breaks_edge log t (bound.High e)
 breaks log t (bound.Rise e) = breaks_edge log t (bound.Rise e)
 breaks log t (bound.Message e) = breaks_edge log t (bound.Message e)
 breaks log t (bound.Late e) = breaks_edge log t (bound.Late e)
-breaks log t (bound.Under e) = is_row log e && list_any (λ f. is_ahead log t f e) (range_with_len 0 e)
-breaks log t (bound.Over e) = is_row log e && list_any (λ f. is_ahead log t e f) (range_with_len 0 e)
+breaks log t (bound.Under e) = is_row log e && list_any (λ f. is_too_far_ahead log t f e) (range_with_len 0 e)
+breaks log t (bound.Over e) = is_row log e && list_any (λ f. is_too_far_ahead log t e f) (range_with_len 0 e)
 breaks log t (bound.Extra k) = breaks_edge log t (bound.Extra k)
 
 -- the first of the log's bounds that a timing breaks

@@ -5,7 +5,7 @@ use Rattle.std.specs.Option.{option_map_or}
 use Rattle.mt_model.specs.declared.tree.Interval.{Interval}
 use Rattle.mt_model.specs.declared.tree.Tree.{Tree, Not', And', Or', Implies', Until', Since', Eventually', Always', Once', Historically'}
 use Rattle.mt_model.specs.declared.tree.Tree.TheVariants as tree
-use Rattle.mt_model.specs.declared.limits.TheConstants.{MAX_HEIGHT, MAX_DISTANCE, MAX_PROPOSITIONS}
+use Rattle.mt_model.specs.declared.limits.TheConstants.{MAX_HEIGHT, MAX_DISTANCE, TOO_MANY_PROPOSITIONS}
 use Rattle.mt_model.specs.Name.{is_name, is_reserved}
 
 -- a formula of metric temporal logic
@@ -104,7 +104,7 @@ is_named p = is_name p.host && is_name p.name
 -- a valid formula
 pub record IsFormula (f : Form) : Type 0 where
   pub height : height_of f ≤ MAX_HEIGHT
-  pub propositions : length (propositions_of f) < MAX_PROPOSITIONS
+  pub propositions : length (propositions_of f) < TOO_MANY_PROPOSITIONS
   pub names : list_all is_named (propositions_of f) ≡ true
   pub hosts : list_all (λ p. not (is_reserved p.host)) (propositions_of f) ≡ true
   pub intervals : list_all is_interval (intervals_of f) ≡ true

@@ -1,8 +1,8 @@
 -- The numbers that limit logs, timings and formulas.
 use Rattle.std.specs.Prelude.{◌≡◌, pos}
-use Rattle.mt_model.specs.declared.limits.TheConstants.{MAX_NAME_LENGTH, MAX_HOSTS, MAX_ROWS, MAX_CLOCKS, MAX_EXTRAS, MAX_WRITTEN_EXTRAS, MAX_LOCAL, MAX_WRITTEN_SKEW, MAX_SKEW, MAX_GAP, MAX_ERROR, MIN_DELAY, MAX_DELAY, MAX_EXTRA, MAX_ORDER, MAX_HEIGHT, MAX_PROPOSITIONS, MAX_DISTANCE, MAX_TIME}
+use Rattle.mt_model.specs.declared.limits.TheConstants.{MAX_NAME_LENGTH, MAX_HOSTS, MAX_ROWS, MAX_CLOCKS, MAX_EXTRAS, MAX_WRITTEN_EXTRAS, MAX_LOCAL, MAX_WRITTEN_SKEW, MAX_SKEW, MAX_GAP, MAX_ERROR, MIN_DELAY, MAX_DELAY, MAX_EXTRA, MAX_ORDER, MAX_HEIGHT, TOO_MANY_PROPOSITIONS, MAX_DISTANCE, MAX_TIME}
 
--- the limits of logs, whose skews, gaps and local times are below the limits of true times and bounds
+-- the limits of logs, of true times, and of the bounds of order steps
 pub record LogLimits : Type 0 where
   pub name_length : MAX_NAME_LENGTH ≡ 32
   pub hosts : MAX_HOSTS ≡ 64
@@ -24,5 +24,5 @@ pub record LogLimits : Type 0 where
 -- the limits of formulas
 pub record FormulaLimits : Type 0 where
   pub height : MAX_HEIGHT ≡ 200
-  pub propositions : MAX_PROPOSITIONS ≡ 2147483648
+  pub propositions : TOO_MANY_PROPOSITIONS ≡ 2147483648
   pub distance : MAX_DISTANCE ≡ 1000000000000000000

@@ -20,8 +20,8 @@ pub record Logged : Type 0 where
   pub extras : List Extra
 
 -- the log of these hosts, rows, resyncs, clocks, readings and extra bounds
-abbrev pub log_of : List Host → List Row → List Resync → List (List ℕ) → List Reading → List Extra → Logged
-log_of hosts rows resyncs clocks readings extras = record { hosts = hosts; rows = rows; resyncs = resyncs; clocks = clocks; readings = readings; extras = extras }
+abbrev pub logged : List Host → List Row → List Resync → List (List ℕ) → List Reading → List Extra → Logged
+logged hosts rows resyncs clocks readings extras = record { hosts = hosts; rows = rows; resyncs = resyncs; clocks = clocks; readings = readings; extras = extras }
 
 -- the log of these hosts, rows and resyncs, without clocks and extra bounds
 abbrev pub log_with : List Host → List Row → List Resync → Logged

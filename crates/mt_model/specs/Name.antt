@@ -1,4 +1,4 @@
--- Names of hosts, propositions and messages.
+-- Names of hosts, propositions, messages, notes and clocks.
 use Rattle.std.specs.Prelude.{ℕ, ◌==◌, ◌&&◌, ◌||◌, nat_le, Bool, false, List, [], ◌∷◌, length, bytes_eq, codes}
 use Rattle.std.specs.List.{list_all}
 use Rattle.mt_model.specs.declared.limits.TheConstants.{MAX_NAME_LENGTH}

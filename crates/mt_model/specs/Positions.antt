@@ -12,7 +12,7 @@ abbrev pub positions_of : List ℤ → List ℤ
 positions_of [] = []
 positions_of (x ∷ t) = put x (positions_of t)
 
--- how many of rising numbers are less than one
+-- how many of rising numbers are less than a given number
 abbrev pub index_of : List ℤ → ℤ → ℕ
 index_of [] x = zero
 index_of (p ∷ ps) x = if int_lt p x then suc (index_of ps x) else zero

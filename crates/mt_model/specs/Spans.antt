@@ -9,12 +9,12 @@ use Rattle.mt_model.specs.declared.limits.TheConstants.{MAX_GAP, MAX_SKEW}
 use Rattle.mt_model.specs.Log.{IsWithin, Logged}
 use Rattle.mt_model.specs.Timing.{gap_of, skew_of}
 
--- a skew and a gap in their ranges
+-- a skew and a gap, neither of a magnitude above its limit
 pub record IsSpan (s : Span) : Type 0 where
   pub skew : IsWithin MAX_SKEW s.skew
   pub gap : IsWithin MAX_GAP s.gap
 
--- what a host says before each resync
+-- what a host says before any resync
 abbrev pub declared_span : Host → Span
 declared_span h = record { skew = h.skew; gap = h.gap }
 
@@ -22,15 +22,15 @@ declared_span h = record { skew = h.skew; gap = h.gap }
 abbrev pub resynced_span : Resync → Span
 resynced_span r = record { skew = r.skew; gap = r.gap }
 
--- the clock of a host after these resyncs: what the last of them says that is of the host, else what the host says
-abbrev pub clock_after : List Host → List Resync → ℕ → Span
-clock_after hosts resyncs h =
+-- the span of a host after these resyncs: what the last of them says that is of the host, else what the host says
+abbrev pub span_after : List Host → List Resync → ℕ → Span
+span_after hosts resyncs h =
     option_map_or resynced_span (find (λ r. r.host == h) (reverse resyncs)) (option_map_or declared_span (slice_get hosts h) (record { skew = pos 0; gap = pos 0 }))
 
--- a clock for each host after these resyncs
-pub record AreClocks (hosts : List Host) (resyncs : List Resync) (clocks : List Span) : Type 0 where
-  pub count : length clocks ≡ length hosts
-  pub each : (h : ℕ) (d : Span) → h < length hosts → slice_index_or clocks h d ≡ clock_after hosts resyncs h
+-- a span for each host after these resyncs
+pub record AreHostSpans (hosts : List Host) (resyncs : List Resync) (host_spans : List Span) : Type 0 where
+  pub count : length host_spans ≡ length hosts
+  pub each : (h : ℕ) (d : Span) → h < length hosts → slice_index_or host_spans h d ≡ span_after hosts resyncs h
 
 -- the first k resyncs are those that do not stand behind row e
 pub record HavePassed (resyncs : List Resync) (k e : ℕ) : Type 0 where

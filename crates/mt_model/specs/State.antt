@@ -59,7 +59,7 @@ pulses_of log host name = filter (is_pulse_at log host name) (range_with_len 0 (
 abbrev pub is_pulsed : Logged → List ℤ → ℤ → ℕ → List ℕ → Bool
 is_pulsed log t instant host name = list_any (λ e. int_eq (time_of t e) instant) (pulses_of log host name)
 
--- the state of a host's proposition at an instant: true where a pulse has this instant; else where there is such a change and it sets the proposition
+-- the state of a host's proposition at an instant: true where a pulse has this instant; else where there is a last change up to it, and that one sets the proposition
 abbrev pub state : Logged → List ℤ → ℤ → ℕ → List ℕ → Bool
 state log t instant host name = is_pulsed log t instant host name || option_map_or (λ c. c.sets) (last_change log t instant host name) false
 

@@ -13,13 +13,13 @@ pub record HasNoLatency (h : Host) : Type 0 where
   pub least : h.least ≡ MIN_DELAY
   pub most : h.most ≡ None
 
--- no host is resynchronised or has a latency, and no row reads a clock
+-- no host is resynchronised or has a latency, and there is no reading of a clock
 pub record IsVersionOne (log : Logged) : Type 0 where
   pub no_resyncs : log.resyncs ≡ []
   pub no_latencies : All HasNoLatency log.hosts
   pub no_readings : log.readings ≡ []
 
--- the log admits the timing, by the skews and gaps with which its hosts were declared and the delay 1 of messages
+-- the log admits the timing, by the skews and gaps with which its hosts were declared, the delay 1 of messages, and the extra bounds
 pub record Admissible1 (log : Logged) (t : List ℤ) : Type 0 where
   pub count : length t ≡ length log.rows
   -- a true time differs from the row's local time by at most the skew of its host
@@ -32,7 +32,7 @@ pub record Admissible1 (log : Logged) (t : List ℤ) : Type 0 where
   -- the extra bounds hold
   pub extra : (k : ℕ) (x : Extra) → slice_get log.extras k ≡ Some x → (time_of t x.e -ℤ time_of t x.f) ≤ℤ x.c
 
--- a log without resyncs and latencies admits the timings that it admitted in version 1, and no others
+-- a log without resyncs, latencies and readings admits the timings that it admitted in version 1, and no others
 abbrev pub VersionOneIsKept : Type 0
 VersionOneIsKept = (log : Logged) (t : List ℤ) → IsVersionOne log → Admissible log t ↔ Admissible1 log t
 

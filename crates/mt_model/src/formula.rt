@@ -7,7 +7,7 @@ ghost use Rattle.mt_model.specs.Name.{is_name, is_reserved};
 ghost use Rattle.mt_model.specs.State.{unknown_from, unknown_host};
 
 use crate::name::is_reserved_name;
-use crate::{Interval, Log, MAX_DISTANCE, MAX_HEIGHT, MAX_PROPOSITIONS, Name, Tree};
+use crate::{Interval, Log, MAX_DISTANCE, MAX_HEIGHT, Name, TOO_MANY_PROPOSITIONS, Tree};
 use std::marker::Model;
 
 /// A valid formula, which contracts see as its tree.
@@ -145,7 +145,7 @@ fn is_valid(tree: &Tree) -> bool
     ensures { IsTrue result ↔ IsFormula (form_of tree.now) }
 {
     is_within(tree, MAX_HEIGHT)
-        && room_beside(tree, MAX_PROPOSITIONS - 1).is_some()
+        && room_beside(tree, TOO_MANY_PROPOSITIONS - 1).is_some()
         && has_host_names(tree)
         && has_intervals(tree)
 }

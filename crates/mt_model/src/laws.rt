@@ -31,9 +31,9 @@ pub fn unbroken_is_admissible()
     ensures { UnbrokenIsAdmissible }
 {}
 
-/// A log without resyncs, latencies and clocks admits the timings that each host's one skew and gap and the
-/// delay 1 of each message allow, and no others. Without pulses a proposition is true where the last
-/// row that sets or clears it sets it.
+/// A log without resyncs, latencies and readings admits the timings that each host's one skew and gap, the
+/// delay 1 of each message and the extra bounds allow, and no others. Without pulses a proposition is true
+/// where the last row that sets or clears it sets it.
 pub fn version_one_is_kept()
     ensures timings { VersionOneIsKept }
     ensures states { StatesOfVersionOneAreKept }

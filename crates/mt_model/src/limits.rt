@@ -1,4 +1,5 @@
-//! The limits of logs, timings and formulas, in one place. Times, skews, gaps, delays and bounds are in the log's one unit of time.
+//! The limits of logs, timings and formulas, in one place. Times, skews, gaps, delays and bounds are in the
+//! log's one unit of time.
 
 /// The most bytes of a name.
 pub const MAX_NAME_LENGTH: usize = 32;
@@ -49,7 +50,7 @@ pub const MAX_ORDER: i128 = 1_000_000_000_000_000_000_000;
 pub const MAX_HEIGHT: u32 = 200;
 
 /// One more than the most propositions of a formula.
-pub const MAX_PROPOSITIONS: u32 = 2_147_483_648;
+pub const TOO_MANY_PROPOSITIONS: u32 = 2_147_483_648;
 
 /// The greatest bound of an interval.
 pub const MAX_DISTANCE: u64 = 1_000_000_000_000_000_000;

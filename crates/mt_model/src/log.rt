@@ -1,7 +1,7 @@
 //! Logs: hosts, rows, resyncs, clocks and extra bounds that fit together, and how a log is copied, bounded further or widened.
 
 ghost use Rattle.std.specs.Prelude.{◌≡◌, ◌↔◌, IsTrue, IsSome, IfSome, IfOk, IfErr, option_copied, Some, All, pos, ◌+ℤ◌, ◌≤ℤ◌};
-ghost use Rattle.mt_model.specs.Log.{Logged, IsLog, MayWiden, log_of, log_with, plain_log, IsPlain, name_in, sent_by, received_by, with_extra, widened};
+ghost use Rattle.mt_model.specs.Log.{Logged, IsLog, MayWiden, logged, log_with, plain_log, IsPlain, name_in, sent_by, received_by, with_extra, widened};
 ghost use Rattle.mt_model.specs.State.{host_named};
 
 use crate::validity::{is_extra, is_valid};
@@ -14,9 +14,9 @@ use mt_list::ListOf;
 use std::alloc::{AllocError, Global};
 use std::marker::Model;
 
-/// A host of a log: its clock may be off by the skew, and two of its rows on end are at least the
-/// gap apart, until it is resynchronised. A message that it receives took at least the least delay
-/// and, where there is a greatest, at most that. All are in the log's unit of time.
+/// A host of a log: its clock may be off by the skew, and each of its rows comes at least the gap after the
+/// one before it, until it is resynchronised. A message that it receives took at least the least delay and,
+/// where there is a greatest, at most that. All are in the log's unit of time.
 #[derive(Drop)]
 pub struct Host {
     pub name: Name,
@@ -43,7 +43,7 @@ pub enum Act {
     Pulse(Name),
 }
 
-/// One event of a log: on which host, at what time by its clock, and what happened.
+/// One event of a log: on which host, at what time by its clock, in the log's unit, and what happened.
 #[derive(Drop)]
 pub struct Row {
     pub host: HostId,
@@ -51,7 +51,7 @@ pub struct Row {
     pub act: Act,
 }
 
-/// The extra bound `t_e - t_f <= c` on the true times of two rows.
+/// The extra bound `t_e - t_f <= c` on the true times of two rows; c is in the log's unit of time.
 #[derive(Clone, Copy, PartialEq, Eq)]
 pub struct Extra {
     pub e: EventId,
@@ -71,10 +71,10 @@ pub type ExtraList = ListOf<Extra>;
 /// A valid log, which contracts see as its hosts, rows, resyncs, clocks, readings and extra bounds.
 ///
 /// It has 1 to 64 hosts of distinct names, none of them `true`, `false` or `inf`, and 1 to 1,024 rows
-/// of them. No message is sent twice, and each one that is received is sent. The places of resyncs do
-/// not fall, and those of readings neither. It has at most 1,024 clocks of distinct names, each of which
-/// is read, in the order in which they are first read. Skews, errors, gaps, delays, local times and extra bounds are in the ranges that this crate's
-/// constants state.
+/// of them. No message is sent twice, and each one that is received is sent. The places of resyncs do not
+/// fall, and those of readings neither. It has at most 1,024 clocks of distinct names, each of which is read,
+/// in the order in which they are first read, and at most 1,048,576 extra bounds. Skews, errors, gaps, delays,
+/// local times and extra bounds are in the ranges that this crate's constants state.
 #[derive(Drop)]
 pub struct Log {
     hosts: HostList,
@@ -268,8 +268,8 @@ impl Log {
         readings: ReadingList,
         extras: ExtraList,
     ) -> Option<Log>
-        ensures valid { IsSome result ↔ IsLog (log_of hosts rows resyncs clocks readings extras) }
-        ensures log { IfSome result (λ l. l ≡ log_of hosts rows resyncs clocks readings extras) }
+        ensures valid { IsSome result ↔ IsLog (logged hosts rows resyncs clocks readings extras) }
+        ensures log { IfSome result (λ l. l ≡ logged hosts rows resyncs clocks readings extras) }
     {
         if is_valid(
             hosts.as_slice(),

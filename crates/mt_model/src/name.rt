@@ -1,4 +1,4 @@
-//! Names of hosts, propositions and messages.
+//! Names of hosts, propositions, messages, notes and clocks.
 
 ghost use Rattle.std.specs.Prelude.{◌≡◌, true, IfOk, IfSome, is_some};
 ghost use Rattle.std.specs.List.{list_all};
@@ -9,8 +9,8 @@ use std::alloc::{AllocError, Global};
 use std::hash::{Hash, Hasher};
 use std::marker::Model;
 
-/// A name of a host, a proposition or a message: 1 to 32 bytes, the first of them `a` to `z`, the
-/// others `a` to `z`, `0` to `9` or `_`. Contracts see it as its bytes.
+/// A name of a host, a proposition, a message, a note or a clock: 1 to 32 bytes, the first of them `a` to
+/// `z`, the others `a` to `z`, `0` to `9` or `_`. Contracts see it as its bytes.
 #[derive(Drop)]
 pub struct Name {
     bytes: Vec<u8>,

@@ -6,9 +6,9 @@ ghost use Rattle.mt_model.specs.Log.{IsResync, AreResyncs};
 use crate::{HostId, MAX_GAP, MAX_SKEW};
 use mt_list::ListOf;
 
-/// A change of a host's clock: from the row at this place on, the clock may be off by this skew and two
-/// of the host's rows on end are at least this gap apart, both in the log's unit of time. The place is
-/// the number of rows that stand before the resync.
+/// A change of a host's clock: from the row at this place on, the clock may be off by this skew, and each of
+/// the host's rows comes at least this gap after the one before it, both in the log's unit of time. The place
+/// is the number of rows that stand before the resync.
 #[derive(Clone, Copy, PartialEq, Eq)]
 pub struct Resync {
     pub place: u32,

@@ -1,16 +1,17 @@
-//! What a log says of a row's clock and of the delay of a receive.
+//! What a log says of how far a row may be off, how long after the row before it it comes at least, and the
+//! delay of a receive.
 
 ghost use Rattle.std.specs.Prelude.{◌≡◌, ◌==◌, ◌<◌, ◌≤◌, ◌&&◌, length, find, reverse, slice_get, slice_index_or, slice_set, take, nat_le, ℕ, map, All, IfOk, IfSome, Some, pos, ◌≤ℤ◌};
 ghost use Rattle.mt_model.specs.Log.{IsHost, IsResync, IsWithin};
-ghost use Rattle.mt_model.specs.Spans.{AreClocks, HavePassed, IsSpan, declared_span, resynced_span, spans_of};
+ghost use Rattle.mt_model.specs.Spans.{AreHostSpans, HavePassed, IsSpan, declared_span, resynced_span, spans_of};
 ghost use Rattle.mt_model.specs.Timing.{gap_of, host_of, least_delay, most_delay, resync_of, skew_of};
 
 use crate::{Host, Log, MAX_DELAY, MAX_GAP, MAX_SKEW, MIN_DELAY, Resync};
 use mt_list::ListOf;
 use std::alloc::{AllocError, Global};
 
-/// What holds of a row's clock: how far it may be off, and how long after the row before it on its host
-/// the row comes at least, both in the log's unit of time.
+/// What holds of a row: how far its stamp may be off, and how long after the row before it on its host it comes
+/// at least, both in the log's unit of time.
 #[derive(Clone, Copy, PartialEq, Eq)]
 pub struct Span {
     pub skew: i128,
@@ -20,7 +21,7 @@ pub struct Span {
 /// Spans, one per row, in the order of the rows.
 pub type SpanList = ListOf<Span>;
 
-// The host of row `e`.
+/// The host of row `e`.
 pub fn host_at(log: &Log, e: usize) -> u32
     requires { e < length log.now.rows }
     ensures host { result ≡ host_of log.now e }
@@ -57,7 +58,7 @@ fn last_resync(resyncs: &[Resync], host: u32, e: usize) -> Option<Resync>
     None
 }
 
-// The resync by which a row's clock goes, if any.
+// The resync by which a row goes, if any.
 fn resync_at(log: &Log, e: usize) -> Option<Resync>
     requires { e < length log.now.rows }
     ensures resync { result ≡ resync_of log.now e }
@@ -66,39 +67,39 @@ fn resync_at(log: &Log, e: usize) -> Option<Resync>
     last_resync(log.resyncs(), host_at(log, e), e)
 }
 
-// The clocks of hosts before each resync.
+// The spans of hosts before any resync.
 fn declared_spans(alloc: Global, hosts: &[Host]) -> Result<Vec<Span>, AllocError>
-    ensures { IfOk result (λ clocks. clocks.items ≡ map declared_span hosts.now) }
+    ensures { IfOk result (λ host_spans. host_spans.items ≡ map declared_span hosts.now) }
 {
-    let mut clocks = Vec::new(alloc);
+    let mut host_spans = Vec::new(alloc);
     for host in hosts {
-        clocks.push(Span {
+        host_spans.push(Span {
             skew: host.skew,
             gap: host.gap,
         })?;
     }
-    Ok(clocks)
+    Ok(host_spans)
 }
 
-// Sets the clock of a host to what a resync says.
-fn set_clock(clocks: &mut [Span], resync: &Resync)
-    requires { resync.now.host < length clocks.old }
-    ensures { clocks.new ≡ slice_set clocks.old resync.now.host (resynced_span resync.now) }
+// Sets the span of a host to what a resync says.
+fn set_span(host_spans: &mut [Span], resync: &Resync)
+    requires { resync.now.host < length host_spans.old }
+    ensures { host_spans.new ≡ slice_set host_spans.old resync.now.host (resynced_span resync.now) }
 {
-    clocks[resync.host.get() as usize] = Span {
+    host_spans[resync.host.get() as usize] = Span {
         skew: resync.skew,
         gap: resync.gap,
     };
 }
 
-// Sets the clocks by the resyncs from a place on that do not stand behind row e, and gives the place of
-// the first that does. All before the place do not stand behind the row either.
-fn pass_resyncs(log: &Log, clocks: &mut [Span], from: usize, e: usize) -> usize
+// Sets the spans of hosts by the resyncs from a place on that do not stand behind row e, and gives the place
+// of the first that does. All before the place do not stand behind the row either.
+fn pass_resyncs(log: &Log, host_spans: &mut [Span], from: usize, e: usize) -> usize
     requires from { from ≤ length log.now.resyncs }
     requires before { (i : ℕ) (d : Resync) → i < from → (slice_index_or log.now.resyncs i d).place ≤ e }
-    requires clocks { AreClocks log.now.hosts (take from log.now.resyncs) clocks.old }
+    requires host_spans { AreHostSpans log.now.hosts (take from log.now.resyncs) host_spans.old }
     ensures passed { HavePassed log.now.resyncs result e }
-    ensures clocks { AreClocks log.now.hosts (take result log.now.resyncs) clocks.new }
+    ensures host_spans { AreHostSpans log.now.hosts (take result log.now.resyncs) host_spans.new }
 {
     let resyncs = log.resyncs();
     for k in from..resyncs.len() {
@@ -106,22 +107,22 @@ fn pass_resyncs(log: &Log, clocks: &mut [Span], from: usize, e: usize) -> usize
         if e < resync.place as usize {
             return k;
         }
-        set_clock(clocks, resync);
+        set_span(host_spans, resync);
     }
     resyncs.len()
 }
 
-// The span of each row, where these are the clocks of the hosts before each resync.
-fn spans_from(alloc: Global, log: &Log, clocks: &mut [Span]) -> Result<SpanList, AllocError>
-    requires { clocks.old ≡ map declared_span log.now.hosts }
+// The span of each row, where these are the spans of hosts before any resync.
+fn spans_from(alloc: Global, log: &Log, host_spans: &mut [Span]) -> Result<SpanList, AllocError>
+    requires { host_spans.old ≡ map declared_span log.now.hosts }
     ensures spans { IfOk result (λ spans. spans ≡ spans_of log.now) }
     ensures ranges { IfOk result (All IsSpan) }
 {
     let mut spans = SpanList::new(alloc);
     let mut passed = 0;
     for e in 0..log.rows().len() {
-        passed = pass_resyncs(log, clocks, passed, e);
-        spans.push(clocks[host_at(log, e) as usize])?;
+        passed = pass_resyncs(log, host_spans, passed, e);
+        spans.push(host_spans[host_at(log, e) as usize])?;
     }
     Ok(spans)
 }
@@ -183,7 +184,7 @@ impl Log {
         ensures spans { IfOk result (λ spans. spans ≡ spans_of self.now) }
         ensures ranges { IfOk result (All IsSpan) }
     {
-        let mut clocks = declared_spans(alloc, self.hosts())?;
-        spans_from(alloc, self, &mut clocks)
+        let mut host_spans = declared_spans(alloc, self.hosts())?;
+        spans_from(alloc, self, &mut host_spans)
     }
 }

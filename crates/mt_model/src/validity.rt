@@ -1,7 +1,7 @@
 //! When hosts, rows, resyncs, clocks, readings and extra bounds make a valid log.
 
 ghost use Rattle.std.specs.Prelude.{◌≡◌, ◌↔◌, ◌≤◌, length, IsTrue, IfSome, Any, Some, All, AllPairs};
-ghost use Rattle.mt_model.specs.Log.{IsLog, IsHost, HasDelays, IsRow, IsExtra, AreRows, SendSame, IsSent, log_of, received_by};
+ghost use Rattle.mt_model.specs.Log.{IsLog, IsHost, HasDelays, IsRow, IsExtra, AreRows, SendSame, IsSent, logged, received_by};
 
 use crate::causes::sends;
 use crate::name::is_reserved_name;
@@ -146,7 +146,7 @@ pub fn is_valid(
     readings: &[Reading],
     extras: &[Extra],
 ) -> bool
-    ensures { IsTrue result ↔ IsLog (log_of hosts.now rows.now resyncs.now clocks.now readings.now extras.now) }
+    ensures { IsTrue result ↔ IsLog (logged hosts.now rows.now resyncs.now clocks.now readings.now extras.now) }
 {
     let are_few = are_few(hosts, rows);
     let are_hosts = are_hosts(hosts);

@@ -12,8 +12,8 @@ pub record Sunk : Type 0 where
   pub calls : ℕ
   pub faults : ℕ
 
--- the files, what is left of the open one, the most that one call gives, the calls that fail, the counts, and the place of the
--- file that was asked for last, where one of its name is held
+-- the files, whether one is open, what is left of it, the most that one call gives, the calls that fail, the counts, and the
+-- place of the file that was asked for last, where one of its name is held
 pub record Shelved : Type 0 where
   pub files : Files
   pub is_open : Bool

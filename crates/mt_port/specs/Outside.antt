@@ -18,6 +18,7 @@ pub record Written (W : Type 0) : Type 0 where
   pub output : W
   pub faults : ℕ
 
+-- whether a file or the input is open
 abbrev pub stands_open : {F I : Type 0} → Source F I → Bool
 stands_open Nothing = false
 stands_open (Opened f) = true

@@ -14,10 +14,10 @@ use std::fs::OpenOptions;
 use std::io::{self, ErrorKind, Printer};
 use std::marker::Model;
 
-/// How often a call is made that signals break off.
+/// How often at most a call is made that signals break off each time.
 pub const TRIES: u32 = 65_536;
 
-/// The number that limits how often.
+/// A call that signals break off is made 65,536 times at most.
 pub fn limit_is_a_number()
     ensures tries { TRIES ≡ 65536 }
 {}
@@ -91,7 +91,8 @@ enum Source<F, I> {
 
 /// The real files by their paths, and the standard input under the name `-`.
 ///
-/// It tells no content. Contracts see its calls of the system, and what the open one has left, where that tells it.
+/// It tells no content. Contracts see its calls of the system, and what the open file or input has left, where
+/// that tells it.
 #[derive(Drop)]
 pub struct FileShelf<'a, R: System> {
     rt: &'a R,

@@ -34,7 +34,7 @@ impl From<AllocError> for ReadFault {
 /// Opens the file of this name and gives all its bytes, which are at most `limit`.
 ///
 /// It takes memory for the bytes that were given, and none for the byte past the limit. The file
-/// stays open, except where `Failed` comes from its opening.
+/// stays open, unless the answer is `Failed`: then nothing is said of that.
 pub fn read_all<S: Shelf>(
     alloc: Global,
     shelf: &mut S,

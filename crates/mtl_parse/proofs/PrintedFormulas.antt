@@ -11,7 +11,7 @@ use Rattle.mtl_parse.specs.declared.fault.FormulaFault.{FormulaFault}
 use Rattle.mtl_parse.specs.Tokens.{Infix, U, S, Prefix, F, G, O, H, Placed, Token, Open, Close, Bang, Ampersand, Bar, Arrow, InfixLetter, PrefixLetter, is_blank, lexeme_at, Found, tokens_of}
 use Rattle.mtl_parse.specs.Grammar.{ReadsInterval, bounded, unbounded, prefix_form, infix_form, from_to, Reads, Implication, Disjunction, Conjunction, UntilOrSince, Unary, implies, implication, or, disjunction, and, conjunction, timed, until_or_since, not as negated, prefixed as preceded, unary, constant_true, constant_false, proposition, parentheses}
 use Rattle.mtl_parse.specs.FormulaOf.{FormulaOf, formula, tokens_in}
-use Rattle.mtl_parse.specs.FormulaText.{TextsReadBack, formula_text, interval_text, joined, prefixed}
+use Rattle.mtl_parse.specs.FormulaText.{PrintedFormulasReadBack, formula_text, interval_text, joined, prefixed}
 use Rattle.mtl_parse.proofs.PrintedTokens.{Scans, without_places}
 use Rattle.mtl_parse.proofs.PrintedPieces.{Piece, are_in_order, arrow-piece, empty-piece, first-none, interval-piece, interval_tokens, joined-piece, prefixed-piece, proposition-piece, sign-piece, word-piece}
 use Rattle.std.proofs.lemmas.Bool.{and_parts}
@@ -177,7 +177,7 @@ whole text f ts ps p scan same reads height =
     let in_order = ap are_in_order (sym (append-nil ts)) ∙ p.in_order [] refl in
     formula ps f scan (rw same (as_implication ts f (until_or_since ts f reads))) (first-none ps (ap are_in_order same ∙ in_order)) height
 
-pub texts-read-back : TextsReadBack
+pub texts-read-back : PrintedFormulasReadBack
 texts-read-back f valid =
     let p = printed f (record { propositions = all_sayable (propositions_of f) valid.names valid.hosts; intervals = valid.intervals }) in
     let tokens = scanned (tokens_of (formula_text f)) p.tokens (tokens-of-piece p.piece) in

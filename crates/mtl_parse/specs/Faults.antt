@@ -3,7 +3,7 @@ use Rattle.std.specs.Prelude.{ℕ, Option, Some, None}
 use Rattle.mtl_parse.specs.declared.fault.FormulaFault.{FormulaFault}
 use Rattle.mtl_parse.specs.declared.fault.FormulaFault.TheVariants as fault
 
--- 0 stands for want of memory
+-- the number of a fault; want of memory has 0
 abbrev pub number_of : FormulaFault → ℕ
 number_of (fault.Token byte) = 1
 number_of (fault.Expected byte) = 2

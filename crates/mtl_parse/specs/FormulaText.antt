@@ -42,6 +42,6 @@ formula_text (Historically I f) = prefixed (codes "H") I (formula_text f)
 abbrev pub timed_text : Form → List ℕ → Interval → Form → List ℕ
 timed_text f letter I g = joined (formula_text f) (letter ++ interval_text I) (formula_text g)
 
--- the text of a valid formula is that formula
-abbrev pub TextsReadBack : Type 0
-TextsReadBack = (f : Form) → IsFormula f → FormulaOf (formula_text f) (Ok f)
+-- the text of a valid formula reads back as that formula
+abbrev pub PrintedFormulasReadBack : Type 0
+PrintedFormulasReadBack = (f : Form) → IsFormula f → FormulaOf (formula_text f) (Ok f)

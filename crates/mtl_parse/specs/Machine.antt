@@ -227,7 +227,7 @@ is_whole_at stack _ = false
 abbrev pub is_whole : State → Bool
 is_whole s = is_whole_at s.stack s.stage
 
--- the same behind an operand
+-- the fault of a token at a byte, behind an operand: where a parenthesis is open something else was expected, else the formula ends before it
 abbrev pub refusal_behind : List Pending → ℕ → FormulaFault
 refusal_behind stack byte = if not (has_opened stack) then fault.Trailing byte else fault.Expected byte
 

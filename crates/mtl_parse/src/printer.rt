@@ -4,7 +4,7 @@ ghost use Rattle.std.specs.Prelude.{◌≡◌, [], ◌∷◌, ◌++◌, codes, I
 ghost use Rattle.std.specs.Fmt.{decimal};
 ghost use Rattle.mt_model.specs.Form.{form_of};
 ghost use Rattle.mtl_parse.specs.FormulaOf.{FormulaOf};
-ghost use Rattle.mtl_parse.specs.FormulaText.{TextsReadBack, formula_text, high_text, interval_text, joined, prefixed, timed_text};
+ghost use Rattle.mtl_parse.specs.FormulaText.{PrintedFormulasReadBack, formula_text, high_text, interval_text, joined, prefixed, timed_text};
 
 use mt_model::{Formula, Interval, Name, Tree};
 use std::alloc::{AllocError, Global};
@@ -160,5 +160,5 @@ pub fn print_formula(alloc: Global, f: &Formula) -> Result<Vec<u8>, AllocError>
 
 /// The text of a formula reads back as the formula.
 pub fn printed_formulas_read_back()
-    ensures { TextsReadBack }
+    ensures { PrintedFormulasReadBack }
 {}

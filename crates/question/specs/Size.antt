@@ -33,6 +33,7 @@ live_pairs x direction I rows = sum_by (λ i. count_by (is_live x direction I i)
 abbrev pub reach_size : Extremes → ℕ → Direction → Interval → Bool → ℕ
 reach_size x rows direction I free = rows ^ 2 + (if free then 0 else rows * live_pairs x direction I rows)
 
+-- the size of one tree
 abbrev pub tree_size : Extremes → ℕ → Form → ℕ
 tree_size x rows (Until I f g) = reach_size x rows Ahead I (is_true f)
 tree_size x rows (Since I f g) = reach_size x rows Behind I (is_true f)

@@ -16,6 +16,7 @@ pub enum QuestionFault {
     /// The size of the problem is above 4,194,304 (`size_of`).
     #[error("size {size}")]
     TooLarge { size: u128 },
+    /// There is no memory.
     #[error("out of memory")]
     Memory,
 }

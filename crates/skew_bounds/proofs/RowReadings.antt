@@ -9,7 +9,7 @@ use Rattle.mt_model.specs.declared.reading.Reading.{Reading}
 use Rattle.mt_model.specs.declared.limits.TheConstants.{MAX_ERROR}
 use Rattle.mt_model.specs.Clocks.{greater_of, greatest_below, least_offset, reads, readings_of}
 use Rattle.mt_model.specs.Log.{IsLog, IsWithin, Logged}
-use Rattle.mt_model.specs.Bounds.{is_ahead, read_one, shift_of}
+use Rattle.mt_model.specs.Bounds.{is_too_far_ahead, read_one, shift_of}
 use Rattle.mt_model.specs.Timing.{error_of, reading_of}
 use Rattle.mt_model.proofs.Offsets.{reading-valid}
 use Rattle.skew_bounds.specs.Readings.{HasError, error_together}
@@ -46,7 +46,7 @@ module _ (log : Logged) (e f : ℕ) where
       ]
 
   pub ahead-is : (t : List ℤ) (error : ℤ) (b : Bool) → error_together (reading_of log e) (reading_of log f) ≡ Some error
-      → b ≡ not (int_le (shift_of log t e -ℤ shift_of log t f) error) → b ≡ is_ahead log t e f
+      → b ≡ not (int_le (shift_of log t e -ℤ shift_of log t f) error) → b ≡ is_too_far_ahead log t e f
   ahead-is t error b is told = let are = of-one error is in rw (are.one, are.same) told
 
 pub error-fits : (error : ℤ) → IsWithin (MAX_ERROR +ℤ MAX_ERROR) error → FitsSigned w128 error

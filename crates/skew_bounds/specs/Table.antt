@@ -1,11 +1,11 @@
--- The table whose columns are the greatest solutions of edges.
+-- The table whose columns are solutions of edges that no near solution exceeds.
 use Rattle.std.specs.Prelude.{◌≡◌, ℕ, ◌<◌, ◌≤◌, List, length, ℤ}
 use Rattle.neg_cycle.specs.declared.system.Edge.{Edge}
 use Rattle.neg_cycle.specs.Systems.{number_of}
 use Rattle.skew_bounds.specs.Differences.{Differences, entry}
 use Rattle.skew_bounds.specs.Incoming.{IsLatest}
 
--- a node's column are the greatest numbers that meet the edges and give the node 0
+-- a node's column are numbers that meet the edges and give the node 0, none below a near solution's
 pub record IsColumnOf (incoming : List (List Edge)) (d : Differences) (node : ℕ) : Type 0 where
   pub numbers : List ℤ
   pub latest : IsLatest incoming node numbers

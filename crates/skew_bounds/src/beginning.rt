@@ -83,9 +83,9 @@ fn beyond(number: i128) -> i128
 
 /// Numbers with which a search for the greatest from a node may begin.
 ///
-/// `incoming` has for each node the edges that end there. `potential` meets them all. `zero` are the greatest numbers from
-/// the zero moment, where they are known: from there only the nodes are gone through that are nearer to this one than by
-/// way of the zero moment. An error is want of memory.
+/// `incoming` has for each node the edges that end there. `potential` meets them all. `zero` are the greatest
+/// numbers from the zero moment, where they are known: the search then goes only through nodes that lie nearer
+/// to this one than by way of the zero moment. An error is want of memory.
 pub fn beginning(
     alloc: Global,
     incoming: &[Vec<Edge>],

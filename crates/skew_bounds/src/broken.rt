@@ -2,7 +2,7 @@
 
 ghost use Rattle.std.specs.Prelude.{◌≡◌, ◌+◌, ◌<◌, length, find, not, int_le, All, IfSome, IsNone, IsSome, ◌+ℤ◌, ◌-ℤ◌};
 ghost use Rattle.std.specs.List.{list_any, range_with_len};
-ghost use Rattle.mt_model.specs.Bounds.{IsBetweenRows, bounds_of, breaks, breaks_edge, first_broken as first_broken_of, is_ahead, meets, shift_of};
+ghost use Rattle.mt_model.specs.Bounds.{IsBetweenRows, bounds_of, breaks, breaks_edge, first_broken as first_broken_of, is_too_far_ahead, meets, shift_of};
 ghost use Rattle.mt_model.specs.Clocks.{readings_of};
 ghost use Rattle.mt_model.specs.Log.{IsWithin};
 ghost use Rattle.mt_model.specs.Timing.{Admissible};
@@ -86,13 +86,19 @@ fn exceeds(first: i128, second: i128, error: i128) -> bool
 }
 
 // Whether rows e and f read one clock, and e is ahead of f by more than both errors.
-fn is_ahead(log: &Log, readings: &[Option<Reading>], times: &[i128], e: usize, f: usize) -> bool
+fn is_too_far_ahead(
+    log: &Log,
+    readings: &[Option<Reading>],
+    times: &[i128],
+    e: usize,
+    f: usize,
+) -> bool
     requires first { e < length log.now.rows }
     requires second { f < length log.now.rows }
     requires readings { readings.now ≡ readings_of log.now }
     requires range { All (IsWithin MAX_TIME) times.now }
     requires count { length times.now ≡ length log.now.rows }
-    ensures { result ≡ is_ahead log.now times.now e f }
+    ensures { result ≡ is_too_far_ahead log.now times.now e f }
 {
     let first = row_reading(log, readings, e);
     let second = row_reading(log, readings, f);
@@ -108,9 +114,9 @@ fn is_any_ahead(log: &Log, readings: &[Option<Reading>], times: &[i128], e: usiz
     requires readings { readings.now ≡ readings_of log.now }
     requires range { All (IsWithin MAX_TIME) times.now }
     requires count { length times.now ≡ length log.now.rows }
-    ensures { result ≡ list_any (λ f. is_ahead log.now times.now f e) (range_with_len 0 e) }
+    ensures { result ≡ list_any (λ f. is_too_far_ahead log.now times.now f e) (range_with_len 0 e) }
 {
-    (0..e).any(|f| is_ahead(log, readings, times, f, e))
+    (0..e).any(|f| is_too_far_ahead(log, readings, times, f, e))
 }
 
 // Whether row e is ahead by more than both errors of a row before it that reads its clock.
@@ -119,9 +125,9 @@ fn is_ahead_of_any(log: &Log, readings: &[Option<Reading>], times: &[i128], e: u
     requires readings { readings.now ≡ readings_of log.now }
     requires range { All (IsWithin MAX_TIME) times.now }
     requires count { length times.now ≡ length log.now.rows }
-    ensures { result ≡ list_any (λ f. is_ahead log.now times.now e f) (range_with_len 0 e) }
+    ensures { result ≡ list_any (λ f. is_too_far_ahead log.now times.now e f) (range_with_len 0 e) }
 {
-    (0..e).any(|f| is_ahead(log, readings, times, e, f))
+    (0..e).any(|f| is_too_far_ahead(log, readings, times, e, f))
 }
 
 fn is_under_broken(log: &Log, readings: &[Option<Reading>], times: &[i128], e: EventId) -> bool

@@ -1,4 +1,4 @@
-//! The greatest numbers of nodes that give one of them 0.
+//! The numbers of a search from one node, beside those from the zero moment.
 
 ghost use Rattle.std.specs.Prelude.{◌≡◌, ℕ, ◌<◌, ◌≤◌, length, All, IfOk, IsTrue, ◌+ℤ◌};
 ghost use Rattle.mt_model.specs.Log.{IsWithin};
@@ -13,8 +13,8 @@ use std::marker::Model;
 /// unit of time.
 pub const FAR: i128 = 2 * MAX_TIME;
 
-/// Of the numbers of nodes that give one of them 0, the greatest, beside those that give the zero moment 0: most are these
-/// moved up, and only from the first to the last that isn't they are held.
+/// The numbers of a search from one node, beside those from the zero moment. Most are the latter, moved up by
+/// one amount; only the stretch from the first to the last that isn't is held.
 #[derive(Drop)]
 pub struct Column {
     raise: i128,
@@ -87,7 +87,7 @@ fn is_moved(zero: &[i128], numbers: &[i128], raise: i128, node: usize) -> bool
     numbers[node] == zero[node] + raise
 }
 
-// The first node that hasn't.
+// The first node whose number isn't moved so.
 fn start_of_own(zero: &[i128], numbers: &[i128], raise: i128) -> usize
     requires near { All (IsWithin FAR) zero.now }
     requires raise { IsWithin FAR raise }
@@ -103,7 +103,7 @@ fn start_of_own(zero: &[i128], numbers: &[i128], raise: i128) -> usize
     numbers.len()
 }
 
-// The node behind the last one that hasn't.
+// The node behind the last one whose number isn't moved so.
 fn end_of_own(zero: &[i128], numbers: &[i128], raise: i128) -> usize
     requires near { All (IsWithin FAR) zero.now }
     requires raise { IsWithin FAR raise }

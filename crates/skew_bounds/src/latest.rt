@@ -1,4 +1,4 @@
-//! Of the numbers of nodes that meet edges and give one node 0, the greatest.
+//! Numbers of nodes that meet edges and give one node 0, none below what a solution as near to 0 as a log's times has there.
 
 ghost use Rattle.std.specs.Prelude.{◌<◌, length, IfOk, IfSome};
 ghost use Rattle.skew_bounds.specs.Incoming.{IsLatest, IsNear, IsNetwork, lists_of};
@@ -14,12 +14,12 @@ use std::collections::BinaryHeap;
 /// At least what one solution within the limit of times can be above another where both give one node 0.
 pub const UNREACHED: i128 = 2 * FAR;
 
-/// Of the numbers that meet all edges and give a node 0, the greatest (Dijkstra, A note on two problems in
-/// connexion with graphs, 1959), in the unit of the bounds.
+/// Numbers that meet all edges and give a node 0, none below what a solution as near to 0 as a log's times
+/// has there (Dijkstra, A note on two problems in connexion with graphs, 1959), in the unit of the bounds.
 ///
 /// `incoming` has for each node the edges that end there. `potential` meets them all, and says from which
-/// node to go on, and `zero` are the greatest numbers from the zero moment, where they are known: only the time depends on
-/// these two. An error is want of memory.
+/// node to go on, and `zero` are these numbers for the zero moment, where they are known: only the time
+/// depends on these two. An error is want of memory.
 pub fn latest(
     alloc: Global,
     incoming: &[Vec<Edge>],

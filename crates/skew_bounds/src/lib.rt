@@ -1,6 +1,6 @@
 //! The bounds of a log as difference constraints between the zero moment, which is node 0, its rows, of
-//! which row e is node e + 1, and behind them its clocks, whose numbers are their offsets; whether some true times of the rows meet them all; and how far
-//! apart two rows then are at least and at most.
+//! which row e is node e + 1, and behind them its clocks, whose numbers are their offsets; whether some true
+//! times of the rows meet them all; and how far apart two rows then are at least and at most.
 //!
 //! Such constraints are the edges of a graph, and they can be met exactly where no closed walk has a
 //! negative sum (Bellman, On a routing problem, 1958). Times and bounds are in the log's unit of time.

@@ -9,10 +9,13 @@ use thiserror::Error;
 /// What is wrong with a times file, or want of memory. Lines count from 1.
 #[derive(Clone, Copy, Debug, Error)]
 pub enum TimesFault {
+    /// A line writes no number, or one of a magnitude above 10^19.
     #[error("line {line} is no number from -10^19 to 10^19")]
     Number { line: u32 },
+    /// A line is missing, or there is one too many.
     #[error("line {line} is missing or too many")]
     Count { line: u32 },
+    /// There is no memory.
     #[error("out of memory")]
     Memory,
 }

@@ -1,11 +1,11 @@
 use Rattle.std.proofs.Common.{◌≡◌, ◌∙◌, ap, length, map, arith}
 use Rattle.std.specs.List.{range_with_len}
 use Rattle.mt_model.specs.Spans.{span_of}
-use Rattle.mt_model.proofs.Clocks.{spanning-begins, spanning-next, spans-within}
+use Rattle.mt_model.proofs.HostSpans.{spanning-begins, spanning-next, spans-within}
 use Rattle.mt_model.proofs.spans.spans_from.Goals as goal
 
 pub loop-e-init : goal.loop-e-init
-loop-e-init c = spanning-begins c.args.log.now c.args.clocks.now c.new-spans.result c.requires c.new-spans.ensures.items
+loop-e-init c = spanning-begins c.args.log.now c.args.host_spans.now c.new-spans.result c.requires c.new-spans.ensures.items
 
 pub pass_resyncs-passed-requires-clause-from : goal.pass_resyncs-passed-requires-clause-from
 pass_resyncs-passed-requires-clause-from c = c.loop-e.invariant.within
@@ -13,13 +13,13 @@ pass_resyncs-passed-requires-clause-from c = c.loop-e.invariant.within
 pub pass_resyncs-passed-requires-clause-before : goal.pass_resyncs-passed-requires-clause-before
 pass_resyncs-passed-requires-clause-before c = c.loop-e.invariant.before
 
-pub pass_resyncs-passed-requires-clause-clocks : goal.pass_resyncs-passed-requires-clause-clocks
-pass_resyncs-passed-requires-clause-clocks c = c.loop-e.invariant.clocks
+pub pass_resyncs-passed-requires-clause-host_spans : goal.pass_resyncs-passed-requires-clause-host_spans
+pass_resyncs-passed-requires-clause-host_spans c = c.loop-e.invariant.host_spans
 
 pub loop-e-preserved : goal.loop-e-preserved
 loop-e-preserved c =
-    spanning-next c.args.log.now c.pass_resyncs-passed.new.clocks c.loop-e.spans c.push.new.self c.pass_resyncs-passed.result c.loop-e.e
-    c.host_at.result _ c.rows-e-end.ensures.valid c.pass_resyncs-passed.ensures.passed c.pass_resyncs-passed.ensures.clocks
+    spanning-next c.args.log.now c.pass_resyncs-passed.new.host_spans c.loop-e.spans c.push.new.self c.pass_resyncs-passed.result c.loop-e.e
+    c.host_at.result _ c.rows-e-end.ensures.valid c.pass_resyncs-passed.ensures.passed c.pass_resyncs-passed.ensures.host_spans
     c.loop-e.invariant.spans c.host_at.ensures.host c.host_at.ensures.within c.in_ok-push.ensures.ok
 
 pub returns-clause-spans : goal.returns-clause-spans

@@ -1,4 +1,4 @@
--- The clocks of hosts, resync by resync and row by row.
+-- The spans of hosts, resync by resync and row by row.
 use Rattle.std.proofs.Common.{◌≡◌, ◌∙◌, sym, refl, ap, ℕ, zero, suc, ◌+◌, ◌==◌, ◌<◌, ◌≤◌, ◌&&◌, nat_le, inl, inr, Bool, true, false, List, [], ◌∷◌, ◌++◌, length, get_or, drop, map, reverse, set, take, cond, Option, Some, None, All, pos, arith}
 use Rattle.std.specs.Prelude.{find, slice_get}
 use Rattle.std.specs.List.{range_with_len}
@@ -14,7 +14,7 @@ use Rattle.mt_model.specs.declared.log.Host.{Host}
 use Rattle.mt_model.specs.declared.resync.Resync.{Resync}
 use Rattle.mt_model.specs.declared.spans.Span.{Span}
 use Rattle.mt_model.specs.Log.{Logged, IsLog}
-use Rattle.mt_model.specs.Spans.{AreClocks, HavePassed, IsSpan, clock_after, declared_span, resynced_span, span_of}
+use Rattle.mt_model.specs.Spans.{AreHostSpans, HavePassed, IsSpan, span_after, declared_span, resynced_span, span_of}
 use Rattle.mt_model.specs.Timing.{applies_to, host_of, resync_of}
 use Rattle.mt_model.proofs.Resyncs.{All-reverse, span-within}
 
@@ -37,7 +37,7 @@ find-none p (x ∷ xs) fails =
 module _ (hosts : List Host) (resyncs : List Resync) where
   -- one resync more
   after-next : (k h : ℕ) (r : Resync) → k < length resyncs → r ≡ get_or resyncs k r
-      → clock_after hosts (take (k + 1) resyncs) h ≡ cond (r.host == h) (resynced_span r) (clock_after hosts (take k resyncs) h)
+      → span_after hosts (take (k + 1) resyncs) h ≡ cond (r.host == h) (resynced_span r) (span_after hosts (take k resyncs) h)
   after-next k h r within is =
       let next : k + 1 ≡ suc k = omega arith in
       let split : take (suc k) resyncs ≡ take k resyncs ++ (r ∷ []) = take-suc resyncs k r within ∙ ap (λ y. take k resyncs ++ (y ∷ [])) (sym is) in
@@ -48,46 +48,46 @@ module _ (hosts : List Host) (resyncs : List Resync) where
       chosen true o = refl
       chosen false o = refl
 
-  pub clocks-next : (k : ℕ) (r : Resync) (clocks : List Span) → k < length resyncs → r ≡ get_or resyncs k r → r.host < length hosts → AreClocks hosts (take k resyncs) clocks
-      → AreClocks hosts (take (k + 1) resyncs) (set clocks r.host (resynced_span r))
-  clocks-next k r clocks within is hosted are = record {
-    count = length-set clocks r.host (resynced_span r) ∙ are.count;
+  pub host_spans-next : (k : ℕ) (r : Resync) (host_spans : List Span) → k < length resyncs → r ≡ get_or resyncs k r → r.host < length hosts → AreHostSpans hosts (take k resyncs) host_spans
+      → AreHostSpans hosts (take (k + 1) resyncs) (set host_spans r.host (resynced_span r))
+  host_spans-next k r host_spans within is hosted are = record {
+    count = length-set host_spans r.host (resynced_span r) ∙ are.count;
     each = λ h d low. elim (cases_eq h r.host) [
       | inl same ↦ let test : (r.host == h) ≡ true = eq-eqb r.host h (sym same) in
-          ap (λ j. get_or (set clocks r.host (resynced_span r)) j d) same
-          ∙ get_or-set_same clocks r.host (resynced_span r) d (omega (arith, are.count, hosted))
-          ∙ sym (after-next k h r within is ∙ ap (λ b. cond b (resynced_span r) (clock_after hosts (take k resyncs) h)) test)
+          ap (λ j. get_or (set host_spans r.host (resynced_span r)) j d) same
+          ∙ get_or-set_same host_spans r.host (resynced_span r) d (omega (arith, are.count, hosted))
+          ∙ sym (after-next k h r within is ∙ ap (λ b. cond b (resynced_span r) (span_after hosts (take k resyncs) h)) test)
       | inr other ↦ let test : (r.host == h) ≡ false = ne_eqb r.host h (λ same. other (sym same)) in
-          get_or-set_other clocks r.host h (resynced_span r) d other ∙ are.each h d low
-          ∙ sym (after-next k h r within is ∙ ap (λ b. cond b (resynced_span r) (clock_after hosts (take k resyncs) h)) test)
+          get_or-set_other host_spans r.host h (resynced_span r) d other ∙ are.each h d low
+          ∙ sym (after-next k h r within is ∙ ap (λ b. cond b (resynced_span r) (span_after hosts (take k resyncs) h)) test)
     ];
   }
 
--- while resyncs are passed: the first k do not stand behind row e, and the clocks are those after them
+-- while resyncs are passed: the first k do not stand behind row e, and the host_spans are those after them
 pub record IsPassing (log : Logged) (now : List Span) (k e : ℕ) : Type 0 where
   pub before : (i : ℕ) (d : Resync) → i < k → (get_or log.resyncs i d).place ≤ e
-  pub clocks : AreClocks log.hosts (take k log.resyncs) now
+  pub host_spans : AreHostSpans log.hosts (take k log.resyncs) now
 
-pub passed-here : (log : Logged) (clocks : List Span) (k e : ℕ) (r : Resync) → IsPassing log clocks k e → k < length log.resyncs → r ≡ get_or log.resyncs k r → e < r.place → HavePassed log.resyncs k e
-passed-here log clocks k e r passing within is late = record {
+pub passed-here : (log : Logged) (host_spans : List Span) (k e : ℕ) (r : Resync) → IsPassing log host_spans k e → k < length log.resyncs → r ≡ get_or log.resyncs k r → e < r.place → HavePassed log.resyncs k e
+passed-here log host_spans k e r passing within is late = record {
   within = omega (arith, within);
   before = passing.before;
   behind = λ d low. let same : get_or log.resyncs k d ≡ r = get_or_default log.resyncs k d r within ∙ sym is in rw same late;
 }
 
-pub passed-all : (log : Logged) (clocks : List Span) (k e : ℕ) → IsPassing log clocks k e → k ≡ length log.resyncs → HavePassed log.resyncs k e
-passed-all log clocks k e passing end = record { within = omega (arith, end); before = passing.before; behind = λ d low. absurd (omega (arith, end, low)) }
+pub passed-all : (log : Logged) (host_spans : List Span) (k e : ℕ) → IsPassing log host_spans k e → k ≡ length log.resyncs → HavePassed log.resyncs k e
+passed-all log host_spans k e passing end = record { within = omega (arith, end); before = passing.before; behind = λ d low. absurd (omega (arith, end, low)) }
 
-pub passing-next : (log : Logged) (clocks : List Span) (k e : ℕ) (r : Resync) → IsLog log → IsPassing log clocks k e → k < length log.resyncs → r ≡ get_or log.resyncs k r → r.place ≤ e
-    → IsPassing log (set clocks r.host (resynced_span r)) (k + 1) e
-passing-next log clocks k e r valid passing within is soon = record {
+pub passing-next : (log : Logged) (host_spans : List Span) (k e : ℕ) (r : Resync) → IsLog log → IsPassing log host_spans k e → k < length log.resyncs → r ≡ get_or log.resyncs k r → r.place ≤ e
+    → IsPassing log (set host_spans r.host (resynced_span r)) (k + 1) e
+passing-next log host_spans k e r valid passing within is soon = record {
   before = λ i d first. elim (cases_eq i k) [
     | inl same ↦ let at : get_or log.resyncs i d ≡ r = ap (λ j. get_or log.resyncs j d) same ∙ get_or_default log.resyncs k d r within ∙ sym is in rw at soon
     | inr other ↦ passing.before i d (omega arith)
   ];
-  clocks =
+  host_spans =
       let hosted = (rw (← is) at (valid.resyncs.each k r within)).host in
-      clocks-next log.hosts log.resyncs k r clocks within is hosted passing.clocks;
+      host_spans-next log.hosts log.resyncs k r host_spans within is hosted passing.host_spans;
 }
 
 and-true : (b : Bool) → (b && true) ≡ b
@@ -131,8 +131,8 @@ module _ (log : Logged) (valid : IsLog log) (k e : ℕ) (passed : HavePassed log
       (All-reverse (λ r. applies_to log e r ≡ false) (drop k log.resyncs) back-behind))
       ∙ find-same (applies_to log e) (λ r. r.host == host_of log e) (reverse (take k log.resyncs)) (All-reverse (λ r. applies_to log e r ≡ (r.host == host_of log e)) (take k log.resyncs) front-same)
 
-  -- the clock of a row's host after the resyncs that do not stand behind the row
-  pub span-is : clock_after log.hosts (take k log.resyncs) (host_of log e) ≡ span_of log e
+  -- the span of a row's host after the resyncs that do not stand behind the row
+  pub span-is : span_after log.hosts (take k log.resyncs) (host_of log e) ≡ span_of log e
   span-is = go (find (λ r. r.host == host_of log e) (reverse (take k log.resyncs))) resync-is
     where
       go : (o : Option Resync) → resync_of log e ≡ o
@@ -140,18 +140,18 @@ module _ (log : Logged) (valid : IsLog log) (k e : ℕ) (passed : HavePassed log
       go None is = rw is (declared-is (slice_get log.hosts (host_of log e)))
       go (Some r) is = rw is refl
 
--- before row e: the resyncs that were passed, the clocks after them, and the spans of the rows before
+-- before row e: the resyncs that were passed, the host_spans after them, and the spans of the rows before
 pub record IsSpanning (log : Logged) (now made : List Span) (k e : ℕ) : Type 0 where
   pub within : k ≤ length log.resyncs
   pub before : (i : ℕ) (d : Resync) → i < k → (get_or log.resyncs i d).place ≤ e
-  pub clocks : AreClocks log.hosts (take k log.resyncs) now
+  pub host_spans : AreHostSpans log.hosts (take k log.resyncs) now
   pub spans : made ≡ map (span_of log) (range_with_len 0 e)
 
-pub spanning-begins : (log : Logged) (clocks spans : List Span) → clocks ≡ map declared_span log.hosts → spans ≡ [] → IsSpanning log clocks spans 0 0
-spanning-begins log clocks spans declared none = record {
+pub spanning-begins : (log : Logged) (host_spans spans : List Span) → host_spans ≡ map declared_span log.hosts → spans ≡ [] → IsSpanning log host_spans spans 0 0
+spanning-begins log host_spans spans declared none = record {
   within = omega arith;
   before = λ i d first. absurd (omega arith);
-  clocks = record {
+  host_spans = record {
     count = ap length declared ∙ length-map log.hosts declared_span;
     each = λ h d low. ap (λ cs. get_or cs h d) declared ∙ get_or-map declared_span log.hosts h (first-host log.hosts low) d low ∙ declared-at log.hosts h (first-host log.hosts low) low;
   };
@@ -167,16 +167,16 @@ spanning-begins log clocks spans declared none = record {
     declared-at (x ∷ xs) zero d low = refl
     declared-at (x ∷ xs) (suc h) d low = declared-at xs h d (omega arith)
 
-pub spanning-next : (log : Logged) (clocks spans more : List Span) (k e host : ℕ) (d : Span) → IsLog log → HavePassed log.resyncs k e
-    → AreClocks log.hosts (take k log.resyncs) clocks → spans ≡ map (span_of log) (range_with_len 0 e)
-    → host ≡ host_of log e → host < length log.hosts → more ≡ spans ++ get_or clocks host d ∷ [] → IsSpanning log clocks more k (e + 1)
-spanning-next log clocks spans more k e host d valid passed are before is hosted pushed = record {
+pub spanning-next : (log : Logged) (host_spans spans more : List Span) (k e host : ℕ) (d : Span) → IsLog log → HavePassed log.resyncs k e
+    → AreHostSpans log.hosts (take k log.resyncs) host_spans → spans ≡ map (span_of log) (range_with_len 0 e)
+    → host ≡ host_of log e → host < length log.hosts → more ≡ spans ++ get_or host_spans host d ∷ [] → IsSpanning log host_spans more k (e + 1)
+spanning-next log host_spans spans more k e host d valid passed are before is hosted pushed = record {
   within = passed.within;
   before = λ i d first. let p = passed.before i d first in omega (arith, p);
-  clocks = are;
+  host_spans = are;
   spans =
-      let here : get_or clocks host d ≡ span_of log e = are.each host d hosted ∙ ap (clock_after log.hosts (take k log.resyncs)) is ∙ span-is log valid k e passed in
-      pushed ∙ ap (λ xs. xs ++ get_or clocks host d ∷ []) before ∙ ap (λ x. map (span_of log) (range_with_len 0 e) ++ x ∷ []) here ∙ sym (map-range_with_len_more (span_of log) 0 e e (omega arith));
+      let here : get_or host_spans host d ≡ span_of log e = are.each host d hosted ∙ ap (span_after log.hosts (take k log.resyncs)) is ∙ span-is log valid k e passed in
+      pushed ∙ ap (λ xs. xs ++ get_or host_spans host d ∷ []) before ∙ ap (λ x. map (span_of log) (range_with_len 0 e) ++ x ∷ []) here ∙ sym (map-range_with_len_more (span_of log) 0 e e (omega arith));
 }
 
 -- the spans are in their ranges

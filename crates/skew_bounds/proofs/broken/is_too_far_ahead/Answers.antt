@@ -3,7 +3,7 @@ use mir.Val.{SFits}
 use Rattle.std.specs.Int.{w128}
 use Rattle.std.proofs.lemmas.Int.{to_z-of_z}
 use Rattle.skew_bounds.proofs.RowReadings.{ahead-is, error-fits}
-use Rattle.skew_bounds.proofs.broken.is_ahead.Goals as goal
+use Rattle.skew_bounds.proofs.broken.is_too_far_ahead.Goals as goal
 
 pub returns-in-Some : goal.returns-in-Some
 returns-in-Some c =
