@@ -31,8 +31,9 @@ pub struct Learned {
     pub hints: ClauseRefList,
 }
 
-/// The clause of the first unique implication point (Marques-Silva and Sakallah 1996), where a
-/// clause is false that has a literal of the present level.
+/// The clause that a conflict teaches, where a clause is false that has a literal of the present
+/// level: that of the first unique implication point (Marques-Silva and Sakallah 1996). That it is
+/// asserting and the resolvent of its hints is proved; that no nearer point would do, no clause says.
 pub fn learn(
     alloc: Global,
     trail: &Trail,

@@ -88,21 +88,27 @@ module _ (s : Sought) where
   abbrev pub rule_2 : ℕ → ℕ → ℕ → Written
   rule_2 k e place = of_kind (proposition_in (shape_at s k)) (λ rows. option_map_or (λ c. Ok (after c.row e ∷ has_come rows.changes (place + 1) e ∷ Says (record { atom = Node k e; positive = c.sets }) ∷ at_pulses (if c.sets then [] else rows.pulses) e)) (slice_get rows.changes place) (Err Range))
 
+  -- `true` is true
   abbrev pub rule_3 : ℕ → ℕ → Written
   rule_3 k e = if is_constant (shape_at s k) then Ok (is (Node k e) ∷ []) else Err Kind
 
+  -- a negation and its operand aren't both true, ..
   abbrev pub rule_4 : ℕ → ℕ → Written
   rule_4 k e = of_kind (operand_in (shape_at s k)) (λ a. Ok (is_not (Node k e) ∷ is_not (Node a e) ∷ []))
 
+  -- .. and one of them is
   abbrev pub rule_5 : ℕ → ℕ → Written
   rule_5 k e = of_kind (operand_in (shape_at s k)) (λ a. Ok (is (Node k e) ∷ is (Node a e) ∷ []))
 
+  -- where a conjunction is true its left side is, ..
   abbrev pub rule_6 : ℕ → ℕ → Written
   rule_6 k e = of_kind (sides_in (shape_at s k)) (λ sides. Ok (is_not (Node k e) ∷ is (Node sides.0 e) ∷ []))
 
+  -- .. and its right side
   abbrev pub rule_7 : ℕ → ℕ → Written
   rule_7 k e = of_kind (sides_in (shape_at s k)) (λ sides. Ok (is_not (Node k e) ∷ is (Node sides.1 e) ∷ []))
 
+  -- .. and where both are, it is
   abbrev pub rule_8 : ℕ → ℕ → Written
   rule_8 k e = of_kind (sides_in (shape_at s k)) (λ sides. Ok (is (Node k e) ∷ is_not (Node sides.0 e) ∷ is_not (Node sides.1 e) ∷ []))
 

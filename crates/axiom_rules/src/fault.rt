@@ -19,6 +19,7 @@ pub enum RuleFault {
     /// The clause is true whatever the timing.
     #[error("a clause that says nothing")]
     Trivial,
+    /// Want of memory.
     #[error("out of memory")]
     Memory,
 }

@@ -10,11 +10,12 @@ pub enum OfReach {
     AlwaysUpTo,
     /// The pair is dead: its distance is never in the interval.
     Dead,
-    /// It is dead, or the left side is `true`.
+    /// The pair is dead, or the left side is `true`.
     DeadOrFree,
-    /// So it is, or the third event is always before the first one, or never before the second one.
+    /// The pair is dead, or the left side is `true`, or the third event is always before the first one or never before
+    /// the second one.
     NotWithin,
-    /// It is dead, or the left side is `true`, or the third event is always before the second one.
+    /// The pair is dead, or the left side is `true`, or the third event is always before the second one.
     NotPast,
     /// The left side is `true`, or the second event is never before the first one.
     FreeOrNotBefore,

@@ -41,10 +41,15 @@ pub enum Subject {
 /// What an argument of a rule is.
 #[derive(Clone, Copy, PartialEq, Eq)]
 pub enum Argument {
+    /// A node, by its number from 0.
     ANode,
+    /// An event, by its row from 0.
     AnEvent,
+    /// A change of the node's proposition, by its place among these from 0.
     AChange,
+    /// A pulse of it, in the same way.
     APulse,
+    /// None: it is 0.
     Unused,
 }
 

@@ -38,7 +38,7 @@ is_lesson (line.Learn lits hints) = has_some lits
 abbrev pub lessons : List Line → ℕ
 lessons lines = count_by is_lesson lines
 
--- so of each valid log, formula and value that the problem fits
+-- this holds of each valid log, and each formula and value, that the problem fits
 abbrev pub OfFitting : Problem → (Logged → Form → Bool → Type 0) → Type 0
 OfFitting p Holds = (log : Logged) (f : Form) (v : Bool) → IsLog log → Fits (sought_of log f v) p → Holds log f v
 

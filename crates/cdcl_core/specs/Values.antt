@@ -47,7 +47,7 @@ IsSearched log f v budget (searched.Timing t) = GivesValue log f v t
 IsSearched log f v budget (searched.Refuted lines) = RefutesWithin log f v budget lines
 IsSearched log f v budget (searched.Spent lines) = SpendsWithin log f v budget lines
 
--- the lines refute each value of each formula
+-- the lines refute each value of each formula, and none of them is a lesson
 abbrev pub RefuteEachValue : Logged → List Line → Type 0
 RefuteEachValue log lines = (f : Form) (v : Bool) → Refutes log f v lines × (lessons lines ≡ 0)
 

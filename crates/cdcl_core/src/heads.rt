@@ -41,7 +41,7 @@ fn count_up(counts: &mut Vec<u32>, place: usize) -> u32 {
     }
 }
 
-// Turns how many come after each place into where each begins.
+// Turns the numbers of clauses into sums: where the clauses of each literal begin.
 fn add_up(counts: &mut Vec<u32>) {
     let mut sum: u32 = 0;
     for count in counts.iter_mut() {

@@ -1,5 +1,6 @@
-//! The search for what satisfies a problem: a model, lines that refute it, or lines that derive, as many as
-//! a budget of conflicts.
+//! The search for what satisfies a problem, by clause learning (Marques-Silva and Sakallah 1996; Moskewicz, Madigan,
+//! Zhao, Zhang and Malik 2001): a model, lines that refute it, or lines that derive, with as many clauses learnt as a
+//! budget of conflicts.
 #![tactic(auto)]
 
 mod assignment;

@@ -18,8 +18,9 @@ use mtl_encode::Problem;
 use proof_log::Lines;
 use std::alloc::{AllocError, Global};
 
-/// A model of the problem, lines that refute it with fewer clauses learnt than the budget, or lines that
-/// derive with as many. The budget is from 1 to 1,000,000. An error is want of memory.
+/// A model of the problem; lines that refute it, with fewer nonempty clauses learnt than the budget; or lines that derive,
+/// with as many learnt as the budget. Of lines there are at most twice as many. The budget is a number of conflicts, from 1
+/// to 1,000,000. An error is want of memory.
 ///
 /// The problem fits some log, formula and value, and its edges alone have a solution.
 pub fn search(alloc: Global, problem: Problem, budget: u32) -> Result<Found, AllocError>

@@ -5,7 +5,7 @@ const FIRST: u32 = 100;
 
 const MOST: u32 = 1 << 31;
 
-/// How many conflicts are left until the next restart, and how many there were from the last one on.
+/// How many conflicts are left until the next restart, and how many lie between it and the one before.
 #[derive(Clone, Copy)]
 pub struct Restarts {
     left: u32,

@@ -21,7 +21,7 @@ use neg_cycle::Edge;
 use proof_log::Line;
 use std::alloc::{AllocError, Global};
 
-/// How many lines there are at most where one more of an assumed order is written.
+/// How many lines there are at most once a line of an assumed order is written.
 pub const MAX_SETTLED: u32 = 4_000_000;
 
 // The edge of an atom in a sense, if it is an order.

@@ -74,7 +74,7 @@ impl<'a> Sight<'a> {
         Some(if lit.positive() { yes } else { no })
     }
 
-    /// Whether the present timing meets an order literal, or has it where it is assigned and has no edge.
+    /// Whether the present timing meets an order literal; one without an edge is met where it is assigned and true.
     pub fn meets(&self, lit: Lit) -> bool {
         match self.edge(lit) {
             None => self.truth(lit) == Some(true),

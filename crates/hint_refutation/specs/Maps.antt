@@ -18,7 +18,8 @@ pub record Carrier (L M : Type 0) : Type 0 where
 abbrev pub AreAmong : {L M : Type 0} → Carrier L M → List L → Type 0
 AreAmong c lits = All (λ l. IsTrue (c.among l)) lits
 
--- what is said of literals that the map keeps apart is said of what it takes them to, and the other way round
+-- of literals that the map keeps apart, what refutes, is used or closed does so there too and the other way round; what is
+-- missed is missed there
 pub record WordsAreCarried (L M : Type 0) : Type 0 where
   pub refutes : (c : Carrier L M) (assumed : List L) (hints : List (List L)) → AreAmong c assumed → All (AreAmong c) hints
       → Refutes c.neg assumed hints ↔ Refutes c.opposite (map c.carry assumed) (map (map c.carry) hints)

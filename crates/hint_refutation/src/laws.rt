@@ -29,7 +29,8 @@ pub fn assumed_is_set<L>()
     ensures law { AssumedIsSet L }
 {}
 
-/// What the first hint is, under what is assumed, forces whether hints that begin with it refute.
+/// What the first hint is forces the step: after one that gives a literal the others have to refute with
+/// it, after a false one there may be none, and after any other hints never refute.
 pub fn steps_are_forced<L>()
     ensures law { StepsAreForced L }
 {}
@@ -65,8 +66,8 @@ pub fn closed_by_clauses<L>()
     ensures law { ClosedByClauses L }
 {}
 
-/// A map that keeps literals apart and takes negations to negations carries all these words, from
-/// what it is applied to and back.
+/// A map that keeps literals apart and takes negations to negations carries refutation, use and closed
+/// sets to what it takes the literals to, and back; and what is missed to there.
 pub fn words_are_carried<L, M>()
     ensures law { WordsAreCarried L M }
 {}

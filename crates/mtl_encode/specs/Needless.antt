@@ -18,7 +18,8 @@ module _ (x : Extremes) where
   abbrev pub is_never_first : ℕ → ℕ → Bool
   is_never_first rows e = list_any (λ f. int_lt (x.greatest e f) (pos 0)) (range_with_len 0 rows)
 
-  -- event j is always in the interval's reach from below, it may be, and the same from above
+  -- event j's distance from event i is always from the lower bound on, never, and it may be; it is always up to the upper
+  -- bound, and never
   abbrev pub is_always_from : Reach → ℕ → ℕ → Bool
   is_always_from u i j = int_le (pos u.interval.low) (nearest x u.direction i j)
 

@@ -74,7 +74,8 @@ impl Wanted {
 pub struct Most {
     /// How many instances may say that some row is a witness, which name all rows.
     pub witnesses: u32,
-    /// How many literals those may have in all that say what a change made of a proposition, which name all its pulses.
+    /// How many literals those have at least before no more are taken that say what a change made of a proposition, which
+    /// name all its pulses.
     pub literals: usize,
 }
 
@@ -197,6 +198,7 @@ impl Asked {
             number: SOME_IS_FIRST,
             args: [0, 0, 0, 0],
         };
+        // A literal that the clause lacks: each of its own literals is asked for.
         self.add(scene, Literal::default().negated(), first)?;
         let mut demands = Vec::new(alloc);
         'literals: for _turn in 0..u32::MAX {

@@ -19,7 +19,8 @@ pub struct Problem {
     pub bounds: BoundList,
     /// Their edges, in the log's unit of time.
     pub edges: EdgeList,
-    /// The number of nodes of the edges: node 0 is the zero moment, and node e + 1 is event e.
+    /// The number of nodes of the edges: node 0 is the zero moment, node e + 1 is event e, and behind the events
+    /// stands a node for each clock.
     pub nodes: u32,
 }
 
@@ -28,6 +29,7 @@ pub struct Problem {
 pub struct Part {
     /// Their clauses.
     pub problem: Problem,
-    /// Whether some that name all rows as witnesses were left out for there being too many of them.
+    /// Whether instances were left out for there being too many of their kind. No clause speaks of it: it is a
+    /// hint that more can be asked for.
     pub is_cut: bool,
 }

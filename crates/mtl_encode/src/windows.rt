@@ -23,7 +23,8 @@ pub struct Windows {
     earliest: u32,
 }
 
-/// The first number below a length at which a test fails, where it fails from there on.
+/// The first number below a length at which a test fails, where it fails from there on; the length where it fails
+/// at none.
 pub fn passing<F: Fn(usize) -> bool>(len: usize, test: F) -> usize
     requires { F.IsAlwaysCallable test }
     ensures within { result ≤ len }
@@ -72,7 +73,7 @@ impl Windows {
         })
     }
 
-    /// A row that is first if any is always.
+    /// A row that is always first, if there is such a row.
     pub fn earliest(&self) -> u32 {
         self.earliest
     }

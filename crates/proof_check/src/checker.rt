@@ -52,8 +52,8 @@ fn rules_have_a_log(rules: &Rules)
 }
 
 impl Checker {
-    /// A checker for a log, a formula whose hosts are in the log, and a value that is sought of it. `TooManyNodes` comes
-    /// exactly where the formula has more than 512 nodes.
+    /// A checker for a log, a formula whose hosts are in the log, and a value that is sought of it. With more than 512 nodes
+    /// the answer is `TooManyNodes` or want of memory; with no more it is never `TooManyNodes`.
     pub fn new(alloc: Global, log: &Log, f: &Formula, value: bool) -> Result<Checker, ArenaFault>
         requires hosts { unknown_host log.now (form_of f.now) ≡ None }
         ensures sought { IfOk result (λ c. c ≡ sought_of log.now (form_of f.now) value) }

@@ -48,7 +48,7 @@ pub struct Assumed<'a> {
     // The literals that were given, in their order, where they are listed.
     list: Vec<Literal>,
     is_listing: bool,
-    // Of the atom that event m is a gap: that each event before m is none.
+    // `Gap { k, i, m }` stands here where it was found that each event before m is no gap of node k from event i on.
     gapless: Atoms,
 }
 

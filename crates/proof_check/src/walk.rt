@@ -11,7 +11,7 @@ use mt_model::{Log, MAX_ORDER, Step};
 use neg_cycle::Edge;
 use skew_bounds::{EdgeTable, bound_of, edge_of};
 
-/// The node at which a walk begins, the one at which it has come to, and the sum of its steps' bounds.
+/// The node at which a walk begins, the one to which it has come, and the sum of its steps' bounds.
 #[derive(Clone, Copy)]
 pub struct Walk {
     start: u32,

@@ -24,7 +24,7 @@ pub record IsFrontLine (bytes : List ℕ) (line : Line) (rest : List ℕ) : Type
   pub spelled : IsSpelled line
   pub split : bytes ≡ line_text line ++ rest
 
--- the lines before the faulty one are lines, and what comes next is something, but does not begin with the text of a line
+-- what stands before the faulty line is lines, and what comes next is something, but does not begin with the text of a line
 pub record IsFaultyAt (bytes : List ℕ) (n : ℕ) : Type 0 where
   pub before : List Line
   pub rest : List ℕ

@@ -9,6 +9,7 @@ pub enum LineFault {
     /// The first line, counted from 1, that isn't in the grammar.
     #[error("line {line} is no line of a derivation")]
     Syntax { line: u32 },
+    /// Want of memory.
     #[error("out of memory")]
     Memory,
 }

@@ -28,12 +28,14 @@ pub fn fresh_lines_differ()
     ensures { FreshLinesDiffer }
 {}
 
-/// Fewer conflicts are spent than three to the number of atoms.
+/// Fewer conflicts are spent than three to the power of the number of atoms in the lines' clauses, and so of
+/// those in clauses of rules.
 pub fn spent_is_bounded()
     ensures { SpentIsBounded }
 {}
 
-/// Where unit propagation over the clauses of the rules alone reaches a false one, no line is fresh.
+/// Where unit propagation over the clauses of the rules alone reaches a false one, no line is fresh, and so no
+/// conflict is spent.
 pub fn refuted_by_rules_is_not_spent()
     ensures { RefutedByRulesIsNotSpent }
 {}

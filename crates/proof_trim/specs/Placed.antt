@@ -12,15 +12,15 @@ use Rattle.proof_log.specs.LinesText.{line_text}
 abbrev pub left_of : List Bool → List Line → List Line
 left_of marks lines = map (renumbered (place_of marks lines)) (marked marks lines)
 
--- the text with that of a line at its end, with the numbers that these places are, where the line is marked
+-- the text, and where the line is marked behind it that of the line, whose hints have these new numbers
 abbrev pub with_marked : Bool → List ℕ → List ℕ → Line → List ℕ
 with_marked mark places text l = if mark then text ++ line_text (moved places l) else text
 
--- so of the lines whose text the bytes are and whose marks these are, where no line has a hint that names one which does not come before it
+-- this holds of the lines whose text the bytes are and whose marks these are, if each hint names an earlier line
 abbrev pub OfMarked : List ℕ → List Bool → (List Line → Type 0) → Type 0
 OfMarked text marks Holds = (lines : List Line) → IsTextOf text lines → length marks ≡ length lines → NoneForward lines → Holds lines
 
--- so of the lines whose text the bytes are, and whose hints name lines of these numbers
+-- this holds of the lines whose text the bytes are and whose hints name these numbers
 abbrev pub OfNamed : List ℕ → List ℕ → List ℕ → (List Line → Type 0) → Type 0
 OfNamed text numbers ends Holds = (lines : List Line) → IsTextOf text lines → AreNamed lines numbers ends → Holds lines
 

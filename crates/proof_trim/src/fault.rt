@@ -6,11 +6,13 @@ use thiserror::Error;
 /// Why lines can't be trimmed, or want of memory.
 #[derive(Clone, Copy, Debug, Error)]
 pub enum TrimFault {
+    /// There is no line.
     #[error("there is no line")]
     Empty,
     /// The first line, counted from 1, with a hint that names a line which does not come before it.
     #[error("a hint of line {line} names no earlier line")]
     Hint { line: u32 },
+    /// Want of memory.
     #[error("out of memory")]
     Memory,
 }

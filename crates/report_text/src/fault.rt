@@ -9,6 +9,7 @@ pub enum ReportFault {
     /// The first line, counted from 1, with which no report begins.
     #[error("line {line} is no line of a report")]
     Syntax { line: u32 },
+    /// Want of memory.
     #[error("out of memory")]
     Memory,
 }

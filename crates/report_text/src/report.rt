@@ -19,11 +19,13 @@ pub enum Section {
 pub enum Report {
     /// No timing is admissible: the bounds of a closed walk of negative sum.
     Inconsistent {
+        /// How many rows the log has.
         events: u32,
         steps: Steps,
     },
     /// What is said of the formula's being true, and of its being false.
     Verdicts {
+        /// How many rows the log has.
         events: u32,
         on_true: Section,
         on_false: Section,

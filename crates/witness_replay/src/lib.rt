@@ -1,5 +1,6 @@
 //! Whether a log admits a timing and whether a formula of metric temporal logic (Koymans 1990) is true
-//! in it, told from the definitions, in memory that is taken beforehand.
+//! in it. A `Replayer` judges many timings in memory that it took when it was made; `truth_by` judges
+//! one, and takes its own.
 #![tactic(auto)]
 
 mod columns;

@@ -64,7 +64,7 @@ fn is_near(operator: Operator, times: &[i128], e: usize, m: usize) -> bool
     )
 }
 
-// Whether row e is met at latest together with row m.
+// Whether row e is met at the latest together with row m.
 fn is_not_after(direction: Direction, times: &[i128], e: usize, m: usize) -> bool
     requires e_in { e < length times.now }
     requires m_in { m < length times.now }

@@ -78,8 +78,8 @@ fn copy_with_bounds(alloc: Global, log: &Log) -> Result<(Log, BoundList), AllocE
 }
 
 impl Replayer {
-    /// Takes the memory for a log and a formula, whose hosts are in the log. `TooManyNodes` comes exactly
-    /// where the formula has more than 512 nodes.
+    /// Takes the memory for a log and a formula, whose hosts are in the log. With more than 512 nodes the
+    /// answer is `TooManyNodes` or want of memory; with no more it is never `TooManyNodes`.
     pub fn new(alloc: Global, log: &Log, f: &Formula) -> Result<Replayer, ArenaFault>
         requires { unknown_host log.now (form_of f.now) ≡ None }
         ensures log { IfOk result (λ r. r.log ≡ log.now) }
