@@ -22,7 +22,12 @@ pub use literal::{Atom, Literal, order_literal};
 pub use needless::{Needless, OfReach};
 pub use reach::Reach;
 pub use rule::{
-    Argument, MAX_RULE, Rule, RuleList, SOME_IS_FIRST, Subject, argument_count, arguments_of,
-    needless_of, subject_of,
+    Argument, CHANGE_LASTS, CONJUNCTION_COVERS, CONJUNCTION_HAS_LEFT, CONJUNCTION_HAS_RIGHT,
+    CONSTANT_IS_TRUE, EARLIEST_IS_FIRST, FIRST_HAS_VALUE, FIRST_IS_NOT_AFTER, FREE_WITNESS_COVERS,
+    GAP_IS_AHEAD, GAP_LACKS_LEFT, INSTANT_COVERS, INSTANT_IS_NOT_AFTER, MAX_RULE, NEGATION_COVERS,
+    NEGATION_EXCLUDES, PULSE_GIVES_TRUTH, Rule, RuleList, SOME_IS_FIRST, SPAN_HAS_LEFT,
+    SPAN_OR_GAP, SPAN_UP_TO_GAP, Subject, TRUTH_HAS_CAUSE, TRUTH_HAS_WITNESS, WITNESS_COVERS,
+    WITNESS_GIVES_TRUTH, WITNESS_HAS_RIGHT, WITNESS_HAS_SPAN, WITNESS_IS_FROM, WITNESS_IS_UP_TO,
+    argument_count, arguments_of, needless_of, subject_of,
 };
 pub use rules::Rules;

@@ -126,8 +126,91 @@ const NODE_THREE_EVENTS: Arguments = Arguments(
 /// The greatest number that a rule has.
 pub const MAX_RULE: u8 = 28;
 
-/// The number of the rule that some event is a first one.
+// The numbers of the rules, by what each says.
+
+/// A proposition that is true has been changed, or is pulsed.
+pub const TRUTH_HAS_CAUSE: u8 = 1;
+
+/// From a change on up to the next one, a proposition is what the change makes it.
+pub const CHANGE_LASTS: u8 = 2;
+
+/// `true` is true.
+pub const CONSTANT_IS_TRUE: u8 = 3;
+
+/// A negation and its operand aren't both true.
+pub const NEGATION_EXCLUDES: u8 = 4;
+
+/// A negation is true, or its operand is.
+pub const NEGATION_COVERS: u8 = 5;
+
+/// Where a conjunction is true, its left side is.
+pub const CONJUNCTION_HAS_LEFT: u8 = 6;
+
+/// Where a conjunction is true, its right side is.
+pub const CONJUNCTION_HAS_RIGHT: u8 = 7;
+
+/// Where both sides of a conjunction are true, it is.
+pub const CONJUNCTION_COVERS: u8 = 8;
+
+/// A first event isn't after any.
+pub const FIRST_IS_NOT_AFTER: u8 = 9;
+
+/// An event that is after none is a first one.
+pub const EARLIEST_IS_FIRST: u8 = 10;
+
+/// Some event is a first one.
 pub const SOME_IS_FIRST: u8 = 11;
+
+/// A witness is at least the lower bound away.
+pub const WITNESS_IS_FROM: u8 = 12;
+
+/// A witness is at most the upper bound away, where there is one.
+pub const WITNESS_IS_UP_TO: u8 = 13;
+
+/// At a witness the right side holds.
+pub const WITNESS_HAS_RIGHT: u8 = 14;
+
+/// Up to a witness the left side holds.
+pub const WITNESS_HAS_SPAN: u8 = 15;
+
+/// What is in the interval, has the right side and is at the end of a span is a witness.
+pub const WITNESS_COVERS: u8 = 16;
+
+/// Where an until or a since is true, some event is a witness.
+pub const TRUTH_HAS_WITNESS: u8 = 17;
+
+/// Where some event is a witness, an until or a since is true.
+pub const WITNESS_GIVES_TRUTH: u8 = 18;
+
+/// Over a span the left side holds.
+pub const SPAN_HAS_LEFT: u8 = 19;
+
+/// Where there is no span there is a gap.
+pub const SPAN_OR_GAP: u8 = 20;
+
+/// Up to a gap there is a span.
+pub const SPAN_UP_TO_GAP: u8 = 21;
+
+/// A gap isn't before the event from which it is looked for.
+pub const GAP_IS_AHEAD: u8 = 22;
+
+/// At a gap the left side fails.
+pub const GAP_LACKS_LEFT: u8 = 23;
+
+/// At a first event the root has the value sought.
+pub const FIRST_HAS_VALUE: u8 = 24;
+
+/// Of two events at one instant neither is after the other, where one of them is a pulse.
+pub const INSTANT_IS_NOT_AFTER: u8 = 25;
+
+/// Two events of which neither is after the other are at one instant, where one of them is a pulse.
+pub const INSTANT_COVERS: u8 = 26;
+
+/// At the instant of a pulse its proposition is true.
+pub const PULSE_GIVES_TRUTH: u8 = 27;
+
+/// What is near and has the right side is a witness where the left side is `true`.
+pub const FREE_WITNESS_COVERS: u8 = 28;
 
 // A row of the table of rules: what a rule is about, what its arguments are, and which of its instances are needless.
 #[derive(Clone, Copy)]

@@ -6,10 +6,9 @@ ghost use Rattle.mtl_encode.specs.Asked.{AreAsked, IsHeld};
 use crate::clauses::Clauses;
 use crate::demands::demands_of;
 use crate::held::Held;
-use crate::rule_numbers::{AS_CHANGED, SOME_WITNESS};
 use crate::scene::Scene;
 use crate::workspace::Workspace;
-use axiom_rules::{Atom, Literal, Rule, RuleFault, SOME_IS_FIRST};
+use axiom_rules::{Atom, CHANGE_LASTS, Literal, Rule, RuleFault, SOME_IS_FIRST, TRUTH_HAS_WITNESS};
 use clause_db::Lit;
 use std::alloc::{AllocError, Global};
 
@@ -89,8 +88,8 @@ impl Most {
     // Whether nothing more is left for an instance.
     fn is_used_up(self, rule: Rule) -> bool {
         match rule.number {
-            SOME_WITNESS => self.witnesses == 0,
-            AS_CHANGED => self.literals == 0,
+            TRUTH_HAS_WITNESS => self.witnesses == 0,
+            CHANGE_LASTS => self.literals == 0,
             _ => false,
         }
     }
@@ -102,11 +101,11 @@ impl Most {
             literals: left,
         } = self;
         match rule.number {
-            SOME_WITNESS => Most {
+            TRUTH_HAS_WITNESS => Most {
                 witnesses: witnesses.saturating_sub(1),
                 literals: left,
             },
-            AS_CHANGED => Most {
+            CHANGE_LASTS => Most {
                 witnesses,
                 literals: left.saturating_sub(literals),
             },

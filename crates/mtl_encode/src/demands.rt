@@ -1,15 +1,15 @@
 //! What a literal asks for: the instances that say what follows from it.
 
 use crate::needless::is_dead;
-use crate::rule_numbers::{
-    AS_CHANGED, FALSE_BEFORE_CHANGES, FIRST_HAS_VALUE, FIRST_IS_NEVER_LATER, GAP_HAS_SPAN,
-    GAP_IS_FROM_EVENT, GAP_LACKS_LEFT, HAS_BOTH, HAS_LEFT, HAS_RIGHT, HAS_WITNESS,
-    INSTANT_IS_NOT_LATER, IS_WITNESS, IS_WITNESS_OF_TRUE, NOT_BOTH, ONE_OF_BOTH, SAME_INSTANT,
-    SOME_WITNESS, SPAN_HAS_LEFT, SPAN_OR_GAP, TRUE_AT_PULSE, TRUE_IS_TRUE, WITNESS_HAS_RIGHT,
-    WITNESS_HAS_SPAN, WITNESS_IS_FROM_LOW, WITNESS_IS_UP_TO_HIGH,
-};
 use crate::scene::Scene;
-use axiom_rules::{Atom, Literal, Rule};
+use axiom_rules::{
+    Atom, CHANGE_LASTS, CONJUNCTION_COVERS, CONJUNCTION_HAS_LEFT, CONJUNCTION_HAS_RIGHT,
+    CONSTANT_IS_TRUE, FIRST_HAS_VALUE, FIRST_IS_NOT_AFTER, FREE_WITNESS_COVERS, GAP_IS_AHEAD,
+    GAP_LACKS_LEFT, INSTANT_COVERS, INSTANT_IS_NOT_AFTER, Literal, NEGATION_COVERS,
+    NEGATION_EXCLUDES, PULSE_GIVES_TRUTH, Rule, SPAN_HAS_LEFT, SPAN_OR_GAP, SPAN_UP_TO_GAP,
+    TRUTH_HAS_CAUSE, TRUTH_HAS_WITNESS, WITNESS_COVERS, WITNESS_GIVES_TRUTH, WITNESS_HAS_RIGHT,
+    WITNESS_HAS_SPAN, WITNESS_IS_FROM, WITNESS_IS_UP_TO,
+};
 use formula_arena::{Core, Direction};
 use mt_model::NodeId;
 use question::greatest_between;
@@ -34,16 +34,16 @@ impl Asking<'_> {
             return Ok(());
         };
         if positive {
-            self.add(FALSE_BEFORE_CHANGES, [k, e, 0, 0])?;
+            self.add(TRUTH_HAS_CAUSE, [k, e, 0, 0])?;
         }
         for place in self.scene.places(told, e) {
             if told.sets_at(place) != Some(positive) {
-                self.add(AS_CHANGED, [k, e, place, 0])?;
+                self.add(CHANGE_LASTS, [k, e, place, 0])?;
             }
         }
         if !positive {
             for place in self.scene.pulses(told, e) {
-                self.add(TRUE_AT_PULSE, [k, e, place, 0])?;
+                self.add(PULSE_GIVES_TRUTH, [k, e, place, 0])?;
             }
         }
         Ok(())
@@ -52,14 +52,14 @@ impl Asking<'_> {
     // An until or a since.
     fn ask_reach(&mut self, k: u32, e: u32, positive: bool) -> Result<(), AllocError> {
         if positive {
-            return self.add(SOME_WITNESS, [k, e, 0, 0]);
+            return self.add(TRUTH_HAS_WITNESS, [k, e, 0, 0]);
         }
         let Some(u) = self.scene.rules.reach_at(k) else {
             return Ok(());
         };
         for placed in self.scene.reached(&u, e) {
             if !is_dead(self.scene.tight, &u, e, placed.row) {
-                self.add(HAS_WITNESS, [k, e, placed.row, 0])?;
+                self.add(WITNESS_GIVES_TRUTH, [k, e, placed.row, 0])?;
             }
         }
         Ok(())
@@ -72,14 +72,15 @@ impl Asking<'_> {
         let args = [k, e, 0, 0];
         match self.scene.arena.node(NodeId::new(k)) {
             Core::True if positive => Ok(()),
-            Core::True => self.add(TRUE_IS_TRUE, args),
+            Core::True => self.add(CONSTANT_IS_TRUE, args),
             Core::Prop(_) => self.ask_proposition(k, e, positive),
-            Core::Not(_) => self.add(if positive { NOT_BOTH } else { ONE_OF_BOTH }, args),
+            Core::Not(_) if positive => self.add(NEGATION_EXCLUDES, args),
+            Core::Not(_) => self.add(NEGATION_COVERS, args),
             Core::And(..) if positive => {
-                self.add(HAS_LEFT, args)?;
-                self.add(HAS_RIGHT, args)
+                self.add(CONJUNCTION_HAS_LEFT, args)?;
+                self.add(CONJUNCTION_HAS_RIGHT, args)
             }
-            Core::And(..) => self.add(HAS_BOTH, args),
+            Core::And(..) => self.add(CONJUNCTION_COVERS, args),
             Core::Until(..) | Core::Since(..) => self.ask_reach(k, e, positive),
         }
     }
@@ -87,14 +88,14 @@ impl Asking<'_> {
     fn ask_first(&mut self, e: u32) -> Result<(), AllocError> {
         let earliest = self.scene.windows.earliest();
         if greatest_between(self.scene.tight, e, earliest) < 0 {
-            return self.add(FIRST_IS_NEVER_LATER, [e, earliest, 0, 0]);
+            return self.add(FIRST_IS_NOT_AFTER, [e, earliest, 0, 0]);
         }
         for placed in self
             .scene
             .windows
             .between(i128::MIN, self.scene.greatest(e))
         {
-            self.add(FIRST_IS_NEVER_LATER, [e, placed.row, 0, 0])?;
+            self.add(FIRST_IS_NOT_AFTER, [e, placed.row, 0, 0])?;
         }
         self.add(FIRST_HAS_VALUE, [e, 0, 0, 0])
     }
@@ -107,14 +108,14 @@ impl Asking<'_> {
         let is_free = self.scene.rules.is_constant(u.left);
         if !positive {
             let number = if is_free {
-                IS_WITNESS_OF_TRUE
+                FREE_WITNESS_COVERS
             } else {
-                IS_WITNESS
+                WITNESS_COVERS
             };
             return self.add(number, args);
         }
-        self.add(WITNESS_IS_FROM_LOW, args)?;
-        self.add(WITNESS_IS_UP_TO_HIGH, args)?;
+        self.add(WITNESS_IS_FROM, args)?;
+        self.add(WITNESS_IS_UP_TO, args)?;
         self.add(WITNESS_HAS_RIGHT, args)?;
         if is_free {
             return Ok(());
@@ -144,7 +145,7 @@ impl Asking<'_> {
         };
         for placed in beyond {
             if self.scene.gap_value(&u, i, placed.row).is_none() {
-                self.add(GAP_HAS_SPAN, [k, i, j, placed.row])?;
+                self.add(SPAN_UP_TO_GAP, [k, i, j, placed.row])?;
             }
         }
         Ok(())
@@ -160,19 +161,19 @@ impl Asking<'_> {
         if self.scene.is_too_far(&u, i, m) {
             return Ok(());
         }
-        self.add(GAP_IS_FROM_EVENT, args)?;
+        self.add(GAP_IS_AHEAD, args)?;
         self.add(GAP_LACKS_LEFT, args)
     }
 
     fn ask_instant(&mut self, e: u32, x: u32, positive: bool) -> Result<(), AllocError> {
         if !positive {
-            return self.add(SAME_INSTANT, [e, x, 0, 0]);
+            return self.add(INSTANT_COVERS, [e, x, 0, 0]);
         }
         if greatest_between(self.scene.tight, e, x) < 0 {
-            return self.add(INSTANT_IS_NOT_LATER, [e, x, 0, 0]);
+            return self.add(INSTANT_IS_NOT_AFTER, [e, x, 0, 0]);
         }
-        self.add(INSTANT_IS_NOT_LATER, [x, e, 0, 0])?;
-        self.add(INSTANT_IS_NOT_LATER, [e, x, 0, 0])
+        self.add(INSTANT_IS_NOT_AFTER, [x, e, 0, 0])?;
+        self.add(INSTANT_IS_NOT_AFTER, [e, x, 0, 0])
     }
 
     // A node that isn't true, or isn't false.
@@ -184,7 +185,12 @@ impl Asking<'_> {
         match self.scene.arena.node(NodeId::new(k)) {
             Core::And(left, _) if positive => {
                 let is_left = self.scene.known.value(left.get(), e) == Some(false);
-                self.add(if is_left { HAS_LEFT } else { HAS_RIGHT }, args)
+                let number = if is_left {
+                    CONJUNCTION_HAS_LEFT
+                } else {
+                    CONJUNCTION_HAS_RIGHT
+                };
+                self.add(number, args)
             }
             Core::Until(..) | Core::Since(..) if !positive => self.refute_reach(k, e),
             _ => self.ask_node(k, e, positive),
@@ -198,7 +204,7 @@ impl Asking<'_> {
         };
         for placed in self.scene.reached(&u, e) {
             if self.scene.witness_value(&u, e, placed.row) == Some(true) {
-                return self.add(HAS_WITNESS, [k, e, placed.row, 0]);
+                return self.add(WITNESS_GIVES_TRUTH, [k, e, placed.row, 0]);
             }
         }
         Ok(())
@@ -214,9 +220,9 @@ impl Asking<'_> {
         let number = if self.scene.known.value(u.right, j) == Some(false) {
             WITNESS_HAS_RIGHT
         } else if self.scene.is_too_near(&u, i, j) {
-            WITNESS_IS_FROM_LOW
+            WITNESS_IS_FROM
         } else if self.scene.is_too_far(&u, i, j) {
-            WITNESS_IS_UP_TO_HIGH
+            WITNESS_IS_UP_TO
         } else {
             WITNESS_HAS_SPAN
         };
@@ -250,7 +256,7 @@ impl Asking<'_> {
         let number = if is_left {
             GAP_LACKS_LEFT
         } else {
-            GAP_IS_FROM_EVENT
+            GAP_IS_AHEAD
         };
         self.add(number, args)
     }

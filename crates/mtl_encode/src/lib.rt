@@ -14,7 +14,6 @@ mod listing;
 mod needless;
 mod problem;
 mod pulses;
-mod rule_numbers;
 mod scene;
 mod variables;
 mod windows;

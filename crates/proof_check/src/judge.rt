@@ -16,14 +16,11 @@ use crate::guesses::{Clue, Guesses, SHORT};
 use crate::kept::Clauses;
 use crate::range::are_in_range;
 use crate::refutation::{Assumed, Taken};
-use axiom_rules::{Atom, Literal, Rule, RuleFault, Rules};
+use axiom_rules::{Atom, Literal, Rule, RuleFault, Rules, SPAN_OR_GAP};
 use hint_refutation::{assumed_is_set, refuters_give, steps_are_forced};
 use proof_log::{Hint, read_count, read_hint, read_literal};
 use smallvec::SmallVec;
 use std::alloc::{AllocError, Global};
-
-// The number of the rule that there is a span or a gap.
-const SPAN_OR_GAP: u8 = 20;
 
 /// Room for the clause of a rule.
 pub type Clause = SmallVec<Literal, 8, Global>;
