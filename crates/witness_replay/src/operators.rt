@@ -77,7 +77,7 @@ fn is_not_after(direction: Direction, times: &[i128], e: usize, m: usize) -> boo
 }
 
 // Whether row m is not after the first gap, where there is one.
-fn is_before_gap(direction: Direction, times: &[i128], gap: Option<usize>, m: usize) -> bool
+fn is_up_to_gap(direction: Direction, times: &[i128], gap: Option<usize>, m: usize) -> bool
     requires gap { IfSome gap (λ g. g < length times.now) }
     requires m_in { m < length times.now }
     ensures { result ≡ option_map_or (λ g. (rows_from direction times.now).not_after m g) gap true }
@@ -102,7 +102,7 @@ pub fn is_reached(
 {
     match witness {
         Some(w) => {
-            is_near(operator, times, e, w) && is_before_gap(operator.direction, times, gap, w)
+            is_near(operator, times, e, w) && is_up_to_gap(operator.direction, times, gap, w)
         }
         None => false,
     }
