@@ -21,9 +21,6 @@ const FEW: usize = 1_024;
 // No guesses are made for places from this one on.
 const FAR: usize = 1 << 31;
 
-// No guesses are made for instants where there are more events.
-const MANY_EVENTS: u32 = 4_096;
-
 /// For each literal of the long clauses that were cited the first place of its atom, and for each of these places where a
 /// literal of its atom is assumed.
 ///
@@ -174,9 +171,6 @@ impl Guesses {
 
     /// Makes guesses for the literals of instants.
     pub fn make_instants(&mut self, assumed: &Assumed) -> Result<(), AllocError> {
-        if self.events > MANY_EVENTS {
-            return Ok(());
-        }
         if self.instants.is_empty() {
             let pairs = self.events as usize * self.events as usize;
             self.instants.resize(pairs, 0)?;
