@@ -55,8 +55,8 @@ fn read_literals<'a>(lits: &mut Lits, words: &'a [u8]) -> Result<Option<&'a [u8]
     Ok(Some(rest))
 }
 
-/// Reads a number and so many hints.
-pub fn read_hints<'a>(hints: &mut Hints, words: &'a [u8]) -> Result<Option<&'a [u8]>, AllocError>
+// Reads a number and so many hints.
+fn read_hints<'a>(hints: &mut Hints, words: &'a [u8]) -> Result<Option<&'a [u8]>, AllocError>
     requires { hints.old ≡ [] }
     ensures { IfOk result (λ o. MatchOption o (FindsNone hints_in words.now) (λ rest. Finds hints_in words.now hints.new rest.now)) }
 {

@@ -27,14 +27,6 @@ fn are_all_marked(marks: &[bool]) -> bool
     marks.iter().all(|mark| *mark)
 }
 
-fn copy_of(alloc: Global, text: &[u8]) -> Result<Vec<u8>, AllocError>
-    ensures { IfOk result (λ copy. copy.items ≡ text.now) }
-{
-    let mut copy = Vec::with_capacity(alloc, text.len())?;
-    copy.extend_from_slice(text)?;
-    Ok(copy)
-}
-
 // What is left of the lines of a text whose hints name these, each an earlier line. Where all are needed each keeps its
 // number, and the text is copied as it stands.
 fn left_text(
@@ -51,7 +43,7 @@ fn left_text(
     let marks = needed_in(alloc, numbers, ends)?;
     if are_all_marked(&marks) {
         return Ok(TrimmedText {
-            text: copy_of(alloc, text)?,
+            text: text.to_vec(alloc)?,
             count: ends.len() as u32,
         });
     }

@@ -9,7 +9,7 @@ returns-then-are_all_marked c = record {
   trimmed = λ lines is are forward.
       let marks = c.deref.result.now in
       let needed = subst (AreNeeded lines) (sym c.deref.ensures.value) (c.in_ok-marks.ensures.needed lines are forward) in
-      whole-trimmed marks lines (c.are_all_marked.ensures.0 c.if-are_all_marked.true) needed forward c.args.text.now is _ c.in_ok-copy_of.ensures _ are.count;
+      whole-trimmed marks lines (c.are_all_marked.ensures.0 c.if-are_all_marked.true) needed forward c.args.text.now is _ (c.in_ok-to_vec.ensures.items_if_clones_equal (λ x y is. is)) _ are.count;
 }
 
 pub returns : goal.returns
