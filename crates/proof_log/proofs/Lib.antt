@@ -11,6 +11,7 @@ pub mod PassedItems
 pub mod HeadLines
 pub mod PassedLines
 pub mod HandedWords
+pub mod FirstWords
 pub mod Texts
 pub mod OrderedSets
 pub mod AtomsApart

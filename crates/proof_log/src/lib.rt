@@ -25,3 +25,4 @@ pub use passing::pass_line;
 pub use printer::{print_lines, push_hints, push_line};
 pub use reader::{read_line, read_lines};
 pub use spelling::{has_spelling, is_number};
+pub use word::next_word;

@@ -5,7 +5,6 @@ mod Copying
 mod Kept
 mod Refuting
 mod LineTexts
-mod FirstWords
 mod NamedWords
 mod NextNamedLine
 mod NamedLists

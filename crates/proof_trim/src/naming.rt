@@ -1,12 +1,10 @@
 //! The lines that the words of a line name: each is a number after the word `line`.
 
-ghost use Rattle.std.specs.Prelude.{◌≡◌, ◌<◌, ◌≤◌, ◌∷◌, [], length, IfSome, MatchOption};
-ghost use Rattle.memchr.specs.Find.{Nowhere, Passes, is_byte};
-ghost use Rattle.proof_log.specs.LinesText.{space, spaced};
-ghost use Rattle.proof_log.specs.Reading.{words_after};
+ghost use Rattle.std.specs.Prelude.{◌≡◌, MatchOption};
 ghost use Rattle.proof_trim.specs.Naming.{IsNextNamed, IsNoneNamed, is_line_word as is_line_word_of, number_of as number_of_word};
 
 use decimal::number;
+use proof_log::next_word;
 
 /// A line that words name.
 #[derive(Clone, Copy)]
@@ -33,34 +31,6 @@ fn is_line_word(word: &[u8]) -> bool
     match word {
         [b'l', b'i', b'n', b'e'] => true,
         _ => false,
-    }
-}
-
-// Where the first space is, or else the end. Words are short: a plain loop is faster here than a search by groups of bytes.
-fn word_end(words: &[u8]) -> usize
-    ensures within { result ≤ length words.now }
-    ensures none { Nowhere (Passes (is_byte space) words.now) 0 result }
-    ensures here { result < length words.now → Passes (is_byte space) words.now result }
-{
-    let mut end = 0;
-    while end < words.len() && words[end] != b' ' {
-        end += 1;
-    }
-    end
-}
-
-// The word after a space, and the words after it from the space before them on.
-fn next_word(words: &[u8]) -> Option<(&[u8], &[u8])>
-    ensures word { MatchOption result (words_after words.now ≡ []) (λ r. words_after words.now ≡ r.0.now ∷ words_after r.1.now) }
-    ensures shorter { IfSome result (λ r. length r.1.now < length words.now) }
-    ensures bytes { words.now ≡ spaced (words_after words.now) → IfSome result (λ r. r.1.now ≡ spaced (words_after r.1.now)) }
-{
-    match words {
-        [] => None,
-        [_, rest @ ..] => {
-            let end = word_end(rest);
-            Some((&rest[..end], &rest[end..]))
-        }
     }
 }
 
