@@ -16,9 +16,9 @@ use Rattle.report_text.specs.declared.part.Kind.{Kind}
 use Rattle.report_text.specs.declared.part.Kind.TheVariants as kind
 use Rattle.report_text.specs.declared.part.Opening.{Opening}
 use Rattle.report_text.specs.declared.part.Opening.TheVariants as opening
-use Rattle.report_text.specs.Parts.{IsCut, IsKind, IsLineOf, IsNumbered, IsOpening, kind_line, opening_line}
+use Rattle.report_text.specs.Parts.{IsCut, IsKind, IsLineOf, IsNumbered, IsOpening, opening_line}
 use Rattle.report_text.specs.ReportOf.{LacksNewline}
-use Rattle.report_text.specs.ReportText.{ended}
+use Rattle.report_text.specs.ReportText.{ended, kind_line}
 use Rattle.report_text.proofs.Cutting.{same-line}
 use Rattle.report_text.proofs.LineTexts.{time-printed}
 

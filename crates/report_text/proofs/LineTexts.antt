@@ -27,9 +27,9 @@ use Rattle.report_text.specs.declared.part.Kind.{Kind}
 use Rattle.report_text.specs.declared.part.Kind.TheVariants as kind
 use Rattle.report_text.specs.declared.part.Opening.{Opening}
 use Rattle.report_text.specs.declared.part.Opening.TheVariants as opening
-use Rattle.report_text.specs.Parts.{IsKind, IsOpening, kind_line, opening_line}
+use Rattle.report_text.specs.Parts.{IsKind, IsOpening, opening_line}
 use Rattle.report_text.specs.ReportOf.{LacksNewline}
-use Rattle.report_text.specs.ReportText.{events_line, last_line, mark, value_word}
+use Rattle.report_text.specs.ReportText.{events_line, kind_line, last_line, mark, value_word}
 use Rattle.report_text.specs.Spelled.{IsSpelledBound}
 use Rattle.report_text.proofs.Lined.{AreSpellings}
 use Rattle.std.proofs.lemmas.Option.{same_Some}

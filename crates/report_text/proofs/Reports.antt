@@ -11,9 +11,9 @@ use Rattle.report_text.specs.declared.part.Opening.TheVariants as opening
 use Rattle.report_text.specs.declared.report.Section.{Section}
 use Rattle.report_text.specs.declared.report.Report.{Report}
 use Rattle.report_text.specs.declared.report.Report.TheVariants as report
-use Rattle.report_text.specs.Parts.{IsOpening, kind_line, kind_of, opening_line}
+use Rattle.report_text.specs.Parts.{IsOpening, opening_line}
 use Rattle.report_text.specs.ReportOf.{AreLines, IsReport, LacksNewline}
-use Rattle.report_text.specs.ReportText.{body_text, bound_text, ended, entries_text, events_line, events_of, last_line, mark, marked_text, report_text, section_line, section_text}
+use Rattle.report_text.specs.ReportText.{body_text, bound_text, ended, entries_text, events_line, events_of, kind_line, kind_of, last_line, mark, marked_text, report_text, section_line, section_text}
 use Rattle.report_text.specs.Spelled.{AreSpelledVerdicts, IsSpelled, IsSpelledBound, IsSpelledInconsistent, IsSpelledSection}
 use Rattle.report_text.specs.Stops.{IsBody, IsMarked, IsOn}
 use Rattle.report_text.proofs.Cutting.{lines-append}

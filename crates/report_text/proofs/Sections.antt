@@ -22,9 +22,9 @@ use Rattle.report_text.specs.declared.report.Report.{Report}
 use Rattle.report_text.specs.declared.report.Report.TheVariants as report
 use Rattle.report_text.specs.declared.stop.Stop.{Stop}
 use Rattle.report_text.specs.Outlines.{ArePassed}
-use Rattle.report_text.specs.Parts.{IsFront, IsKind, IsOpening, kind_line, kind_of, opening_line}
+use Rattle.report_text.specs.Parts.{IsFront, IsKind, IsOpening, opening_line}
 use Rattle.report_text.specs.ReportOf.{AreLines}
-use Rattle.report_text.specs.ReportText.{body_text, bound_text, ended, entries_text, section_line, section_text, time_text, walk_text}
+use Rattle.report_text.specs.ReportText.{body_text, bound_text, ended, entries_text, kind_line, kind_of, section_text, time_text, walk_text}
 use Rattle.report_text.specs.Spelled.{IsSpelledBound, IsSpelledSection}
 use Rattle.report_text.specs.Stops.{AreEntries, AreItems, AreRead, AreVerdicts, IsBody, IsOfKind, IsOn, IsSectionText, Stopped}
 use Rattle.report_text.proofs.ItemLists.{items-apart, items-lines}
@@ -143,14 +143,8 @@ module _ (events : ℕ) where
           (ap section.Unknown r.0, r.1)
 
   -- the first line of a section, and the others
-
-  pub line-is : (v : Bool) (s : Section) → section_line v s ≡ kind_line v (kind_of s)
-  line-is v (section.Witness times) = refl
-  line-is v (section.Refuted lines) = refl
-  line-is v (section.Unknown lines) = refl
-
   pub text-is : (v : Bool) (k : Kind) (s : Section) → kind_of s ≡ k → section_text v s ≡ ended (kind_line v k) ++ entries_text s
-  text-is v k s is = ap (λ l. ended l ++ entries_text s) (line-is v s ∙ ap (kind_line v) is)
+  text-is v k s is = ap (λ m. ended (kind_line v m) ++ entries_text s) is
 
   pub kind-in_range : (s : Section) → IsSpelledSection events s → IsKind (kind_of s)
   kind-in_range (section.Witness times) is = tt

@@ -16,9 +16,9 @@ use Rattle.report_text.specs.declared.stop.Stop.TheVariants as stop
 use Rattle.report_text.specs.declared.outline.Outline.{Outline}
 use Rattle.report_text.specs.declared.outline.SectionOutline.{SectionOutline}
 use Rattle.report_text.specs.Outlines.{AreVerdictsOutlined, IsOutlineOf, IsOutlinedFront, IsSectionOutline}
-use Rattle.report_text.specs.Parts.{IsFront, IsKind, IsOpening, NoFront, events_text, kind_line, kind_text, opening_line, opening_text}
+use Rattle.report_text.specs.Parts.{IsFront, IsKind, IsOpening, NoFront, events_text, kind_text, opening_line, opening_text}
 use Rattle.report_text.specs.ReportOf.{IsReport}
-use Rattle.report_text.specs.ReportText.{body_text, bound_text, ended, entries_text, events_line, last_line, mark, marked_text, report_text, section_text}
+use Rattle.report_text.specs.ReportText.{body_text, bound_text, ended, entries_text, events_line, kind_line, last_line, mark, marked_text, report_text, section_text}
 use Rattle.report_text.specs.Spelled.{IsSpelled, IsSpelledBound, IsSpelledSection}
 use Rattle.report_text.specs.Stops.{AreEntries, AreRead, AreVerdicts, AreVerdictsRead, IsBody, IsMarked, IsOfKind, IsOn, IsSectionText, Stopped}
 use Rattle.report_text.proofs.Lined.{stopped-first, stopped-later}

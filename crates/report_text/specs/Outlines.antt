@@ -11,9 +11,9 @@ use Rattle.report_text.specs.declared.part.Kind.{Kind}
 use Rattle.report_text.specs.declared.report.Section.{Section}
 use Rattle.report_text.specs.declared.report.Report.{Report}
 use Rattle.report_text.specs.declared.report.Report.TheVariants as report
-use Rattle.report_text.specs.Parts.{IsFront, kind_of, kind_text}
+use Rattle.report_text.specs.Parts.{IsFront, kind_text}
 use Rattle.report_text.specs.ReportOf.{ReportOf}
-use Rattle.report_text.specs.ReportText.{bound_text, entries_text, section_text}
+use Rattle.report_text.specs.ReportText.{bound_text, entries_text, kind_of, section_text}
 use Rattle.report_text.specs.Spelled.{IsSpelledSection}
 use Rattle.report_text.specs.Stops.{AreRead, AreVerdictsRead, IsOfKind}
 

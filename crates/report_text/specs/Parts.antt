@@ -1,5 +1,5 @@
 -- The lines that say what follows them, and what stands at the front of bytes.
-use Rattle.std.specs.Prelude.{◌≡◌, ℕ, Bool, true, List, ◌++◌, length, codes, Option, MatchOption, ℤ}
+use Rattle.std.specs.Prelude.{◌≡◌, ℕ, Bool, true, List, ◌++◌, codes, Option, MatchOption, ℤ}
 use Rattle.std.specs.Borrow.{Bor}
 use Rattle.std.specs.Fmt.{decimal, signed_decimal}
 use Rattle.mt_model.specs.declared.limits.TheConstants.{MAX_TIME}
@@ -11,10 +11,8 @@ use Rattle.report_text.specs.declared.part.Kind.{Kind}
 use Rattle.report_text.specs.declared.part.Kind.TheVariants as kind
 use Rattle.report_text.specs.declared.part.Opening.{Opening}
 use Rattle.report_text.specs.declared.part.Opening.TheVariants as opening
-use Rattle.report_text.specs.declared.report.Section.{Section}
-use Rattle.report_text.specs.declared.report.Section.TheVariants as section
 use Rattle.report_text.specs.ReportOf.{LacksNewline}
-use Rattle.report_text.specs.ReportText.{ended, events_line, value_word}
+use Rattle.report_text.specs.ReportText.{ended, events_line, kind_line}
 
 -- bytes cut at their first newline
 pub record IsCut (bytes line rest : List ℕ) : Type 0 where
@@ -50,21 +48,9 @@ IsKind kind.Witness = Unit {0}
 IsKind (kind.Refuted n) = IsNumber n
 IsKind (kind.Unknown n) = IsNumber n
 
--- the first line of a section of this kind
-abbrev pub kind_line : Bool → Kind → List ℕ
-kind_line v kind.Witness = value_word v ++ codes " witness"
-kind_line v (kind.Refuted n) = value_word v ++ (codes " refuted " ++ decimal n)
-kind_line v (kind.Unknown n) = value_word v ++ (codes " unknown " ++ decimal n)
-
--- that line with its newline
+-- the first line of a section of this kind, with its newline
 abbrev pub kind_text : Bool → Kind → List ℕ
 kind_text v k = ended (kind_line v k)
-
--- what its first line says of a section
-abbrev pub kind_of : Section → Kind
-kind_of (section.Witness times) = kind.Witness
-kind_of (section.Refuted lines) = kind.Refuted (length lines)
-kind_of (section.Unknown lines) = kind.Unknown (length lines)
 
 -- the number that the line after the number of events states, if it states one, is below 2^32
 abbrev pub IsOpening : Opening → Type 0

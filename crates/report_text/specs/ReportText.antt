@@ -5,6 +5,8 @@ use Rattle.std.specs.List.{flat_map}
 use Rattle.mt_model.specs.declared.step.Step.{Step}
 use Rattle.mt_model.specs.Texts.{step_text}
 use Rattle.proof_log.specs.LinesText.{lines_text, newline}
+use Rattle.report_text.specs.declared.part.Kind.{Kind}
+use Rattle.report_text.specs.declared.part.Kind.TheVariants as kind
 use Rattle.report_text.specs.declared.report.Section.{Section}
 use Rattle.report_text.specs.declared.report.Section.TheVariants as section
 use Rattle.report_text.specs.declared.report.Report.{Report}
@@ -38,11 +40,21 @@ bound_text s = ended (step_text s)
 abbrev pub value_word : Bool → List ℕ
 value_word v = if v then codes "true" else codes "false"
 
+-- the first line of a section of this kind of a truth value
+abbrev pub kind_line : Bool → Kind → List ℕ
+kind_line v kind.Witness = value_word v ++ codes " witness"
+kind_line v (kind.Refuted n) = value_word v ++ (codes " refuted " ++ decimal n)
+kind_line v (kind.Unknown n) = value_word v ++ (codes " unknown " ++ decimal n)
+
+-- what its first line says of a section
+abbrev pub kind_of : Section → Kind
+kind_of (section.Witness times) = kind.Witness
+kind_of (section.Refuted lines) = kind.Refuted (length lines)
+kind_of (section.Unknown lines) = kind.Unknown (length lines)
+
 -- the first line of the section of a truth value
 abbrev pub section_line : Bool → Section → List ℕ
-section_line v (section.Witness times) = value_word v ++ codes " witness"
-section_line v (section.Refuted lines) = value_word v ++ (codes " refuted " ++ decimal (length lines))
-section_line v (section.Unknown lines) = value_word v ++ (codes " unknown " ++ decimal (length lines))
+section_line v s = kind_line v (kind_of s)
 
 -- its other lines: the times of a witness, or a derivation
 abbrev pub entries_text : Section → List ℕ

@@ -11,9 +11,9 @@ use Rattle.mt_model.specs.declared.limits.TheConstants.{MAX_TIME}
 use Rattle.mt_model.specs.Log.{IsWithin}
 use Rattle.proof_log.specs.LinesText.{line_text}
 use Rattle.proof_log.specs.Spelled.{IsSpelled as IsSpelledLine}
-use Rattle.report_text.specs.Parts.{IsFront, kind_of}
+use Rattle.report_text.specs.Parts.{IsFront}
 use Rattle.report_text.specs.ReportOf.{AreLines, Begins, NoneGoesOn}
-use Rattle.report_text.specs.ReportText.{body_text, bound_text, entries_text, events_of, marked_text, section_text, time_text}
+use Rattle.report_text.specs.ReportText.{body_text, bound_text, entries_text, events_of, kind_of, marked_text, section_text, time_text}
 use Rattle.report_text.specs.Spelled.{IsSpelled, IsSpelledBound, IsSpelledSection}
 
 -- bytes that begin with no text of a kind: some text begins with the lines before those left, and none with these and the line after them

@@ -6,9 +6,9 @@ ghost use Rattle.mt_model.specs.Log.{IsWithin};
 ghost use Rattle.mt_model.specs.Texts.{step_text};
 ghost use Rattle.proof_log.specs.LinesText.{line_text};
 ghost use Rattle.proof_log.specs.Spelled.{IsNumber, IsSpelled as IsSpelledLine};
-ghost use Rattle.report_text.specs.Parts.{BeginWithLine, IsCut, IsFront, IsKind, IsLineOf, IsNumbered, IsOpening, IsTimeLine, NoFront, events_text, kind_line, kind_text, opening_line, opening_text};
+ghost use Rattle.report_text.specs.Parts.{BeginWithLine, IsCut, IsFront, IsKind, IsLineOf, IsNumbered, IsOpening, IsTimeLine, NoFront, events_text, kind_text, opening_line, opening_text};
 ghost use Rattle.report_text.specs.ReportOf.{LacksNewline};
-ghost use Rattle.report_text.specs.ReportText.{bound_text, ended, time_text, value_word};
+ghost use Rattle.report_text.specs.ReportText.{bound_text, ended, kind_line, time_text, value_word};
 ghost use Rattle.report_text.specs.Spelled.{IsSpelledBound};
 
 use crate::part::{Kind, Opening};

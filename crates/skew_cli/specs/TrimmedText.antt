@@ -8,8 +8,7 @@ use Rattle.report_text.specs.declared.report.Report.{Report}
 use Rattle.report_text.specs.declared.report.Report.TheVariants as report
 use Rattle.report_text.specs.declared.report.Section.{Section}
 use Rattle.report_text.specs.Outlines.{IsSectionOutline}
-use Rattle.report_text.specs.Parts.{kind_of}
-use Rattle.report_text.specs.ReportText.{entries_text, report_text}
+use Rattle.report_text.specs.ReportText.{entries_text, kind_of, report_text}
 use Rattle.report_text.specs.Spelled.{IsSpelledSection}
 use Rattle.skew_cli.specs.TrimOutcome.{IsReportTrim, IsSectionTrim}
 

@@ -1,4 +1,5 @@
-use Rattle.report_text.specs.Parts.{IsKind, kind_line}
+use Rattle.report_text.specs.Parts.{IsKind}
+use Rattle.report_text.specs.ReportText.{kind_line}
 use Rattle.report_text.proofs.LineTexts.{kinds-spelled}
 use Rattle.report_text.proofs.Lined.{unspelled}
 use Rattle.report_text.proofs.front.next_kind.Goals as goal
