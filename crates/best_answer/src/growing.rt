@@ -9,7 +9,7 @@ use proof_log::Line;
 /// Which bounds of a log grow, all by the same.
 #[derive(Clone, Copy)]
 pub enum Growing {
-    /// The bounds of each row by its clock, as all skews do.
+    /// The bounds Low and High of each row, as they do where all skews grow.
     Skews,
     /// The extra bound of this number.
     Extra(u32),

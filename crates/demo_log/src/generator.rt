@@ -51,6 +51,7 @@ fn numbered(alloc: Global, letter: &str, number: u32) -> Result<Name, AllocError
     name(alloc, text.as_str())
 }
 
+// The host at a place.
 fn demo_host(alloc: Global, place: u32) -> Result<Host, AllocError>
     requires { place < 6 }
     ensures { IfOk result (λ host. host ≡ demo_host_of place) }
@@ -64,6 +65,7 @@ fn demo_host(alloc: Global, place: u32) -> Result<Host, AllocError>
     })
 }
 
+// All hosts.
 fn demo_hosts(alloc: Global) -> Result<HostList, AllocError>
     ensures { IfOk result (λ hosts. hosts ≡ map demo_host_of (range_with_len 0 6)) }
 {
@@ -116,6 +118,7 @@ fn demo_row(alloc: Global, place: u32, drawn: u64) -> Result<Row, AllocError>
     })
 }
 
+// All rows of a seed.
 fn demo_rows(alloc: Global, seed: u64) -> Result<RowList, AllocError>
     ensures { IfOk result (λ rows. rows ≡ map (demo_row_of seed) (range_with_len 0 24)) }
 {

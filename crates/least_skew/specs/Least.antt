@@ -28,7 +28,7 @@ module _ (log : Logged) (f : Form) (v : Bool) where
   IsBelow budget s None = s ≡ 0
   IsBelow budget s (Some lines) = (1 ≤ s) × RefutesWithin (wide (s - 1) log) f v budget lines
 
-  -- with the widening s the timing gives the value, and with s - 1, where there is one, the lines refute it
+  -- s is at most the greatest widening; with s the timing gives the value, and with s - 1, where there is one, the lines refute it
   pub record IsLeast (max budget s : ℕ) (times : List ℤ) (below : Option (List Line)) : Type 0 where
     pub within : s ≤ max
     pub gives : GivesValue (wide s log) f v times
@@ -44,7 +44,7 @@ module _ (log : Logged) (f : Form) (v : Bool) where
     pub cycle : IsCycle (wide max log) steps
     pub once : VisitsOnce (wide max log) steps
 
-  -- with the widening s some timing is admissible, and the lines spend the budget
+  -- s is at most the greatest widening; with s some timing is admissible, and the lines spend the budget
   pub record IsUnknown (max budget s : ℕ) (lines : List Line) : Type 0 where
     pub within : s ≤ max
     pub spent : SpendsWithin (wide s log) f v budget lines

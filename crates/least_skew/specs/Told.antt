@@ -10,14 +10,15 @@ use Rattle.least_skew.specs.declared.tolerance.Tolerance.TheVariants as toleranc
 use Rattle.least_skew.specs.Least.{IsLeastWidening, wide}
 
 module _ (log : Logged) (f : Form) (v : Bool) (max budget : ℕ) where
-  -- a least widening is the least one; the value is possible with no widening up to the greatest one where it never is; and where
-  -- the budget was spent it could be
+  -- a least widening is the least one; never: the value is possible with no widening up to the greatest one; inconsistent: no
+  -- timing is admissible with the greatest one; and where a budget was spent, the rules allow that it is
   abbrev pub Tells : Tolerance → Type 0
   Tells (tolerance.Least s times below) = IsLeastWidening log f v s
   Tells (tolerance.Never lines) = (r : ℕ) → r ≤ max → IsValue (wide r log) f v → ⊥
   Tells (tolerance.Inconsistent steps) = IsInconsistent (wide max log)
   Tells (tolerance.Unknown s lines) = CanBeSpent (wide s log) f v budget
 
+-- the answer is bounds in conflict
 abbrev pub is_inconsistent : Tolerance → Bool
 is_inconsistent (tolerance.Least s times below) = false
 is_inconsistent (tolerance.Never lines) = false

@@ -8,13 +8,13 @@ ghost use Rattle.skew_answers.specs.Statuses.{code_of};
 pub enum Status {
     /// The answer is yes, or the work is done.
     Zero,
-    /// The formula is false.
+    /// The formula is false, or can't have the value that was asked for.
     One,
     /// The formula can be true and can be false.
     Two,
     /// No timing is admissible, or an event happens before itself.
     Inconsistent,
-    /// One truth value was left unknown.
+    /// A search was cut off: a truth value, a widening or a distance is left unknown.
     Unknown,
     /// A report was refused.
     Rejected,

@@ -10,7 +10,8 @@ use Rattle.skew_answers.specs.Texts.{inconsistent_text}
 use Rattle.verdict_span.specs.declared.greatest.Widest.{Widest}
 use Rattle.verdict_span.specs.declared.greatest.Widest.TheVariants as widest
 
--- the first line where a search spent its conflicts: that of the log, or of the log in which the events lie at least so far apart
+-- the first line where a search spent its conflicts: that of the log, or of the log in which the second event comes at least so
+-- long after the first
 abbrev pub unknown_line : Option ℤ → List ℕ
 unknown_line None = codes "span unknown"
 unknown_line (Some c) = codes "span unknown " ++ signed_decimal c

@@ -25,6 +25,7 @@ IsSpelledTolerance (tolerance.Never lines) = HasSpelling (section.Refuted lines)
 IsSpelledTolerance (tolerance.Inconsistent steps) = Unit {0}
 IsSpelledTolerance (tolerance.Unknown s lines) = HasSpelling (section.Unknown lines)
 
+-- the same of an answer of span
 abbrev pub IsSpelledWidest : Widest → Type 0
 IsSpelledWidest (widest.Greatest d times beyond) = HasSpelling (section.Witness times) × AreSpelledLines beyond
 IsSpelledWidest (widest.Never lines) = HasSpelling (section.Refuted lines)

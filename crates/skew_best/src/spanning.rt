@@ -44,6 +44,7 @@ pub struct Distance {
     pub to: u32,
 }
 
+// The status of an answer.
 fn status_of(answer: &Widest) -> Status
     ensures status { result ≡ span_status answer.now }
     ensures verdict { IsVerdict result }

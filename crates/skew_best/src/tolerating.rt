@@ -41,6 +41,7 @@ pub struct Widening {
     pub max: u64,
 }
 
+// The status of an answer.
 fn status_of(answer: &Tolerance) -> Status
     ensures status { result ≡ tolerance_status answer.now }
     ensures verdict { IsVerdict result }

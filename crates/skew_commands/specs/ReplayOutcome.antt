@@ -18,11 +18,12 @@ use Rattle.skew_commands.specs.declared.limits.TheConstants.{TIMES_LIMIT}
 use Rattle.skew_commands.specs.declared.refusal.Named.TheVariants as named
 use Rattle.skew_commands.specs.Tests.{OnFile, OnHosts, OnNodes, OnQuestion, OnTimes}
 
--- the word of a truth value, and its status
+-- the word of a truth value
 abbrev pub value_text : Bool → List ℕ
 value_text true = codes "true"
 value_text false = codes "false"
 
+-- and its status
 abbrev pub value_status : Bool → Status
 value_status true = status.Zero
 value_status false = status.One

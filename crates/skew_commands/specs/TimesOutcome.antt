@@ -20,7 +20,7 @@ pub record Timed (log : Logged) (out : List ℕ) (s : Status) : Type 0 where
   pub written : out ≡ times_text timing
   pub zero : s ≡ status.Zero
 
--- bounds in conflict of the log, which no timing is admissible to
+-- bounds of the log in conflict, so that it admits no timing
 pub record Impossible (log : Logged) (out : List ℕ) (s : Status) : Type 0 where
   pub steps : List Step
   pub conflict : IsConflict log steps

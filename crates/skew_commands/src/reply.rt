@@ -16,7 +16,9 @@ pub struct Reply {
 pub enum Stop {
     /// What its files hold is refused.
     Refused(Refusal),
+    /// Memory ran out.
     NoMemory,
+    /// A file could not be opened or read.
     ReadFailed,
 }
 

@@ -42,6 +42,7 @@ pub enum Call<'a> {
     Tolerance {
         conflicts: u32,
         value: bool,
+        /// The greatest widening, in the log's unit of time.
         max: u64,
         formula: &'a str,
         log: &'a str,
@@ -50,7 +51,9 @@ pub enum Call<'a> {
     Span {
         conflicts: u32,
         value: bool,
+        /// An event, counted from 0.
         from: u32,
+        /// An event, counted from 0.
         to: u32,
         formula: &'a str,
         log: &'a str,

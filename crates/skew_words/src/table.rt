@@ -45,8 +45,11 @@ pub enum Operand {
     Report,
     Json,
     Value,
+    /// The greatest widening.
     Max,
+    /// The event from which a distance counts.
     From,
+    /// The event up to which it counts.
     To,
     Seed,
 }
@@ -102,6 +105,7 @@ impl Operand {
         }
     }
 
+    // What a word has to be as this operand.
     fn kind(self) -> Kind
         ensures { result ≡ kind_of self }
     {

@@ -42,11 +42,13 @@ IsRightSection log f conflicts v (section.Witness t) = IsWitness log f v t
 IsRightSection log f conflicts v (section.Refuted lines) = IsRefutation log f v conflicts lines
 IsRightSection log f conflicts v (section.Unknown lines) = IsSpent log f v conflicts lines
 
+-- the section is a witness
 abbrev pub is_witness : Section → Bool
 is_witness (section.Witness t) = true
 is_witness (section.Refuted lines) = false
 is_witness (section.Unknown lines) = false
 
+-- the section is unknown
 abbrev pub is_unknown : Section → Bool
 is_unknown (section.Witness t) = false
 is_unknown (section.Refuted lines) = false

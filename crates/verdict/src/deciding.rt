@@ -127,9 +127,10 @@ fn report_on(
     Ok(report_of(alloc, question, settled, budget)?)
 }
 
-/// A report of the values that a formula can have, over all timings that a log admits: a negative cycle where it
-/// admits none, which comes to no moment twice, and else for each value a timing in which the formula has it, lines that refute it, or, of one value
-/// alone, lines with as many fresh clauses learnt as the budget. The budget is from 1 to 1,000,000, for each value.
+/// A report of the values that a formula can have, over all timings that a log admits: where it admits none, a negative
+/// cycle that comes to no moment twice; else for each value a timing in which the formula has it, lines that refute it,
+/// or, of one value alone, lines with as many fresh clauses learnt as the budget. The budget is from 1 to 1,000,000, for
+/// each value.
 ///
 /// The faults other than want of memory come exactly where the formula isn't judged of the log, and say why: a host
 /// that isn't in the log, then too many nodes, then a problem that is too large.

@@ -9,13 +9,15 @@ use Rattle.verdict_span.specs.declared.greatest.Widest.{Widest}
 use Rattle.verdict_span.specs.declared.greatest.Widest.TheVariants as widest
 use Rattle.verdict_span.specs.Widest.{IsGreatestDistance, searched}
 
--- a greatest distance is the greatest one; the value is impossible where it never is; and where the budget was spent it could be
+-- a greatest distance is the greatest one; never: the value is impossible; inconsistent: no timing is admissible; and where a
+-- budget was spent, the rules allow that it is
 abbrev pub Tells : Logged → Form → Bool → ℕ → ℕ → ℕ → Widest → Type 0
 Tells log f v e to budget (widest.Greatest d times beyond) = IsGreatestDistance log f v e to d
 Tells log f v e to budget (widest.Never lines) = IsValue log f v → ⊥
 Tells log f v e to budget (widest.Inconsistent steps) = IsInconsistent log
 Tells log f v e to budget (widest.Unknown least lines) = CanBeSpent (searched log f v e to least) f v budget
 
+-- the answer is bounds in conflict
 abbrev pub is_inconsistent : Widest → Bool
 is_inconsistent (widest.Greatest d times beyond) = false
 is_inconsistent (widest.Never lines) = false
