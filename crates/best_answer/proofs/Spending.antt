@@ -6,7 +6,7 @@ use Rattle.proof_log.specs.declared.line.Line.{Line}
 use Rattle.proof_log.specs.FreshLaws.{RefutedByRulesIsNotSpent, SpentIsBounded}
 use Rattle.cdcl_core.specs.Values.{SpendsWithin}
 use Rattle.cdcl_core.proofs.KeptLists.{kept_refuted}
-use Rattle.best_answer.specs.Spent.{CanBeSpent}
+use Rattle.cdcl_core.specs.Spent.{CanBeSpent}
 
 -- a budget of which lines show that it was spent can be
 pub could-be-spent : SpentIsBounded → RefutedByRulesIsNotSpent → (log : Logged) (f : Form) (v : Bool) (budget : ℕ) (lines : List Line) → 1 ≤ budget

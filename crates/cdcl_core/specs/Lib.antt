@@ -14,3 +14,4 @@ pub mod Settling
 pub mod Searching
 pub mod Turns
 pub mod Values
+pub mod Spent

@@ -7,7 +7,7 @@ use Rattle.mt_model.specs.Truth.{IsValue}
 use Rattle.mt_port.specs.Port.{Files}
 use Rattle.skew_bounds.specs.Tight.{IsInconsistent}
 use Rattle.report_text.specs.ReportText.{ended}
-use Rattle.best_answer.specs.Spent.{CanBeSpent}
+use Rattle.cdcl_core.specs.Spent.{CanBeSpent}
 use Rattle.least_skew.specs.Faults.{IsAsked}
 use Rattle.least_skew.specs.Least.{IsLeastWidening, wide}
 use Rattle.skew_answers.specs.declared.status.Status.{Status}

@@ -6,7 +6,7 @@ use Rattle.mt_model.specs.Log.{Logged}
 use Rattle.mt_model.specs.Truth.{IsValue}
 use Rattle.mt_port.specs.Port.{Files}
 use Rattle.skew_bounds.specs.Tight.{IsInconsistent}
-use Rattle.best_answer.specs.Spent.{CanBeSpent}
+use Rattle.cdcl_core.specs.Spent.{CanBeSpent}
 use Rattle.verdict_span.specs.Faults.{IsAsked}
 use Rattle.verdict_span.specs.Widest.{IsGreatestDistance, searched}
 use Rattle.skew_answers.specs.declared.status.Status.{Status}

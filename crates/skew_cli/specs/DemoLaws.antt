@@ -1,7 +1,7 @@
 -- What the summaries of `demo` say of the values that its formula can have.
 use Rattle.std.specs.Prelude.{◌≡◌, ℕ, List, Bool, IsTrue}
 use Rattle.question.specs.Faults.{IsJudged}
-use Rattle.verdict.specs.Unknown.{CanBeUnknown}
+use Rattle.cdcl_core.specs.Spent.{CanBeSpent}
 use Rattle.skew_words.specs.declared.limits.TheConstants.{DEFAULT_CONFLICTS}
 use Rattle.skew_answers.specs.declared.status.Status.{Status}
 use Rattle.skew_answers.specs.declared.status.Status.TheVariants as status
@@ -28,4 +28,4 @@ DemosAreExact = (seed : ℕ) (out : List ℕ) (s : Status) → DemoOutcome seed 
 -- what `demo` leaves unknown, the rules of its log and formula and the value allow to be left unknown after its conflicts
 abbrev pub DemoUnknownIsBounded : Type 0
 DemoUnknownIsBounded =
-    (seed : ℕ) (out : List ℕ) (s : Status) (demo : DemoOutcome seed out s) (v : Bool) → IsTrue (leaves_unknown demo.report v) → CanBeUnknown (log_of_seed seed) demo_formula v DEFAULT_CONFLICTS
+    (seed : ℕ) (out : List ℕ) (s : Status) (demo : DemoOutcome seed out s) (v : Bool) → IsTrue (leaves_unknown demo.report v) → CanBeSpent (log_of_seed seed) demo_formula v DEFAULT_CONFLICTS

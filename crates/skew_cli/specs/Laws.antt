@@ -12,7 +12,7 @@ use Rattle.report_text.specs.ReportOf.{ReportOf}
 use Rattle.verdict.specs.Claims.{Claims}
 use Rattle.question.specs.Faults.{IsJudged}
 use Rattle.verdict.specs.Right.{is_unknown, is_witness}
-use Rattle.verdict.specs.Unknown.{CanBeUnknown}
+use Rattle.cdcl_core.specs.Spent.{CanBeSpent}
 use Rattle.skew_answers.specs.declared.status.Status.{Status}
 use Rattle.skew_answers.specs.declared.status.Status.TheVariants as status
 use Rattle.skew_answers.specs.Statuses.{IsVerdict}
@@ -119,7 +119,7 @@ leaves_unknown (report.Verdicts events on_true on_false) false = is_unknown on_f
 -- what `check` leaves unknown, the rules of the log, the formula and the value allow to be left unknown after so many conflicts
 abbrev pub UnknownIsBounded : Type 0
 UnknownIsBounded =
-    (conflicts : ℕ) (f : Form) (log : Logged) (out : List ℕ) (s : Status) (checked : Checked conflicts f log out s) (v : Bool) → 1 ≤ conflicts → IsTrue (leaves_unknown checked.report v) → CanBeUnknown log f v conflicts
+    (conflicts : ℕ) (f : Form) (log : Logged) (out : List ℕ) (s : Status) (checked : Checked conflicts f log out s) (v : Bool) → 1 ≤ conflicts → IsTrue (leaves_unknown checked.report v) → CanBeSpent log f v conflicts
 
 -- the report has this timing as its witness for the value
 abbrev pub IsWitnessOf : Report → Bool → List ℤ → Type 0

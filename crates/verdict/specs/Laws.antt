@@ -9,7 +9,7 @@ use Rattle.report_text.specs.declared.report.Report.{Report}
 use Rattle.verdict.specs.AuditPlace.{IsAccepted, IsAudit}
 use Rattle.verdict.specs.Claims.{Claims}
 use Rattle.verdict.specs.declared.answer.Audit.{Audit}
-use Rattle.verdict.specs.Unknown.{CanBeUnknown}
+use Rattle.cdcl_core.specs.Spent.{CanBeSpent}
 use Rattle.verdict.specs.Right.{AreRightVerdicts, IsRight, IsSpent, is_unknown, is_witness}
 
 -- what an accepted report claims is so, whoever wrote it
@@ -39,4 +39,4 @@ AuditsAreExact = (log : Logged) (f : Form) (conflicts : ℕ) (r : Report) (a b :
 
 -- where conflicts are spent on a value, it can be left unknown
 abbrev pub SpentConflictsAreBounded : Type 0
-SpentConflictsAreBounded = (log : Logged) (f : Form) (v : Bool) (conflicts : ℕ) (lines : List Line) → IsSpent log f v conflicts lines → 1 ≤ conflicts → CanBeUnknown log f v conflicts
+SpentConflictsAreBounded = (log : Logged) (f : Form) (v : Bool) (conflicts : ℕ) (lines : List Line) → IsSpent log f v conflicts lines → 1 ≤ conflicts → CanBeSpent log f v conflicts

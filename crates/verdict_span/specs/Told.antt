@@ -4,7 +4,7 @@ use Rattle.mt_model.specs.Form.{Form}
 use Rattle.mt_model.specs.Log.{Logged}
 use Rattle.mt_model.specs.Truth.{IsValue}
 use Rattle.skew_bounds.specs.Tight.{IsInconsistent}
-use Rattle.best_answer.specs.Spent.{CanBeSpent}
+use Rattle.cdcl_core.specs.Spent.{CanBeSpent}
 use Rattle.verdict_span.specs.declared.greatest.Widest.{Widest}
 use Rattle.verdict_span.specs.declared.greatest.Widest.TheVariants as widest
 use Rattle.verdict_span.specs.Widest.{IsGreatestDistance, searched}
