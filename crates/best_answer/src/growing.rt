@@ -1,6 +1,6 @@
 //! How far bounds of a log can grow with the walks of a derivation staying negative.
 
-ghost use Rattle.std.specs.Prelude.{◌≤◌};
+ghost use Rattle.std.specs.Prelude.{◌≡◌, ◌≤◌, ◌≤ℤ◌, pos};
 
 use crate::slack::walk_slack;
 use mt_model::{Log, Step};
@@ -15,9 +15,12 @@ pub enum Growing {
     Extra(u32),
 }
 
-/// A number from 0 to this one.
+/// The number, or 0 where it is below 0, or `most` where it is above.
 pub fn clamped(number: i128, most: u128) -> u128
     ensures at_most { result ≤ most }
+    ensures low { number ≤ℤ pos 0 → result ≡ 0 }
+    ensures same { pos 0 ≤ℤ number → number ≤ℤ pos most → pos result ≡ number }
+    ensures above { pos most ≤ℤ number → result ≡ most }
 {
     if number <= 0 {
         0
