@@ -4,4 +4,3 @@ pub mod Sames
 pub mod Telling
 pub mod Ends
 pub mod Narrowing
-pub mod Answering

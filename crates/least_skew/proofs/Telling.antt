@@ -34,7 +34,7 @@ module _ (refutes : RefutedIsNoValue) (bounded : SpentIsBounded) (by_rules : Ref
     }
     tells (tolerance.Never lines) right = λ r within value.
         refutes (wide max log) f v lines (wide-valid log max valid written range) right.refuted.refutes (values-may-grow log f v r max within value)
-    tells (tolerance.Inconsistent steps) right = λ t ok. excludes (wide max log) steps t right.cycle.bounds right.cycle.conflict ok
+    tells (tolerance.Inconsistent steps) right = λ t ok. excludes (wide max log) steps t right.bounds right.conflict ok
     tells (tolerance.Unknown s lines) right = could-be-spent bounded by_rules (wide s log) f v budget lines some right.spent
 
   -- with the greatest widening a timing is admissible where one is with a smaller one
@@ -45,7 +45,7 @@ module _ (refutes : RefutedIsNoValue) (bounded : SpentIsBounded) (by_rules : Ref
   exactly log f v max budget (tolerance.Least s times below) right =
       (λ is. absurd (cc), λ none. absurd (consistent-at log s max right.within (record { timing = times; admissible = right.gives.admissible }) none))
   exactly log f v max budget (tolerance.Never lines) right = (λ is. absurd (cc), λ none. absurd (none right.consistent.timing right.consistent.admissible))
-  exactly log f v max budget (tolerance.Inconsistent steps) right = (λ is t ok. excludes (wide max log) steps t right.cycle.bounds right.cycle.conflict ok, λ none. refl)
+  exactly log f v max budget (tolerance.Inconsistent steps) right = (λ is t ok. excludes (wide max log) steps t right.bounds right.conflict ok, λ none. refl)
   exactly log f v max budget (tolerance.Unknown s lines) right = (λ is. absurd (cc), λ none. absurd (consistent-at log s max right.within right.spent.consistent none))
 
   pub right-least : RightTolerancesAreLeast

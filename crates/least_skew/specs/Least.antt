@@ -1,14 +1,12 @@
 -- Which answers are right for a log, a formula, a value, the greatest widening and a budget of conflicts for each search.
 use Rattle.std.specs.Prelude.{◌≡◌, ℕ, ◌-◌, ◌<◌, ◌≤◌, Bool, List, Option, Some, None, ℤ, pos, ◌≤ℤ◌, All}
 use Rattle.mt_model.specs.declared.limits.TheConstants.{MAX_WRITTEN_SKEW}
-use Rattle.mt_model.specs.declared.step.Step.{Step}
 use Rattle.mt_model.specs.Form.{Form}
 use Rattle.mt_model.specs.Log.{Logged, widened}
 use Rattle.mt_model.specs.Truth.{IsValue}
-use Rattle.skew_bounds.specs.Consistency.{VisitsOnce}
+use Rattle.skew_bounds.specs.Consistency.{IsConflict}
 use Rattle.skew_bounds.specs.Tight.{IsConsistent}
 use Rattle.proof_log.specs.declared.line.Line.{Line}
-use Rattle.proof_check.specs.Cycles.{IsCycle}
 use Rattle.cdcl_core.specs.Values.{GivesValue, RefutesWithin, SpendsWithin}
 use Rattle.least_skew.specs.declared.tolerance.Tolerance.{Tolerance}
 use Rattle.least_skew.specs.declared.tolerance.Tolerance.TheVariants as tolerance
@@ -39,11 +37,6 @@ module _ (log : Logged) (f : Form) (v : Bool) where
     pub consistent : IsConsistent (wide max log)
     pub refuted : RefutesWithin (wide max log) f v budget lines
 
-  -- with the greatest widening the steps are a negative cycle of bounds of the log, which comes to no moment twice
-  pub record IsInconsistentBy (max : ℕ) (steps : List Step) : Type 0 where
-    pub cycle : IsCycle (wide max log) steps
-    pub once : VisitsOnce (wide max log) steps
-
   -- s is at most the greatest widening; with s some timing is admissible, and the lines spend the budget
   pub record IsUnknown (max budget s : ℕ) (lines : List Line) : Type 0 where
     pub within : s ≤ max
@@ -53,7 +46,7 @@ module _ (log : Logged) (f : Form) (v : Bool) where
   abbrev pub LeastRight : ℕ → ℕ → Tolerance → Type 0
   LeastRight max budget (tolerance.Least s times below) = IsLeast max budget s times below
   LeastRight max budget (tolerance.Never lines) = IsNever max budget lines
-  LeastRight max budget (tolerance.Inconsistent steps) = IsInconsistentBy max steps
+  LeastRight max budget (tolerance.Inconsistent steps) = IsConflict (wide max log) steps
   LeastRight max budget (tolerance.Unknown s lines) = IsUnknown max budget s lines
 
   -- the formula can have the value with the widening s, and with no smaller one

@@ -63,12 +63,12 @@ module _ (conflicts : ℕ) (v : Bool) (e to : ℕ) (f : Form) (log : Logged) (ou
 pub spans-best : TextsAreUnambiguous → SpansAreBest
 spans-best texts files conflicts v e to formula log text f l out s q h =
     let spanned = Spanned conflicts v e to f l in
-    let asked = q.asked in
+    let judged = q.judged in
     let on_hosts = pass-question out s texts files formula log (SpanOfLog conflicts v e to) text f l q.question h in
-    let on_nodes = pass-hosts out s text f l (OnNodes f (OnEvents e to l (OnSize f l spanned))) asked.hosts on_hosts in
-    let on_events = pass-nodes out s f (OnEvents e to l (OnSize f l spanned)) asked.few on_nodes in
+    let on_nodes = pass-hosts out s text f l (OnNodes f (OnEvents e to l (OnSize f l spanned))) judged.nodes.hosts on_hosts in
+    let on_events = pass-nodes out s f (OnEvents e to l (OnSize f l spanned)) judged.nodes.few on_nodes in
     let on_size = pass-events e to l (OnSize f l spanned) out s q.rows on_events in
-    spanned-best conflicts v e to f l out s (pass-size out s f l spanned asked.small on_size)
+    spanned-best conflicts v e to f l out s (pass-size out s f l spanned judged.small on_size)
 
 pub spans-asked : SpansAreAsked
 spans-asked files conflicts v e to formula log out s h verdict =
@@ -80,4 +80,4 @@ spans-asked files conflicts v e to formula log out s h verdict =
     let nodes = reach-nodes out s verdict f (OnEvents e to l (OnSize f l spanned)) hosts.1 in
     let rows = reach-events e to l (OnSize f l spanned) out s verdict nodes.1 in
     let small = reach-size out s verdict f l spanned rows.1 in
-    (q.text, f, l, record { question = q.question; asked = record { hosts = hosts.0; few = nodes.0; small = small.0 }; rows = rows.0 })
+    (q.text, f, l, record { question = q.question; judged = record { nodes = record { hosts = hosts.0; few = nodes.0 }; small = small.0 }; rows = rows.0 })

@@ -6,8 +6,8 @@ use Rattle.mt_model.specs.Log.{Logged}
 use Rattle.mt_model.specs.Truth.{IsValue}
 use Rattle.mt_port.specs.Port.{Files}
 use Rattle.skew_bounds.specs.Tight.{IsInconsistent}
+use Rattle.question.specs.Faults.{IsJudged}
 use Rattle.cdcl_core.specs.Spent.{CanBeSpent}
-use Rattle.verdict_span.specs.Faults.{IsAsked}
 use Rattle.verdict_span.specs.Widest.{IsGreatestDistance, searched}
 use Rattle.skew_answers.specs.declared.status.Status.{Status}
 use Rattle.skew_answers.specs.declared.status.Status.TheVariants as status
@@ -23,7 +23,7 @@ use Rattle.skew_best.specs.SpanText.{unknown_line}
 -- the log, the formula's hosts are in it, and its nodes and the size are within their limits
 pub record IsSpannedQuestion (files : Files) (formula log : Word) (e to : ℕ) (text : List ℕ) (f : Form) (l : Logged) : Type 0 where
   pub question : IsQuestion files formula log text f l
-  pub asked : IsAsked l f
+  pub judged : IsJudged l f
   pub rows : missing_event l e to ≡ None
 
 -- the first line is `span D`, and in some admissible timing that gives the value the second event comes D after the first, and in none

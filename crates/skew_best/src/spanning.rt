@@ -6,7 +6,7 @@ ghost use Rattle.mt_model.specs.Log.{IsPlain};
 ghost use Rattle.mt_model.specs.State.{unknown_host};
 ghost use Rattle.mt_port.specs.Port.{Rose};
 ghost use Rattle.mtl_parse.specs.FormulaOf.{FormulaOf};
-ghost use Rattle.verdict_span.specs.Faults.{IsAsked};
+ghost use Rattle.question.specs.Faults.{IsJudged};
 ghost use Rattle.verdict_span.specs.Told.{IsInconsistentExactly, Tells};
 ghost use Rattle.verdict_span.specs.Widest.{WidestRight};
 ghost use Rattle.skew_words.specs.declared.limits.TheConstants.{MAX_CONFLICTS};
@@ -104,7 +104,7 @@ fn greatest_distance(
     ensures right { IfOk result (WidestRight log.now (form_of formula.now) distance.value distance.from distance.to distance.conflicts) }
     ensures tells { IfOk result (Tells log.now (form_of formula.now) distance.value distance.from distance.to distance.conflicts) }
     ensures inconsistent { IfOk result (IsInconsistentExactly log.now) }
-    ensures asked { OnOk result (IsAsked log.now (form_of formula.now)) }
+    ensures judged { OnOk result (IsJudged log.now (form_of formula.now)) }
     ensures spelled { IfOk result IsSpelledWidest }
     ensures read { IsErrOf result Stop.ReadFailed → ⊥ }
     ensures refused { RefusesFor result (TellsLarge (form_of formula.now) log.now) }

@@ -1,5 +1,4 @@
 pub mod Spaced
-pub mod Faults
 pub mod Widest
 pub mod Told
 pub mod Spans

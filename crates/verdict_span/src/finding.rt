@@ -6,11 +6,11 @@ ghost use Rattle.mt_model.specs.Log.{IsWithin};
 ghost use Rattle.mt_model.specs.declared.limits.TheConstants.{MAX_EXTRAS, MAX_TIME};
 ghost use Rattle.formula_arena.specs.Nodes.{nodes_of};
 ghost use Rattle.skew_bounds.specs.Tight.{IsConsistent, IsGreatestDifference, IsTight};
+ghost use Rattle.question.specs.Faults.{IsFault, IsJudged};
 ghost use Rattle.question.specs.Size.{IsSmall};
 ghost use Rattle.cdcl_core.specs.Values.{RefuteEachValue};
 ghost use Rattle.best_answer.specs.Aims.{Gives};
 ghost use Rattle.verdict_span.specs.Climbs.{IsClimb};
-ghost use Rattle.verdict_span.specs.Faults.{IsAsked, IsFault};
 ghost use Rattle.verdict_span.specs.Spans.{AreSmall, IsRight, distant};
 ghost use Rattle.verdict_span.specs.Told.{IsInconsistentExactly, Tells};
 ghost use Rattle.verdict_span.specs.Widest.{WidestRight};
@@ -113,7 +113,7 @@ fn search_widest(
 // The greatest distance, for what is sought.
 fn widest_of(alloc: Global, span: &Span) -> Result<Widest, SpanFault>
     ensures right { IfOk result (IsRight span.now) }
-    ensures asked { OnOk result (IsAsked span.now.aim.log.now span.now.aim.nodes.now) }
+    ensures judged { OnOk result (IsJudged span.now.aim.log.now span.now.aim.nodes.now) }
     ensures fault { IfErr result (IsFault span.now.aim.log.now span.now.aim.nodes.now) }
 {
     sizes_fall();
@@ -151,7 +151,7 @@ pub fn widest(
     // to the number of atoms, or more.
     ensures tells { IfOk result (Tells log.now (form_of f.now) value e to budget) }
     ensures inconsistent { IfOk result (IsInconsistentExactly log.now) }
-    ensures asked { OnOk result (IsAsked log.now (form_of f.now)) }
+    ensures judged { OnOk result (IsJudged log.now (form_of f.now)) }
     ensures fault { IfErr result (IsFault log.now (form_of f.now)) }
 {
     right_spans_are_greatest();

@@ -1,4 +1,3 @@
-use Rattle.least_skew.proofs.Answering.{conflict-right}
 use Rattle.least_skew.proofs.Narrowing.{small-below}
 use Rattle.least_skew.proofs.Widenings.{hosts-at}
 use Rattle.std.proofs.Common.{◌∙◌}
@@ -8,10 +7,7 @@ pub ready_with-requires : goal.ready_with-requires
 ready_with-requires c = rw c.requires.wide (record { hosts = hosts-at c.args.aim.now.log.now _ c.args.aim.now.nodes.now ∙ c.args.aim.now.hosts })
 
 pub returns-in-Conflict-clause-right : goal.returns-in-Conflict-clause-right
-returns-in-Conflict-clause-right c =
-    let a = c.args.aim.now in
-    let settled = rw (c.in-Conflict.is, c.requires.wide) at c.in_ok-steps.ensures.settled in
-    conflict-right a.log.now a.nodes.now a.value c.args.widest.now.s a.budget c.in-Conflict.steps settled
+returns-in-Conflict-clause-right c = rw (c.in-Conflict.is, c.requires.wide) at c.in_ok-steps.ensures.settled
 
 pub returns-in-Conflict-clause-asked : goal.returns-in-Conflict-clause-asked
 returns-in-Conflict-clause-asked c = let judged = rw c.requires.wide at c.in_ok-steps.ensures.judged in record { hosts = c.args.aim.now.hosts; few = judged.nodes.few; small = judged.small }

@@ -68,8 +68,8 @@ returns-clause-outcome c =
       written = c.in_ok-span_reply.ensures.text;
       status = c.in_ok-span_reply.ensures.status;
     } in
-    let asked = c.in_ok-answer.ensures.asked in
+    let judged = c.in_ok-answer.ensures.judged in
     hosts-known q.text.items f q.log (OnNodes f after) reply.text.items reply.status c.in_ok-known_hosts.ensures.known
     (nodes-few f after reply.text.items reply.status c.in_ok-few_nodes.ensures.few
     (events-known c.args.distance.from c.args.distance.to q.log (OnSize f q.log spanned) reply.text.items reply.status c.in_ok-known_events.ensures.known
-    (size-small f q.log spanned reply.text.items reply.status asked.small answered)))
+    (size-small f q.log spanned reply.text.items reply.status judged.small answered)))

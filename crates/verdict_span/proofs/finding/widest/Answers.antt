@@ -1,7 +1,7 @@
 use Rattle.std.proofs.Common.{subst, IfErr, IfOk, OnOk}
 use Rattle.std.proofs.lemmas.Result.{IfOk-weaker}
 use Rattle.mt_model.specs.Form.{Form, form_of}
-use Rattle.verdict_span.specs.Faults.{IsAsked, IsFault}
+use Rattle.question.specs.Faults.{IsFault, IsJudged}
 use Rattle.verdict_span.specs.Widest.{WidestRight}
 use Rattle.verdict_span.proofs.finding.widest.Goals as goal
 
@@ -18,6 +18,6 @@ returns c =
           (record { row = c.requires.row; other = c.requires.other; apart = c.requires.apart; room = c.requires.room }) c.requires.some)
           right;
       inconsistent = IfOk-weaker c.widest_of.result _ _ (λ answer. told.exactly log (form_of c.args.f.now) c.args.value c.args.e c.args.to c.args.budget answer) right;
-      asked = subst (λ (f : Form). OnOk c.widest_of.result (IsAsked log f)) form c.widest_of.ensures.asked;
+      judged = subst (λ (f : Form). OnOk c.widest_of.result (IsJudged log f)) form c.widest_of.ensures.judged;
       fault = subst (λ (f : Form). IfErr c.widest_of.result (IsFault log f)) form c.widest_of.ensures.fault;
     }

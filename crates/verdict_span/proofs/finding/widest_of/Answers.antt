@@ -1,10 +1,9 @@
 use Rattle.verdict_span.proofs.Climbing.{small-spaced}
 use Rattle.verdict_span.proofs.finding.widest_of.Goals as goal
 
-pub returns-in-Conflict-clause-asked : goal.returns-in-Conflict-clause-asked
-returns-in-Conflict-clause-asked c =
-    let judged = rw (c.in_ok-question.ensures.log, c.in_ok-question.ensures.form) at c.in_ok-steps.ensures.judged in
-    record { hosts = c.args.span.now.aim.hosts; few = judged.nodes.few; small = judged.small }
+pub returns-in-Conflict-clause-judged : goal.returns-in-Conflict-clause-judged
+returns-in-Conflict-clause-judged c =
+    rw (c.in_ok-question.ensures.log, c.in_ok-question.ensures.form) at c.in_ok-steps.ensures.judged
 
 pub search_widest-requires-clause-consistent : goal.search_widest-requires-clause-consistent
 search_widest-requires-clause-consistent c =
@@ -23,7 +22,6 @@ search_widest-requires-clause-small c =
     let judged = rw (c.in_ok-question.ensures.log, c.in_ok-question.ensures.form) at c.in_ok-steps.ensures.judged in
     judged.small
 
-pub returns-in_ok-search_widest-in-Timing-clause-asked : goal.returns-in_ok-search_widest-in-Timing-clause-asked
-returns-in_ok-search_widest-in-Timing-clause-asked c =
-    let judged = rw (c.in_ok-question.ensures.log, c.in_ok-question.ensures.form) at c.in_ok-steps.ensures.judged in
-    record { hosts = c.args.span.now.aim.hosts; few = judged.nodes.few; small = judged.small }
+pub returns-in_ok-search_widest-in-Timing-clause-judged : goal.returns-in_ok-search_widest-in-Timing-clause-judged
+returns-in_ok-search_widest-in-Timing-clause-judged c =
+    rw (c.in_ok-question.ensures.log, c.in_ok-question.ensures.form) at c.in_ok-steps.ensures.judged
