@@ -13,7 +13,7 @@ use Rattle.skew_commands.specs.declared.refusal.Named.TheVariants as named
 use Rattle.skew_commands.specs.declared.refusal.Refusal.{Refusal}
 use Rattle.skew_commands.specs.declared.refusal.Refusal.TheVariants as refusal
 use Rattle.skew_commands.specs.declared.reply.Stop.{Stop}
-use Rattle.skew_commands.specs.Possible.{OfSomeLog}
+use Rattle.skew_commands.specs.Possible.{OfSomeFile}
 use Rattle.skew_commands.specs.Refusals.{status_of, text_of}
 use Rattle.skew_commands.specs.Stops.{HasReason}
 use Rattle.skew_commands.proofs.Possible.{length-refused, longer, only}
@@ -48,17 +48,17 @@ module _ (files : Files) (name : Word) (file : List ℕ) (held : file_of files n
 
 -- ---- some JSON file, where none is told
 
-some-json : (files : Files) (s : Stop) → HasReason s (At (JsonOutcome files [])) → HasReason s (At (OfSomeLog JsonOutcome))
-some-json files s = reason-weaker s (At (JsonOutcome files [])) (At (OfSomeLog JsonOutcome)) (λ r due. record { files = files; log = []; due = due })
+some-json : (files : Files) (s : Stop) → HasReason s (At (JsonOutcome files [])) → HasReason s (At (OfSomeFile JsonOutcome))
+some-json files s = reason-weaker s (At (JsonOutcome files [])) (At (OfSomeFile JsonOutcome)) (λ r due. record { files = files; name = []; due = due })
 
-pub some-json-long : (s : Stop) → HasReason s (λ r. r ≡ refusal.Length named.Json) → HasReason s (At (OfSomeLog JsonOutcome))
+pub some-json-long : (s : Stop) → HasReason s (λ r. r ≡ refusal.Length named.Json) → HasReason s (At (OfSomeFile JsonOutcome))
 some-json-long s h =
     let long = longer JSON_LIMIT in
     some-json (only long.0) s (length-refused (only long.0) [] JSON_LIMIT named.Json (λ bytes. OnJson bytes Converted) long.0 refl long.1 s h)
 
 module _ (file : List ℕ) (within : length file ≤ JSON_LIMIT) where
-  pub some-json-faulty : (s : Stop) → HasReason s (TellsJsonFault (json_log_of file)) → HasReason s (At (OfSomeLog JsonOutcome))
+  pub some-json-faulty : (s : Stop) → HasReason s (TellsJsonFault (json_log_of file)) → HasReason s (At (OfSomeFile JsonOutcome))
   some-json-faulty s h = some-json (only file) s (json-faulty (only file) [] file refl within s h)
 
-  pub some-json-converted : (log : Logged) (out : List ℕ) (s : Status) → json_log_of file ≡ Ok log → Converted log out s → OfSomeLog JsonOutcome out s
-  some-json-converted log out s is h = record { files = only file; log = []; due = json-converted (only file) [] file refl within log out s is h }
+  pub some-json-converted : (log : Logged) (out : List ℕ) (s : Status) → json_log_of file ≡ Ok log → Converted log out s → OfSomeFile JsonOutcome out s
+  some-json-converted log out s is h = record { files = only file; name = []; due = json-converted (only file) [] file refl within log out s is h }

@@ -19,6 +19,7 @@ use Rattle.skew_commands.specs.declared.refusal.ReportPart.{ReportPart}
 use Rattle.skew_commands.specs.declared.refusal.ReportPart.TheVariants as part
 use Rattle.skew_commands.specs.declared.reply.Reply.{Reply}
 use Rattle.skew_commands.specs.declared.reply.Stop.{Stop}
+use Rattle.skew_commands.specs.Possible.{OfSomeFile}
 use Rattle.skew_commands.specs.Refusals.{status_of, text_of}
 use Rattle.skew_commands.specs.Stops.{Gives, HasReason}
 use Rattle.skew_commands.specs.Tests.{OnFile}
@@ -26,7 +27,7 @@ use Rattle.skew_commands.proofs.Possible.{length-refused, longer, only}
 use Rattle.skew_commands.proofs.Steps.{At, file-read, gives-weaker, reason-weaker}
 use Rattle.skew_cli.specs.declared.limits.TheConstants.{REPORT_LIMIT}
 use Rattle.skew_cli.specs.ReportTests.{OnReport, TellsFaultyLine}
-use Rattle.skew_cli.specs.TrimOutcome.{CanTrim, CanTrimSection, IsUntrimmedAt, OfSomeReport, TellsSection, TellsUntrimmed, TrimOfReport, TrimOutcome}
+use Rattle.skew_cli.specs.TrimOutcome.{CanTrim, CanTrimSection, IsUntrimmedAt, TellsSection, TellsUntrimmed, TrimOfReport, TrimOutcome}
 use Rattle.skew_cli.proofs.ReportSteps.{report-read, report-refused}
 
 -- ---- the sections of a report
@@ -79,7 +80,7 @@ module _ (files : Files) (name : Word) (file : List ℕ) (held : file_of files n
 
 module _ (limit : ℕ) (n : Named) (next : List ℕ → List ℕ → Status → Type 0) where
   abbrev OnSomeReport : List ℕ → Status → Type 0
-  OnSomeReport = OfSomeReport (λ files name. OnFile files name limit n next)
+  OnSomeReport = OfSomeFile (λ files name. OnFile files name limit n next)
 
   some-long : (s : Stop) → HasReason s (λ r. r ≡ refusal.Length n) → HasReason s (At OnSomeReport)
   some-long s h =
@@ -87,15 +88,15 @@ module _ (limit : ℕ) (n : Named) (next : List ℕ → List ℕ → Status → 
       reason-weaker s (At (OnFile (only long.0) [] limit n next)) (At OnSomeReport) (λ r due. record { files = only long.0; name = []; due = due })
       (length-refused (only long.0) [] limit n next long.0 refl long.1 s h)
 
-pub some-trim-long : (s : Stop) → HasReason s (λ r. r ≡ refusal.Length named.Report) → HasReason s (At (OfSomeReport TrimOutcome))
+pub some-trim-long : (s : Stop) → HasReason s (λ r. r ≡ refusal.Length named.Report) → HasReason s (At (OfSomeFile TrimOutcome))
 some-trim-long = some-long REPORT_LIMIT named.Report (λ bytes. OnReport bytes TrimOfReport)
 
 module _ (file : List ℕ) (within : length file ≤ REPORT_LIMIT) where
-  pub some-trim-faulty : (s : Stop) → HasReason s (TellsFaultyLine file) → HasReason s (At (OfSomeReport TrimOutcome))
+  pub some-trim-faulty : (s : Stop) → HasReason s (TellsFaultyLine file) → HasReason s (At (OfSomeFile TrimOutcome))
   some-trim-faulty s h =
-      reason-weaker s (At (TrimOutcome (only file) [])) (At (OfSomeReport TrimOutcome)) (λ r due. record { files = only file; name = []; due = due }) (trim-faulty (only file) [] file refl within s h)
+      reason-weaker s (At (TrimOutcome (only file) [])) (At (OfSomeFile TrimOutcome)) (λ r due. record { files = only file; name = []; due = due }) (trim-faulty (only file) [] file refl within s h)
 
-  pub some-trim-given : (r : Report) (result : Result Reply Stop) → ReportOf file (Ok r) → Gives (TrimOfReport r) result → Gives (OfSomeReport TrimOutcome) result
+  pub some-trim-given : (r : Report) (result : Result Reply Stop) → ReportOf file (Ok r) → Gives (TrimOfReport r) result → Gives (OfSomeFile TrimOutcome) result
   some-trim-given r result is h =
-      gives-weaker result (TrimOutcome (only file) []) (OfSomeReport TrimOutcome) (λ out s due. record { files = only file; name = []; due = due })
+      gives-weaker result (TrimOutcome (only file) []) (OfSomeFile TrimOutcome) (λ out s due. record { files = only file; name = []; due = due })
       (trim-given (only file) [] file refl within r result is h)

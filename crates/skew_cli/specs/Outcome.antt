@@ -9,7 +9,7 @@ use Rattle.skew_answers.specs.Statuses.{IsAnswer}
 use Rattle.skew_answers.specs.Texts.{line}
 use Rattle.skew_words.specs.Words.{Audit, Check, Command, Demo, Json, Order, Replay, Span, Times, Tolerance, Trim, Word, command_of}
 use Rattle.skew_commands.specs.Openings.{OpensAtMost, OpensInTurn, OpensLogInTurn}
-use Rattle.skew_commands.specs.Possible.{OfSomeLog, OfSomeQuestion, OfSomeThird}
+use Rattle.skew_commands.specs.Possible.{OfSomeFile, OfSomeQuestion, OfSomeThird}
 use Rattle.skew_commands.specs.Refusals.{IsRefusalOf}
 use Rattle.skew_commands.specs.Reads.{Agree, HoldsQuestion, HoldsThree, NoThird}
 use Rattle.skew_commands.specs.TimesOutcome.{TimesOutcome}
@@ -21,7 +21,7 @@ use Rattle.skew_cli.specs.CheckOutcome.{CheckOutcome}
 use Rattle.skew_cli.specs.AuditOutcome.{AuditOutcome}
 use Rattle.skew_cli.specs.DemoOutcome.{DemoOutcome}
 use Rattle.skew_cli.specs.JsonOutcome.{JsonOutcome}
-use Rattle.skew_cli.specs.TrimOutcome.{OfSomeReport, TrimOutcome}
+use Rattle.skew_cli.specs.TrimOutcome.{TrimOutcome}
 
 -- one line, with its status
 abbrev pub Says : List ℕ → Status → List ℕ → Status → Type 0
@@ -44,13 +44,9 @@ HasNoTurns files before now = Unit {0}
 abbrev pub due_of_nothing : (List ℕ → Status → Type 0) → Due
 due_of_nothing Given = record { outcome = λ files. Given; possible = Given; holds = λ files. Unit {0}; named = []; in_turn = HasNoTurns }
 
--- of one that reads a log
-abbrev pub due_of_log : (Files → Word → List ℕ → Status → Type 0) → Word → Due
-due_of_log Given log = record { outcome = λ files. Given files log; possible = OfSomeLog Given; holds = λ files. IsSome (file_of files log); named = log ∷ []; in_turn = HasNoTurns }
-
--- of one that reads a report
-abbrev pub due_of_report : (Files → Word → List ℕ → Status → Type 0) → Word → Due
-due_of_report Given name = record { outcome = λ files. Given files name; possible = OfSomeReport Given; holds = λ files. IsSome (file_of files name); named = name ∷ []; in_turn = HasNoTurns }
+-- of one that reads one file
+abbrev pub due_of_file : (Files → Word → List ℕ → Status → Type 0) → Word → Due
+due_of_file Given name = record { outcome = λ files. Given files name; possible = OfSomeFile Given; holds = λ files. IsSome (file_of files name); named = name ∷ []; in_turn = HasNoTurns }
 
 -- of one that reads a formula and a log
 abbrev pub due_of_question : (Files → Word → Word → List ℕ → Status → Type 0) → Word → Word → Due
@@ -74,13 +70,13 @@ due_of_third Given formula log third = record {
 
 -- what is due for each command
 abbrev pub due_for : Command → Due
-due_for (Times log) = due_of_log TimesOutcome log
+due_for (Times log) = due_of_file TimesOutcome log
 due_for (Replay formula log times) = due_of_third ReplayOutcome formula log times
-due_for (Order log) = due_of_log OrderOutcome log
+due_for (Order log) = due_of_file OrderOutcome log
 due_for (Check conflicts formula log) = due_of_question (λ files. CheckOutcome files conflicts) formula log
 due_for (Audit conflicts formula log report) = due_of_third (λ files. AuditOutcome files conflicts) formula log report
-due_for (Trim name) = due_of_report TrimOutcome name
-due_for (Json name) = due_of_log JsonOutcome name
+due_for (Trim name) = due_of_file TrimOutcome name
+due_for (Json name) = due_of_file JsonOutcome name
 due_for (Tolerance conflicts value max formula log) = due_of_question (λ files. ToleranceOutcome files conflicts value max) formula log
 due_for (Span conflicts value from to formula log) = due_of_question (λ files. SpanOutcome files conflicts value from to) formula log
 due_for (Demo seed) = due_of_nothing (DemoOutcome seed)

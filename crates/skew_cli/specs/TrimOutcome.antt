@@ -95,12 +95,6 @@ TrimOfReport r out s = Trimmed r out s ⊎ Untrimmed r out s
 abbrev pub TrimOutcome : Files → Word → List ℕ → Status → Type 0
 TrimOutcome files name = OnFile files name REPORT_LIMIT named.Report (λ bytes. OnReport bytes TrimOfReport)
 
--- what is due of some files, under some name of the report
-pub record OfSomeReport (Given : Files → Word → List ℕ → Status → Type 0) (out : List ℕ) (s : Status) : Type 0 where
-  pub files : Files
-  pub name : Word
-  pub due : Given files name out s
-
 -- the refusal tells the line at which a section can't be trimmed
 pub record TellsSection (p : ReportPart) (s : Section) (r : Refusal) : Type 0 where
   pub number : ℕ

@@ -5,7 +5,7 @@ ghost use Rattle.json_log.specs.JsonLogOf.{json_log_of};
 ghost use Rattle.mt_model.specs.Log.{IsPlain};
 ghost use Rattle.mt_port.specs.Port.{Opens, Rose, file_of};
 ghost use Rattle.skew_answers.specs.Statuses.{IsVerdict};
-ghost use Rattle.skew_commands.specs.Possible.{OfSomeLog};
+ghost use Rattle.skew_commands.specs.Possible.{OfSomeFile};
 ghost use Rattle.skew_commands.specs.Stops.{Gives, NeverFailsToRead, RefusesFor};
 ghost use Rattle.skew_cli.specs.JsonOutcome.{Converted, JsonOutcome, TellsJsonFault};
 
@@ -50,7 +50,7 @@ fn converted(alloc: Global, log: &Log) -> Result<Reply, AllocError>
 /// What `json` answers for the JSON file of a name.
 pub fn json<S: Shelf>(alloc: Global, shelf: &mut S, name: &str) -> Result<Reply, Stop>
     ensures outcome { S.tells shelf.old ≡ true → Gives (JsonOutcome (S.files shelf.old) name.now) result }
-    ensures possible { Gives (OfSomeLog JsonOutcome) result }
+    ensures possible { Gives (OfSomeFile JsonOutcome) result }
     ensures verdict { IfOk result (λ r. IsVerdict r.status) }
     ensures failed { IsErrOf result Stop.ReadFailed → Rose (S.faults shelf.old) (S.faults shelf.new) }
     ensures told { ¬ IsErrOf result Stop.ReadFailed → S.faults shelf.new ≡ S.faults shelf.old }

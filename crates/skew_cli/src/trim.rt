@@ -12,8 +12,9 @@ ghost use Rattle.report_text.specs.Outlines.{IsOutlineIn, IsOutlineOf, IsSection
 ghost use Rattle.report_text.specs.Spelled.{IsSpelled, IsSpelledSection};
 ghost use Rattle.verdict.specs.OfOutlines.{OfSection};
 ghost use Rattle.skew_answers.specs.Statuses.{IsVerdict};
+ghost use Rattle.skew_commands.specs.Possible.{OfSomeFile};
 ghost use Rattle.skew_commands.specs.Stops.{Gives, NeverFailsToRead, RefusesFor};
-ghost use Rattle.skew_cli.specs.TrimOutcome.{CanTrim, CanTrimSection, OfSomeReport, TellsSection, TellsUntrimmed, TrimOfReport, TrimOutcome};
+ghost use Rattle.skew_cli.specs.TrimOutcome.{CanTrim, CanTrimSection, TellsSection, TellsUntrimmed, TrimOfReport, TrimOutcome};
 ghost use Rattle.skew_cli.specs.TrimmedText.{AreOutlined, IsSectionLeft, IsTrimText, OfOutlined, kind_left, text_left};
 
 use crate::limits::REPORT_LIMIT;
@@ -143,7 +144,7 @@ fn trim_of_report(alloc: Global, outline: Outline) -> Result<Reply, Stop>
 /// What `trim` answers for the report of a name.
 pub fn trim<S: Shelf>(alloc: Global, shelf: &mut S, report: &str) -> Result<Reply, Stop>
     ensures outcome { S.tells shelf.old ≡ true → Gives (TrimOutcome (S.files shelf.old) report.now) result }
-    ensures possible { Gives (OfSomeReport TrimOutcome) result }
+    ensures possible { Gives (OfSomeFile TrimOutcome) result }
     ensures verdict { IfOk result (λ r. IsVerdict r.status) }
     ensures failed { IsErrOf result Stop.ReadFailed → Rose (S.faults shelf.old) (S.faults shelf.new) }
     ensures told { ¬ IsErrOf result Stop.ReadFailed → S.faults shelf.new ≡ S.faults shelf.old }

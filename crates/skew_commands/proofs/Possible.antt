@@ -23,7 +23,7 @@ use Rattle.skew_commands.specs.declared.reply.Stop.{Stop}
 use Rattle.skew_commands.specs.declared.reply.Stop.TheVariants as stop
 use Rattle.skew_commands.specs.Refusals.{status_of, text_of}
 use Rattle.skew_commands.specs.Reads.{IsQuestion}
-use Rattle.skew_commands.specs.Possible.{OfSomeLog, OfSomeQuestion, OfSomeThird}
+use Rattle.skew_commands.specs.Possible.{OfSomeFile, OfSomeQuestion, OfSomeThird}
 use Rattle.skew_commands.specs.Untold.{AreRead, GivesForSome, RefusesSomeQuestion}
 use Rattle.skew_commands.specs.Stops.{Gives, HasReason, NamesHost, NoAnswer, TellsFormulaFault, TellsLogFault}
 use Rattle.skew_commands.specs.Tests.{OnFile, OnFormula, OnHosts, OnLog, OnNodes, OnQuestion}
@@ -102,10 +102,10 @@ module _ (limit : ℕ) (named : Named) (text : List ℕ) (f : Form) (log : Logge
 -- what `times` and `order` give of a log's file
 module _ (next : Logged → List ℕ → Status → Type 0) where
   abbrev pub OnSomeLog : List ℕ → Status → Type 0
-  OnSomeLog = OfSomeLog (λ files log. OnFile files log LOG_LIMIT named.Log (λ file. OnLog file next))
+  OnSomeLog = OfSomeFile (λ files log. OnFile files log LOG_LIMIT named.Log (λ file. OnLog file next))
 
   some-log : (files : Files) (log : Word) (s : Stop) → HasReason s (At (OnFile files log LOG_LIMIT named.Log (λ file. OnLog file next))) → HasReason s (At OnSomeLog)
-  some-log files log s = reason-weaker s (At (OnFile files log LOG_LIMIT named.Log (λ file. OnLog file next))) (At OnSomeLog) (λ r h. record { files = files; log = log; due = h })
+  some-log files log s = reason-weaker s (At (OnFile files log LOG_LIMIT named.Log (λ file. OnLog file next))) (At OnSomeLog) (λ r h. record { files = files; name = log; due = h })
 
   pub some-log-long : (s : Stop) → HasReason s (λ r. r ≡ refusal.Length named.Log) → HasReason s (At OnSomeLog)
   some-log-long s h =
@@ -117,7 +117,7 @@ module _ (next : Logged → List ℕ → Status → Type 0) where
 
   pub some-log-read : (file : List ℕ) (log : Logged) (out : List ℕ) (s : Status) → length file ≤ LOG_LIMIT → log_of file ≡ Ok log → next log out s → OnSomeLog out s
   some-log-read file log out s within is h =
-      record { files = only file; log = []; due = file-read (only file) [] LOG_LIMIT named.Log (λ file. OnLog file next) file out s (only-held file) within (log-read file next log out s is h) }
+      record { files = only file; name = []; due = file-read (only file) [] LOG_LIMIT named.Log (λ file. OnLog file next) file out s (only-held file) within (log-read file next log out s is h) }
 
 -- what stops the reading of some formula and log
 some-question : (text file : List ℕ) (s : Stop) → HasReason s (At (OnQuestion (three text file []) formula_name log_name NoAnswer)) → HasReason s RefusesSomeQuestion

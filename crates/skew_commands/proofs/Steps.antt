@@ -30,7 +30,7 @@ use Rattle.skew_commands.specs.declared.reply.Stop.{Stop}
 use Rattle.skew_commands.specs.declared.reply.Stop.TheVariants as stop
 use Rattle.skew_commands.specs.Refusals.{Refuses, status_of, text_of}
 use Rattle.skew_commands.specs.Reads.{IsQuestion}
-use Rattle.skew_commands.specs.Stops.{Gives, HasReason, NamesHost, TellsFault, TellsFormulaFault, TellsLogFault}
+use Rattle.skew_commands.specs.Stops.{Gives, HasReason, NamesHost, TellsFormulaFault, TellsLogFault, TellsTimesFault}
 use Rattle.skew_commands.specs.Tests.{OnFile, OnFormula, OnHosts, OnLog, OnNodes, OnQuestion, OnTimes}
 
 -- a reason may be said in a weaker way
@@ -110,10 +110,10 @@ module _ (f : Form) (next : List ℕ → Status → Type 0) where
   nodes-few out s few h = let less : nat_lt MAX_NODES (length (nodes_of f)) ≡ false = grind (arith, nat_tests) in rw less h
 
 module _ (file : List ℕ) (log : Logged) (next : List ℤ → List ℕ → Status → Type 0) where
-  pub times-refused : (r : Refusal) → TellsFault (times_of (length log.rows) file) r → At (OnTimes file log next) r
+  pub times-refused : (r : Refusal) → TellsTimesFault (times_of (length log.rows) file) r → At (OnTimes file log next) r
   times-refused r h = go (times_of (length log.rows) file) refl h
     where
-      go : (due : Result (List ℤ) TimesFault) → times_of (length log.rows) file ≡ due → TellsFault due r → At (OnTimes file log next) r
+      go : (due : Result (List ℤ) TimesFault) → times_of (length log.rows) file ≡ due → TellsTimesFault due r → At (OnTimes file log next) r
       go (Ok t) is told = absurd told
       go (Err (times.Number number)) is told = rw (is, told) (refl, refl)
       go (Err (times.Count number)) is told = rw (is, told) (refl, refl)

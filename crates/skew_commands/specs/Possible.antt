@@ -4,11 +4,11 @@ use Rattle.mt_port.specs.Port.{Files}
 use Rattle.skew_answers.specs.declared.status.Status.{Status}
 use Rattle.skew_words.specs.Words.{Word}
 
--- what is due of some files, under some name of the log
-pub record OfSomeLog (Due : Files → Word → List ℕ → Status → Type 0) (out : List ℕ) (s : Status) : Type 0 where
+-- what is due of some files, under some name of the one that is read
+pub record OfSomeFile (Due : Files → Word → List ℕ → Status → Type 0) (out : List ℕ) (s : Status) : Type 0 where
   pub files : Files
-  pub log : Word
-  pub due : Due files log out s
+  pub name : Word
+  pub due : Due files name out s
 
 -- what is due of some files, under some names of the formula and the log
 pub record OfSomeQuestion (Due : Files → Word → Word → List ℕ → Status → Type 0) (out : List ℕ) (s : Status) : Type 0 where

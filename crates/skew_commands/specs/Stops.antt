@@ -63,11 +63,11 @@ pub record NamesHost (text : List ℕ) (number : Option ℕ) (r : Refusal) : Typ
   pub told : r ≡ refusal.UnknownHost byte
 
 -- the refusal tells the fault that a times file has
-abbrev pub TellsFault : Result (List ℤ) TimesFault → Refusal → Type 0
-TellsFault (Ok t) r = ⊥
-TellsFault (Err (times.Number number)) r = r ≡ refusal.TimesNumber number
-TellsFault (Err (times.Count number)) r = r ≡ refusal.TimesCount number
-TellsFault (Err times.Memory) r = ⊥
+abbrev pub TellsTimesFault : Result (List ℤ) TimesFault → Refusal → Type 0
+TellsTimesFault (Ok t) r = ⊥
+TellsTimesFault (Err (times.Number number)) r = r ≡ refusal.TimesNumber number
+TellsTimesFault (Err (times.Count number)) r = r ≡ refusal.TimesCount number
+TellsTimesFault (Err times.Memory) r = ⊥
 
 -- nothing is answered but a refusal
 abbrev pub NoAnswer : List ℕ → Form → Logged → List ℕ → Status → Type 0

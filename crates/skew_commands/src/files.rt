@@ -12,7 +12,7 @@ ghost use Rattle.mt_port.specs.Port.{Opens, Rose, file_of};
 ghost use Rattle.mtl_parse.specs.FormulaOf.{FormulaOf};
 ghost use Rattle.times_read.specs.TimesOf.{times_of};
 ghost use Rattle.log_read.specs.LogOf.{log_of};
-ghost use Rattle.skew_commands.specs.Stops.{NamesHost, NeverFailsToRead, RefusesFor, TellsFault, TellsFormulaFault, TellsLength, TellsLogFault};
+ghost use Rattle.skew_commands.specs.Stops.{NamesHost, NeverFailsToRead, RefusesFor, TellsFormulaFault, TellsLength, TellsLogFault, TellsTimesFault};
 
 use crate::refusal::{Named, Refusal};
 use crate::reply::Stop;
@@ -122,7 +122,7 @@ pub fn timing(alloc: Global, file: &[u8], log: &Log) -> Result<Times, Stop>
     ensures range { IfOk result (λ t. All (IsWithin MAX_TIME) t) }
     ensures full { IfOk result (λ t. length t ≡ length log.now.rows) }
     ensures reads_nothing { IsErrOf result Stop.ReadFailed → ⊥ }
-    ensures refused { RefusesFor result (TellsFault (times_of (length log.now.rows) file.now)) }
+    ensures refused { RefusesFor result (TellsTimesFault (times_of (length log.now.rows) file.now)) }
 {
     match read_times(alloc, file, log.rows().len()) {
         Ok(times) => Ok(times),

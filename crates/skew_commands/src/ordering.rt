@@ -4,7 +4,7 @@ ghost use Rattle.std.specs.Prelude.{◌≡◌, ◌∷◌, [], ◌≤◌, true, I
 ghost use Rattle.mt_port.specs.Port.{Opens, Rose, file_of};
 ghost use Rattle.skew_answers.specs.Statuses.{IsVerdict};
 ghost use Rattle.skew_commands.specs.OrderOutcome.{OrderOfLog, OrderOutcome};
-ghost use Rattle.skew_commands.specs.Possible.{OfSomeLog};
+ghost use Rattle.skew_commands.specs.Possible.{OfSomeFile};
 ghost use Rattle.skew_commands.specs.Stops.{Gives, NeverFailsToRead};
 
 use crate::files;
@@ -38,7 +38,7 @@ fn order_of_log(alloc: Global, log: &Log) -> Result<Reply, AllocError>
 /// What `order` answers for the log of a name.
 pub fn order<S: Shelf>(alloc: Global, shelf: &mut S, log: &str) -> Result<Reply, Stop>
     ensures outcome { S.tells shelf.old ≡ true → Gives (OrderOutcome (S.files shelf.old) log.now) result }
-    ensures possible { Gives (OfSomeLog OrderOutcome) result }
+    ensures possible { Gives (OfSomeFile OrderOutcome) result }
     ensures verdict { IfOk result (λ r. IsVerdict r.status) }
     ensures failed { IsErrOf result Stop.ReadFailed → Rose (S.faults shelf.old) (S.faults shelf.new) }
     ensures told { ¬ IsErrOf result Stop.ReadFailed → S.faults shelf.new ≡ S.faults shelf.old }

@@ -3,7 +3,7 @@
 ghost use Rattle.std.specs.Prelude.{◌≡◌, ◌∷◌, [], ◌<◌, ◌≤◌, true, IfOk, IsErrOf, IsSome};
 ghost use Rattle.mt_port.specs.Port.{Opens, Rose, file_of};
 ghost use Rattle.skew_answers.specs.Statuses.{IsVerdict};
-ghost use Rattle.skew_commands.specs.Possible.{OfSomeLog};
+ghost use Rattle.skew_commands.specs.Possible.{OfSomeFile};
 ghost use Rattle.skew_commands.specs.Stops.{Gives, NeverFailsToRead};
 ghost use Rattle.skew_commands.specs.TimesOutcome.{TimesOfLog, TimesOutcome};
 
@@ -44,7 +44,7 @@ fn times_of_log(alloc: Global, log: &Log) -> Result<Reply, AllocError>
 /// What `times` answers for the log of a name.
 pub fn times<S: Shelf>(alloc: Global, shelf: &mut S, log: &str) -> Result<Reply, Stop>
     ensures outcome { S.tells shelf.old ≡ true → Gives (TimesOutcome (S.files shelf.old) log.now) result }
-    ensures possible { Gives (OfSomeLog TimesOutcome) result }
+    ensures possible { Gives (OfSomeFile TimesOutcome) result }
     ensures verdict { IfOk result (λ r. IsVerdict r.status) }
     ensures failed { IsErrOf result Stop.ReadFailed → Rose (S.faults shelf.old) (S.faults shelf.new) }
     ensures told { ¬ IsErrOf result Stop.ReadFailed → S.faults shelf.new ≡ S.faults shelf.old }
