@@ -30,7 +30,7 @@ use outline::{push_false_section, push_outline, push_timed_outline};
 use skew_cli::{Status, demo_log};
 use std::alloc::Global;
 use std::process::ExitCode;
-use table_case::{Table, number_of, push_line, push_marked, text_of};
+use table_case::{Table, copied_files, number_of, push_line, push_marked, text_of};
 
 /// The most bytes of an answer.
 const LIMIT: usize = 1_048_576;
@@ -137,16 +137,6 @@ fn answer(alloc: Global, words: &Vec<String>, files: Files, out: &mut Vec<u8>) -
     Some(text)
 }
 
-// A copy of files.
-fn copied(alloc: Global, files: &Files) -> Option<Files> {
-    let mut copies = Vec::new(alloc);
-    for (name, bytes) in files {
-        let name = String::from_str(alloc, name.as_str()).ok()?;
-        copies.push((name, bytes.to_vec(alloc).ok()?)).ok()?;
-    }
-    Some(copies)
-}
-
 // Adds how many calls on the files there are, each of which fails in turn, and the status where a later one would.
 fn push_failed_reads(
     alloc: Global,
@@ -155,14 +145,14 @@ fn push_failed_reads(
     files: &Files,
     out: &mut Vec<u8>,
 ) -> Option<()> {
-    let (sound, whole) = ran(alloc, words, copied(alloc, files)?, SOUND)?;
+    let (sound, whole) = ran(alloc, words, copied_files(alloc, files)?, SOUND)?;
     for calls in 0..LIMIT as u64 {
         let devices = Devices {
             piece,
             bad_read: calls + 1,
             ..SOUND
         };
-        let (status, text) = ran(alloc, words, copied(alloc, files)?, devices)?;
+        let (status, text) = ran(alloc, words, copied_files(alloc, files)?, devices)?;
         if status == sound && text == whole {
             let line = format!(in alloc; "reads {calls} status {}", status.code()).ok()?;
             return push_line(out, line.as_bytes());
@@ -182,7 +172,7 @@ fn is_cut(
     devices: Devices,
     beginning: &[u8],
 ) -> Option<bool> {
-    let (status, text) = ran(alloc, words, copied(alloc, files)?, devices)?;
+    let (status, text) = ran(alloc, words, copied_files(alloc, files)?, devices)?;
     Some(status == Status::WriteFailed && text.as_slice() == beginning)
 }
 
@@ -225,7 +215,7 @@ fn push_failed_writes(
     files: &Files,
     out: &mut Vec<u8>,
 ) -> Option<()> {
-    let (_, text) = ran(alloc, words, copied(alloc, files)?, SOUND)?;
+    let (_, text) = ran(alloc, words, copied_files(alloc, files)?, SOUND)?;
     for count in 0..text.len() {
         if !is_cut_after(alloc, words, files, &text, count)? {
             return None;
@@ -235,7 +225,7 @@ fn push_failed_writes(
     let (status, _) = ran(
         alloc,
         words,
-        copied(alloc, files)?,
+        copied_files(alloc, files)?,
         Devices { room, ..SOUND },
     )?;
     let line = format!(in alloc; "writes {room} status {}", status.code()).ok()?;
@@ -276,7 +266,7 @@ fn audit_words(alloc: Global, words: &[String]) -> Option<Vec<String>> {
 
 // Adds what is told of a report, and what `audit` answers for it.
 fn push_audited(alloc: Global, words: &Vec<String>, files: Files, out: &mut Vec<u8>) -> Option<()> {
-    let mut audited = copied(alloc, &files)?;
+    let mut audited = copied_files(alloc, &files)?;
     let report = answer(alloc, words, files, out)?;
     push_outline(&report, out)?;
     audited

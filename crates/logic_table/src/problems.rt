@@ -3,6 +3,7 @@
 ghost use Rattle.skew_bounds.specs.Tight.{IsConsistent, IsTight};
 
 use crate::case::LogicCase;
+use crate::edges::numbers_of;
 use crate::writing::{push_atom, push_items, push_sign};
 use axiom_rules::{AtomTable, Rule};
 use clause_db::{ClauseRef, Db, Lit, Var};
@@ -23,8 +24,7 @@ fn push_atoms(alloc: Global, atoms: &AtomTable, out: &mut Vec<u8>) -> Option<()>
 
 fn push_edges(alloc: Global, edges: &[Edge], out: &mut Vec<u8>) -> Option<()> {
     for edge in edges {
-        let ends = [i128::from(edge.from), i128::from(edge.to), edge.bound];
-        push_items(alloc, "edge", &ends, out)?;
+        push_items(alloc, "edge", &numbers_of(*edge), out)?;
     }
     Some(())
 }

@@ -25,11 +25,11 @@ pub fn written_times(alloc: Global, times: &[i128]) -> Result<String, AllocError
     Ok(text)
 }
 
-// The line before steps.
-fn heading(alloc: Global, count: usize) -> Result<String, AllocError>
-    ensures { IfOk result (λ text. string_bytes text ≡ line (codes "inconsistent " ++ decimal count)) }
+// The line before a list: a word with a space behind it, and how many items there are.
+fn heading(alloc: Global, word: &str, count: usize) -> Result<String, AllocError>
+    ensures { IfOk result (λ text. string_bytes text ≡ line (word.now ++ decimal count)) }
 {
-    let mut text = String::from_str(alloc, "inconsistent ")?;
+    let mut text = String::from_str(alloc, word)?;
     let number = count.to_string(alloc)?;
     text.push_str(number.as_str())?;
     text.push('\n')?;
@@ -40,7 +40,7 @@ fn heading(alloc: Global, count: usize) -> Result<String, AllocError>
 pub fn written_steps(alloc: Global, steps: &[Step]) -> Result<String, AllocError>
     ensures text { IfOk result (λ text. string_bytes text ≡ inconsistent_text steps.now) }
 {
-    let mut text = heading(alloc, steps.len())?;
+    let mut text = heading(alloc, "inconsistent ", steps.len())?;
     for step in steps {
         let words = step.to_string(alloc)?;
         text.push_str(words.as_str())?;
@@ -89,22 +89,11 @@ pub fn written_clocks(alloc: Global, log: &Log, order: &Order) -> Result<String,
     Ok(text)
 }
 
-// The line before the events of a cycle.
-fn cycle_heading(alloc: Global, count: usize) -> Result<String, AllocError>
-    ensures { IfOk result (λ text. string_bytes text ≡ line (codes "cycle " ++ decimal count)) }
-{
-    let mut text = String::from_str(alloc, "cycle ")?;
-    let number = count.to_string(alloc)?;
-    text.push_str(number.as_str())?;
-    text.push('\n')?;
-    Ok(text)
-}
-
 /// How many events there are, and then each on its line.
 pub fn written_cycle(alloc: Global, events: &[EventId]) -> Result<String, AllocError>
     ensures text { IfOk result (λ text. string_bytes text ≡ cycle_text events.now) }
 {
-    let mut text = cycle_heading(alloc, events.len())?;
+    let mut text = heading(alloc, "cycle ", events.len())?;
     for event in events {
         let number = event.get().to_string(alloc)?;
         text.push_str(number.as_str())?;

@@ -10,7 +10,7 @@ ghost use Rattle.verdict.specs.Right.{IsRight};
 ghost use Rattle.demo_log.specs.DemoFormula.{demo_formula as demo_form};
 ghost use Rattle.demo_log.specs.DemoLog.{log_of_seed};
 ghost use Rattle.skew_words.specs.declared.limits.TheConstants.{DEFAULT_CONFLICTS};
-ghost use Rattle.skew_cli.specs.CheckOutcome.{IsReportStatus, IsWitnessed, is_undecided as leaves_unknown};
+ghost use Rattle.skew_cli.specs.CheckOutcome.{IsReportStatus, IsWitnessed, is_undecided as is_report_undecided};
 ghost use Rattle.skew_cli.specs.DemoOutcome.{DemoOutcome, demo_text as text_of_demo, named_value as word_of_value, named_values as words_of_values, summary_text};
 ghost use Rattle.skew_commands.specs.Stops.{Gives, RefusesFor};
 
@@ -82,8 +82,9 @@ fn summary(alloc: Global, seed: u64, report: &Report) -> Result<String, AllocErr
     Ok(text)
 }
 
+// Whether a section of a report is unknown.
 fn is_undecided(report: &Report) -> bool
-    ensures { result ≡ leaves_unknown report.now }
+    ensures { result ≡ is_report_undecided report.now }
 {
     match report {
         Report::Inconsistent { .. } => false,

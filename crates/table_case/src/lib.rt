@@ -2,12 +2,14 @@
 #![tactic(auto)]
 
 mod case;
+mod files;
 mod lines;
 mod program;
 mod texts;
 mod words;
 
 pub use case::{Case, Parsed};
+pub use files::copied_files;
 pub use lines::{Table, answers};
 pub use program::run;
 pub use texts::{extra_of, formula_of, log_of};

@@ -15,7 +15,7 @@ ghost use Rattle.std.specs.Prelude.{◌≡◌, true};
 use crate::telling::{push_part, tell, tell_whether};
 use mt_port::{Failed, MemShelf, MemSink, ReadFault, Shelf, Sink, read_all, write_all};
 use std::alloc::Global;
-use table_case::{Table, number_of, push_marked, split_word, text_of};
+use table_case::{Table, copied_files, number_of, push_marked, split_word, text_of};
 
 /// Files in memory, each under its name.
 #[derive(Drop)]
@@ -50,17 +50,8 @@ fn file_of(alloc: Global, line: &str) -> Option<(String, Vec<u8>)> {
     Some((name, text.as_bytes().to_vec(alloc).ok()?))
 }
 
-fn copied(alloc: Global, files: &[(String, Vec<u8>)]) -> Option<Vec<(String, Vec<u8>)>> {
-    let mut copies = Vec::new(alloc);
-    for (name, bytes) in files {
-        let name = String::from_str(alloc, name.as_str()).ok()?;
-        copies.push((name, bytes.to_vec(alloc).ok()?)).ok()?;
-    }
-    Some(copies)
-}
-
 fn shelf_of(alloc: Global, files: &[(String, Vec<u8>)], device: Device) -> Option<MemShelf> {
-    let files = copied(alloc, files)?;
+    let files = copied_files(alloc, files)?;
     let bad_calls = vec![in alloc; device.bad_call].ok()?;
     if MemShelf::are_distinct(&files) && device.piece > 0 {
         Some(MemShelf::new(files, device.piece, bad_calls))
