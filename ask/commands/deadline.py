@@ -37,6 +37,7 @@ SAID = {
     0: "true by every timing", 1: "false by every timing", 2: "true by some timings and false by others",
     4: "false by some timing",
 }
+OPEN = "true by some timing, and whether it can be false wasn't found"  # the other answer with 4
 
 
 def add_words(commands: "argparse._SubParsersAction[argparse.ArgumentParser]", common: argparse.ArgumentParser) -> None:
@@ -238,7 +239,7 @@ class Search:
         """The answer where a check left open whether the formula can be false."""
         said = f"Unknown: with {self.scale.span(number)} it wasn't found within the conflicts whether it can be false."
         facts = self.facts(said, None, None, number)
-        return Answer(4, [bold(said), self.line_of(number)], {**facts, "unknown_at": number})
+        return Answer(4, [bold(said), self.line_of(number, OPEN)], {**facts, "unknown_at": number})
 
     def asked(self) -> str:
         """The formula with `?`, as sentences show it."""
@@ -248,10 +249,10 @@ class Search:
         """The greatest number with which no interval ends before it begins, None where there is none."""
         return None if self.most == MOST_NUMBER else self.most
 
-    def line_of(self, number: int) -> str:
-        """What the check with a number said."""
+    def line_of(self, number: int, said: str = "") -> str:
+        """What the check with a number said, in these words or in those of its status."""
         run = self.run_at(number)
-        return f"  {self.scale.span(number)}: {SAID[run.status]} [{run.words}]"
+        return f"  {self.scale.span(number)}: {said or SAID[run.status]} [{run.words}]"
 
     def end_of_log(self) -> str:
         """Why no number beyond the last one that was tried changes anything."""

@@ -115,6 +115,23 @@ class Deadlines(unittest.TestCase):
             status_found, text, said = asked(["deadline", template, "answered.csv"], EXAMPLES)
             self.assertEqual((status_found, text.splitlines()[0]), (status, sentence.format(template)), said)
 
+    def test_a_check_that_leaves_a_value_open(self):
+        # Of either value a check may tell alone that some timing has it: whether it can be false, or true, is open then.
+        for found, status, said in (
+            ("true witness\n1\n2\nfalse unknown 0", 4, "true by some timing, and whether it can be false wasn't found"),
+            ("true unknown 0\nfalse witness\n1\n2", 1, "false by some timing"),
+        ):
+            status_found, text = self.answer_of_reports(found, "F[0,?] a.req")
+            self.assertEqual((status_found, text.splitlines()[1]), (status, f"  10: {said} [check 'F[0,10] a.req' answered.csv]"))
+
+    def answer_of_reports(self, found, template):
+        """The status and the lines for people where each check ends with 4 and a report of these sections."""
+        with tempfile.TemporaryDirectory() as folder:
+            program = Path(folder, "program")
+            program.write_text(f"#!/bin/sh\nprintf 'skewcheck 1\\nevents 2\\n'\necho '{found}\nend'\nexit 4\n")
+            program.chmod(0o755)
+            return asked(["deadline", template, "answered.csv", "--program", str(program)], EXAMPLES)[:2]
+
     def test_numbers_above_every_distance(self):
         with tempfile.TemporaryDirectory() as folder:
             Path(folder, "l").write_text(f"kind,host,time,name\nhost,a,0,0\nset,a,-{4 * 10**18},p\nset,a,{4 * 10**18},q\n")
