@@ -90,7 +90,7 @@ class Program:
             numbers = [file.fileno() for file in files]
             status, output = finish(words, numbers, shown, seconds, not self.is_quiet)
         if status < 0:
-            raise Trouble(NOT_THERE, f"{escaped(self.path)} was ended by signal {-status}, at: {shown}")
+            raise ended_by_signal(self.path, -status, f", at: {shown}", "ask about a window of the log (ask log --help)")
         run = Run(words_shown(command, options, sources), status, output)
         self.runs.append(run)
         return run
@@ -165,7 +165,7 @@ class Watch:
                     part = os.read(self.process.stdout.fileno(), 1 << 20)
                     written += part
                     if len(written) > MOST_OUTPUT:
-                        raise Trouble(NOT_THERE, f"the program writes more than {MOST_OUTPUT:,} bytes, at: {self.shown}")
+                        raise writes_too_much(f", at: {self.shown}")
                     if not part:
                         return bytes(written)
                 elif self.process.poll() is not None:
@@ -196,6 +196,18 @@ class Watch:
         self.process.stdout.close()
         if self.is_told and time.monotonic() - self.began >= PATIENCE:
             say("")
+
+
+def ended_by_signal(path: str, number: int, at: str, remedy: str) -> Trouble:
+    """The trouble that a signal ended a run, as one does for want of memory, and what to do then."""
+    why = f"Where that was for want of memory, {remedy}"
+    return Trouble(NOT_THERE, f"{escaped(path)} was ended by signal {number}{at}. {why}")
+
+
+def writes_too_much(at: str = "") -> Trouble:
+    """The trouble that a run writes more than is kept of one."""
+    told = f"the program writes more than {MOST_OUTPUT:,} bytes, which is the most that ask reads{at}"
+    return Trouble(NOT_THERE, f"{told}. Ask about a window of the log (ask log --help), or give it fewer --conflicts")
 
 
 def tell(shown: str, taken: float) -> None:

@@ -6,7 +6,7 @@ import argparse
 from typing import List, NamedTuple, Optional, Sequence, Union
 
 from ask.formulas import Tree
-from ask.logs import MOST_ROWS, Fault
+from ask.logs import MOST_ROWS, Fault, number
 from ask.program import Program
 from ask.question import VERDICTS, Question, accepted_tree
 from ask.refusals import log_refusal, refusal
@@ -17,6 +17,7 @@ from ask.windows.longlog import LongLog, read_long_log
 WRONG_LOG = 66  # the status of the program where a file is no log
 NO_HOSTS = b"kind,host,time,name\nhost,a,0,0\nnote,a,0,a\n"
 UNKNOWN_HOST = "8"  # the fault of a formula with a host that the log doesn't have
+MOST_JOBS = 1024  # runs at a time
 
 
 class LongQuestion(NamedTuple):
@@ -42,9 +43,9 @@ def add_window_words(words: argparse.ArgumentParser, has_folder: bool = True) ->
 
 def number_of_jobs(text: str) -> int:
     """A number of jobs."""
-    value = int(text)
-    if not 0 < value <= 1024:
-        raise ValueError(text)
+    value = number(text, MOST_JOBS)
+    if not value:
+        raise argparse.ArgumentTypeError(f"it is a number from 1 to {MOST_JOBS:,}, and not {text!r}")
     return value
 
 

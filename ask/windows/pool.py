@@ -11,8 +11,7 @@ from dataclasses import dataclass, field, replace
 from typing import Dict, Generic, Iterable, Iterator, List, Optional, Sequence, TypeVar
 
 from ask.ends import uninterrupted
-from ask.program import MOST_OUTPUT, NOT_THERE, STOPPED, Program, Stopped, handed, started
-from ask.texts import Trouble, escaped
+from ask.program import MOST_OUTPUT, STOPPED, Program, Stopped, ended_by_signal, handed, started, writes_too_much
 
 MOST_TO_WAIT = 0.5  # seconds after which runs are looked at again
 Key = TypeVar("Key")
@@ -100,7 +99,7 @@ class Pool(Generic[Key]):
             part = os.read(key.fd, 1 << 20)
             run.written += part
             if len(run.written) > MOST_OUTPUT:
-                raise Trouble(NOT_THERE, f"the program writes more than {MOST_OUTPUT:,} bytes")
+                raise writes_too_much()
             if not part:
                 found.append(self.end(key.fd))
         now = time.monotonic()
@@ -117,7 +116,7 @@ class Pool(Generic[Key]):
         self.running[number].process.wait()
         done = self.leave(number)
         if done.status < 0:
-            raise Trouble(NOT_THERE, f"{escaped(self.program.path)} was ended by signal {-done.status}")
+            raise ended_by_signal(self.program.path, -done.status, "", "have fewer runs at a time (--jobs)")
         return done
 
     def leave(self, number: int) -> Done[Key]:
@@ -140,5 +139,3 @@ def kill(process: "subprocess.Popen[bytes]") -> None:
 def cores() -> int:
     """How many runs there may be at a time."""
     return len(os.sched_getaffinity(0)) if hasattr(os, "sched_getaffinity") else os.cpu_count() or 1
-
-

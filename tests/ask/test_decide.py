@@ -314,7 +314,7 @@ class Words(Rooms):
             (["true", "lease.formula", "lease.csv", "--keep", "x"], "--keep is for --decide"), (["true", "lease.formula", "lease.csv", "--jobs", "1"], "--jobs is for --decide"),
             (["either", "lease.formula", "lease.csv"], "VALUE is true or false, and not 'either'"), (["--decide", "lease.formula"], "LOG"),
             (["--decide"], "FORMULA, LOG"), (["lease.formula", "lease.csv"], "LOG"), (["--decide", "lease.formula", "lease.csv", "--up-to", "x"], "--up-to"),
-            (["--decide", "lease.formula", "lease.csv", "--conflicts", "0"], "--conflicts"), (["--decide", "lease.formula", "lease.csv", "--jobs", "0"], "--jobs"),
+            (["--decide", "lease.formula", "lease.csv", "--conflicts", "0"], "--conflicts"), (["--decide", "lease.formula", "lease.csv", "--jobs", "0"], "--jobs: it is a number from 1 to 1,024, and not '0'"),
             (["--decide", "-", "-"], "`-` is the standard input"), (["--decide", "a.p", "b.p", "--decide", "lease.csv"], "alone"),
         ):
             ended, text, said = asked(["tolerance", *words], EXAMPLES)
@@ -380,7 +380,9 @@ class Programs(Rooms):
             self.assertEqual((ended, text, part in said), (status, "", True), said)
 
     def test_a_later_check_that_fails(self):
-        for script, status, part in (("exit 70", 70, "memory ran out"), ("kill -9 $$", 72, "was ended by signal 9"), ("exit 0", 72, "no report")):
+        for script, status, part in (("exit 70", 70, "memory ran out"), ("exit 0", 72, "no report"), (
+            "kill -9 $$", 72, "was ended by signal 9. Where that was for want of memory, have fewer runs at a time (--jobs)",
+        )):
             program = self.program(f'if grep -q "^host,a,5," "$3" && grep -q "^host,b,5," "$3"; then exec {find_program(None)} "$@"; fi\n{script}\n')
             ended, text, said = asked(["tolerance", "--decide", "lease.formula", "lease.csv", "--program", program], EXAMPLES)
             self.assertEqual((ended, text, part in said), (status, "", True), said)

@@ -240,12 +240,16 @@ class Programs(unittest.TestCase):
     """A status of the program counts with what it writes alone."""
 
     def answered(self, text, words):
-        """How ask ends on a program of a shell script."""
+        """The status with which ask ends on a program of a shell script."""
+        return self.told(text, words)[0]
+
+    def told(self, text, words):
+        """How it ends there."""
         with tempfile.TemporaryDirectory() as folder:
             program = Path(folder, "program")
             program.write_text(f"#!/bin/sh\n{text}\n")
             program.chmod(0o755)
-            return asked([*words, "--program", str(program)], EXAMPLES)[0]
+            return asked([*words, "--program", str(program)], EXAMPLES)
 
     def test_a_status_without_a_report(self):
         for words in (
@@ -261,7 +265,18 @@ class Programs(unittest.TestCase):
 
     def test_more_than_can_be_kept(self):
         with mock.patch("ask.program.MOST_OUTPUT", 1 << 20):
-            self.assertEqual(self.answered("yes", LEASE), 72)
+            ended, _, said = self.told("yes", LEASE)
+        self.assertEqual((ended, said.partition(" bytes, ")[2]), (72, (
+            "which is the most that ask reads, at: check lease.formula lease.csv. Ask about a window of the log (ask log --help), "
+            "or give it fewer --conflicts\n"
+        )))
+
+    def test_a_signal_that_ends_the_program(self):
+        ended, _, said = self.told("kill -9 $$", LEASE)
+        self.assertEqual((ended, said.partition(" was ")[2]), (72, (
+            "ended by signal 9, at: check lease.formula lease.csv. Where that was for want of memory, ask about a window of the "
+            "log (ask log --help)\n"
+        )))
 
 
 class Faults(unittest.TestCase):
