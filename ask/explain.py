@@ -79,6 +79,11 @@ def reasons_of(timing: Timing, tree: Tree, value: bool, is_all: bool) -> List[st
     return explained(timing, tree, value, is_all) + vanished_words(timing, tree)
 
 
+def left_out_words(value: bool) -> str:
+    """That it isn't shown why a formula has its value, where a run that would tell it doesn't."""
+    return f"why the formula is {str(value).lower()} isn't shown: a run was refused, failed, or took too long"
+
+
 def explained(timing: Timing, tree: Tree, value: bool, is_all: bool) -> List[str]:
     """Sentences on why a formula has its value at the first position of a timing."""
     most = MOST_OF_ALL if is_all else MOST_SENTENCES

@@ -49,7 +49,7 @@ def flag_words(moment: Moment, scale: Scale) -> str:
 
 
 def focus_of(question: Question, log: Log, tree: Tree, times: Sequence[int], value: bool) -> Optional[Focus]:
-    """What to mark of an admissible timing, or nothing where a part of the formula was refused, or took too long."""
+    """What to mark of an admissible timing, or nothing where a run that would tell it doesn't."""
     timing = Timing(question, log, times)
     try:
         sentences = reasons_of(timing, tree, value, is_all=False)

@@ -11,7 +11,7 @@ from ask.logs import BEGINS_AS_LOG, Log, read_log
 from ask.program import NOT_THERE, Program, Run
 from ask.refusals import refusal
 from ask.reports import Best, Report, Step, Unreadable, read_best, read_report, verdict_of
-from ask.texts import LIMITS, TOO_LONG, Source, Trouble, is_existing_file, read_source
+from ask.texts import CANNOT_READ, LIMITS, TOO_LONG, Source, Trouble, is_existing_file, read_source
 from ask.units import scale_of_source, scaled
 from ask.words import TYPED, counted, shortened
 from ask.written import as_written
@@ -63,7 +63,7 @@ def formula_source(word: str) -> Source:
     if not word.strip():
         raise Trouble(REFUSED, "the formula is empty")
     if "/" in word or word.endswith((".formula", ".txt")):
-        raise Trouble(74, f"{word} is no file, and no formula either")
+        raise Trouble(CANNOT_READ, f"{word} is no file, and no formula either")
     data = word.encode("utf-8", "surrogateescape")
     if len(data) > LIMITS["formula"].most:
         raise Trouble(TOO_LONG, LIMITS["formula"].words)

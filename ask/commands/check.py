@@ -99,7 +99,7 @@ def refuse_wrong_conflicts(text: Optional[str]) -> None:
     if text is not None and not (
         text.isascii() and text.isdigit() and 1 <= int(text[:8]) <= 10**6 and text[0] != "0"
     ):
-        raise Trouble(64, f"--conflicts is a number from 1 to 1,000,000, and not {text!r}")
+        raise Trouble(USAGE, f"--conflicts is a number from 1 to 1,000,000, and not {text!r}")
 
 
 def with_few_conflicts(question: Question, notes: List[str]) -> Run:
@@ -277,7 +277,8 @@ class Reading:
             try:
                 reasons[str(value).lower()] = explain.reasons_of(timing, self.tree, value, self.arguments.all)
             except (Trouble, Stopped):
-                continue  # a part of the formula was refused, or took too long: the table stands without it
+                self.remarks.append(explain.left_out_words(value))
+                continue  # the table stands without it
             named |= timing.named
         return reasons, named
 

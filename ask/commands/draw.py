@@ -6,6 +6,7 @@ import argparse
 from typing import List, Optional, Sequence
 
 from ask.cautions import Caution, add_strict_words, caution_facts, caution_lines, cautions_wanted, strict_status
+from ask.explain import left_out_words
 from ask.focus import Focus, focus_of
 from ask.logs import Log
 from ask.macros import written_out
@@ -216,7 +217,7 @@ class Drawing:
             return None
         focus = focus_of(self.question, self.log(), accepted_tree(self.formula), times, value)
         if focus is None:
-            self.remarks.append(f"why the formula is {str(value).lower()} isn't shown: a run was refused, or took too long")
+            self.remarks.append(left_out_words(value))
         return focus
 
     def title(self, report: Report, value: bool) -> str:

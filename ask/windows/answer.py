@@ -292,6 +292,7 @@ class LongReading:
         try:
             why = explain.reasons_of(timing, tree, value, self.arguments.all)
         except (Trouble, Stopped):
+            self.remarks.append(explain.left_out_words(value))
             return {}, set()
         named = {event for event in map(shown.event, timing.named) if event is not None}
         return {str(value).lower(): why}, named

@@ -4,8 +4,12 @@ import tempfile
 import unittest
 from itertools import combinations
 from pathlib import Path
+from unittest import mock
 
-from common import asked
+from common import asked, facts_of_text
+
+from ask.program import Stopped
+from ask.texts import Trouble
 
 LOG = (
     "kind,host,time,name\nhost,a,0,1\nhost,b,0,1\n"
@@ -75,6 +79,20 @@ class Chains(unittest.TestCase):
         for level in range(95):
             formula = f"!(a.r | {formula})" if level % 2 else f"!(true & {formula})"
         self.assertIn(f"a.p is true {AT[10]}, since line 4", reasons(formula))
+
+
+class Runs(unittest.TestCase):
+    def test_reasons_that_no_run_tells(self):
+        remark = "why the formula is false isn't shown: a run was refused, failed, or took too long"
+        for end in (Trouble(72, "the program was ended by signal 9"), Stopped()):
+            for words in (["check"], ["check", "--windows"]):
+                with self.subTest(words=words, end=end), tempfile.TemporaryDirectory() as folder:
+                    Path(folder, "l").write_text(LOG)
+                    words = [*words, "G (a.p -> F[0,5] b.q)", "l"]
+                    with mock.patch("ask.explain.reasons_of", side_effect=end):
+                        (ended, text, _), facts = asked(words, folder), facts_of_text(asked([*words, "--json"], folder)[1])
+                    self.assertEqual((ended, text.count(f"\n  {remark}\n"), "Why it is" in text), (1, 1, False), text)
+                    self.assertEqual(facts["remarks"].count(remark), 1)
 
 
 if __name__ == "__main__":
