@@ -250,7 +250,8 @@ def is_replaceable(name: str, place: str) -> bool:
 
 def replace_file(place: str, data: bytes) -> None:
     """Puts a file with these bytes in place of one, or of none, and leaves nothing else behind."""
-    mode = stat.S_IMODE(os.lstat(place).st_mode) if os.path.lexists(place) else None
+    found = os.lstat(place) if os.path.lexists(place) else None
+    mode = stat.S_IMODE(found.st_mode) if found and stat.S_ISREG(found.st_mode) else None
     new = os.path.join(os.path.dirname(place), f".ask-{os.getpid()}-{time.time_ns()}.new")
     try:
         with open(new, "xb") as file:

@@ -39,7 +39,8 @@ from ask.logs import number
 from ask.macros import has_words, written_out
 from ask.reports import verdict_of
 from ask.texts import (
-    CANNOT_READ, CANNOT_WRITE, LIMITS, TOO_LONG, Source, Trouble, escaped, read_file, reason_of, say, width_of, write_output,
+    CANNOT_READ, CANNOT_WRITE, LIMITS, TOO_LONG, Source, Trouble, escaped, read_file, reason_of, replace_file, say, width_of,
+    write_output,
 )
 from ask.units import UNITS, scaled
 
@@ -124,10 +125,10 @@ def log_of(path):
 
 
 def write(path, data):
-    """Writes a file, and the folders that it lies in."""
+    """Writes a file, whole or not at all, and the folders that it lies in."""
     try:
         path.parent.mkdir(parents=True, exist_ok=True)
-        path.write_bytes(data)
+        replace_file(str(path), data)
     except OSError as error:
         raise Trouble(CANNOT_WRITE, f"{shown(path)} can't be written: {reason_of(error)}") from None
 
@@ -394,7 +395,7 @@ def collect(questions):
                 questions.statuses[formula, log] = status_of_answer(status, report)
     count = sum(status == UNAVAILABLE for status in questions.statuses.values())
     if count:
-        tell(f"to {count} questions what the program wrote isn't what check writes with such a status")
+        tell(f"questions with status 72, since what the program wrote isn't what check writes with its status: {count}")
     lines = []
     for (formula, log), status in questions.statuses.items():
         formula_name, log_name = questions.name_of(formula, log)

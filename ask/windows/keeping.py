@@ -13,7 +13,7 @@ from pathlib import Path
 from typing import Any, Dict, Iterator, List, NamedTuple, Optional, Sequence, Tuple
 
 from ask.reports import verdict_of
-from ask.texts import CANNOT_READ, CANNOT_WRITE, NO_ROOM, Trouble, escaped, read_file, reason_of
+from ask.texts import CANNOT_READ, CANNOT_WRITE, NO_ROOM, Trouble, escaped, read_file, reason_of, replace_file
 from ask.words import USAGE
 from ask.windows.asking import Keep, Said, View, Whole
 from ask.windows.cuts import Ranges, Slice
@@ -67,9 +67,7 @@ class Folder(Keep):
         """Writes a file, whole or not at all."""
         try:
             path.parent.mkdir(parents=True, exist_ok=True)
-            new = path.with_name(path.name + ".new")
-            new.write_bytes(data)
-            os.replace(new, path)
+            replace_file(str(path), data)
         except OSError as error:
             raise Trouble(CANNOT_WRITE, f"{shown(path)} can't be written: {reason_of(error)}") from None
 

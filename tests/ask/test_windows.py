@@ -26,6 +26,7 @@ from ask.texts import Trouble
 from ask.windows import cuts, guard, shape, window
 from ask.windows.asking import Whole
 from ask.windows.bounds import Bounds, Contradiction
+from ask.windows.keeping import Folder
 from ask.windows.longlog import read_long_log
 from ask.windows.shape import shape_of
 from ask.windows.truth import Evaluator
@@ -390,6 +391,14 @@ class Folders(unittest.TestCase):
     def told(self, text):
         """What was said, but for how many runs it took."""
         return [line for line in text.splitlines() if "of the program told of them" not in line]
+
+    def test_a_file_is_written_whole_or_not_at_all(self):
+        folder = Folder(os.path.join(self.folder, "k"))
+        folder.write(folder.top / "index", b"before")
+        with mock.patch("os.replace", side_effect=OSError(28, "No space left on device")), self.assertRaises(Trouble) as raised:
+            folder.write(folder.top / "index", b"after")
+        self.assertEqual(raised.exception.status, 75)
+        self.assertEqual((os.listdir(folder.top), (folder.top / "index").read_bytes()), (["index"], b"before"))
 
     def test_other_questions_and_folders_are_refused(self):
         asked([*self.words, "--quiet"], self.folder)

@@ -2,6 +2,7 @@
 
 import os
 import re
+import resource
 import shutil
 import signal
 import subprocess
@@ -208,6 +209,17 @@ class GoingOn(WithRoom):
         self.assertEqual(run.returncode, 130, said)
         done = asked(words)
         self.assertEqual((done.returncode, done.stdout.splitlines()[1].split()[1:]), (66, ["1", "1", "1", "1", "0", "1"]))
+
+    def test_no_room_for_what_is_done(self):
+        words = self.words("--bundle", "1")
+        self.assertEqual(asked(words).returncode, 66)
+        before = {path: path.read_bytes() for path in self.to.iterdir() if path.is_file()}
+        done = subprocess.run(
+            [sys.executable, "-B", SCRIPT, *words], stdin=subprocess.DEVNULL, capture_output=True, text=True, timeout=PATIENCE,
+            preexec_fn=lambda: resource.setrlimit(resource.RLIMIT_FSIZE, (100, 100)),
+        )
+        self.assertEqual((done.returncode, done.stderr), (75, f"many_logs: {self.to}/jobs can't be written: File too large\n"))
+        self.assertEqual({path: path.read_bytes() for path in self.to.iterdir() if path.is_file()}, before)
 
     def test_a_machine_that_failed(self):
         missing = asked(self.words("--machines", ":", "--program", self.room / "nothing"))
