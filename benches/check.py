@@ -228,7 +228,7 @@ def built_program():
     """The built program of this folder, which is built where it isn't there."""
     name = ROOT / "crates/skewcheck/out/skewcheck"
     if not name.exists():
-        subprocess.run([ROOT / "skewcheck", "--"], stdin=subprocess.DEVNULL, capture_output=True)
+        subprocess.run([ROOT / "skewcheck", "--"], stdin=subprocess.DEVNULL, stdout=subprocess.DEVNULL)
     return str(name)
 
 

@@ -2,9 +2,14 @@
 # Prints how long the built program takes on logs of 8 to 1,024 rows, on files of 1 MiB and on long and
 # nested formulas, how long the differences of a log take, and the solver on 1,024 nodes.
 # Each time is the least of several runs, in milliseconds, start of the process included.
-cd "$(dirname "$0")/.." || exit 2
+refuse() {
+  echo "times.sh: $1" >&2
+  exit "$2"
+}
+
+cd "$(dirname "$0")/.." || refuse "the repository can't be entered" 74
 runs=${1:-20}
-folder=$(mktemp -d) || exit 2
+folder=$(mktemp -d) || refuse "no temporary folder can be made" 73
 trap 'rm -rf "$folder"' EXIT
 
 # A log of $1 rows over 4 hosts, whose clocks run apart by less than their skew; $2 is the rows' gap.
@@ -35,14 +40,18 @@ least() {
 }
 
 ./skewcheck -- </dev/null >/dev/null
-[ $? -eq 64 ] || exit 2
+[ $? -eq 64 ] || refuse "the program isn't built" 72
 printf '%-28s %12s  %s\n' "times" "milliseconds" "answer"
 for rows in 8 64 256 1024; do
   for gap in 1 3000; do
     log "$rows" "$gap" >"$folder/log"
     taken=$(least "$folder/log" ./crates/skewcheck/out/skewcheck times -)
     answer=$(head -n 1 "$folder/answer")
-    case $answer in inconsistent*) ;; *) answer="a timing" ;; esac
+    case $answer in
+      inconsistent*) ;;
+      [0-9]* | -[0-9]*) answer="a timing" ;;
+      *) answer="no answer" ;;
+    esac
     printf '%-28s %12s  %s\n' "$rows rows, gap $gap" "$taken" "$answer"
   done
 done
@@ -97,7 +106,7 @@ built() {
   shift
   if ! (cd "crates/$program" && rt run -- "$@") >"$folder/build" 2>&1; then
     cat "$folder/build" >&2
-    exit 2
+    refuse "crates/$program isn't built" 72
   fi
 }
 
@@ -121,7 +130,7 @@ done
 
 # What `logic_table` and `audit` answer to what is made for them.
 logic=./crates/logic_table/out/logic_table
-(cd crates/logic_table && rt run <stdin) >"$folder/build" 2>&1 || { cat "$folder/build" >&2; exit 2; }
+built logic_table <crates/logic_table/stdin
 make() { python3 benches/inputs.py "$@"; }
 
 runs=3

@@ -1,13 +1,20 @@
 #!/usr/bin/env bash
 # Runs the built program on logs with each of its allocations failing in turn. Each run has to write
 # nothing and end with 70, or with 71 before there are words, or to answer as with ample memory.
-# The program is the built one of this folder, or the one that SKEWCHECK names. Needs a C compiler, `cc`. The status is 0 where all runs did so.
-cd "$(dirname "$0")/.." || exit 2
+# The program is the built one of this folder, or the one that SKEWCHECK names. Needs a C compiler, `cc`. The status is
+# 0 where all runs did so, 1 where one didn't, and from 72 on where they can't be tried.
+refuse() {
+  echo "allocations.sh: $1" >&2
+  exit "$2"
+}
+
+cd "$(dirname "$0")/.." || refuse "the repository can't be entered" 74
 program=${SKEWCHECK:-./crates/skewcheck/out/skewcheck}
-folder=$(mktemp -d) || exit 2
+[ -n "${SKEWCHECK-}" ] || [ -x "$program" ] || ./skewcheck -- </dev/null >/dev/null
+[ -x "$program" ] || refuse "$program isn't there" 72
+folder=$(mktemp -d) || refuse "no temporary folder can be made" 73
 trap 'rm -rf "$folder"' EXIT
-cc -shared -fPIC -O1 -o "$folder/fail_alloc.so" faults/fail_alloc.c -ldl || exit 2
-[ -x "$program" ] || ./skewcheck -- </dev/null >/dev/null
+cc -shared -fPIC -O1 -o "$folder/fail_alloc.so" faults/fail_alloc.c -ldl || refuse "cc makes no library of faults/fail_alloc.c" 72
 
 runs=0
 wrong=0
@@ -17,6 +24,11 @@ try() {
   local input=$1 due status total
   shift
   total=$(TELL_ALLOCS=1 LD_PRELOAD=$folder/fail_alloc.so "$program" "$@" <"$input" 2>&1 >"$folder/due")
+  if ! [[ $total =~ ^[1-9][0-9]*$ ]]; then
+    wrong=$((wrong + 1))
+    echo "words $*: no allocation was counted: $total"
+    return
+  fi
   "$program" "$@" <"$input" >"$folder/due"
   due=$?
   for ((place = 1; place <= total; place++)); do
@@ -82,4 +94,4 @@ try README.md times -
 try /dev/null times -x
 try /dev/null
 echo "$runs runs, $wrong wrong"
-[ "$wrong" -eq 0 ]
+[ "$wrong" -eq 0 ] && [ "$runs" -gt 0 ]

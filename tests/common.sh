@@ -13,5 +13,5 @@ for package in python3 "${needs[@]}"; do
 done
 [ "${runs_program-yes}" = yes ] || return 0
 export SKEWCHECK=${SKEWCHECK:-$PWD/crates/skewcheck/out/skewcheck}
-[ -x "$SKEWCHECK" ] || ./skewcheck -- </dev/null >/dev/null
-[ -x "$SKEWCHECK" ] || exit 72
+[ -x "$SKEWCHECK" ] || [ "$SKEWCHECK" != "$PWD/crates/skewcheck/out/skewcheck" ] || ./skewcheck -- </dev/null >/dev/null
+[ -x "$SKEWCHECK" ] || { echo "$folder: $SKEWCHECK isn't there" >&2; exit 72; }

@@ -65,7 +65,7 @@ def run_beside(folder, words):
         if process.returncode == WRONG_WORDS:
             sys.exit(WRONG_WORDS)
         closing = CLOSING.findall(said)
-        numbers = map(int, closing[-1]) if closing else (0, 1)
+        numbers = map(int, closing[-1]) if closing and process.returncode in (0, 1) else (0, 1)
         passed, failed = (sum(pair) for pair in zip((passed, failed), numbers))
         left_out += len(re.findall("^left out: ", said, re.M))
     return Counts(passed, failed, left_out)

@@ -87,7 +87,10 @@ def outcome_of(program, words, folder=EXAMPLES):
 
 def differences_of_runs(program, is_written):
     """What differs in the listed runs, as lines."""
-    for run in listed_runs():
+    runs = list(listed_runs())
+    if not runs:
+        yield "runs.txt lists no run"
+    for run in runs:
         title = " ".join(run.words)
         outcome = outcome_of(program, run.words)
         if outcome.status != run.status:
@@ -159,6 +162,14 @@ def pages():
     return [ROOT / "README.md", *sorted((ROOT / "docs").glob("*.md"))]
 
 
+def commands_to_run():
+    """The commands of the pages that are run here, each with its page and what stands below it."""
+    for page in pages():
+        for command, shown in shown_commands(page):
+            if page.name not in ELSEWHERE and any(word in command for word in SHOWN):
+                yield page, command, shown
+
+
 def is_left_out(command):
     """Whether a command of a page needs what isn't here, which is told."""
     if "jq " not in command or shutil.which("jq"):
@@ -169,16 +180,18 @@ def is_left_out(command):
 
 def differences_of_pages(program):
     """What differs between the pages and what the program writes, as lines."""
-    for page in pages():
-        for command, shown in shown_commands(page):
-            if page.name in ELSEWHERE or not any(word in command for word in SHOWN) or is_left_out(command):
-                continue
-            done = subprocess.run(
-                ["bash", "-c", command.replace("./skewcheck", shlex.quote(program))], cwd=ROOT,
-                stdin=subprocess.DEVNULL, capture_output=True, text=True, timeout=PATIENCE,
-            )
-            if done.stdout != shown:
-                yield f"{page.name}: {command}: it writes {done.stdout!r}, not {shown!r}"
+    commands = list(commands_to_run())
+    if not commands:
+        yield "no page shows a command that is run"
+    for page, command, shown in commands:
+        if is_left_out(command):
+            continue
+        done = subprocess.run(
+            ["bash", "-c", command.replace("./skewcheck", shlex.quote(program))], cwd=ROOT,
+            stdin=subprocess.DEVNULL, capture_output=True, text=True, timeout=PATIENCE,
+        )
+        if done.stdout != shown:
+            yield f"{page.name}: {command}: it writes {done.stdout!r}, not {shown!r}"
 
 
 # Clauses
@@ -194,10 +207,12 @@ def differences_of_clauses():
     """The quoted clauses that don't stand in the code, blanks apart, as lines."""
     sources = sorted((ROOT / "crates").glob("*/src/**/*.rt"))
     code = " ".join(word for source in sources for word in source.read_text().split())
-    for page in pages():
-        for clause in quoted_clauses(page):
-            if " ".join(clause.split()) not in code:
-                yield f"{page.name}: no function has the clause {clause}"
+    quoted = [(page, clause) for page in pages() for clause in quoted_clauses(page)]
+    if not quoted:
+        yield "no page quotes a clause"
+    for page, clause in quoted:
+        if " ".join(clause.split()) not in code:
+            yield f"{page.name}: no function has the clause {clause}"
 
 
 # Refusals

@@ -74,22 +74,26 @@ class Refusals(WithRoom):
         self.assertRefused(["--dist", self.room / "d.tar"], 66, "isn't there", SKEWCHECK=str(self.room / "nothing"))
 
     def test_a_program_older_than_its_sources(self):
-        source = self.room / "tree" / "crates" / "skewcheck" / "src" / "main.rt"
-        program = source.parent.parent / "out" / "skewcheck"
-        for path in (source, program, self.room / "tree" / "docs" / "usage.md"):
-            path.parent.mkdir(parents=True, exist_ok=True)
-        shutil.copy(ROOT / "install", self.room / "tree")
-        shutil.copy(ROOT / "crates.txt", self.room / "tree")
-        source.write_text("")
-        shutil.copy(PROGRAM, program)
-        os.utime(program, (0, 0))
+        top = self.room / "tree"
+        sources, out = (top / "crates" / "skewcheck" / name for name in ("src", "out"))
+        for folder in (sources, out):
+            folder.mkdir(parents=True)
+        for name in ("install", "crates.txt"):
+            shutil.copy(ROOT / name, top)
+        for name in ("main.rt", "other.rt"):
+            (sources / name).write_text("")
+        shutil.copy(PROGRAM, out / "skewcheck")
         environment = {name: value for name, value in os.environ.items() if name != "SKEWCHECK"}
-        before = tree(self.room)
-        done = subprocess.run(
-            [self.room / "tree" / "install", "--prefix", self.prefix], env=environment, capture_output=True, text=True,
-        )
-        self.assertEqual((done.returncode, tree(self.room)), (66, before))
-        self.assertIn("is older than", done.stderr)
+        for change, named in (
+            ((sources / "main.rt").touch, sources / "main.rt"), ((sources / "other.rt").unlink, sources), ((top / "crates.txt").touch, top / "crates.txt"),
+        ):
+            for path in top.rglob("*"):
+                os.utime(path, (0, 0))
+            change()
+            before = tree(self.room)
+            done = subprocess.run([top / "install", "--prefix", self.prefix], env=environment, capture_output=True, text=True)
+            self.assertEqual((done.returncode, tree(self.room)), (66, before))
+            self.assertIn(f"the program is older than {named};", done.stderr)
 
     def test_a_prefix_that_takes_nothing(self):
         (self.room / "file").write_text("")

@@ -24,6 +24,16 @@ class Case(unittest.TestCase):
             self.assertEqual(process.wait(10), -number)
 """
 
+DYING = """
+import atexit, os, unittest
+
+atexit.register(os.kill, os.getpid(), 9)
+
+class Case(unittest.TestCase):
+    def test(self):
+        pass
+"""
+
 # Each script with words that are wrong for it: an option that it hasn't, and where it has operands, none of them.
 UNKNOWN = ["--no-such-option"]
 COMPARISONS = sorted(path.name for path in (ROOT / "tests" / "reference").glob("compare*.py") if path.stem != "compare_best")
@@ -192,6 +202,12 @@ class Scripts(unittest.TestCase):
         done = self.outcome("tests/unittests.py", str(ROOT / "tests" / "names"), "--side-by-side", *UNKNOWN)
         self.assertEqual((done.returncode, done.stderr), (64, ""))
 
+    def test_a_part_that_dies_behind_its_closing_line(self):
+        with tempfile.TemporaryDirectory() as folder:
+            Path(folder, "test_part.py").write_text(DYING)
+            done = self.outcome("tests/unittests.py", folder, "--side-by-side")
+        self.assertEqual((done.returncode, done.stdout.splitlines()[-2:]), (1, ["1 passed, 0 failed", "0 passed, 1 failed"]))
+
     def test_cases_heed_signals_that_are_ignored(self):
         """What `nohup`, or a shell in the background, has its commands ignore ends a program that a case begins."""
         with tempfile.TemporaryDirectory() as folder:
@@ -219,6 +235,16 @@ class Scripts(unittest.TestCase):
                 done = self.outcome(f"tests/reference/{name}", "/no/program", "--cases", "1")
                 self.assertEqual(done.returncode, 74)
                 self.assertEqual(done.stderr, f"tests/reference/{name}: /no/program: No such file or directory\n")
+
+    def test_a_named_program_that_is_not_there(self):
+        for name in ("tests/ask/run", "tests/edge/run", "tests/install/run"):
+            with self.subTest(name):
+                done = subprocess.run(
+                    [ROOT / name], stdin=subprocess.DEVNULL, capture_output=True, text=True, timeout=PATIENCE,
+                    env=environment(SKEWCHECK="/no/program"),
+                )
+                self.assertEqual((done.returncode, done.stdout), (72, ""))
+                self.assertEqual(done.stderr, f"{name[:-4]}: /no/program isn't there\n")
 
     def test_inputs_that_are_not_right(self):
         with tempfile.TemporaryDirectory() as folder:

@@ -152,6 +152,15 @@ class Trouble(WithRepository):
         self.assertEqual((done.returncode, done.stdout), (72, ""))
         self.assertNothingLeft()
 
+    def test_what_another_run_puts_stays(self):
+        out = self.top / "crates" / "skewcheck" / "out"
+        out.mkdir()
+        (out / "skewcheck.new.1").write_text("")
+        self.assertEqual(self.asked("demo", "7", FAILS="high").returncode, 72)
+        self.assertEqual(os.listdir(out), ["skewcheck.new.1"])
+        self.assertEqual(self.asked("demo", "7").returncode, 3)
+        self.assertEqual(sorted(os.listdir(out)), ["built", "skewcheck", "skewcheck.new.1"])
+
     def test_signals_leave_nothing(self):
         for number in (signal.SIGTERM, signal.SIGHUP, signal.SIGINT):
             process = subprocess.Popen(
