@@ -60,7 +60,7 @@ class Search:
         self.runs = 0
 
     def takes_back(self, rows: Sequence[int]) -> bool:
-        """Takes back what it can of all shifts of rows, then of halves of them and so on; whether it took back any."""
+        """Takes back what it can of all shifts of rows, then of halves and so on; whether it took back some and left some."""
         shifted = [event for event in rows if self.times[event] != self.stamps[event]]
         before, size = len(shifted), len(shifted)
         while shifted and size:

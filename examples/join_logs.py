@@ -5,7 +5,7 @@ Run as: python3 join_logs.py LOG.. [--latency HOST,LEAST,GREATEST]..
 The rows of each log keep their order, and a resync its place among them. A receive whose message is sent in none of
 the logs becomes a note of the same name, since its send was cut away. A send that nobody receives is a row as any
 other. With --latency, which may be given again, the messages to HOST took from LEAST to GREATEST, which may be `inf`.
-The log is of version 2 where something in it asks for it. `./ask/ask log --help` has what else there is.
+The log is of the least version that has what it says. `./ask/ask log --help` has what else there is.
 """
 
 import sys
