@@ -20,6 +20,7 @@ pub use fault::RuleFault;
 pub use laws::{clauses_have_atoms_once, rules_are_within_table, rules_hold};
 pub use literal::{Atom, Literal, order_literal};
 pub use needless::{Needless, OfReach};
+pub use proposition::{ChangeList, ChangeRow, PropositionRows, PulseList};
 pub use reach::Reach;
 pub use rule::{
     Argument, CHANGE_LASTS, CONJUNCTION_COVERS, CONJUNCTION_HAS_LEFT, CONJUNCTION_HAS_RIGHT,

@@ -151,6 +151,17 @@ impl Rules {
         }
     }
 
+    /// The rows that tell of the proposition of a number; none where there is no such node or it is none. Takes no
+    /// memory.
+    pub fn rows_at(&self, k: u32) -> Option<&PropositionRows>
+        ensures rows { proposition_in (shape_at self.now k) ≡ option_copied result }
+    {
+        match self.shape(k) {
+            Some(Shape::Prop { rows, .. }) => Some(rows),
+            _ => None,
+        }
+    }
+
     /// How many changes the proposition of a number has, and 0 where there is no such node or it is none. Takes no memory.
     pub fn change_count(&self, k: u32) -> u32
         ensures count { result ≡ option_map_or (λ changes. length changes) (changes_in (shape_at self.now k)) 0 }

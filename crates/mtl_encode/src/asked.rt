@@ -135,11 +135,14 @@ pub struct AskedClauses {
 
 impl Asked {
     // Adds an instance that a literal asks for, whose negation is the head of its clause, but where it has no clause or the
-    // bounds make that true.
+    // bounds make that true, or it is there.
     fn add(&mut self, scene: Scene<'_>, head: Literal, rule: Rule) -> Result<(), AllocError>
         requires held { IsHeld scene.rules.now self.old.held }
         ensures held { OnOk result (IsHeld scene.entry.rules.now self.new.held) }
     {
+        if self.held.has(rule) {
+            return Ok(());
+        }
         if self.left.is_used_up(rule) {
             self.is_cut = true;
             return Ok(());

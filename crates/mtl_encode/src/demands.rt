@@ -1,7 +1,7 @@
 //! What a literal asks for: the instances that say what follows from it.
 
 use crate::needless::is_dead;
-use crate::scene::Scene;
+use crate::scene::{Scene, sets_at};
 use axiom_rules::{
     Atom, CHANGE_LASTS, CONJUNCTION_COVERS, CONJUNCTION_HAS_LEFT, CONJUNCTION_HAS_RIGHT,
     CONSTANT_IS_TRUE, FIRST_HAS_VALUE, FIRST_IS_NOT_AFTER, FREE_WITNESS_COVERS, GAP_IS_AHEAD,
@@ -30,19 +30,20 @@ impl Asking<'_> {
 
     // A proposition: the changes that it can follow.
     fn ask_proposition(&mut self, k: u32, e: u32, positive: bool) -> Result<(), AllocError> {
-        let Some(told) = self.scene.told.get(k as usize) else {
+        let Some(rows) = self.scene.rules.rows_at(k) else {
             return Ok(());
         };
+        let changes = rows.changes.as_slice();
         if positive {
             self.add(TRUTH_HAS_CAUSE, [k, e, 0, 0])?;
         }
-        for place in self.scene.places(told, e) {
-            if told.sets_at(place) != Some(positive) {
+        for place in self.scene.places(changes, e) {
+            if sets_at(changes, place) != Some(positive) {
                 self.add(CHANGE_LASTS, [k, e, place, 0])?;
             }
         }
         if !positive {
-            for place in self.scene.pulses(told, e) {
+            for place in self.scene.pulses(rows.pulses.as_slice(), e) {
                 self.add(PULSE_GIVES_TRUTH, [k, e, place, 0])?;
             }
         }

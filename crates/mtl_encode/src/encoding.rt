@@ -14,7 +14,6 @@ ghost use Rattle.mtl_encode.specs.Models.{GivesTimings};
 ghost use Rattle.mtl_encode.specs.Problems.{Fits};
 
 use crate::asked::{AskedClauses, Most, asked_of};
-use crate::changes::told_by;
 use crate::clauses::Clauses;
 use crate::known::known_by;
 use crate::scene::Scene;
@@ -144,15 +143,13 @@ pub fn encode_asked(
     log_is_valid(question.log());
     let (log, nodes) = (question.log(), question.nodes());
     let rules = Rules::new(alloc, log, nodes.arena(), nodes.root(), value)?;
-    let told = told_by(alloc, log, nodes.arena())?;
     let windows = Windows::new(alloc, tight, rules.events())?;
-    let known = known_by(alloc, &rules, nodes.arena(), tight, &windows, &told)?;
+    let known = known_by(alloc, &rules, nodes.arena(), tight, &windows)?;
     let scene = Scene {
         rules: &rules,
         arena: nodes.arena(),
         tight,
         windows: &windows,
-        told: &told,
         known: &known,
     };
     let AskedClauses { clauses, is_cut } = asked_of(alloc, scene, most)?;

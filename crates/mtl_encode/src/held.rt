@@ -48,6 +48,12 @@ impl Held {
         rules.len() < MOST && literals <= MOST && atoms.len() as usize <= MOST - literals
     }
 
+    /// Whether an instance is there.
+    pub fn has(&self, rule: Rule) -> bool {
+        let Rule { number, args } = rule;
+        self.instances.contains(&Instance { number, args })
+    }
+
     /// Adds an instance with its clause, which stands in the workspace: whether it did. It doesn't where the instance is
     /// there, or where there is no room.
     pub fn add(

@@ -3,13 +3,12 @@
 ghost use Rattle.std.specs.Prelude.{◌≡◌, ◌↔◌, ◌≤ℤ◌, ◌<ℤ◌, true, false, None, Some};
 ghost use Rattle.question.specs.Extremes.{extremes_of};
 
-use crate::changes::Told;
 use crate::needless::{
     is_always_before, is_always_from, is_always_up_to, is_dead, is_never_before,
 };
-use crate::scene::Scene;
+use crate::scene::{Scene, sets_at};
 use crate::windows::Windows;
-use axiom_rules::{Atom, Literal, Reach, Rules};
+use axiom_rules::{Atom, ChangeRow, Literal, Reach, Rules};
 use formula_arena::{Arena, Core, Direction};
 use mt_model::NodeId;
 use question::{farthest, greatest_between, least_between, nearest};
@@ -64,7 +63,6 @@ pub fn known_by(
     arena: &Arena,
     tight: &Tight,
     windows: &Windows,
-    told: &[Told],
 ) -> Result<Known, AllocError> {
     let mut known = Known::new(alloc);
     for k in 0..arena.len() {
@@ -73,7 +71,6 @@ pub fn known_by(
             arena,
             tight,
             windows,
-            told,
             known: &known,
         };
         let column = column_of(alloc, scene, k)?;
@@ -148,31 +145,32 @@ impl Scene<'_> {
 
     // The value of a proposition: the same after all changes that it can follow, or true at a pulse.
     fn proposition_value(self, k: u32, e: u32) -> Option<bool> {
-        let told = self.told.get(k as usize)?;
-        let pulses = self.pulses(told, e);
-        let pulsed = pulses.start < pulses.end;
-        for place in pulses {
-            if told.pulse_row(place as usize) == Some(e) {
+        let rows = self.rules.rows_at(k)?;
+        let pulses = rows.pulses.as_slice();
+        let places = self.pulses(pulses, e);
+        let pulsed = places.start < places.end;
+        for place in places {
+            if pulses.get(place as usize).copied() == Some(e) {
                 return Some(true);
             }
         }
-        match self.changed_value(told, e) {
+        match self.changed_value(rows.changes.as_slice(), e) {
             Some(false) if pulsed => None,
             value => value,
         }
     }
 
     // The value after all changes that an event can follow.
-    fn changed_value(self, told: &Told, e: u32) -> Option<bool> {
-        let Some(first) = told.changes.first() else {
+    fn changed_value(self, changes: &[ChangeRow], e: u32) -> Option<bool> {
+        let Some(first) = changes.first() else {
             return Some(false);
         };
         let mut value = None;
-        if greatest_between(self.tight, e, first.row) > 0 {
+        if greatest_between(self.tight, e, first.row()) > 0 {
             value = Some(false);
         }
-        for place in self.places(told, e) {
-            let set = told.sets_at(place);
+        for place in self.places(changes, e) {
+            let set = sets_at(changes, place);
             if value.is_some() && value != set {
                 return None;
             }

@@ -3,7 +3,6 @@
 #![tactic(auto)]
 
 mod asked;
-mod changes;
 mod clauses;
 mod demands;
 mod encoding;

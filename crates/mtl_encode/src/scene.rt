@@ -1,30 +1,48 @@
 //! What is known of a question while its instances are asked for.
 
-use crate::changes::Told;
 use crate::known::Known;
 use crate::needless::{is_never_from, is_never_up_to};
 use crate::windows::{Placed, Windows, passing};
-use axiom_rules::{Literal, Reach, Rules};
+use axiom_rules::{ChangeRow, Literal, Reach, Rules};
 use formula_arena::{Arena, Direction};
 use question::{farthest, greatest_between, least_between, nearest};
 use skew_bounds::Tight;
 use std::ops::Range;
 
-/// The rules, the nodes, how far apart events are, the rows by their times, what is told of each node, and what is known of
-/// it.
+/// The rules, the nodes, how far apart events are, the rows by their times, and what is known of each node.
 #[derive(Clone, Copy)]
 pub struct Scene<'a> {
     pub rules: &'a Rules,
     pub arena: &'a Arena,
     pub tight: &'a Tight,
     pub windows: &'a Windows,
-    pub told: &'a [Told],
     pub known: &'a Known,
 }
 
 // A place as an argument of a rule.
 fn narrow(place: usize) -> u32 {
     u32::try_from(place).unwrap_or(u32::MAX)
+}
+
+// The row of the change at a place.
+fn row_of_change(changes: &[ChangeRow], at: usize) -> Option<u32> {
+    match changes.get(at) {
+        Some(change) => Some(change.row()),
+        None => None,
+    }
+}
+
+// The row of the pulse at a place.
+fn row_of_pulse(pulses: &[u32], at: usize) -> Option<u32> {
+    pulses.get(at).copied()
+}
+
+/// Whether the change at a place sets the proposition.
+pub fn sets_at(changes: &[ChangeRow], at: u32) -> Option<bool> {
+    match changes.get(at as usize) {
+        Some(change) => Some(change.sets()),
+        None => None,
+    }
 }
 
 impl<'a> Scene<'a> {
@@ -113,21 +131,24 @@ impl<'a> Scene<'a> {
     }
 
     /// The places of the changes that an event can follow, before the next one.
-    pub fn places(self, told: &Told, e: u32) -> Range<u32> {
-        let count = told.changes.len();
+    pub fn places(self, changes: &[ChangeRow], e: u32) -> Range<u32> {
+        let count = changes.len();
         let start = passing(
             count,
-            |at| self.is_never_after(told.change_row(at.saturating_add(1)), e),
+            |at| self.is_never_after(row_of_change(changes, at.saturating_add(1)), e),
         );
-        let end = passing(count, |at| self.may_be_up_to(told.change_row(at), e));
+        let end = passing(count, |at| self.may_be_up_to(row_of_change(changes, at), e));
         narrow(start)..narrow(end)
     }
 
     /// The places of the pulses at whose instant an event can be.
-    pub fn pulses(self, told: &Told, e: u32) -> Range<u32> {
-        let count = told.pulses.len();
-        let start = passing(count, |at| self.is_always_before(told.pulse_row(at), e));
-        let end = passing(count, |at| self.may_be_up_to(told.pulse_row(at), e));
+    pub fn pulses(self, pulses: &[u32], e: u32) -> Range<u32> {
+        let count = pulses.len();
+        let start = passing(
+            count,
+            |at| self.is_always_before(row_of_pulse(pulses, at), e),
+        );
+        let end = passing(count, |at| self.may_be_up_to(row_of_pulse(pulses, at), e));
         narrow(start)..narrow(end)
     }
 }
