@@ -182,6 +182,17 @@ class Unreached(WithCrates):
                    "    ensures { IsTrue result ↔ ((0 < x) × (x < 10)) }\n{\n    true\n}\n")
         self.assertNotIn("is_right", "".join(self.outcome("unreached")[1]))
 
+    def test_test_of_a_statement_that_has_a_short_name(self):
+        self.write("crates/low/specs/Small.antt", "-- x is small\nabbrev pub IsSmall : ℕ → Type 0\nIsSmall n = (n < 10)\n")
+        self.assertEqual(self.with_tests("ensures { IsTrue result ↔ IsSmall x.now }"), [])
+        self.assertEqual(self.with_tests("ensures { IsTrue result ↔ IsSmall y.now }"), ["is_right", "helps_0"])
+        self.assertEqual(self.with_tests("ensures { IsTrue result ↔ IsLarge x.now }"), ["is_right", "helps_0"])
+
+    def test_of_these_crates_nothing(self):
+        done = subprocess.run([ROOT / "tests" / "clauses" / "unreached"], stdin=subprocess.DEVNULL, capture_output=True,
+                              text=True, timeout=PATIENCE)
+        self.assertEqual((done.returncode, done.stdout), (0, "0 unreached, 0 lines\n"))
+
     def test_crates_that_are_named(self):
         self.assertEqual(self.outcome("unreached", "skewcheck"), (0, ["0 unreached, 0 lines"], ""))
         self.assertEqual(self.outcome("unreached", "low")[1][-1], "1 unreached, 3 lines")
