@@ -1,11 +1,11 @@
 //! The edges of the bounds alone, and the walks that they close with one more.
 
-ghost use Rattle.std.specs.Prelude.{◌≡◌, ◌<◌, ◌∷◌, ◌++◌, [], length, IfOk, IsTrue};
+ghost use Rattle.std.specs.Prelude.{◌≡◌, ◌<◌, ◌∷◌, ◌++◌, [], length, false, IfOk, IsTrue};
 ghost use Rattle.neg_cycle.specs.Systems.{IsEdge, IsNegativeCycle, VisitsOnce};
 ghost use Rattle.neg_cycle.specs.Systems.{IsWithin};
 ghost use Rattle.neg_cycle.specs.declared.system.TheConstants.{MAX_BOUND};
 ghost use Rattle.cdcl_core.specs.Closing.{AreClosed};
-ghost use Rattle.difference_graph.specs.Graphs.{HasSameLimits, IsSolved};
+ghost use Rattle.difference_graph.specs.Graphs.{HasSameLimits, HasSolution, IsSolved};
 
 use difference_graph::{Graph, Push, graphs_are_solved};
 use neg_cycle::Edge;
@@ -53,6 +53,7 @@ impl Ground {
         ensures edges { self.new.edges ≡ self.old.edges }
         ensures cycle { IfOk result (λ refused. IsTrue refused → IsNegativeCycle (self.old.edges ++ edge ∷ []) self.new.cycle) }
         ensures once { IfOk result (λ refused. IsTrue refused → VisitsOnce (self.old.edges ++ edge ∷ []) self.new.cycle) }
+        ensures solved { IfOk result (λ refused. refused ≡ false → HasSolution self.old.nodes (self.old.edges ++ edge ∷ [])) }
     {
         self.walk.clear();
         let mark = self.graph.mark();
