@@ -142,6 +142,11 @@ def unasked(what: str, run: Optional[Run]) -> Caution:
     return Caution("unasked", f"{what} isn't known: {why}", run.words if run else None)
 
 
+def wanting_words(word: str) -> str:
+    """What is asked of a value that the formula may have only since no rows come after the last one."""
+    return f"whether the formula is {word} only for want of rows after the last one"
+
+
 def cautions_of_the_end(question: Question, log: Log, tree: Tree, values: Sequence[bool]) -> Iterator[Caution]:
     """Of the values that the formula has those that it has only since no rows come after the last one."""
     for value in values:
@@ -149,15 +154,14 @@ def cautions_of_the_end(question: Question, log: Log, tree: Tree, values: Sequen
         word = str(value).lower()
         changed = beyond_the_end(tree, wanted=not value)
         if parts_written(changed) > MOST_PARTS:
-            what = f"whether the formula is {word} only for want of rows after the last one"
-            yield Caution("unasked", f"{what} isn't known: the formula that asks it is too long")
+            yield Caution("unasked", f"{wanting_words(word)} isn't known: the formula that asks it is too long")
             continue
         text = text_of(changed)
         if text == text_of(tree):
             continue
         run = run_of(question, text)
         if run is None or run.status not in VERDICTS or f"\n{word} unknown ".encode() in run.output:
-            yield unasked(f"whether the formula is {word} only for want of rows after the last one", run)
+            yield unasked(wanting_words(word), run)
         elif run.status == status_of_other:
             yield Caution("end", (
                 f"the formula is {word} only where an interval reaches beyond the last row "

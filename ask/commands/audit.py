@@ -60,8 +60,10 @@ def audited(arguments: argparse.Namespace, program: Program, folder: Folder, tol
     formula = Source("the formula", str(told.get("formula")).encode())
     if read_formula(str(told.get("formula"))) is None:
         raise Fault("the folder has no formula")
-    options = [str(word) for word in told.get("options", [])]
-    asked = long_question(program, formula, source, options, True)
+    options = told.get("options", [])
+    if not isinstance(options, list):
+        raise Fault("the folder has no options")
+    asked = long_question(program, formula, source, [str(word) for word in options], True)
     assert asked
     count, can_be = shown_by(asked, folder, arguments)
     status = NO_TIMING if can_be is None else STATUSES.get((can_be[True], can_be[False]), 4)

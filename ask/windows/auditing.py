@@ -47,6 +47,8 @@ class Audit:
         can_hold = True if holding or can_fail is False else False if excluded else None
         found = {fail: True if can_hold is False else can_fail, not fail: can_hold}
         told = facts.get("can_be", {})
+        if not isinstance(told, dict):
+            raise Fault(f"{VERDICT} doesn't say which values there can be")
         for value, known in found.items():
             if told.get(str(value).lower()) not in (None, known):
                 raise Fault(f"the folder doesn't show what it says of {str(value).lower()}")

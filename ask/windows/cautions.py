@@ -2,11 +2,11 @@
 
 from __future__ import annotations
 
-from typing import Iterator, List
+from typing import Iterator, List, Union
 
-from ask.cautions import MOST_PARTS, Caution, cautions_without_runs
-from ask.formulas import Tree, beyond_the_end, made, parts_written, subtrees, text_of
-from ask.program import Stopped
+from ask.cautions import MOST_PARTS, Caution, cautions_without_runs, run_of, unasked, wanting_words
+from ask.formulas import beyond_the_end, made, parts_written, subtrees, text_of
+from ask.program import Run, Stopped
 from ask.question import VERDICTS, accepted_tree
 from ask.texts import Trouble
 from ask.words import shortened
@@ -68,32 +68,36 @@ def cautions_of_the_end(asked: LongQuestion, whole: Whole, verdict: Verdict) -> 
     """The value that the formula has only in windows at the end of the log, and there for want of later rows."""
     may = [said for said in verdict.findings.answers if said.can_fail]
     value = whole.shape.is_dual  # the value that one window gives the whole
-    if not verdict.can_be[value] or not may or len(may) > MOST_AT_THE_END or not all(is_at_end(whole, said) for said in may):
+    if not verdict.can_be[value] or not may or not all(is_at_end(whole, said) for said in may):
         return
     word = str(value).lower()
-    runs = ""
-    for said in may:
-        shown = ShownWindow(asked, whole.window(said.part, said.ranges))
-        changed = beyond_the_end(accepted_tree(shown.question.formula), wanted=not value)
-        if parts_written(changed) > MOST_PARTS or is_same(changed, shown):
+    told: List[Union[Run, Caution]] = []
+    for said in may[:MOST_AT_THE_END]:
+        found = told_of_the_end(ShownWindow(asked, whole.window(said.part, said.ranges)), value)
+        if found is None:
             return
-        try:
-            run = shown.question.check(text_of(changed))
-        except Stopped:
-            return
-        if run.status not in VERDICTS or run.status != (1 if value else 0):
-            return
-        runs = runs or run.words
-    yield Caution("end", (
+        told.append(found)
+    if len(may) > MOST_AT_THE_END:
+        told.append(Caution("unasked", f"{wanting_words(word)} isn't known: that would take more than {MOST_AT_THE_END} windows"))
+    yield next((one for one in told if isinstance(one, Caution)), None) or Caution("end", (
         f"the formula is {word} only where an interval reaches beyond the last row "
         f"(line {asked.log.rows.line[-1]}): where such an interval counts for the other value, it can't be {word}. "
         f"Later rows might change it"
-    ), runs)
+    ), told[0].words if isinstance(told[0], Run) else None)
 
 
-def is_same(changed: Tree, shown: ShownWindow) -> bool:
-    """Whether a formula is that of a window."""
-    return text_of(changed) == text_of(accepted_tree(shown.question.formula))
+def told_of_the_end(shown: ShownWindow, value: bool) -> Union[Run, Caution, None]:
+    """The run by which a window has a value only for want of later rows, or that it isn't known; None where it isn't so."""
+    word, tree = str(value).lower(), accepted_tree(shown.question.formula)
+    changed = beyond_the_end(tree, wanted=not value)
+    if parts_written(changed) > MOST_PARTS:
+        return Caution("unasked", f"{wanting_words(word)} isn't known: the formula that asks it is too long")
+    if text_of(changed) == text_of(tree):
+        return None
+    run = run_of(shown.question, text_of(changed))
+    if run is None or run.status not in VERDICTS or f"\n{word} unknown ".encode() in run.output:
+        return unasked(wanting_words(word), run)
+    return run if run.status == (1 if value else 0) else None
 
 
 def is_at_end(whole: Whole, said: Said) -> bool:

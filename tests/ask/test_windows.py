@@ -418,6 +418,8 @@ class Folders(unittest.TestCase):
             (whole / "index", "".join(index.splitlines(True)[1:])), (whole / "index", index.replace("\t0\t", "\t2\t", 1)),
             (report, report.read_text().replace("line 1", "line 2", 1).replace("rule 11", "rule 10", 1)),
             (times, times.read_text().replace("\n", "9\n", 1)), (whole / "verdict.json", json.dumps({"status": 3})),
+            (whole / "verdict.json", json.dumps({**json.loads((whole / "verdict.json").read_text()), "can_be": []})),
+            (whole / "question.json", json.dumps({**json.loads((whole / "question.json").read_text()), "options": 5})),
             (Path(self.folder, "l"), Path(self.folder, "l").read_text().replace(",p\n", ",r\n", 1)),
         ):
             before = path.read_bytes()
@@ -479,6 +481,22 @@ class Commands(unittest.TestCase):
             self.assertEqual([warning["kind"] for warning in facts_of_text(text)["warnings"]], kinds, said)
             self.assertEqual(ended, 65 if kinds else 0)
             self.assertEqual(asked(["deadline", formula, "l"], self.folder)[0], 0)
+
+    def test_warnings_of_the_end(self):
+        # The last row alone pulses p without a q behind it, and its interval goes on beyond the log.
+        with open(Path(self.folder, "l"), "a") as log:
+            log.write("pulse,a,20100,p\n")
+        self.assertEqual(self.kinds_of_warnings(), ["end"])
+        with mock.patch("ask.windows.cautions.run_of", return_value=None):
+            self.assertEqual(self.kinds_of_warnings(), ["unasked"])
+        with mock.patch("ask.windows.cautions.MOST_AT_THE_END", 0):
+            self.assertEqual(self.kinds_of_warnings(), ["unasked"])
+
+    def kinds_of_warnings(self):
+        """The kinds of warnings on a formula that is false."""
+        ended, text, said = asked(["check", "G (a.p -> F[0,9] b.q)", "l", "--json"], self.folder)
+        self.assertEqual(ended, 1, said)
+        return [warning["kind"] for warning in facts_of_text(text)["warnings"]]
 
     def test_each(self):
         ended, text, said = asked(["each", "G ({} -> F[0,9] b.q)", "l", "--over", r"\w+\.[pq]", "--json"], self.folder)
