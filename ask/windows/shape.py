@@ -65,7 +65,7 @@ def hint(tree: Tree) -> str:
     if tree.form in ("U", "S"):
         return "In place of `f U g` ask G (begin -> (f U[0,b] g)) with a bound b, and a row that begins it"
     if tree.form in TIMED and tree.interval != NO_BOUND:
-        return f"An interval at the top counts from the first row: leave it out, or ask a window of the log (ask log --help)"
+        return "An interval at the top counts from the first row: leave it out, or ask a window of the log (ask log --help)"
     return "At the first row alone it is asked of a window of the log (ask log --help)"
 
 

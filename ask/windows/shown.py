@@ -147,5 +147,3 @@ def lines_of(asked: LongQuestion, events: Sequence[int]) -> str:
     if not lines:
         return "no line"
     return f"line {lines[0]}" if len(lines) == 1 else f"lines {min(lines)} to {max(lines)}"
-
-
