@@ -11,7 +11,7 @@ from ask.logs import FIRST_FIELDS, MOST_ROW_NUMBER, NAME, OF_THIRD, ROW_KINDS, i
 from ask.refusals import log_in_json_words
 from ask.stamps import Stamp, stamp_fault, stamp_of
 from ask.texts import BYTE_ORDER_MARK, Source, Trouble
-from ask.words import USAGE, listed, shortened
+from ask.words import USAGE, counted, listed, shortened
 
 WRONG = 66  # the status where a file can't be made into a log
 MOST_NAME = 32
@@ -225,7 +225,7 @@ def fields_of_table(source: Source, keys: Keys) -> Iterator[Tuple[Fields, str]]:
     for record in records:
         where = f"{source.name}, line {record.line}"
         if len(record.fields) != len(heads):
-            raise Trouble(WRONG, f"{where}: it has {len(record.fields)} fields, and the first line {len(heads)}")
+            raise Trouble(WRONG, f"{where}: it has {counted(len(record.fields), 'field')}, and the first line {len(heads)}")
         yield dict(zip(heads, [part.strip() for part in record.fields])), where
 
 

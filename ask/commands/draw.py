@@ -23,7 +23,7 @@ from ask.refusals import refusal
 from ask.reports import Report, Step, Unreadable, read_report, steps_of
 from ask.texts import Source, Trouble, read_source, say
 from ask.units import add_unit_words, unit_facts
-from ask.words import Answer, broken_words
+from ask.words import Answer, broken_words, counted
 
 ANY = Source("true", b"true")  # a formula that every timing has, where only the timing is asked about
 REJECTED = 5  # the status of a report that doesn't hold
@@ -87,7 +87,7 @@ class Drawing:
 
     def __init__(self, question: Question, formula: Optional[Source]):
         self.question, self.formula = question, formula
-        self.remarks: List[str] = []  # on timings that were brought nearer to the stamps
+        self.remarks: List[str] = []  # on timings and reasons
         self.values: List[bool] = []  # that the formula has in the panels
         self.has_timing = True
 
@@ -174,7 +174,7 @@ class Drawing:
         if words[:2] == ["refused", "events"]:
             raise Trouble(
                 run.status,
-                f"{source.name} is a report on a log of {report.events} rows, and "
+                f"{source.name} is a report on a log of {counted(report.events, 'row')}, and "
                 f"{self.question.log_source.name} has {rows}",
             )
         return report

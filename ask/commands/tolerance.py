@@ -22,7 +22,7 @@ from ask.reports import Best
 from ask.texts import Source, Trouble
 from ask.units import add_unit_words, scale_of_source, unit_facts
 from ask.windows.opening import number_of_jobs
-from ask.words import USAGE, Answer, bold, most_words, table, walk_facts, walk_words
+from ask.words import USAGE, Answer, bold, counted, most_words, table, walk_facts, walk_words
 
 MOST_ROWS_SHOWN = 40
 
@@ -210,7 +210,7 @@ class Tolerance:
         shown = rows if self.is_all else rows[:MOST_ROWS_SHOWN]
         lines = table(["line", "host", "row", "stamp", "shift", "time", ""], shown, left=(1, 2, 6))
         rest = len(times) - len(shown)
-        return lines + ([f"  {rest} rows left out; --all shows all"] if rest else [])
+        return lines + ([f"  {counted(rest, 'row')} left out; --all shows all"] if rest else [])
 
 
 def widened_source(source: Source, amount: int) -> Source:
