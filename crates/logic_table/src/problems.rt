@@ -7,6 +7,7 @@ use crate::edges::numbers_of;
 use crate::writing::{push_atom, push_items, push_sign};
 use axiom_rules::{AtomTable, Rule};
 use clause_db::{ClauseRef, Db, Lit, Var};
+use mt_model::{Formula, Log};
 use mtl_encode::{Most, Problem, encode, encode_asked};
 use neg_cycle::Edge;
 use question::{MAX_SIZE, Nodes, Question, size_of, sizes_are_unique};
@@ -110,15 +111,25 @@ fn push_problem_of(alloc: Global, case: &LogicCase, out: &mut Vec<u8>) -> Option
     }
 }
 
-// The problem of the instances that the value sought of a case asks for, if the log admits some timing.
+// The problem of the instances that a value sought of a question asks for, if its log admits some timing.
+fn asked_by(alloc: Global, question: Question, value: bool) -> Option<Problem> {
+    let tight = tight(alloc, question.log()).ok()?;
+    let part = encode_asked(alloc, question, value, &tight, Most::ALL).ok()?;
+    Some(part.problem)
+}
+
+// The same of a log and a formula.
+fn asked_with(alloc: Global, log: &Log, f: &Formula, value: bool) -> Option<Problem> {
+    let nodes = Nodes::asked(alloc, log, f).ok()?;
+    let question = Question::new(alloc, log, &nodes).ok()?;
+    asked_by(alloc, question, value)
+}
+
+// The same of a case.
 fn asked_of(alloc: Global, case: &LogicCase) -> Option<Problem> {
     let log = case.log(alloc)?;
     let f = case.formula(alloc)?;
-    let nodes = Nodes::asked(alloc, &log, &f).ok()?;
-    let question = Question::new(alloc, &log, &nodes).ok()?;
-    let tight = tight(alloc, &log).ok()?;
-    let part = encode_asked(alloc, question, case.value(), &tight, Most::ALL).ok()?;
-    Some(part.problem)
+    asked_with(alloc, &log, &f, case.value())
 }
 
 // Adds the parts of that problem.

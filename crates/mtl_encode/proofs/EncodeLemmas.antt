@@ -10,7 +10,6 @@ use Rattle.mt_model.specs.Truth.{truth}
 use Rattle.mt_model.specs.Walks.{node_count_of}
 use Rattle.neg_cycle.specs.declared.system.Edge.{Edge}
 use Rattle.neg_cycle.specs.Systems.{IsEdge}
-use Rattle.skew_bounds.proofs.Settled.{system-of}
 use Rattle.formula_arena.specs.Nodes.{IsArena}
 use Rattle.formula_arena.specs.Subtrees.{same_form}
 use Rattle.axiom_rules.specs.declared.rule.Rule.{Rule}
@@ -58,44 +57,11 @@ few-atoms s out empty added none gained room =
     let literals : most_literals_of s added.rules ≡ most_literals_of s (instances s out) = ap (most_literals_of s) (all-listed s out empty added added.rules none gained refl) in
     omega (arith, room, literals, gained.clauses.few)
 
+pub few-listed : (s : Sought) (out : Rule → Bool) (rules : List Rule) → rules ≡ instances s out → HasRoom s (instances s out) → length rules ≤ 2 ^ 29
+few-listed s out rules all room = omega (arith, room, ap (most_literals_of s) all, few-rules s rules)
+
 pub lists-of : (s : Sought) (left : Sought → Rule → Bool) (rules : List Rule) → rules ≡ instances s (left s) → ListsRules s (left s) rules
 lists-of s left rules all = rw all (instances-listed s (left s))
-
--- the clauses of rules that are asked for fit what is sought, with the bounds and their edges
-pub fits-asked : (s : Sought) (asked held : Clauses) (bounds : List Bound) (edges : List Edge) (nodes : ℕ) → AreAsked s asked → AreClauses s held
-    → held.rules ≡ asked.rules → length held.atoms ≡ length asked.atoms
-    → IsLog s.log → bounds ≡ bounds_of s.log → AreEdges s.log bounds edges → All (IsEdge (node_count_of s.log)) edges → nodes ≡ node_count_of s.log
-    → Fits s (record { db = held.db; rules = held.rules; atoms = held.atoms; bounds = bounds; edges = edges; nodes = nodes })
-fits-asked s asked held bounds edges nodes are clauses rules atoms valid listed have within count = record {
-  count = clauses.count;
-  clauses = clauses.clauses;
-  atoms = clauses.atoms;
-  bounds = listed;
-  edges = have;
-  nodes = count;
-  system = rw count (system-of s.log bounds edges valid listed have within);
-  few_clauses = omega (arith, are.few_rules, ap length rules, clauses.count);
-  few_atoms = omega (arith, are.few_atoms, atoms);
-}
-
--- the clauses with the bounds and their edges fit what is sought
-pub fits-of : (s : Sought) (out : Rule → Bool) (held : Clauses) (bounds : List Bound) (edges : List Edge) (nodes : ℕ) → AreClauses s held
-    → held.rules ≡ instances s out → HasRoom s (instances s out)
-    → IsLog s.log → bounds ≡ bounds_of s.log → AreEdges s.log bounds edges → All (IsEdge (node_count_of s.log)) edges → nodes ≡ node_count_of s.log
-    → Fits s (record { db = held.db; rules = held.rules; atoms = held.atoms; bounds = bounds; edges = edges; nodes = nodes })
-fits-of s out held bounds edges nodes clauses all room valid listed are within count =
-    let literals : most_literals_of s held.rules ≡ most_literals_of s (instances s out) = ap (most_literals_of s) all in
-    record {
-      count = clauses.count;
-      clauses = clauses.clauses;
-      atoms = clauses.atoms;
-      bounds = listed;
-      edges = are;
-      nodes = count;
-      system = rw count (system-of s.log bounds edges valid listed are within);
-      few_clauses = omega (arith, room, literals, few-rules s held.rules, clauses.count);
-      few_atoms = omega (arith, room, literals, clauses.few);
-    }
 
 -- what a problem says whose rules are those that the differences of a log's events leave
 module _ (log : Logged) (f : Form) (v : Bool) (d : Differences) (p : Problem) (valid : IsLog log) (tight : IsTight log d) (lists : ListsRules (sought_of log f v) (out_by d (sought_of log f v)) p.rules) where

@@ -1,12 +1,14 @@
 //! The problem of a question and a value.
 
-ghost use Rattle.std.specs.Prelude.{◌≡◌, ◌≢◌, ◌+◌, AllPairs, length, IfOk};
+ghost use Rattle.std.specs.Prelude.{◌≡◌, ◌≢◌, ◌≤◌, ◌+◌, ◌^◌, AllPairs, length, IfOk};
 ghost use Rattle.mt_model.specs.Form.{Form};
 ghost use Rattle.skew_bounds.specs.System.{IsSystemOf};
 ghost use Rattle.skew_bounds.specs.Tight.{IsConsistent, IsTight};
 ghost use Rattle.formula_arena.specs.Nodes.{IsArena, nodes_of};
 ghost use Rattle.question.specs.Size.{IsSmall};
 ghost use Rattle.axiom_rules.specs.Sought.{sought_of};
+ghost use Rattle.mtl_encode.specs.Asked.{AreAsked};
+ghost use Rattle.mtl_encode.specs.Growth.{AreClauses};
 ghost use Rattle.mtl_encode.specs.Instances.{out_by};
 ghost use Rattle.mtl_encode.specs.Kept.{Kept};
 ghost use Rattle.mtl_encode.specs.Listing.{ListsRules};
@@ -25,6 +27,28 @@ use mt_model::{Log, NodeId, bounds_are_admissible, conflict_excludes_timings, lo
 use question::Question;
 use skew_bounds::{BoundSystem, Consistency, Tight, node_count, settle_by, system_of, tight_by};
 use std::alloc::{AllocError, Global};
+
+// The problem of these clauses for what is sought, with the bounds of its log and their edges.
+fn joined(sought: &Rules, clauses: Clauses, system: BoundSystem) -> Problem
+    requires clauses { AreClauses sought.now clauses }
+    requires few_rules { length clauses.rules ≤ 2 ^ 29 }
+    requires few_atoms { length clauses.atoms ≤ 2 ^ 29 }
+    requires system { IsSystemOf sought.now.log system }
+    ensures fits { Fits sought.now result }
+    ensures rules { result.rules ≡ clauses.rules }
+{
+    log_is_valid(sought.log());
+    let Clauses { db, rules, atoms } = clauses;
+    let BoundSystem { bounds, edges, .. } = system;
+    Problem {
+        db,
+        rules,
+        atoms,
+        bounds,
+        edges,
+        nodes: node_count(sought.log()),
+    }
+}
 
 // The problem for what is sought, of which the number of nodes is told, with the bounds of its log and their edges.
 fn problem_of(
@@ -47,15 +71,7 @@ fn problem_of(
     let mut clauses = Clauses::new(alloc);
     clauses.add_all(alloc, sought, tight, nodes)?;
     let ordered = clauses.in_order(alloc, sought)?;
-    let Clauses { db, rules, atoms } = ordered;
-    Ok(Problem {
-        db,
-        rules,
-        atoms,
-        bounds: system.bounds,
-        edges: system.edges,
-        nodes: node_count(sought.log()),
-    })
+    Ok(joined(sought, ordered, system))
 }
 
 /// The problem of a question and the value that is sought of its formula, where some timing is admissible and how far apart
@@ -124,6 +140,34 @@ pub fn encode(
     }
 }
 
+// The clauses of the instances that the value sought asks for, with so much of the long ones, over variables in the order in
+// which a search is to try their atoms.
+fn ordered_of(
+    alloc: Global,
+    rules: &Rules,
+    arena: &Arena,
+    tight: &Tight,
+    most: Most,
+) -> Result<AskedClauses, AllocError>
+    ensures { IfOk result (λ asked. AreAsked rules.now asked.clauses) }
+{
+    let windows = Windows::new(alloc, tight, rules.events())?;
+    let known = known_by(alloc, rules, arena, tight, &windows)?;
+    let scene = Scene {
+        rules,
+        arena,
+        tight,
+        windows: &windows,
+        known: &known,
+    };
+    let AskedClauses { clauses, is_cut } = asked_of(alloc, scene, most)?;
+    let ordered = clauses.in_order(alloc, rules)?;
+    Ok(AskedClauses {
+        clauses: ordered,
+        is_cut,
+    })
+}
+
 /// The problem of the instances that a value sought of a question's formula can ask for: of each literal that has to be true
 /// those that say what follows, from the rows on that can be first, by windows over the rows' least times. An instance is left
 /// out where the bounds make its clause true, and one whose clause is long where as much as `most` of its kind is there. An
@@ -141,33 +185,11 @@ pub fn encode_asked(
     ensures once { IfOk result (λ part. AllPairs (λ q r. q ≢ r) part.problem.rules) }
 {
     log_is_valid(question.log());
-    let (log, nodes) = (question.log(), question.nodes());
-    let rules = Rules::new(alloc, log, nodes.arena(), nodes.root(), value)?;
-    let windows = Windows::new(alloc, tight, rules.events())?;
-    let known = known_by(alloc, &rules, nodes.arena(), tight, &windows)?;
-    let scene = Scene {
-        rules: &rules,
-        arena: nodes.arena(),
-        tight,
-        windows: &windows,
-        known: &known,
-    };
-    let AskedClauses { clauses, is_cut } = asked_of(alloc, scene, most)?;
-    let ordered = clauses.in_order(alloc, &rules)?;
-    let Clauses {
-        db,
-        rules: listed,
-        atoms,
-    } = ordered;
-    let system = question.into_system();
-    let (bounds, edges) = (system.bounds, system.edges);
-    let problem = Problem {
-        db,
-        rules: listed,
-        atoms,
-        bounds,
-        edges,
-        nodes: node_count(log),
-    };
-    Ok(Part { problem, is_cut })
+    let nodes = question.nodes();
+    let rules = Rules::new(alloc, question.log(), nodes.arena(), nodes.root(), value)?;
+    let asked = ordered_of(alloc, &rules, nodes.arena(), tight, most)?;
+    Ok(Part {
+        problem: joined(&rules, asked.clauses, question.into_system()),
+        is_cut: asked.is_cut,
+    })
 }

@@ -1,5 +1,6 @@
+use Rattle.std.proofs.Common.{arith}
 use Rattle.std.proofs.lemmas.Result.{IfOk-from_err}
-use Rattle.mtl_encode.proofs.EncodeLemmas.{all-listed, few-atoms, fits-of, lists-of, room-first, room-of}
+use Rattle.mtl_encode.proofs.EncodeLemmas.{all-listed, few-atoms, few-listed, lists-of, room-first, room-of}
 use Rattle.mtl_encode.specs.Instances.{instances, out_by}
 use Rattle.mtl_encode.proofs.encoding.problem_of.Goals as goal
 
@@ -18,21 +19,30 @@ in_order-requires-clause-few c =
     few-atoms s (out_by c.args.tight.now s) c.new-clauses.result c.add_all.new.self c.new-clauses.ensures.rules c.in_ok-add_all.ensures
     (room-of c.cores_are_cores.ensures.equality s c.args.tight.now valid c.requires.arena c.requires.tight c.requires.small)
 
-pub returns-clause-fits : goal.returns-clause-fits
-returns-clause-fits c =
+pub joined-requires-clause-few_rules : goal.joined-requires-clause-few_rules
+joined-requires-clause-few_rules c =
     let s = c.args.sought.now in
     let valid = rw c.log.ensures.log at c.log_is_valid.ensures.valid in
-    fits-of s (out_by c.args.tight.now s) c.in_ok-ordered.ordered c.args.system.bounds c.args.system.edges _ c.in_ok-ordered.ensures.clauses
+    few-listed s (out_by c.args.tight.now s) c.in_ok-ordered.ordered.rules
     (all-listed s (out_by c.args.tight.now s) c.new-clauses.result c.add_all.new.self c.in_ok-ordered.ordered.rules c.new-clauses.ensures.rules c.in_ok-add_all.ensures c.in_ok-ordered.ensures.rules)
     (room-of c.cores_are_cores.ensures.equality s c.args.tight.now valid c.requires.arena c.requires.tight c.requires.small)
-    valid c.requires.system.bounds c.requires.system.edges c.requires.system.within
-    (rw c.log-2.ensures.log at c.node_count.ensures.count)
+
+pub joined-requires-clause-few_atoms : goal.joined-requires-clause-few_atoms
+joined-requires-clause-few_atoms c =
+    let s = c.args.sought.now in
+    let valid = rw c.log.ensures.log at c.log_is_valid.ensures.valid in
+    omega (
+      arith,
+      c.in_ok-ordered.ensures.atoms,
+      few-atoms s (out_by c.args.tight.now s) c.new-clauses.result c.add_all.new.self c.new-clauses.ensures.rules c.in_ok-add_all.ensures
+          (room-of c.cores_are_cores.ensures.equality s c.args.tight.now valid c.requires.arena c.requires.tight c.requires.small),
+    )
 
 pub returns-clause-lists : goal.returns-clause-lists
 returns-clause-lists c =
     let s = c.args.sought.now in
-    lists-of s (out_by c.args.tight.now) c.in_ok-ordered.ordered.rules
-    (all-listed s (out_by c.args.tight.now s) c.new-clauses.result c.add_all.new.self c.in_ok-ordered.ordered.rules c.new-clauses.ensures.rules c.in_ok-add_all.ensures c.in_ok-ordered.ensures.rules)
+    rw c.joined.ensures.rules (lists-of s (out_by c.args.tight.now) c.in_ok-ordered.ordered.rules
+    (all-listed s (out_by c.args.tight.now s) c.new-clauses.result c.add_all.new.self c.in_ok-ordered.ordered.rules c.new-clauses.ensures.rules c.in_ok-add_all.ensures c.in_ok-ordered.ensures.rules))
 
 pub returns-in_err-ordered-clause-fits : goal.returns-in_err-ordered-clause-fits
 returns-in_err-ordered-clause-fits c = IfOk-from_err _ _ c.from_residual-in_err-ordered.ensures.0
