@@ -154,3 +154,17 @@ def names() -> Names:
     for path in files():
         take_file(found, path)
     return found
+
+
+def needless(listed: str) -> Iterator[str]:
+    """The libraries that lines as those of crates.txt give a crate whose files don't name them."""
+    for line in listed.splitlines():
+        crate, _, libraries = line.partition(":")
+        if not crate[:1].isalpha():
+            continue
+        folder = ROOT / "crates" / crate
+        texts = [path.read_text() for part in ("src", "specs", "proofs") for path in (folder / part).rglob("*.*")]
+        named = {word for text in texts for word in re.findall(r"\w+", text)}
+        for library in libraries.split():
+            if library not in named:
+                yield f"{crate}: {library}"

@@ -1,4 +1,4 @@
-"""The names of the pages, and that what isn't there is found."""
+"""The names of the pages and of crates.txt, and that what isn't there is found."""
 
 import unittest
 
@@ -25,6 +25,16 @@ def case_of(page):
 
 for page in names.pages():
     setattr(Pages, f"test_{page.relative_to(repository.ROOT)}", case_of(page))
+
+
+class Libraries(unittest.TestCase):
+    """Crates name the libraries that crates.txt gives them."""
+
+    def test_no_crate_has_a_library_that_it_does_not_name(self):
+        self.assertEqual(list(repository.needless((repository.ROOT / "crates.txt").read_text())), [])
+
+    def test_a_library_that_is_not_named_is_found(self):
+        self.assertEqual(list(repository.needless("# a crate\nneg_cycle: mt_list mt_model\n")), ["neg_cycle: mt_model"])
 
 
 class Lacks(unittest.TestCase):
