@@ -234,8 +234,7 @@ class Findings:
         if view is None:
             return self.whole.slices(setting)
         slices = view.slices(setting)
-        asked = [part for part in slices if not view.is_empty(part)]
-        self.answers = [Said(part, [], 0, 0, False, True, is_of_pulses=True) for part in slices if view.is_empty(part)]
+        asked = self.seeing(view, slices)
         left: List[Slice] = []
         asker = Asker(view, setting)
         asker.runs, asker.largest = self.asker.runs, self.asker.largest
@@ -246,7 +245,12 @@ class Findings:
                 left.append(said.part)
             setting.told(len(self.answers), len(slices))
         self.asker.runs, self.asker.largest = asker.runs, asker.largest
-        return within(self.whole.slices(setting), left)
+        return self.seeing(view, within(self.whole.slices(setting), left))
+
+    def seeing(self, view: View, slices: Sequence[Slice]) -> List[Slice]:
+        """The slices in which a row of a view can be; the formula can't fail in the others, which are answered."""
+        self.answers += [Said(part, [], 0, 0, False, True, is_of_pulses=True) for part in slices if view.is_empty(part)]
+        return [part for part in slices if not view.is_empty(part)]
 
     def halves(self, said: Said) -> List[Slice]:
         """The halves of a slice whose window wasn't decided; none where they would have as many rows and are too large."""

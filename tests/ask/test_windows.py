@@ -21,15 +21,16 @@ import windows_agreement
 from ask import logs
 from ask.ends import OutOfTime
 from ask.formulas import read_formula
-from ask.program import Stopped, find_program
+from ask.program import Program, Stopped, find_program
 from ask.texts import Trouble
 from ask.windows import cuts, guard, shape, window
-from ask.windows.asking import Whole
+from ask.windows.asking import Setting, Whole
 from ask.windows.bounds import Bounds, Contradiction
 from ask.windows.keeping import Folder
 from ask.windows.longlog import read_long_log
 from ask.windows.shape import shape_of
 from ask.windows.truth import Evaluator
+from ask.windows.verdict import verdict_of_slices
 
 CASES = int(os.environ.get("CASES", "12"))
 READ = 400
@@ -257,6 +258,13 @@ class Verdicts(unittest.TestCase):
         self.assertEqual(told(log, "G !(a.p & b.q)"), (False, True))
         self.assertEqual(told(log, "G (b.q -> a.p)"), (True, False))
         self.assertEqual(told(log.replace("note,a,200,n", "clear,a,200,p"), "G !(a.p & b.q)"), (True, False))
+
+    def test_slices_without_a_pulse_that_the_formula_sees_are_not_asked(self):
+        log = read_long_log(steps(first="pulse,a,10,p", last="pulse,b,400,q", skew=1).encode())
+        for formula, right in (("F (a.p & O[0,388] b.q)", 1), ("F (b.q & O[0,389] a.p)", 2), ("F a.p", 0), ("G !a.p", 1), ("F (a.p | b.q)", 0), ("G (a.p -> O[0,9] b.q)", 1)):
+            verdict = verdict_of_slices(Whole(log, shape_of(read_formula(formula))), Setting(Program(find_program(None)), most=30, size=4))
+            self.assertEqual(verdict.status(), right, formula)
+            self.assertLess(verdict.findings.asker.runs, 4, formula)
 
     def test_until_across_slices(self):
         log = steps(first="set,a,10,p", last="pulse,b,400,q")
