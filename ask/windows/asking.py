@@ -16,6 +16,7 @@ from ask.windows.guard import pulses_seen
 from ask.windows.longlog import LongLog
 from ask.windows.pool import Job, Pool
 from ask.windows.shape import Shape
+from ask.windows.spells import spells_of
 from ask.windows.timings import clamped, fails, with_moved
 from ask.windows.truth import Evaluator, Truth
 from ask.windows.window import Glazier, Window
@@ -47,6 +48,7 @@ class Said(NamedTuple):
     report: bytes = b""  # where it can't hold
     moment: Optional[int] = None  # at which it fails in that timing
     is_of_pulses: bool = False  # whether the window has the rows alone that the formula sees
+    is_idle: bool = False  # whether no window was asked, since the formula can't fail in the slice
 
 
 @dataclass
@@ -111,11 +113,17 @@ class Whole(View):
         bounds = Bounds(log)
         super().__init__(log, shape, bounds, bounds.times(), log.of)
         self.nearest: Optional[array] = None
+        self.spells = spells_of(log, shape, self.times)
 
     def take_shape(self, shape: Shape) -> None:
         """Has another formula be asked of the log."""
         self.shape = shape
         self.glazier = Glazier(self.log, shape, self.of, self.bounds.low)
+        self.spells = spells_of(self.log, shape, self.times)
+
+    def is_idle(self, part: Slice) -> bool:
+        """Whether the formula can't fail in a slice, since none of its propositions can be true there."""
+        return self.spells is not None and not self.spells.meet(part)
 
     def near(self) -> array:
         """A timing of the log that is near to the stamps."""
@@ -229,28 +237,28 @@ class Findings:
         self.widen(stops)
 
     def ask_pulses(self, setting: Setting) -> List[Slice]:
-        """Asks windows of the rows that the formula sees, where it sees pulses alone; the slices that may fail there."""
+        """The slices that may fail, by windows of the rows that the formula sees, where it sees pulses alone."""
         view = self.whole.pulses()
         if view is None:
-            return self.whole.slices(setting)
+            return self.not_idle(self.whole.slices(setting))
         slices = view.slices(setting)
-        asked = self.seeing(view, slices)
         left: List[Slice] = []
         asker = Asker(view, setting)
         asker.runs, asker.largest = self.asker.runs, self.asker.largest
-        for said in asker.said(view.window(part) for part in asked):
+        for said in asker.said(view.window(part) for part in self.not_idle(slices)):
             if said.can_fail is False:
                 self.answers.append(said._replace(is_of_pulses=True))
             else:
                 left.append(said.part)
             setting.told(len(self.answers), len(slices))
         self.asker.runs, self.asker.largest = asker.runs, asker.largest
-        return self.seeing(view, within(self.whole.slices(setting), left))
+        return self.not_idle(within(self.whole.slices(setting), left))
 
-    def seeing(self, view: View, slices: Sequence[Slice]) -> List[Slice]:
-        """The slices in which a row of a view can be; the formula can't fail in the others, which are answered."""
-        self.answers += [Said(part, [], 0, 0, False, True, is_of_pulses=True) for part in slices if view.is_empty(part)]
-        return [part for part in slices if not view.is_empty(part)]
+    def not_idle(self, slices: Sequence[Slice]) -> List[Slice]:
+        """Those of some slices in which the formula may fail; the others are answered."""
+        idle = [self.whole.is_idle(part) for part in slices]
+        self.answers += [Said(part, [], 0, 0, False, True, is_idle=True) for part, is_idle in zip(slices, idle) if is_idle]
+        return [part for part, is_idle in zip(slices, idle) if not is_idle]
 
     def halves(self, said: Said) -> List[Slice]:
         """The halves of a slice whose window wasn't decided; none where they would have as many rows and are too large."""

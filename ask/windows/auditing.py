@@ -87,8 +87,10 @@ class Audit:
             if entry.is_of_pulses and pulses is None:
                 raise Fault(f"{where} has pulses alone, and the formula sees other rows")
             view: View = pulses if entry.is_of_pulses and pulses else self.whole
+            if entry.is_idle and not self.whole.is_idle(entry.part):
+                raise Fault(f"{where} isn't there, and the formula may fail in it")
             if entry.name == EMPTY:
-                if not view.is_empty(entry.part):
+                if not entry.is_idle and not view.is_empty(entry.part):
                     raise Fault(f"{where} isn't there, and rows can be in it")
                 continue
             window = view.window(entry.part, self.checked_ranges(entry, where))

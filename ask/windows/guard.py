@@ -20,7 +20,7 @@ def pulses_seen(log: LongLog, shape: Shape) -> Optional[List[array]]:
     rows = log.rows
     hosts = [(log.host_numbered(host), rows.number_of.get(name)) for host, name in shape.propositions]
     keys = {(host, name) for host, name in hosts if host is not None and name is not None}
-    if not is_guarded(shape.body) or not is_false_at_pulses_alone(shape.body):
+    if not is_guarded(shape.body) or not is_false_in_spells(shape.body):
         return None
     found = [array("i") for _ in log.hosts]
     for event, key in enumerate(zip(rows.host, rows.name)):
@@ -37,35 +37,35 @@ def is_guarded(tree: Tree) -> bool:
     if not all(is_guarded(part) for part in tree.parts):
         return False
     if tree.form in ("F", "O"):
-        return is_true_at_pulses_alone(tree.parts[0])
+        return is_true_in_spells(tree.parts[0])
     if tree.form in ("G", "H"):
-        return is_false_at_pulses_alone(tree.parts[0])
+        return is_false_in_spells(tree.parts[0])
     if tree.form in ("U", "S"):
-        return is_false_at_pulses_alone(tree.parts[0]) and is_true_at_pulses_alone(tree.parts[1])
+        return is_false_in_spells(tree.parts[0]) and is_true_in_spells(tree.parts[1])
     return True
 
 
-def is_true_at_pulses_alone(tree: Tree) -> bool:
-    """Whether a formula can be true only at an instant with a pulse of it."""
+def is_true_in_spells(tree: Tree) -> bool:
+    """Whether a formula can be true only at an instant at which one of its propositions is, as at a pulse of it."""
     if tree.form == "&":
-        return any(map(is_true_at_pulses_alone, tree.parts))
+        return any(map(is_true_in_spells, tree.parts))
     if tree.form == "|":
-        return all(map(is_true_at_pulses_alone, tree.parts))
+        return all(map(is_true_in_spells, tree.parts))
     if tree.form == "->":
-        return is_false_at_pulses_alone(tree.parts[0]) and is_true_at_pulses_alone(tree.parts[1])
+        return is_false_in_spells(tree.parts[0]) and is_true_in_spells(tree.parts[1])
     if tree.form == "!":
-        return is_false_at_pulses_alone(tree.parts[0])
+        return is_false_in_spells(tree.parts[0])
     return tree.form in ("prop", "false")
 
 
-def is_false_at_pulses_alone(tree: Tree) -> bool:
-    """Whether a formula can be false only at an instant with a pulse of it."""
+def is_false_in_spells(tree: Tree) -> bool:
+    """Whether a formula can be false only at an instant at which one of its propositions is true."""
     if tree.form == "&":
-        return all(map(is_false_at_pulses_alone, tree.parts))
+        return all(map(is_false_in_spells, tree.parts))
     if tree.form == "|":
-        return any(map(is_false_at_pulses_alone, tree.parts))
+        return any(map(is_false_in_spells, tree.parts))
     if tree.form == "->":
-        return is_true_at_pulses_alone(tree.parts[0]) or is_false_at_pulses_alone(tree.parts[1])
+        return is_true_in_spells(tree.parts[0]) or is_false_in_spells(tree.parts[1])
     if tree.form == "!":
-        return is_true_at_pulses_alone(tree.parts[0])
+        return is_true_in_spells(tree.parts[0])
     return tree.form == "true"

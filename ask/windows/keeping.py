@@ -24,6 +24,7 @@ MARK, MARK_TEXT = "windows.mark", b"This folder has windows of a long log, by as
 QUESTION, INDEX, VERDICT = "question.json", "index", "verdict.json"
 EMPTY = "-"  # in place of the name of a window, where no row can be in a slice
 OF_PULSES = "pulses"  # in place of the rows of a window that has those alone that the formula sees
+IDLE = "idle"  # in place of the rows of a window, where none was asked, since the formula can't fail in the slice
 MOST_SMALL = 1 << 20  # bytes of a small file
 MOST_INDEX = 1 << 32
 
@@ -39,6 +40,7 @@ class Entry(NamedTuple):
     name: str
     ranges: Optional[Ranges]
     is_of_pulses: bool = False
+    is_idle: bool = False
 
 
 def name_of(window: Window) -> str:
@@ -169,9 +171,10 @@ class Folder(Keep):
 
     def line(self, whole: View, said: Said) -> str:
         """The line of a slice."""
+        if said.is_idle:
+            return f"{said.part.first}\t{said.part.last}\t{said.status}\t{EMPTY}\t{IDLE}\n"
         if said.is_of_pulses:
-            name = EMPTY if whole.is_empty(said.part) else name_of(whole.window(said.part))
-            return f"{said.part.first}\t{said.part.last}\t{said.status}\t{name}\t{OF_PULSES}\n"
+            return f"{said.part.first}\t{said.part.last}\t{said.status}\t{name_of(whole.window(said.part))}\t{OF_PULSES}\n"
         is_wider = said.ranges != whole.ranges_of(said.part)
         name = name_of(whole.window(said.part, said.ranges))
         ranges = " ".join(f"{start}-{end}" for start, end in said.ranges) if is_wider else ""
@@ -222,8 +225,8 @@ class Folder(Keep):
 def entry_of(line: str) -> Entry:
     """The entry that a line of the index is."""
     first, last, status, name, ranges = line.split("\t")
-    if ranges == OF_PULSES:
-        return Entry(Slice(int(first), int(last)), int(status), name, None, True)
+    if ranges in (OF_PULSES, IDLE):
+        return Entry(Slice(int(first), int(last)), int(status), name, None, ranges == OF_PULSES, ranges == IDLE)
     pairs = [tuple(map(int, pair.split("-"))) for pair in ranges.split()]
     return Entry(Slice(int(first), int(last)), int(status), name, [(start, end) for start, end in pairs] or None)
 

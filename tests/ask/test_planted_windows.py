@@ -15,8 +15,11 @@ import windows_agreement
 
 from ask.program import find_program
 from ask.texts import Trouble
+from ask.windows import spells
 from ask.windows.asking import Whole
+from ask.windows.cuts import Slice
 from ask.windows.shape import Shape
+from ask.windows.spells import Spells
 from ask.windows.window import Glazier
 
 SECONDS = 60.0
@@ -42,7 +45,7 @@ class Plant(NamedTuple):
     `right` is what the program says of the whole: whether the formula can be true and false.
     """
 
-    owner: type
+    owner: object
     name: str
     wrong: object  # which is made of what is right
     log: str
@@ -103,6 +106,16 @@ def with_places_moved(right):
     return bounded
 
 
+def with_spells_narrowed(first, last):
+    """Spells that meet a slice where they meet what is left of it without so many moments at its begin and its end."""
+    return lambda right: lambda self, part: right(self, Slice(part.first + first, part.last - last))
+
+
+def without_last_spells(right):
+    """Propositions that are true nowhere behind the row that sets them last."""
+    return lambda log, host, name, times: (one for one in right(log, host, name, times) if one.last < max(times.greatest))
+
+
 def with_bounds_narrowed(right):
     """Windows whose bound records are less by one."""
     return lambda self, places: (bound._replace(most=bound.most - 1) for bound in right(self, places))
@@ -149,6 +162,9 @@ PLANTS = {
     "errors of readings one too small": Plant(
         Glazier, "lines_of_rows", with_lines(",1,m", ",0,m"), NEAR, "G (a.p -> F[0,11] b.q)", EITHER,
     ),
+    "spells that begin one too late": Plant(Spells, "meet", with_spells_narrowed(0, 1), LAST, "G !b.p", NEVER),
+    "spells that end one too early": Plant(Spells, "meet", with_spells_narrowed(1, 0), FIRST, "G !a.p", NEVER),
+    "spells that have no end left out": Plant(spells, "stretches_of", without_last_spells, CARRIED, "G (a.p -> F[1,10] true)", NEVER),
     "two clocks taken as one": Plant(Glazier, "lines_of_rows", with_lines(",0,n", ",0,m"), APART, "G (a.p -> F[0,11] b.q)", EITHER),
     "bound records one too small": Plant(Glazier, "rows_bounded", with_bounds_narrowed, BOUND, "G (a.p -> F[0,11] b.q)", EITHER),
     "bound records that don't count what is carried in": Plant(
