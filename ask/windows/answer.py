@@ -181,10 +181,12 @@ class LongReading:
         answers, asker = findings.answers, findings.asker
         word = str(self.whole.shape.is_dual).lower()  # the value that one window gives the whole
         may = [said for said in answers if said.can_fail]
-        rows = counted(len(self.asked.log.rows), "row")
+        rows, idle = counted(len(self.asked.log.rows), "row"), sum(said.is_idle for said in answers)
+        told = f"{counted(asker.runs, 'run')} of the program told of"
         self.lines += ["", (
             f"The log has {rows}. {counted(len(answers), 'window')} of at most {counted(asker.largest, 'row')} "
-            f"{'covers' if len(answers) == 1 else 'cover'} it; {counted(asker.runs, 'run')} of the program told of them."
+            f"{'covers' if len(answers) == 1 else 'cover'} it; "
+            + (f"in {grouped(idle)} nothing of the formula can be true, and {told} the others." if idle else f"{told} them.")
         )]
         self.say_those(f"It is {word} by every timing in", [said for said in may if said.can_hold is False])
         self.say_those(f"It can be {word} in", [said for said in may if said.can_hold is not False])
@@ -339,7 +341,8 @@ class LongReading:
         elif self.verdict.can_be[not hold] is False:
             word = str(not hold).lower()
             self.facts["rests_on"] = []
-            self.lines += ["", f"Why it can't be {word}: it can't in any of these windows, by a derivation for each."]
+            asked = " that was asked" if any(said.is_idle for said in self.verdict.findings.answers) else ""
+            self.lines += ["", f"Why it can't be {word}: it can't in any of these windows, by a derivation for each{asked}."]
 
     def say_runs(self) -> None:
         runs = self.asked.program.runs

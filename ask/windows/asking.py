@@ -220,7 +220,7 @@ class Findings:
     def ask(self, slices: Sequence[Slice], stops: Callable[["Findings"], bool] = lambda findings: False) -> None:
         """Asks the windows of slices, and halves of those that aren't decided, until nothing more is to be known."""
         waiting = [part for part in slices if not self.whole.is_empty(part)]
-        count = len(waiting)
+        count = len(self.answers) + len(waiting)
         for cuts in range(MOST_CUT, -1, -1):
             undecided: List[Slice] = []
             for said in self.asker.said(self.whole.window(part) for part in waiting):

@@ -404,7 +404,7 @@ class Folders(unittest.TestCase):
 
     def told(self, text):
         """What was said, but for how many runs it took."""
-        return [line for line in text.splitlines() if "of the program told of them" not in line]
+        return [line for line in text.splitlines() if "of the program told of" not in line]
 
     def test_a_file_is_written_whole_or_not_at_all(self):
         folder = Folder(os.path.join(self.folder, "k"))
