@@ -219,14 +219,14 @@ class Findings:
 
     def ask(self, slices: Sequence[Slice], stops: Callable[["Findings"], bool] = lambda findings: False) -> None:
         """Asks the windows of slices, and halves of those that aren't decided, until nothing more is to be known."""
-        waiting = [part for part in slices if not self.whole.is_empty(part)]
+        waiting = self.not_idle([part for part in slices if not self.whole.is_empty(part)])
         count = len(self.answers) + len(waiting)
         for cuts in range(MOST_CUT, -1, -1):
             undecided: List[Slice] = []
             for said in self.asker.said(self.whole.window(part) for part in waiting):
                 halves = self.halves(said) if cuts and said.status in UNDECIDED and said.can_fail is None else []
                 if halves:
-                    undecided += [part for part in halves if not self.whole.is_empty(part)]
+                    undecided += self.not_idle([part for part in halves if not self.whole.is_empty(part)])
                 else:
                     self.take(said)
                 self.setting.told(len(self.answers), count + len(undecided))
@@ -240,7 +240,7 @@ class Findings:
         """The slices that may fail, by windows of the rows that the formula sees, where it sees pulses alone."""
         view = self.whole.pulses()
         if view is None:
-            return self.not_idle(self.whole.slices(setting))
+            return self.whole.slices(setting)
         slices = view.slices(setting)
         left: List[Slice] = []
         asker = Asker(view, setting)
@@ -252,7 +252,7 @@ class Findings:
                 left.append(said.part)
             setting.told(len(self.answers), len(slices))
         self.asker.runs, self.asker.largest = asker.runs, asker.largest
-        return self.not_idle(within(self.whole.slices(setting), left))
+        return within(self.whole.slices(setting), left)
 
     def not_idle(self, slices: Sequence[Slice]) -> List[Slice]:
         """Those of some slices in which the formula may fail; the others are answered."""

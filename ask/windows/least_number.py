@@ -74,9 +74,9 @@ class Numbers:
             return None, []
         assert findings.failing_said
         place = findings.failing_said.part
-        done = [said.part for said in findings.answers if said.can_fail is False]
+        done = {said.part for said in findings.answers if said.can_fail is False}
         failing = next(part for part in slices if part.first <= place.first and place.last <= part.last)
-        return failing, [part for part in slices if part not in set(done)]
+        return failing, [part for part in slices if part not in done]
 
     def fails(self, part: Slice, number: int) -> bool:
         """Whether a slice fails with a number."""
