@@ -3,6 +3,8 @@
 At an instant without a pulse of the formula a guarded part has one value, whatever is there. So positions that other
 rows make change nothing, and windows may leave these rows out: with fewer rows and bounds a window has more timings,
 and what it can't be the whole log can't be either.
+
+A spell of a formula is a stretch of true time in which one of its propositions is true, as at the instant of a pulse.
 """
 
 from __future__ import annotations
