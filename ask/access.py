@@ -4,11 +4,11 @@ from __future__ import annotations
 
 import heapq
 import re
-from typing import Callable, Dict, Iterator, List, NamedTuple, Optional, Pattern, Sequence, Tuple
+from typing import Callable, Dict, Iterator, List, NamedTuple, Optional, Pattern, Sequence, Set, Tuple
 
 from ask.events import WRONG, Cuts, Event, Fields, Rows, filled
 from ask.stamps import MONTHS, Stamp, iso_moment, later, stamp_of
-from ask.texts import BYTE_ORDER_MARK, Source, Trouble
+from ask.texts import Source, Trouble, data_of
 from ask.words import USAGE, listed, shortened
 
 FORMATS = {
@@ -18,7 +18,9 @@ FORMATS = {
     ),
     "apache": '%h %l %u %t "%r" %>s %b "%{Referer}i" "%{User-agent}i"',
 }
-VARIABLE = re.compile(r"\$(?:\{([a-z0-9_]+)\}|([a-z][a-z0-9_]*))|%[<>]?(?:\{([^}]*)\})?([a-zA-Z])")
+STATUSES = r"(?:!?\d{3}(?:,\d{3})*)?"  # for which Apache shows a field
+VARIABLE = re.compile(rf"\$(?:\{{([a-z0-9_]+)\}}|([a-z][a-z0-9_]*))|%{STATUSES}([<>]?)(?:\{{([^}}]*)\}})?([a-zA-Z])")
+ESCAPED = re.compile(r"\\([\\\"'t])")  # as configurations have it within quotes
 NAMED_BY_BRACES = "ieonC"  # of Apache's letters those whose braces name what is shown
 LOCAL = re.compile(r"(\d\d)/([A-Z][a-z]{2})/(\d{4}):(\d\d):(\d\d):(\d\d) ([+-]\d{4})", re.ASCII)
 NUMBER = re.compile(r"(\d{1,18})(?:\.(\d{1,9}))?", re.ASCII)
@@ -38,34 +40,48 @@ class Format(NamedTuple):
 
 def format_of(text: str) -> Format:
     """The format that a log_format of nginx or a LogFormat of Apache is."""
-    first, blank, rest = text.partition(" ")
+    first, blank, rest = ESCAPED.sub(lambda found: "\t" if found.group(1) == "t" else found.group(1), text).partition(" ")
     whole = FORMATS.get(first, first) + blank + rest
     found = list(VARIABLE.finditer(whole))
     if not found:
         raise Trouble(USAGE, f"--access {text}: it has no variable, as $msec of nginx or %t of Apache")
-    pattern, keys, place = "", [], 0
+    pattern, keys, place = "", keys_of(found), 0
     ends = [match.end() for match in found]
-    for number, match in enumerate(found):
+    for number, (match, key) in enumerate(zip(found, keys)):
         pattern += re.escape(whole[place : match.start()])
         # Of variables with nothing between them the first has all letters, since no line tells where they part.
         is_behind_another = number > 0 and place == match.start()
         place = match.end()
-        key = key_of(match)
         last = next(end for end in ends[number:] if not VARIABLE.match(whole, end))
         letters = "" if is_behind_another else letters_before(whole[last : last + 1])
         pattern += r"\[([^\]]*)\]" if key == "t" else f"({letters})"
-        keys.append(key)
     return Format(re.compile(pattern + re.escape(whole[place:])), keys, text)
+
+
+def keys_of(found: "Sequence[re.Match[str]]") -> List[str]:
+    """The keys of variables; where different ones would have the same, each has all that tells them apart."""
+    whole = [whole_key(match) for match in found]
+    meant: Dict[str, Set[str]] = {}
+    for match, key in zip(found, whole):
+        meant.setdefault(key_of(match), set()).add(key)
+    return [key_of(match) if len(meant[key_of(match)]) == 1 else key for match, key in zip(found, whole)]
 
 
 def key_of(match: "re.Match[str]") -> str:
     """The key of a variable: its name in nginx, and in Apache its letter, or what its braces name."""
-    braced, plain, inner, letter = match.groups()
+    braced, plain, _, inner, letter = match.groups()
     if braced or plain:
         return braced or plain
     if inner is None:
         return letter
     return inner.lower() if letter in NAMED_BY_BRACES else f"{letter}:{inner}"
+
+
+def whole_key(match: "re.Match[str]") -> str:
+    """The same with the sign and the letter of Apache, as `>s` and `o:location`."""
+    sign, inner, letter = match.groups()[2:]
+    is_named = inner is not None and letter in NAMED_BY_BRACES
+    return f"{sign or ''}{f'{letter}:' * is_named}{key_of(match)}"
 
 
 def letters_before(end: str) -> str:
@@ -121,6 +137,11 @@ MOMENTS: Dict[str, Tuple[Reading, bool]] = {
     "t:end:sec": (seconds, True), "t:sec": (seconds, False), "t:begin:sec": (seconds, False),
     "t": (local_time, False),
 }
+# Of Apache's moments in whole seconds with what the keys of the digits behind these begin.
+WHOLE_SECONDS: Dict[str, Tuple[str, ...]] = {
+    "t": ("t:", "t:begin:"), "t:sec": ("t:", "t:begin:"), "t:begin:sec": ("t:", "t:begin:"), "t:end:sec": ("t:end:",),
+}
+FRACTIONS = {"usec_frac": 6, "msec_frac": 3}  # with what these keys end, and how many digits there are
 # How long a request took, the finest first.
 DURATIONS: Dict[str, Reading] = {
     "D": in_parts(6), "T:us": in_parts(6), "T:ms": in_parts(3), "request_time": seconds, "T:s": seconds, "T": seconds,
@@ -147,8 +168,7 @@ def requests_of(source: Source, form: Format, words: AccessWords) -> Iterator[Re
     moment = moment_key(form, words.time)
     took = words.duration or next((key for key in DURATIONS if key in form.keys), None)
     read, is_end = MOMENTS[moment]
-    data = source.data[3:] if source.data.startswith(BYTE_ORDER_MARK) else source.data
-    for number, line in enumerate(data.decode("utf-8", "backslashreplace").split("\n"), start=1):
+    for number, line in enumerate(data_of(source).decode("utf-8", "backslashreplace").split("\n"), start=1):
         line = line.rstrip("\r")
         if not line.strip():
             continue
@@ -157,7 +177,7 @@ def requests_of(source: Source, form: Format, words: AccessWords) -> Iterator[Re
         if not match:
             raise Trouble(WRONG, f"{where}: {mismatch_words(form, line)}")
         fields = dict(zip(form.keys, match.groups()))
-        at = read_by(read, fields, moment, where)
+        at = with_fraction(read_by(read, fields, moment, where), fields, moment, where)
         if took is None:
             yield Request(at, at, ("end",) if is_end else ("begin",), fields, where, at)
             continue
@@ -196,6 +216,17 @@ def read_by(reading: Reading, fields: Fields, key: str, where: str, what: str = 
     if found is None:
         raise Trouble(WRONG, f"{where}: {key} is {shortened(fields[key])!r}, which is no {what}")
     return found
+
+
+def with_fraction(at: Stamp, fields: Fields, moment: str, where: str) -> Stamp:
+    """A moment in whole seconds with the digits that its line has of it under another key, where there are some."""
+    for end, digits in FRACTIONS.items():
+        for key in (begin + end for begin in WHOLE_SECONDS.get(moment, ())):
+            if key in fields:
+                if not re.fullmatch(rf"[0-9]{{{digits}}}", fields[key]):
+                    raise Trouble(WRONG, f"{where}: {key} is {shortened(fields[key])!r}, and not {digits} digits of a second")
+                return at._replace(digits=fields[key])
+    return at
 
 
 class AccessWords(NamedTuple):

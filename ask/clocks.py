@@ -13,7 +13,7 @@ from typing import Dict, List, NamedTuple, Sequence, Tuple
 from ask.events import WRONG, read_stamp
 from ask.making import Line, Making, moment_in
 from ask.stamps import MONTHS, UNITS, Stamp, duration_in_units, stamp_of
-from ask.texts import Trouble, read_source
+from ask.texts import LINE_END, Source, Trouble, data_of, read_source
 from ask.words import USAGE, counted, shortened
 
 STEPPED = re.compile(
@@ -116,11 +116,13 @@ def steps_told(making: Making, telling: str) -> List[ClockStep]:
 
 
 def steps_of_file(making: Making, name: str) -> List[ClockStep]:
-    """The steps that lines of chronyd or ntpd tell; their moments are taken as known to the second."""
+    """The steps that lines of chronyd or ntpd tell, none of a part without rows; their moments are known to the second."""
     source = read_source(name)
+    if not making.lines:
+        return []
     second = 10 ** UNITS[making.unit or "s"]
     steps = []
-    for number, line in enumerate(source.data.decode("utf-8-sig", "replace").splitlines(), start=1):
+    for number, line in enumerate(lines_of(source), start=1):
         found = STEPPED.search(line)
         if not found:
             continue
@@ -132,6 +134,11 @@ def steps_of_file(making: Making, name: str) -> List[ClockStep]:
     if not steps:
         making.notes.append(f"{source.name} tells of no step of a clock")
     return steps
+
+
+def lines_of(source: Source) -> List[str]:
+    """The lines of a file, as an editor counts them."""
+    return [line.decode("utf-8", "replace") for line in LINE_END.split(data_of(source))]
 
 
 def moment_of_line(making: Making, line: str, where: str) -> Stamp:
@@ -169,7 +176,7 @@ class Tracked(NamedTuple):
 def tracking_of_file(making: Making, name: str) -> Tracked:
     """What a file tells that is a tracking log of chrony, or what `chronyc tracking` wrote."""
     source = read_source(name)
-    lines = source.data.decode("utf-8", "replace").splitlines()
+    lines = lines_of(source)
     report = {key.strip(): value.strip() for key, colon, value in (line.partition(" : ") for line in lines) if colon}
     if set(REPORTED) <= set(report):
         return Tracked([], reported_error(report, making, source.name))

@@ -7,10 +7,13 @@ import re
 from dataclasses import dataclass, field
 from typing import Any, Dict, Iterator, List, NamedTuple, Optional, Sequence, Set, Tuple
 
-from ask.logs import FIRST_FIELDS, MOST_ROW_NUMBER, NAME, OF_THIRD, ROW_KINDS, is_log_in_json, number as number_of, records_in
+from ask.logs import (
+    FIRST_FIELDS, HEADERS, MOST_ROW_NUMBER, NAME, OF_THIRD, ROW_KINDS, is_log_in_json, number as number_of, records_in,
+)
 from ask.refusals import log_in_json_words
-from ask.stamps import Stamp, stamp_fault, stamp_of
-from ask.texts import BYTE_ORDER_MARK, Source, Trouble
+from ask.stamps import UNIT_WORDS, Stamp, stamp_fault, stamp_of
+from ask.texts import LOG_BEGINS, Source, Trouble, data_of
+from ask.units import Scale, refuse_two_units, scale_kept
 from ask.words import USAGE, counted, listed, shortened
 
 WRONG = 66  # the status where a file can't be made into a log
@@ -142,9 +145,15 @@ class Found:
     cuts: Cuts = field(default_factory=Cuts)
     named: Dict[str, List[str]] = field(default_factory=dict)  # the hosts that a word names beside those of that name
     shown: Dict[str, str] = field(default_factory=dict)  # hosts of parts, each with its name in its part
+    parts: Dict[Tuple[Sequence[str], str], List[str]] = field(default_factory=dict)  # of which joined names were made
+    scales: Dict[str, Scale] = field(default_factory=dict)  # what the notes beside logs say of their units
 
 
-Fields = Dict[str, str]
+class Several(List[Any]):
+    """The values of a key that stands several times in one object, or of columns of one name, where they differ."""
+
+
+Fields = Dict[str, Any]  # texts, and of keys with different values those
 Rows = Dict[str, List[Tuple[str, str]]]
 
 
@@ -153,7 +162,7 @@ Rows = Dict[str, List[Tuple[str, str]]]
 
 def fields_of_file(source: Source, keys: Keys) -> Iterator[Tuple[Fields, str]]:
     """The fields of each event of a file, and where it stands."""
-    data = source.data[3:] if source.data.startswith(BYTE_ORDER_MARK) else source.data
+    data = data_of(source)
     if is_log_in_json(data):
         raise Trouble(WRONG, log_in_json_words(source))
     if data.lstrip()[:1] == b"{":
@@ -166,7 +175,7 @@ def fields_of_file(source: Source, keys: Keys) -> Iterator[Tuple[Fields, str]]:
 
 def fields_of_json(source: Source, data: bytes) -> Iterator[Tuple[Fields, str]]:
     """The fields of lines of JSON, one object a line."""
-    text = data.decode("utf-8", "replace").replace("\r\n", "\n").replace("\r", "\n")
+    text = json_text(data).replace("\r\n", "\n").replace("\r", "\n")
     for number, line in enumerate(text.split("\n"), start=1):
         if not line.strip():
             continue
@@ -176,16 +185,35 @@ def fields_of_json(source: Source, data: bytes) -> Iterator[Tuple[Fields, str]]:
 
 def fields_of_array(source: Source, data: bytes) -> Iterator[Tuple[Fields, str]]:
     """The fields of the objects of one JSON array."""
-    found = read_json(data.decode("utf-8", "replace"), f"{source.name}: it begins as a JSON array and is none")
+    found = read_json(json_text(data), f"{source.name}: it begins as a JSON array and is none")
     for number, item in enumerate(found, start=1):
         where = f"{source.name}, item {number}"
         yield fields_of_object(item, where), where
 
 
+def json_text(data: bytes) -> str:
+    """The text of a JSON file; bytes that are none are kept apart from all others."""
+    return data.decode("utf-8", "surrogateescape")
+
+
+def object_of(pairs: Sequence[Tuple[str, Any]]) -> Dict[str, Any]:
+    """The values of keys, all of them where one key has different ones."""
+    found = dict(pairs)
+    if len(found) < len(pairs):
+        values: Dict[str, List[Any]] = {}
+        for key, value in pairs:
+            values.setdefault(key, []).append(value)
+        found.update((key, Several(those)) for key, those in values.items() if any(value != those[0] for value in those))
+    return found
+
+
+DECODER = json.JSONDecoder(parse_float=str, parse_int=str, object_pairs_hook=object_of)
+
+
 def read_json(text: str, complaint: str) -> Any:
     """The value of a text, its numbers with all digits as they are written."""
     try:
-        return json.loads(text, parse_float=str, parse_int=str)
+        return DECODER.decode(text)
     except (ValueError, RecursionError) as error:
         raise Trouble(WRONG, f"{complaint}: {error}") from None
 
@@ -195,19 +223,19 @@ def fields_of_object(found: Any, where: str) -> Fields:
     if not isinstance(found, dict):
         raise Trouble(WRONG, f"{where}: this is no JSON object, as {{\"time\": ..}}")
     try:
-        return dict(flat(found))
+        return object_of(list(flat(found)))
     except RecursionError:
         raise Trouble(WRONG, f"{where}: it nests deeper than {MOST_LEVELS} levels") from None
 
 
-def flat(found: Dict[str, Any], before: str = "", level: int = 1) -> Iterator[Tuple[str, str]]:
+def flat(found: Dict[str, Any], before: str = "", level: int = 1) -> Iterator[Tuple[str, Any]]:
     """The fields of an object, and with points in their names those of objects within it."""
     if level > MOST_LEVELS:
         raise RecursionError
     for key, value in found.items():
         if isinstance(value, dict):
             yield from flat(value, f"{before}{key}.", level + 1)
-        elif isinstance(value, str):
+        elif isinstance(value, (str, Several)):
             yield before + key, value
         elif value is not None:
             yield before + key, json.dumps(value)
@@ -220,13 +248,13 @@ def fields_of_table(source: Source, keys: Keys) -> Iterator[Tuple[Fields, str]]:
     if first is None:
         raise Trouble(WRONG, f"{source.name} is empty: there is no line with the names of columns")
     heads = [head.strip() for head in first.fields]
-    if heads[:1] in ([FIRST_FIELDS[2]], [FIRST_FIELDS[3]]):
+    if heads[:1] in ([FIRST_FIELDS[2]], [FIRST_FIELDS[3]]) or tuple(heads) in HEADERS:
         heads[0] = keys.kind
     for record in records:
         where = f"{source.name}, line {record.line}"
         if len(record.fields) != len(heads):
             raise Trouble(WRONG, f"{where}: it has {counted(len(record.fields), 'field')}, and the first line {len(heads)}")
-        yield dict(zip(heads, [part.strip() for part in record.fields])), where
+        yield object_of([*zip(heads, [part.strip() for part in record.fields])]), where
 
 
 # Events
@@ -234,13 +262,16 @@ def fields_of_table(source: Source, keys: Keys) -> Iterator[Tuple[Fields, str]]:
 
 def read_events(source: Source, keys: Keys, rows: Rows, found: Found) -> None:
     """Adds the events of a file, in its order, and what it says of hosts."""
+    if LOG_BEGINS.match(source.data):
+        found.scales[source.name] = scale_kept(source.name, source.data)
+        refuse_two_units(found.scales)
     limits: Dict[str, Limits] = {}
     declared: Dict[str, Limits] = {}
     clocks: Dict[str, FileClock] = {}
     bounds: List[FileBound] = []
     start, first_number = len(found.events), found.count
     for fields, where in fields_of_file(source, keys):
-        kind = fields.get(keys.kind, "")
+        kind = part_or(fields, keys.kind, where, "")
         if kind in OF_THIRD:
             name, first, second = (part(fields, key, where) for key in (keys.host[0], keys.time, keys.name))
             if kind == "bound":
@@ -261,15 +292,15 @@ def read_events(source: Source, keys: Keys, rows: Rows, found: Found) -> None:
                 raise Trouble(WRONG, f"{where}: no host {name!r} is declared before this resync")
             limits[name] = Limits(first, second, where)
             continue
-        host = "_".join([part(fields, key, where) for key in keys.host])
+        host = joined(fields, keys.host, where, found.parts)
         text, name = part(fields, keys.time, where), part(fields, keys.name, where)
-        stamp, id_ = read_stamp(text, where), fields.get(keys.id, "")
+        stamp, id_ = read_stamp(text, where), part_or(fields, keys.id, where, "")
         if host in declared and host in found.seen:
             declare(found.hosts, host, declared[host], "skew or gap")
         elif host in declared:
             found.hosts[host] = declared[host]
-        machine = "_".join([part(fields, key, where) for key in keys.keys_of_machine()])
-        duration = fields.get(keys.duration, "").strip() if keys.duration else ""
+        machine = joined(fields, keys.keys_of_machine(), where, found.parts)
+        duration = part_or(fields, keys.duration, where, "").strip() if keys.duration else ""
         for kind, pattern in rows_of(fields, name, keys, rows, where):
             shown = filled(pattern, fields, where, found.cuts)
             found.events.append(Event(
@@ -277,8 +308,18 @@ def read_events(source: Source, keys: Keys, rows: Rows, found: Found) -> None:
                 clock=clocks.get(host),
             ))
         found.count += 1
+    refuse_seconds_beside(found)
     found.seen.update(event.host for event in found.events[start:])
     found.bounds += [of_numbers(bound, first_number, found.count) for bound in bounds]
+
+
+def refuse_seconds_beside(found: Found) -> None:
+    """Refuses stamps in decimal seconds beside a log whose notes say a smaller unit, since its numbers would be seconds too."""
+    finer = next(((name, scale.unit) for name, scale in found.scales.items() if scale.unit not in (None, "s")), None)
+    odd = next((event for event in found.events if event.stamp.kind == "decimal"), None) if finer else None
+    if finer and odd:
+        said = f"the stamp {odd.text} is in seconds, and {finer[0]} in {UNIT_WORDS[finer[1] or 's']}, by the notes beside it"
+        raise Trouble(WRONG, f"{odd.where}: {said}")
 
 
 def row_number(text: str, where: str) -> int:
@@ -314,7 +355,27 @@ def part(fields: Fields, key: str, where: str) -> str:
             f"These are spans of traces: {form} reads them" if form else
             "--host, --time and --name say which keys these are, and --access what the lines of a web server look like"
         ))
-    return fields[key]
+    found = fields[key]
+    if isinstance(found, Several):
+        two = (found[0], next(value for value in found if value != found[0]))
+        shown = " and as ".join(shortened(json.dumps(value, ensure_ascii=False)) for value in two)
+        raise Trouble(WRONG, f"{where}: {key!r} stands there {counted(len(found), 'time')}, as {shown}: which is meant?")
+    return str(found)
+
+
+def joined(fields: Fields, keys: Sequence[str], where: str, known: Dict[Tuple[Sequence[str], str], List[str]]) -> str:
+    """The fields under keys, joined; where others make the same, they are refused, since both would be one host or machine."""
+    parts = [part(fields, key, where) for key in keys]
+    text = "_".join(parts)
+    if len(parts) > 1 and known.setdefault((keys, text), parts) != parts:
+        shown = " and ".join(", ".join(shortened(repr(one)) for one in those) for those in (known[keys, text], parts))
+        raise Trouble(WRONG, f"{where}: joined with _, {shown} are both {shortened(text)!r}, and would be one under {listed(keys)}")
+    return text
+
+
+def part_or(fields: Fields, key: str, where: str, other: str) -> str:
+    """The field under a key, or another text where there is none."""
+    return part(fields, key, where) if key in fields else other
 
 
 def form_of_traces(fields: Fields) -> Optional[str]:
@@ -338,7 +399,7 @@ def rows_of(fields: Fields, name: str, keys: Keys, rows: Rows, where: str) -> Li
     """The kinds and names of the rows that an event becomes; a note, where nothing else is said of it."""
     if name in rows:
         return rows[name]
-    kind = fields.get(keys.kind, keys.without_kind)
+    kind = part_or(fields, keys.kind, where, keys.without_kind)
     if kind not in ROW_KINDS:
         known = ", ".join(OF_THIRD + ROW_KINDS)
         hint = f"--kind says under which key it stands, else {keys.kind}"

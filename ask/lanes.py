@@ -114,10 +114,15 @@ def lanes_of(spans: Sequence[Span], is_by_trace: bool, is_apart: bool = False) -
 # Names
 
 
-def hosts_of_spans(spans: Sequence[Span], is_by_trace: bool, is_apart: bool, machine_keys: Sequence[str]) -> Hosts:
-    """The hosts of spans, which stand behind their parents, with their names and machines."""
+def hosts_of_spans(
+    spans: Sequence[Span], everything: Iterable[Span], is_by_trace: bool, is_apart: bool, machine_keys: Sequence[str],
+) -> Hosts:
+    """The hosts of spans that were chosen of all, and stand behind their parents, with their names and machines.
+
+    Words and clocks name a process by what tells it from all processes, whichever spans are chosen.
+    """
     lanes = lanes_of(spans, is_by_trace, is_apart)
-    processes = {span.process.identity(): span.process for span in spans}
+    processes = {span.process.identity(): span.process for span in everything}
     labels = labels_of(processes.values())
     names = names_of_lanes(lanes.values(), processes)
     keys = {lane: f"{lane.trace}/{name}" if is_by_trace else name for lane, name in names.items()}

@@ -4,7 +4,7 @@ from __future__ import annotations
 
 import argparse
 from dataclasses import dataclass
-from typing import Dict, Iterator, List, NamedTuple, Optional, Sequence, Tuple
+from typing import Callable, Dict, Iterator, List, NamedTuple, Optional, Sequence, Tuple
 
 from ask.clocks import Clock, ClockStep, Tracked, steps_of_file, steps_told, tracking_of_file
 from ask.events import WRONG, Found, Latency, Limits, name_map
@@ -161,13 +161,27 @@ def durations(
     words: Sequence[str], option: str, making: Making, is_down: bool = False, others: Sequence[str] = ()
 ) -> Told:
     """The durations that an option gives to hosts, and to all others under None, rounded up or down."""
-    found: Told = {}
-    for host, text in by_host(words, option, making, others):
+
+    def duration_told(text: str) -> int:
+        """The duration that a text is."""
         duration = duration_in_units(text, making.unit, is_down)
         if duration is None or duration > MOST_SKEW:
             raise Trouble(USAGE, f"{option} {text}: it is {duration_rule(making.unit)}")
-        found[host] = duration
-    return found
+        return duration
+
+    refuse_contradictions(words, option, duration_told)
+    return {host: duration_told(text) for host, text in by_host(words, option, making, others)}
+
+
+def refuse_contradictions(words: Sequence[str], option: str, read: Callable[[str], object]) -> None:
+    """Refuses words that say two things of the same hosts."""
+    told: Dict[str, str] = {}
+    for word in words:
+        name, _, text = word.rpartition("=")
+        before = told.setdefault(name, text)
+        if read(before) != read(text):
+            whom = shortened(name) if name else "all hosts"
+            raise Trouble(USAGE, f"{option} {word}: {option} says {before} of {whom} already")
 
 
 def duration_rule(unit: Optional[str]) -> str:
@@ -227,6 +241,7 @@ def hosts_of(making: Making, found: Found, words: LimitWords, most: int = MOST_H
         fewer = "choose by --trace and --service, or" if making.named else "cut a window by --only or"
         raise Trouble(WRONG, f"{counted(len(names), 'host')}; at most 64: {fewer} by --from and --to")
     mapped = name_map([making.name_of(name) for name in names], NO_HOST_NAMES)
+    refuse_contradictions(words.latency, "--latency", lambda text: latency_told(text, making))
     told = {host: latency_told(text, making) for host, text in by_host(words.latency, "--latency", making)}
     hosts = {}
     for name in names:

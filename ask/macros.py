@@ -17,7 +17,7 @@ from ask.stamps import UNIT_WORDS, UNITS
 from ask.texts import LIMITS, TOO_LONG, Source, Trouble
 from ask.units import Scale, notes_name, scale_of_source
 from ask.words import Answer, counted, grouped, listed, shortened
-from ask.written import Piece, text_of_pieces, written
+from ask.written import Piece, bytes_of, text_of_pieces, written
 
 WRONG_LOG = 66
 TOO_MANY_ROWS = 13  # the fault of a log that windows are asked of
@@ -116,7 +116,7 @@ def written_out(formula: Source, log: Source) -> Source:
     """A formula as the program takes it, of the hosts, the propositions and the unit that a log has."""
     if not has_words(formula):
         return formula
-    text = formula.data.decode("utf-8", "replace")
+    text = formula.data.decode("utf-8", "surrogateescape")
     writer = Writer(formula, text, log)
     pieces = without_outer_parentheses(writer.written_out(), text)
     found = written(formula, pieces)
@@ -152,11 +152,11 @@ class Writer:
 
     def refuse(self, start: int, said: str) -> NoReturn:
         """Refuses the text, with a place of it."""
-        raise faulty_formula(self.formula, len(self.text[:start].encode()), said)
+        raise faulty_formula(self.formula, bytes_of(self.text[:start]), said)
 
     def refuse_size(self, start: int, said: str) -> NoReturn:
         """Refuses what becomes too large."""
-        trouble = faulty_formula(self.formula, len(self.text[:start].encode()), said)
+        trouble = faulty_formula(self.formula, bytes_of(self.text[:start]), said)
         raise Trouble(TOO_LONG, trouble.message)
 
     def refuse_many_parts(self, text: str) -> None:
@@ -172,10 +172,13 @@ class Writer:
 
     def take_largest(self, pieces: Sequence[Piece], start: int, words: str) -> List[Piece]:
         """Pieces that something became, unless they are longer than a formula may be."""
-        length = length_of(pieces)
+        self.take_length(length_of(pieces), start, words)
+        return list(pieces)
+
+    def take_length(self, length: int, start: int, words: str) -> None:
+        """The same of pieces of so many letters."""
         self.largest = max(self.largest, (length, start, words), key=lambda found: found[0])
         self.refuse_long(length)
-        return list(pieces)
 
     def refuse_long(self, length: int) -> None:
         """Refuses a text that is longer than a formula may be, at what became longest of it."""
@@ -250,15 +253,14 @@ class Writer:
         quantifier, start = opening.group(1), opening.start()
         words = f"{quantifier} over {counted(len(values), self.kind_of(values))}"
         parts: List[List[Piece]] = []
-        before: List[Piece] = []
-        end = place
+        length, end = 0, place
         for value in values:
             pieces, end = self.part(place, {**bound, variable: value})
             if end == len(self.text):
                 self.refuse(opening.end() - 1, f"this brace of {quantifier} isn't closed")
             parts.append(enclosed(trimmed(pieces), start))
-            before += parts[-1]
-            self.take_largest(before, start, words)
+            length += length_of(parts[-1])
+            self.take_length(length, start, words)
         if not parts[0]:
             self.refuse(end, f"there is no formula in the braces of this {quantifier}")
         pieces = joined(parts, SIGNS[quantifier], start)

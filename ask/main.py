@@ -5,6 +5,7 @@ from __future__ import annotations
 import argparse
 import functools
 import gc
+import os
 import sys
 from typing import Any, Dict, Iterator, List, NoReturn, Sequence
 
@@ -104,7 +105,10 @@ def finished(words: Sequence[str]) -> int:
         arguments = parsed(words)
     except SystemExit as end:  # the words ask for help
         return int(end.code or 0)
+    refuse_standard_output(arguments)
+    refuse_lost_input(arguments)
     refuse_second_input(arguments)
+    refuse_file_named_twice(arguments)
     if arguments.seconds:
         limit_time(arguments.seconds)
     try:
@@ -158,6 +162,38 @@ def is_input(word: object) -> bool:
     return isinstance(word, str) and (word == "-" or word.endswith("=-"))
 
 
+def files_written(arguments: argparse.Namespace) -> Dict[str, str]:
+    """The files beside the answer that words name to be written, by their options."""
+    report = ("report",) if getattr(arguments, "command", "") == "check" else ()
+    named = {f"--{key}": getattr(arguments, key, None) for key in ("notes", "junit", *report)}
+    return {option: name for option, name in named.items() if name}
+
+
+def folders_written(arguments: argparse.Namespace) -> Dict[str, str]:
+    """The folders that words name to be written, by their options."""
+    named = {f"--{key}": getattr(arguments, key, None) for key in ("keep", "into")}
+    return {option: name for option, name in named.items() if name}
+
+
+def refuse_standard_output(arguments: argparse.Namespace) -> None:
+    """Refuses `-` as the name of what is written, since it would be a file or a folder of that name."""
+    for option, name in {**files_written(arguments), **folders_written(arguments)}.items():
+        if name == "-" and option != "--junit":  # which says so itself
+            raise Trouble(USAGE, f"{option} -: `-` is the standard input, and nothing is written to that. Something of that name is ./-")
+
+
+def refuse_lost_input(arguments: argparse.Namespace) -> None:
+    """Refuses a file to be written that is read too, since what it says would be lost."""
+    words: List[str] = []
+    for key in ("files", "formula", "log", "properties", "clock", "tracking"):
+        value = getattr(arguments, key, None)
+        words += [word for word in (value if isinstance(value, list) else [value]) if isinstance(word, str)]
+    read = {os.path.realpath(name) for word in words for name in (word, word.rpartition("=")[2]) if os.path.isfile(name)}
+    for option, name in files_written(arguments).items():
+        if os.path.isfile(name) and os.path.realpath(name) in read:
+            raise Trouble(USAGE, f"{option} {name}: this file is read too, and would be lost")
+
+
 def refuse_second_input(arguments: argparse.Namespace) -> None:
     """Refuses words that name the standard input more than once."""
     named: List[str] = []
@@ -165,6 +201,16 @@ def refuse_second_input(arguments: argparse.Namespace) -> None:
         named += [word for word in (value if isinstance(value, list) else [value]) if is_input(word)]
     if len(named) > 1:
         raise Trouble(USAGE, "`-` is the standard input, which can be read once")
+
+
+def refuse_file_named_twice(arguments: argparse.Namespace) -> None:
+    """Refuses words that name one file of events twice, since each event would be there twice."""
+    first: Dict[str, str] = {}
+    for name in filter(os.path.isfile, getattr(arguments, "files", None) or []):
+        place = os.path.realpath(name)
+        if place in first:
+            raise Trouble(USAGE, f"{name} is the file {first[place]} once more: each event would be there twice")
+        first[place] = name
 
 
 if __name__ == "__main__":

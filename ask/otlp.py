@@ -13,7 +13,7 @@ from ask.spans import (
     CLIENT, CONSUMER, INTERNAL, PRODUCER, SERVER, SERVICE, UNTOLD, Id, Moment, Process, Span, Spans, checked,
 )
 from ask.texts import Source, Trouble
-from ask.words import counted
+from ask.words import counted, shortened
 
 LISTS = ("resourceSpans", "resourceLogs", "resourceMetrics", "resourceProfiles")
 SCOPES = ("scopeSpans", "instrumentationLibrarySpans")  # the second is of versions before 0.15
@@ -67,8 +67,8 @@ def attributes_of(part: Part) -> Dict[str, str]:
     for item in part.each():
         key, value = item.under("key").text("the key of an attribute"), item.under("value")
         text = scalar_text(value_of(value)) if value.is_there() else None
-        if text is not None:
-            found[key] = text
+        if text is not None and found.setdefault(key, text) != text:
+            raise Trouble(WRONG, f"{item.where()}: the attribute {shortened(key)} has another value before: which is meant?")
     return found
 
 

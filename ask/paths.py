@@ -6,8 +6,8 @@ import json
 import re
 from typing import Any, Dict, Iterator, NamedTuple, Optional
 
-from ask.events import WRONG, read_json
-from ask.texts import BYTE_ORDER_MARK, Source, Trouble
+from ask.events import WRONG, Several, json_text, read_json
+from ask.texts import Source, Trouble, data_of
 from ask.words import shortened
 
 DIGITS = re.compile(r"[0-9]{1,20}", re.ASCII)
@@ -40,7 +40,10 @@ class Part(NamedTuple):
         """What stands under a key of an object."""
         if not isinstance(self.value, dict):
             raise self.wrong("a JSON object")
-        return Part(self.value.get(key), self.file, f"{self.path}.{key}" if self.path else key)
+        found = Part(self.value.get(key), self.file, f"{self.path}.{key}" if self.path else key)
+        if isinstance(found.value, Several):
+            raise Trouble(WRONG, f"{found.where()}: this key has {len(found.value)} values in one object: which is meant?")
+        return found
 
     def each(self) -> Iterator["Part"]:
         """The items of a list, none where there is no list."""
@@ -93,7 +96,7 @@ def texts_of(part: Part) -> Dict[str, str]:
     """The values of an object that can be taken as texts."""
     if part.value is not None and not isinstance(part.value, dict):
         raise part.wrong("a JSON object")
-    texts = ((key, scalar_text(value)) for key, value in (part.value or {}).items())
+    texts = ((key, scalar_text(part.under(key).value)) for key in part.value or {})
     return {key: text for key, text in texts if text is not None}
 
 
@@ -120,20 +123,15 @@ def wide_id(text: str) -> str:
 # Files
 
 
-def data_of(source: Source) -> bytes:
-    """The bytes of a file without a byte order mark."""
-    return source.data[3:] if source.data.startswith(BYTE_ORDER_MARK) else source.data
-
-
 def whole_file(source: Source) -> Part:
     """The value that a file is."""
-    text = data_of(source).decode("utf-8", "replace")
+    text = json_text(data_of(source))
     return Part(read_json(text, f"{source.name}: it is no JSON"), source.name)
 
 
 def lines_or_whole(source: Source) -> Iterator[Part]:
     """The values of a file with one a line, or the one that it is as a whole."""
-    text = data_of(source).decode("utf-8", "replace")
+    text = json_text(data_of(source))
     lines = [(number, line) for number, line in enumerate(re.split(r"\r\n|\n|\r", text), start=1) if line.strip()]
     if len(lines) < 2 or not is_value(lines[0][1]):
         yield whole_file(source)

@@ -228,10 +228,10 @@ def handed(data: bytes) -> IO[bytes]:
 
 def find_program(named: Optional[str]) -> str:
     """The program that was named, that of the environment, the one that belongs to ask, or the one in the path."""
-    told = named or os.environ.get("SKEWCHECK")
-    if told and not is_program(told):
-        by = "--program" if named else "SKEWCHECK in the environment"
-        raise Trouble(NOT_THERE, f"{told}, which {by} names, isn't a program that can be run: name another one, or none")
+    told = os.environ.get("SKEWCHECK") or None if named is None else named
+    if told is not None and not is_program(told):
+        by = "SKEWCHECK in the environment" if named is None else "--program"
+        raise Trouble(NOT_THERE, f"{told or repr(told)}, which {by} names, isn't a program that can be run: name another one, or none")
     own = own_program()
     found = told or (own if is_program(own) else shutil.which("skewcheck"))
     if not found:

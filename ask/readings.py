@@ -2,6 +2,7 @@
 
 from __future__ import annotations
 
+from collections import Counter
 from dataclasses import dataclass, field
 from typing import Dict, List, Optional, Sequence, Set, Tuple
 
@@ -54,6 +55,7 @@ def settle_readings(making: Making, errors: Told, clocks: Dict[str, Clock], erro
     steps = steps_of_machines(making, clocks)
     hosts: Dict[str, Host] = {}
     names: Dict[Key, str] = {}
+    counts: Dict[str, int] = Counter()
     for line in making.lines:
         if line.is_carried:
             continue
@@ -65,7 +67,10 @@ def settle_readings(making: Making, errors: Told, clocks: Dict[str, Clock], erro
         of_file = line.file_clock
         resyncs = () if of_file else (line.host, host.resyncs)
         key = (of_file.name if of_file else line.machine, passed, *(resyncs if host.resyncs and resyncs else ("", 0)))
-        line.clock = names.setdefault(key, name_for(key, names))
+        if key not in names:
+            counts[key[0]] += 1
+            names[key] = key[0] if counts[key[0]] == 1 else f"{key[0]}\0{counts[key[0]]}"  # the clocks of a machine are numbered
+        line.clock = names[key]
         more = error_of_duration if line.read_at is not None else 0
         line.error = error + host.doubt(line, passed) + more + (1 if making.cut.get(line.host) else 0)
         if line.error > MOST_SKEW:
@@ -81,12 +86,6 @@ def steps_of_machines(making: Making, clocks: Dict[str, Clock]) -> Dict[str, Lis
         machine: sorted({step for host in hosts if host in clocks for step in clocks[host].steps})
         for machine, hosts in making.machines().items()
     }
-
-
-def name_for(key: Key, names: Dict[Key, str]) -> str:
-    """A name for the next clock of a machine, with a number behind it from the second one on."""
-    count = sum(other[0] == key[0] for other in names)
-    return key[0] if count == 0 else f"{key[0]}\0{count + 1}"
 
 
 def error_told(line: Line, errors: Told, making: Making) -> Optional[int]:

@@ -2,13 +2,13 @@
 
 from __future__ import annotations
 
-from dataclasses import dataclass, field
+from dataclasses import dataclass, field, replace
 from typing import Dict, Iterator, List, NamedTuple, Optional, Sequence, Tuple
 
 from ask.events import WRONG
 from ask.spelling import kept_spellings
 from ask.texts import Trouble
-from ask.words import listed, shortened
+from ask.words import counted, listed, shortened
 
 CLIENT, SERVER, PRODUCER, CONSUMER, INTERNAL, UNTOLD = "client", "server", "producer", "consumer", "internal", ""
 KINDS = (CLIENT, SERVER, PRODUCER, CONSUMER, INTERNAL)
@@ -106,6 +106,19 @@ def checked(span: Span) -> Span:
     return span
 
 
+def take_once(found: Spans) -> None:
+    """Leaves out spans that are told again with all that they say, as by an exporter that sends twice what may be lost."""
+    first: Dict[Id, Span] = {}
+    kept = []
+    for span in found.spans:
+        before = first.setdefault(span.key(), span)
+        if before is span or replace(before, where=span.where) != span:
+            kept.append(span)
+    if len(kept) < len(found.spans):
+        found.notes.append(f"{counted(len(found.spans) - len(kept), 'span')} told again, word for word, and taken once")
+    found.spans = kept
+
+
 def by_ids(spans: Sequence[Span]) -> Dict[Id, Span]:
     """The spans by their ids, no two of which are the same."""
     found: Dict[Id, Span] = {}
@@ -169,18 +182,29 @@ def chosen(spans: Sequence[Span], choice: Choice) -> List[Span]:
     return [span for span in spans if choice.has(span)]
 
 
-def take_spans_as_one(found: Spans) -> None:
-    """Takes services, names of spans and names of moments as one that differ in the case of letters alone."""
+def take_spans_as_one(found: Spans, machine_keys: Sequence[str] = ()) -> Dict[str, str]:
+    """Takes what differs in the case of letters alone as one: services, what tells processes apart, names of rows.
+
+    Told are the services that are taken as another one.
+    """
     services = kept_spellings(span.process.service for span in found.spans)
     names = kept_spellings(name for span in found.spans for name in names_of(span))
+    told = {
+        key: kept_spellings(span.process.attributes.get(key, "") for span in found.spans)
+        for key in dict.fromkeys((SPACE, *INSTANCE_KEYS, *machine_keys))
+    }
     for span in found.spans:
-        span.process = span.process._replace(service=services.get(span.process.service, span.process.service))
+        service, attributes = span.process
+        changed = {key: told[key].get(value, value) for key, value in attributes.items() if key in told}
+        span.process = Process(services.get(service, service), {**attributes, **changed})
         span.name = names.get(span.name, span.name)
         span.moments = [moment._replace(name=names.get(moment.name, moment.name)) for moment in span.moments]
     found.notes += [
         f"{what}: {name!r} is taken as {kept!r}"
-        for what, table in (("service", services), ("name", names)) for name, kept in table.items() if name != kept
+        for what, table in (("service", services), *told.items(), ("name", names))
+        for name, kept in table.items() if name != kept
     ]
+    return services
 
 
 def names_of(span: Span) -> Iterator[str]:

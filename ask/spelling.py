@@ -41,11 +41,15 @@ class Spellings(NamedTuple):
 
 
 def take_as_one(found: Found) -> Spellings:
-    """Takes names as one that differ so, of hosts and of rows."""
+    """Takes names as one that differ so, of hosts, of their machines and of rows."""
     hosts = kept_spellings([*(event.host for event in found.events), *found.hosts, *found.latencies])
+    machines = kept_spellings(event.machine for event in found.events)
     names = kept_spellings(event.name for event in found.events)
     found.events = [
-        event._replace(host=hosts.get(event.host, event.host), name=names.get(event.name, event.name))
+        event._replace(
+            host=hosts.get(event.host, event.host), machine=machines.get(event.machine, event.machine),
+            name=names.get(event.name, event.name),
+        )
         for event in found.events
     ]
     for told, what in ((found.hosts, "skew or gap"), (found.latencies, "latency")):

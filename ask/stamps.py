@@ -18,7 +18,7 @@ BASIC = re.compile(
     r"(\d{4})(\d\d)(\d\d)[Tt](\d\d)(\d\d)(?:(\d\d)(?:[.,](\d{1,30}))?)?([Zz]|[+-]\d\d(?::?\d\d)?)?", re.ASCII
 )
 DECIMAL = re.compile(r"(-?)(\d{1,20})(?:\.(\d{1,30}))?", re.ASCII)
-DURATION = re.compile(r"(\d{1,20})(?:\.(\d{1,30}))?(s|ms|us|ns)?", re.ASCII)
+DURATION = re.compile(r"(\d{1,20})(?:\.(\d{1,30}))?(?:[eE]([+-]?\d{1,2}))?(s|ms|us|ns)?", re.ASCII)
 
 
 class Stamp(NamedTuple):
@@ -72,7 +72,8 @@ def iso_fault(found: "re.Match[str]") -> str:
         date(year, month, day)
     except ValueError:
         return "has a day that there isn't"
-    if hour > 23 or minute > 59 or int(found.group(6) or 0) > 60:
+    last = 60 if minute % 15 == 14 else 59  # of the seconds: a leap second ends an hour of UTC
+    if hour > 23 or minute > 59 or int(found.group(6) or 0) > last:
         return "has a time of day that there isn't"
     hours, minutes = zone_parts(found.group(8))
     return f"has the zone {found.group(8)}, which there isn't" if hours > MOST_ZONE_HOURS or minutes > 59 else ""
@@ -129,16 +130,16 @@ def loses_digits(stamp: Stamp, unit: str) -> bool:
 
 
 def duration_in_units(text: str, unit: Optional[str], is_down: bool = False) -> Optional[int]:
-    """A duration as `5ms`, or in units where it has none, rounded up, or down; None where it is none."""
+    """A duration as `5ms` or `5.2e-05s`, or in units where it has none, rounded up, or down; None where it is none."""
     found = DURATION.fullmatch(text.strip())
     if not found:
         return None
-    whole, digits, suffix = found.groups()
+    whole, digits, exponent, suffix = found.groups()
     if suffix and unit is None:
         return None
     shift = UNITS[unit] - UNITS[suffix] if suffix and unit else 0
     number = int(whole + (digits or ""))
-    power = shift - len(digits or "")
+    power = shift - len(digits or "") + int(exponent or 0)
     if power >= 0:
         return number * 10**power
     return number // 10**-power if is_down else -(-number // 10**-power)

@@ -21,6 +21,7 @@ BYTE_ORDER_MARK = b"\xef\xbb\xbf"
 WRITER_PATIENCE = 5.0  # seconds in which somebody has to begin to write to a FIFO
 CANNOT_READ, CANNOT_WRITE, TOO_LONG = 74, 75, 67  # statuses
 NO_ROOM = 73  # the status where a folder can't be made, or isn't empty
+LEFT_OVER = re.compile(r"\.ask-[0-9]+-[0-9]+\.new")  # the name of a file that is written and hasn't its place yet
 MOST_SAID = 4000  # letters of one line on the standard error
 
 
@@ -38,6 +39,11 @@ class Source(NamedTuple):
 
     name: str
     data: bytes
+
+
+def data_of(source: Source) -> bytes:
+    """The bytes of a file without a byte order mark."""
+    return source.data[len(BYTE_ORDER_MARK) :] if source.data.startswith(BYTE_ORDER_MARK) else source.data
 
 
 class Place(NamedTuple):
@@ -273,10 +279,10 @@ def open_to_write(name: str, flags: int) -> int:
 
 
 def make_empty_folder(folder: Path, option: str) -> None:
-    """Makes a folder that an option names, or takes one that is empty."""
+    """Makes a folder that an option names, or takes one that is empty, but for what a killed run may have left of a file."""
     try:
         folder.mkdir(parents=True, exist_ok=True)
-        is_empty = not any(folder.iterdir())
+        is_empty = all(LEFT_OVER.fullmatch(path.name) for path in folder.iterdir())
     except (OSError, ValueError) as error:
         raise Trouble(NO_ROOM, f"{escaped(str(folder))} can't be made: {reason_of(error)}") from None
     if not is_empty:

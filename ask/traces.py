@@ -12,7 +12,7 @@ from ask.otlp import read_otlp
 from ask.paths import wide_id
 from ask.spans import (
     FAILED, INSTANCE_KEYS, MACHINE_KEYS, Choice, Id, Span, Spans, by_ids, chosen, parent_of, refuse_cycles,
-    take_spans_as_one,
+    take_once, take_spans_as_one,
 )
 from ask.stamps import Stamp, iso_moment
 from ask.texts import Source, Trouble
@@ -46,13 +46,15 @@ def events_of_traces(sources: Sequence[Source], words: TraceWords) -> Found:
     read = Spans()
     for source in sources:
         READERS[words.form](source, read)
-    if words.is_same_name:
-        take_spans_as_one(read)
+    take_once(read)
+    services = take_spans_as_one(read, words.machine) if words.is_same_name else {}
     everything = by_ids(read.spans)
     refuse_cycles(everything)
-    spans = chosen(read.spans, words.choice)
+    spans = chosen(read.spans, words.choice._replace(services=[services.get(name, name) for name in words.choice.services]))
     refuse_untold_machines(spans, words.machine)
-    return events_of(spans, everything, read, words)
+    found = events_of(spans, everything, read, words)
+    found.named.update((name, found.named[kept]) for name, kept in services.items() if kept in found.named)
+    return found
 
 
 def events_of(spans: Sequence[Span], everything: Dict[Id, Span], read: Spans, words: TraceWords) -> Found:
@@ -60,7 +62,7 @@ def events_of(spans: Sequence[Span], everything: Dict[Id, Span], read: Spans, wo
     known = {span.key(): span for span in spans}
     walk = list(walked(spans, known))
     ordered = [span for is_end, span in walk if not is_end]
-    hosts = hosts_of_spans(ordered, words.is_by_trace, words.is_apart, words.machine)
+    hosts = hosts_of_spans(ordered, in_order(everything), words.is_by_trace, words.is_apart, words.machine)
     messages = messages_of(ordered, known, words.is_by_trace)
     points = sorted(points_of(walk, messages), key=lambda point: point.at)
     found = Found(notes=read.notes, warnings=read.warnings, named=hosts.named, shown=hosts.shown)
@@ -71,6 +73,11 @@ def events_of(spans: Sequence[Span], everything: Dict[Id, Span], read: Spans, wo
         *messages.notes, *notes_of_hosts(spans, hosts),
     ]
     return found
+
+
+def in_order(everything: Dict[Id, Span]) -> Iterator[Span]:
+    """All spans, each behind its parent."""
+    return (span for is_end, span in walked(list(everything.values()), everything) if not is_end)
 
 
 def unit_of(points: "Sequence[PointOfSpan]") -> str:

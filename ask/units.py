@@ -5,10 +5,11 @@ from __future__ import annotations
 import argparse
 import json
 import os
-from dataclasses import dataclass
+import re
+from dataclasses import dataclass, replace
 from datetime import date
 from hashlib import sha256
-from typing import Any, Dict, Iterable, NamedTuple, Optional, Sequence
+from typing import Any, Dict, Iterable, Mapping, NamedTuple, Optional, Sequence
 
 from ask.stamps import UNIT_WORDS, UNITS, Stamp, in_units, stamp_of, zone_parts
 from ask.texts import CANNOT_WRITE, LIMITS, Source, Trouble, escaped, read_file, reason_of, write_text
@@ -19,6 +20,7 @@ MOST_NOTES = 65_536  # bytes
 UNIX = "1970-01-01T00:00:00Z"
 DAY = 86_400
 LAST_DAY = date.max.toordinal()
+ZONE = re.compile(r"[Zz]|[+-][0-9:]+")
 
 
 @dataclass(frozen=True)
@@ -172,7 +174,7 @@ def wrong_notes(name: str, why: str) -> Trouble:
 
 def is_zone(zone: Any) -> bool:
     """Whether something is a zone."""
-    return isinstance(zone, str) and bool(zone) and stamp_of(f"1970-01-01T00:00:00{zone}") is not None
+    return isinstance(zone, str) and ZONE.fullmatch(zone) is not None and stamp_of(f"1970-01-01T00:00:00{zone}") is not None
 
 
 def epoch_in_units(name: str, epoch: Any, unit: str) -> Optional[int]:
@@ -195,7 +197,7 @@ def notes_text(scale: Scale, data: bytes) -> str:
 def write_with_notes(name: str, text: str, scale: Scale) -> str:
     """Writes a log and the notes beside it, and gives the name of these; nothing where the log is no file of its own."""
     beside = notes_name(name)
-    if os.path.lexists(name) and not os.path.isfile(name):
+    if os.path.exists(name) and not os.path.isfile(name):
         write_text(name, text)
         return ""
     if os.path.lexists(beside) and (not os.path.isfile(beside) or facts_of_notes(beside) is None):
@@ -225,8 +227,10 @@ def output_words(name: str, beside: str, scale: Scale) -> str:
 def scale_of_making(unit: Optional[str], is_whole: bool, stamps: Iterable[Stamp], files: Sequence[str]) -> Scale:
     """The unit of a log that is made, the moment at which its time is 0, and the zone that all stamps have."""
     if is_whole:
-        kept = scale_of_files(files)
-        return kept if unit in (None, kept.unit) else Scale(unit)
+        kept = {name: scale_kept(name) for name in files}
+        refuse_other_unit(unit, kept)
+        joint = scale_of_all(list(kept.values()))
+        return joint if unit in (None, joint.unit) else Scale(unit)
     zones, is_dated = set(), False
     for stamp in stamps:
         is_dated |= stamp.kind == "iso"
@@ -243,18 +247,41 @@ def extended(zone: str) -> str:
     return f"{zone[0]}{hours:02}:{minutes:02}"
 
 
-def scale_of_files(files: Sequence[str]) -> Scale:
-    """The unit that the notes of all files agree on."""
-    found = {scale_kept(name) for name in files}
-    return found.pop() if len(found) == 1 else BARE
+def scale_of_all(scales: Sequence[Scale]) -> Scale:
+    """The unit and the epoch on which all agree, with their zone, or UTC where they have several."""
+    first = next(iter(scales), BARE)
+    if any((scale.unit, scale.epoch) != (first.unit, first.epoch) for scale in scales):
+        return BARE
+    return first if all(scale == first for scale in scales) else replace(first, zone="Z")
 
 
-def scale_kept(name: str) -> Scale:
-    """The unit that the notes beside a file say, as far as they are of it."""
+def scale_kept(name: str, data: Optional[bytes] = None) -> Scale:
+    """The unit that the notes beside a file say, as far as they are of it, whose bytes may be at hand."""
     kept = read_notes(notes_name(name)) if name != "-" else None
-    if kept is None or kept.digest is not None and not is_of(kept, read_file(name, LIMITS["long log"].most)):
+    if kept is None:
+        return BARE
+    if kept.digest is not None and not is_of(kept, read_file(name, LIMITS["long log"].most) if data is None else data):
         return BARE
     return kept.scale
+
+
+def refuse_other_unit(unit: Optional[str], kept: Mapping[str, Scale]) -> None:
+    """Refuses a unit of the words where the notes of a file say another one."""
+    for name, scale in kept.items():
+        if unit and scale.unit and scale.unit != unit:
+            raise Trouble(WRONG_WORDS, f"--unit {unit}: {escaped(notes_name(name))} says {UNIT_WORDS[scale.unit]}")
+
+
+def refuse_two_units(kept: Mapping[str, Scale]) -> None:
+    """Refuses logs to be joined whose notes say different units or beginnings of time, since the numbers of one are others."""
+    told = {name: scale for name, scale in kept.items() if scale.unit is not None}
+    first = next(iter(told), "")
+    for name, scale in told.items():
+        if scale.unit != told[first].unit:
+            said = f"{name} is in {UNIT_WORDS[scale.unit or 's']} and {first} in {UNIT_WORDS[told[first].unit or 's']}"
+            raise Trouble(WRONG_NOTES, f"{said}, by the notes beside them: logs that are joined have one unit")
+        if None not in (scale.epoch, told[first].epoch) and scale.epoch != told[first].epoch:
+            raise Trouble(WRONG_NOTES, f"{name} and {first} count from different moments, by the notes beside them")
 
 
 # Words

@@ -10,7 +10,7 @@ from typing import Any, Dict, List, Optional, Sequence
 
 from ask.logs import MOST_SKEW, Bound, Log, Row, bound_of
 from ask.reports import Report, Step
-from ask.texts import escaped_json, escaped_lines, write_output
+from ask.texts import escaped, escaped_json, escaped_lines, width_of, write_output
 from ask.units import Scale
 from ask.walks import Ground, bound_between, broken_ground, grounds_of
 
@@ -39,7 +39,13 @@ def print_answer(answer: Answer, is_json: bool) -> None:
 
 def print_facts(facts: Dict[str, Any]) -> None:
     """Writes facts as JSON to the standard output, or refuses where that can't be."""
-    write_output(escaped_json(json.dumps(with_exact_numbers(facts), indent=2, ensure_ascii=False)) + "\n")
+    text = json.dumps(with_exact_numbers(facts), indent=2, ensure_ascii=not writes_all_letters())
+    write_output(escaped_json(text) + "\n")
+
+
+def writes_all_letters() -> bool:
+    """Whether the standard output is in UTF-8, as JSON is; elsewhere JSON is written in ASCII."""
+    return (sys.stdout.encoding or "utf-8").lower().replace("_", "-") in ("utf-8", "utf8")
 
 
 def with_exact_numbers(value: Any) -> Any:
@@ -109,13 +115,13 @@ def shortened(text: str, most: int = 60) -> str:
 
 def table(heads: Sequence[str], rows: Sequence[Sequence[str]], left: Sequence[int] = ()) -> List[str]:
     """Lines of columns under their heads; columns are set to the right but for those named."""
-    widths = [max(len(cell) for cell in column) for column in zip(heads, *rows)]
+    widths = [max(width_of(escaped(cell)) for cell in column) for column in zip(heads, *rows)]
     lines = []
     for cells in [heads, *rows]:
-        padded = [
-            cell.ljust(width) if place in left else cell.rjust(width)
-            for place, (cell, width) in enumerate(zip(cells, widths))
-        ]
+        padded = []
+        for place, (cell, width) in enumerate(zip(cells, widths)):
+            blanks = " " * (width - width_of(escaped(cell)))
+            padded.append(cell + blanks if place in left else blanks + cell)
         lines.append(("  " + "  ".join(padded)).rstrip())
     return lines
 

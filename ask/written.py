@@ -43,8 +43,13 @@ def written(source: Source, pieces: Sequence[Piece]) -> Written:
     text = text_of_pieces(pieces)
     made = Written(f"'{' '.join(text.split())}'", text.encode("utf-8", "surrogateescape"))
     made.source, made.pieces = source, pieces
-    made.ends = list(accumulate(len(piece.text.encode("utf-8", "surrogateescape")) for piece in pieces))
+    made.ends = list(accumulate(bytes_of(piece.text) for piece in pieces))
     return made
+
+
+def bytes_of(text: str) -> int:
+    """How many bytes a text has, of which some may be none of a letter."""
+    return len(text.encode("utf-8", "surrogateescape"))
 
 
 def text_of_pieces(pieces: Sequence[Piece]) -> str:
@@ -71,9 +76,9 @@ def offset_written(formula: Written, offset: int) -> int:
         return len(source.data)
     number = bisect_right(formula.ends, offset)
     piece = formula.pieces[number]
-    text = source.data.decode("utf-8", "replace")
+    text = source.data.decode("utf-8", "surrogateescape")
     within = offset - (formula.ends[number - 1] if number else 0)
-    start = len(text[: piece.start].encode())
+    start = bytes_of(text[: piece.start])
     return start + within if text.startswith(piece.text, piece.start) else start
 
 

@@ -32,6 +32,7 @@ import check
 import generate
 import generate_logs
 import logs
+import program as reading
 import z3
 from families import FAMILIES
 
@@ -39,7 +40,8 @@ ROWS = (24, 64, 256)
 START = 0.03  # seconds that it takes to start a solver
 COLUMNS = "{:<22} {:>4} {:>9} {:>9} {:>9} {:>8}  {}"
 HEADS = ("check", "rows", "program", "z3", "ratio", "verdict", "")
-STATUSES = {0: "true", 1: "false", 2: "either", 3: "inconsistent"}  # of check, with the verdicts
+STATUSES = {0: "true", 1: "false", 2: "either", 3: "inconsistent", 4: z3.NO_VERDICT}  # of check, with the verdicts
+ANSWERS = ("sat", "unsat", z3.NO_VERDICT)  # of z3
 STOPPED = "stopped"  # what a run says that was stopped
 SIGNAL = "signal"  # and one that a signal ended before, with its number
 
@@ -76,10 +78,10 @@ def answers_to(formula, log, name, folder, patience):
     question = z3.question_of(formula, log)
     texts = [question.text(value) for value in z3.VALUES]
     runs = [solved(text, folder, patience) for text in texts]
-    solver = Took(sum(run.seconds for run in runs), any(run.status < 0 for run in runs))
+    solver = Took(sum(run.seconds for run in runs), any(was_stopped(run, patience) for run in runs))
     said = tuple(said_by(run, patience) for run in runs)
-    program = Took(checked.seconds, checked.status < 0)
-    return Answers(program, solver, verdict_of(checked.status), said, all(map(z3.is_decided, texts)))
+    program = Took(checked.seconds, was_stopped(checked, patience))
+    return Answers(program, solver, verdict_of(checked, patience), said, all(map(z3.is_decided, texts)))
 
 
 def solved(text, folder, patience):
@@ -92,20 +94,27 @@ def said_by(run, patience):
     """What a run of z3 says: its answer, that it was stopped after the patience, or the signal that ended it before."""
     if run.status >= 0:
         return run.output.decode().strip()
-    return STOPPED if run.seconds > patience - 1 else f"{SIGNAL} {-run.status}"
+    return STOPPED if was_stopped(run, patience) else f"{SIGNAL} {-run.status}"
 
 
-def verdict_of(status):
-    """The verdict that belongs to a status of check; an unknown one where it was cut off, stopped or refused."""
-    return STATUSES.get(status, z3.NO_VERDICT)
+def verdict_of(run, patience):
+    """The verdict that a run of check gives, an unknown one where it was cut off or stopped; else how it failed."""
+    if run.status < 0:
+        return z3.NO_VERDICT if was_stopped(run, patience) else f"{SIGNAL} {-run.status}"
+    return STATUSES.get(run.status, f"status {run.status}")
+
+
+def was_stopped(run, patience):
+    """Whether a run was stopped after the patience."""
+    return run.status < 0 and run.seconds > patience - 1
 
 
 def agree(verdict, said):
-    """Whether nothing that z3 says is against a verdict."""
+    """Whether nothing that z3 says is against a verdict; a refusal or a failure of either side always is."""
     if verdict == z3.NO_VERDICT:
-        return True
-    expected = next(answers for answers, other in z3.VERDICTS.items() if other == verdict)
-    return all(answer in (STOPPED, right) or answer.startswith(SIGNAL) for answer, right in zip(said, expected))
+        return all(answer in (STOPPED, *ANSWERS) for answer in said)
+    expected = next((answers for answers, other in z3.VERDICTS.items() if other == verdict), None)
+    return expected is not None and all(answer in (STOPPED, right) for answer, right in zip(said, expected))
 
 
 # Ratios
@@ -161,7 +170,7 @@ def table(arguments, program, folder):
 def row_of(family, rows, answers):
     """The row of a question."""
     mark = "stamps" if answers.is_decided else ""
-    if not agree(answers.verdict, answers.said) or any(answer.startswith(SIGNAL) for answer in answers.said):
+    if not agree(answers.verdict, answers.said):
         mark = f"z3 says {' and '.join(answers.said)}"
     took = [side.shown() for side in (answers.program, answers.solver)]
     return COLUMNS.format(family.title, rows, *took, shown_ratio(answers), answers.verdict, mark).rstrip()
@@ -178,7 +187,7 @@ def closing(found):
     yield f"geometric mean of the ratios {geometric_mean(ratios):.3f}, the greatest {ratios[worst]:.3f} ({found[worst][0]})"
     if asked:
         yield f"geometric mean of the {len(asked)} that stamps don't decide {geometric_mean(asked):.3f}"
-    yield f"{differing} verdicts differ"
+    yield f"{differing} of {len(found)} verdicts differ"
 
 
 # Questions made by chance
@@ -191,13 +200,18 @@ def some_question(draw):
     return b" ".join(generate.tokens_of(draw, tree)), logs.log_text(log)
 
 
+def is_refused(formula, log):
+    """Whether the formats have check refuse a formula and a log."""
+    return isinstance(reading.answer(["check", "f", "l"], {"f": formula, "l": log}), reading.Exact)
+
+
 def compared(arguments, program, folder):
     """Asks questions that check takes, and says of how many; prints the first on which the verdicts differ, and gives 1."""
     draw = random.Random(arguments.seed)
     judged = 0
     while judged < arguments.cases:
         formula, log = some_question(draw)
-        if isinstance(logs.read_log(log), logs.LogFault):
+        if is_refused(formula, log):
             continue
         answers = answers_to(formula, log, program, folder, arguments.patience)
         judged += answers.verdict != z3.NO_VERDICT

@@ -9,7 +9,9 @@ an interrupt, it prints the seconds of each crate, with those in which it was
 under way, counted from the first check, and how many processes checked it; and
 then the dearest modules, N of them. A module is told by its crate and function:
 `Lts` is a function's control flow, `Proof` its goals, `Answers` what was
-written for them. What a module took is what its process took from the module
+written for them. A process has the seconds of those that it began and that ended
+before it; what one of them that is a check itself had is taken off, so that no
+second counts twice. What a module took is what its process took from the module
 before it, so that one of a second or less says little; and the modules of a
 crate that is checked by several processes at once aren't all seen.
 """
@@ -19,6 +21,7 @@ import bisect
 import os
 import signal
 import sys
+import tempfile
 import time
 from pathlib import Path
 from typing import NamedTuple
@@ -26,7 +29,7 @@ from typing import NamedTuple
 sys.dont_write_bytecode = True  # leaves no compiled files beside the sources
 
 TICK = os.sysconf("SC_CLK_TCK")
-ROOMS = "rattle-logic-built-locked-{}-0"  # where a process writes its modules, below /tmp
+ROOMS = "rattle-logic-built-locked-{}-0"  # where a process writes its modules, below the folder of temporary files
 ENDING = ".oantt"
 
 
@@ -40,8 +43,9 @@ class Key(NamedTuple):
 class Check:
     """What was seen of a process that checks a crate."""
 
-    def __init__(self, crate):
+    def __init__(self, crate, parent):
         self.crate = crate
+        self.parent = parent  # the number of the process that began it
         self.times = []  # when it was looked at,
         self.taken = []  # and the processor's seconds that it had taken then
         self.modules = {}  # when each was written, by its name
@@ -84,7 +88,7 @@ def look(checks):
                 continue
             fields = (process / "stat").read_text().rpartition(") ")[2].split()
             key = Key(int(process.name), int(fields[19]))
-            check = checks.setdefault(key, Check(crate))
+            check = checks.setdefault(key, Check(crate, int(fields[1])))
             check.times.append(time.time())
             check.taken.append(sum(map(int, fields[11:15])) / TICK)
             take_in_modules(key.number, check)
@@ -96,7 +100,7 @@ def look(checks):
 
 def take_in_modules(number, check):
     """Takes in the modules that a process has written since the last look."""
-    room = Path("/tmp", ROOMS.format(number))
+    room = Path(tempfile.gettempdir(), ROOMS.format(number))
     if not room.is_dir():
         return
     with os.scandir(room) as entries:
@@ -117,8 +121,21 @@ def watch(checks, idle):
         pass
 
 
-def print_crates(checks):
+def own_seconds(checks):
+    """The processor's seconds of each process, without those that other checks had which it began, by its key."""
+    own = {key: check.taken[-1] for key, check in checks.items()}
+    for check in checks.values():
+        for key, other in checks.items():
+            has_taken_over = key.number == check.parent and other.times[0] <= check.times[0] and check.times[-1] < other.times[-1]
+            if has_taken_over:
+                own[key] = max(0.0, own[key] - check.taken[-1])
+    return own
+
+
+def print_crates(found):
     """Prints the seconds of each crate, in the order in which their checks began."""
+    checks, own = found.values(), own_seconds(found)
+    seconds = {id(check): own[key] for key, check in found.items()}
     first = min(check.times[0] for check in checks)
     crates = {}
     for check in sorted(checks, key=lambda check: check.times[0]):
@@ -127,10 +144,9 @@ def print_crates(checks):
     for crate, parts in crates.items():
         begun = parts[0].times[0] - first
         ended = max(check.times[-1] for check in parts) - first
-        taken = sum(check.taken[-1] for check in parts)
+        taken = sum(seconds[id(check)] for check in parts)
         print(f"{crate:<20} {taken:>9.0f} {begun:>7.0f} {ended:>7.0f} {len(parts):>10}")
-    whole = sum(check.taken[-1] for check in checks)
-    print(f"{'all':<20} {whole:>9.0f}")
+    print(f"{'all':<20} {sum(seconds.values()):>9.0f}")
 
 
 def print_modules(checks, most):
@@ -153,7 +169,7 @@ def main():
     watch(checks, arguments.idle)
     if not checks:
         sys.exit("no check was seen")
-    print_crates(checks.values())
+    print_crates(checks)
     print_modules(checks.values(), arguments.modules)
 
 

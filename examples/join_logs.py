@@ -21,10 +21,17 @@ from ask.main import run
 def words_of(given: Sequence[str]) -> List[str]:
     """The words of `ask log`, in which the host of a latency stands before a sign `=`."""
     words = ["log", *given]
-    for place, word in enumerate(words[:-1]):
-        if word == "--latency":
-            words[place + 1] = words[place + 1].replace(",", "=", 1)
+    for place, word in enumerate(words):
+        if word.startswith("--latency="):
+            words[place] = "--latency=" + with_sign(word.partition("=")[2])
+        elif words[max(0, place - 1)] == "--latency":
+            words[place] = with_sign(word)
     return words
+
+
+def with_sign(latency: str) -> str:
+    """A latency with a sign `=` behind its host, which it may have already."""
+    return latency if "=" in latency else latency.replace(",", "=", 1)
 
 
 if __name__ == "__main__":

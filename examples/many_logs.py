@@ -14,6 +14,7 @@ question has, 125 being a question without an answer; else the first of 3, 1, 2,
 """
 
 import argparse
+import fcntl
 import io
 import os
 import re
@@ -37,6 +38,7 @@ sys.path.insert(0, str(Path(__file__).resolve().parent.parent))
 from ask.ends import refuse_as, run_script, uninterrupted
 from ask.logs import number
 from ask.macros import has_words, written_out
+from ask.program import BUILT, IS_SOURCE, REMEDY, ROOT
 from ask.reports import verdict_of
 from ask.texts import (
     CANNOT_READ, CANNOT_WRITE, LIMITS, TOO_LONG, Source, Trouble, escaped, read_file, reason_of, replace_file, say, width_of,
@@ -44,29 +46,37 @@ from ask.texts import (
 )
 from ask.units import UNITS, scaled
 
-BUILT = Path(__file__).resolve().parent.parent / "crates" / "skewcheck" / "out" / "skewcheck"
+OWN = BUILT if IS_SOURCE else ROOT.parent.parent / "bin" / "skewcheck"  # the program of this folder
 WORDS = {0: "true", 1: "false", 2: "either", 3: "no timing", 4: "unknown"}
 ORDER = (3, 1, 2, 4, 0)  # of answers: the first that some question has is the status of the whole
 TROUBLES = 10  # lines of them that are told, and refusals of formulas
 REFUSED = 64  # the least status that is no answer
 WRONG_WORDS, UNAVAILABLE, NO_ROOM, NOT_ASKED = 64, 72, 73, 125
 MOST_TO_END = 10  # seconds that parallel has to end its jobs
+LEAST_TIME = 0.001  # seconds of a question that has a limit, since 0 is none for timeout
 MARK, MARK_TEXT = "many_logs.mark", b"This folder has answers of examples/many_logs.py.\n"
 MOST_NAME = 255  # bytes of the name of a file
 ANSWER = re.compile(r"(?:\./)?([0-9]+)/([0-9]+)\.(report|status)")
 
-# A job: unpacks a bundle in a folder of its own, asks its questions, and writes the reports as an archive.
+# A job: unpacks a bundle in a folder of its own, asks its questions, and writes the reports as an archive. It fails where
+# it can't keep an answer. A question that `timeout` runs has a group of its own, which ends with the job. On another machine
+# the shell may be one in which `status` can't be set, as zsh.
 JOB = """\
 brace=$(printf '\\173')
 command -v -- {program} >/dev/null || {{ printf "many_logs: %s isn't there\\n" {program} >&2; exit 72; }}
 room=$(mktemp -d) || exit 74
 trap 'rm -rf "$room"' EXIT
-trap 'exit 130' INT TERM
+run=
+trap 'kill -s KILL -- "-$run" 2>/dev/null; exit 130' HUP INT TERM
 tar -C "$room" -xf {{}} && cd "$room" && mkdir answers || exit 74
 while IFS='\t' read -r formula log ending; do
-  mkdir -p "answers/$formula"
-  {command} "formulas/$formula$ending" "logs/$log" >"answers/$formula/$log.report" </dev/null
-  echo "$?" >"answers/$formula/$log.status"
+  mkdir -p "answers/$formula" || exit 74
+  {command} "formulas/$formula$ending" "logs/$log" >"answers/$formula/$log.report" </dev/null &
+  run=$!
+  wait "$run"
+  end=$?
+  [ "$end" -ne {unwritten} ] || {{ printf "many_logs: a report can't be written in %s\\n" "${{TMPDIR:-/tmp}}" >&2; exit 74; }}
+  echo "$end" >"answers/$formula/$log.status" || exit 74
 done <questions
 tar -C answers -cf - .
 """
@@ -85,16 +95,19 @@ def files_of(options):
     folder = Path(options.logs)
     if not folder.is_dir():
         raise Trouble(CANNOT_READ, f"{shown(folder)} is no folder")
-    logs = {path.name: path for path in sorted(folder.glob("*.csv"))}
-    formulas = {Path(name).name: Path(name) for name in options.formulas}
+    found = sorted(folder.iterdir())
+    logs = {path.name: path for path in found if path.name.endswith(".csv")}
+    formulas = {}
+    for path in map(Path, options.formulas):
+        if path.name in formulas:
+            raise Trouble(WRONG_WORDS, f"two formulas have one name: {shown(path.name)}")
+        formulas[path.name] = path
     if not logs:
         raise Trouble(CANNOT_READ, f"{shown(folder)} has no file NAME.csv")
     known = {*logs, *(f"{name}.notes" for name in logs)}  # and what `ask` keeps beside a log
-    others = sum(path.name not in known for path in folder.iterdir())
+    others = sum(path.name not in known for path in found)
     if others:
         tell(f"left out of {shown(folder)}, being no NAME.csv: {others}")
-    if len(formulas) < len(options.formulas):
-        raise Trouble(WRONG_WORDS, "two formulas have one name")
     return logs, formulas
 
 
@@ -170,18 +183,19 @@ def bundle(questions):
 
 
 class Gathering:
-    """The bundles of the questions that can be asked, the statuses of all, and why those are refused that can't be."""
+    """The bundles of the questions that can be asked, what is asked in each, the statuses of all questions, and why those
+    are refused that can't be."""
 
     def __init__(self, options, logs, formulas):
         self.sources = [Source(shown(name), bytes_of(path, "formula")) for name, path in formulas.items()]
         self.unit, self.size = options.unit, options.bundle
         self.statuses, self.written, self.refusals = {}, {}, []
-        self.bundles, self.waiting = [], []
+        self.bundles, self.asked, self.waiting = [], [], []
         for log, path in enumerate(logs.values(), 1):
             data = log_of(path)
             for formula in range(1, len(self.sources) + 1):
                 self.take(formula, log, path, data)
-        self.bundles += [bundle(self.waiting)] * bool(self.waiting)
+        self.close_bundle()
 
     def take(self, formula, log, path, data):
         """Takes the question of a formula and a log, whose bytes are None where it can't be read."""
@@ -200,7 +214,13 @@ class Gathering:
         self.statuses[formula, log] = NOT_ASKED
         self.waiting.append(Question(formula, log, text.data, data, text is not source))
         if len(self.waiting) == self.size:
+            self.close_bundle()
+
+    def close_bundle(self):
+        """Makes a bundle of the questions that wait for one, if there are any."""
+        if self.waiting:
             self.bundles.append(bundle(self.waiting))
+            self.asked.append([(question.formula, question.log) for question in self.waiting])
             self.waiting = []
 
     def written_for(self, formula, path, data):
@@ -239,16 +259,25 @@ def refuse_folder(folder):
 
 
 def make_folder(folder):
-    """Makes the folder of answers, with its mark."""
+    """Makes the folder of answers, with its mark, and takes it for this run; gives what holds it until the script ends."""
     try:
         folder.mkdir(parents=True, exist_ok=True)
     except OSError as error:
         raise Trouble(NO_ROOM, f"{shown(folder)} can't be made: {reason_of(error)}") from None
+    held = os.open(folder, os.O_RDONLY | os.O_DIRECTORY)
+    try:
+        fcntl.flock(held, fcntl.LOCK_EX | fcntl.LOCK_NB)
+    except BlockingIOError:
+        raise Trouble(NO_ROOM, f"{shown(folder)} is in use by another run") from None
+    except OSError:
+        pass  # where the system has no such locks
     write(folder / MARK, MARK_TEXT)
+    return held
 
 
 class Questions:
-    """What is asked: the names of logs and formulas, the status of each question, and the bundles in their folder."""
+    """What is asked: the names of logs and formulas, the status of each question, and the bundles in their folder, each
+    with its questions."""
 
     def __init__(self, options, command):
         refuse_folder(Path(options.to))
@@ -260,7 +289,7 @@ class Questions:
         digest = sha256(b"\0".join([*names, *(sha256(data).digest() for data in bundles)])).hexdigest()
         self.top = Path(options.to)
         self.folder = self.top / f"questions-{digest[:12]}"
-        self.bundles = [f"{number:05}.tar" for number in range(1, len(bundles) + 1)]
+        self.bundles = {f"{number:05}.tar": asked for number, asked in enumerate(gathered.asked, 1)}
         self.write(bundles)
         gathered.tell_refusals()
 
@@ -269,7 +298,7 @@ class Questions:
         if any(other != self.folder for other in self.top.glob("questions-????????????")):
             words = "has answers of other logs, formulas or options; name another folder by --to"
             raise Trouble(WRONG_WORDS, f"{shown(self.top)} {words}")
-        make_folder(self.top)
+        self.held = make_folder(self.top)
         if not self.folder.exists():
             room = self.folder.with_suffix(".new")
             for name, data in zip(self.bundles, bundles):
@@ -295,12 +324,14 @@ def jobs_done(questions):
 
 
 def clear_undone(questions):
-    """Leaves in the joblog the jobs that are done, and of the answers theirs, since parallel passes over all others.
+    """Leaves in the joblog the jobs that are done and whose answers are whole, and of the answers theirs, since parallel
+    passes over all others.
 
     What parallel writes of a bundle has its name, so nothing else is removed.
     """
-    done = jobs_done(questions)
     jobs, answers = questions.top / "jobs", questions.top / "answers"
+    done = jobs_done(questions)
+    done = {name: line for name, line in done.items() if is_whole(questions, name, answers_of(answers / name))}
     if jobs.exists():
         title = jobs.read_bytes().splitlines()[:1]
         write(jobs, b"".join(line + b"\n" for line in [*title, *done.values()]))
@@ -319,7 +350,7 @@ def ask(options, command, questions):
     words += ["--sshlogin", options.machines, "--transferfile", "{}", "--cleanup"] if options.machines else []
     words += ["--bar"] if sys.stderr.isatty() else []
     bundles = "".join(f"{questions.folder.name}/{name}\n" for name in questions.bundles)
-    job = JOB.format(program=in_job(options.program), command=command)
+    job = JOB.format(program=in_job(options.program), command=command, unwritten=CANNOT_WRITE)
     run_parallel([*words, job], questions.top, bundles.encode())
 
 
@@ -367,7 +398,8 @@ def troubles(questions):
 
 
 def answers_of(path):
-    """What a job gave: the report and the status of each question, by its numbers and by which of the two it is."""
+    """What a job gave: the report and the status of each question, by its numbers and by which of the two it is, as far as
+    its archive can be read."""
     found = {}
     try:
         with tarfile.open(path) as archive:
@@ -375,15 +407,25 @@ def answers_of(path):
                 match = ANSWER.fullmatch(entry.name)
                 if entry.isfile() and match:
                     found[int(match[1]), int(match[2]), match[3]] = archive.extractfile(entry).read()
-    except (OSError, EOFError, ValueError, tarfile.TarError) as error:
-        tell(f"{shown(path)} is no archive of answers: {error}")
+    except (OSError, EOFError, ValueError, tarfile.TarError):
+        pass  # is_whole tells what lacks
     return found
+
+
+def is_whole(questions, name, found):
+    """Whether a job gave a report and a status of each question of its bundle."""
+    statuses = [found.get((*question, "status"), b"").strip() for question in questions.bundles[name]]
+    return all(map(bytes.isdigit, statuses)) and all((*question, "report") in found for question in questions.bundles[name])
 
 
 def collect(questions):
     """Writes the reports of the jobs that are done, and the status of each question."""
+    count = 0
     for name in jobs_done(questions):
-        found = answers_of(questions.top / "answers" / name)
+        path = questions.top / "answers" / name
+        found = answers_of(path)
+        if not is_whole(questions, name, found):
+            tell(f"{shown(path)} lacks answers, which the same words ask for again")
         for formula, log, kind in found:
             if kind == "report" and (formula, log) in questions.statuses:
                 formula_name, log_name = questions.name_of(formula, log)
@@ -393,7 +435,7 @@ def collect(questions):
                     write(reports / name_beside(log_name, "formula"), questions.written[formula, log])
                 status = found.get((formula, log, "status"), b"").strip()
                 questions.statuses[formula, log] = status_of_answer(status, report)
-    count = sum(status == UNAVAILABLE for status in questions.statuses.values())
+                count += questions.statuses[formula, log] == UNAVAILABLE and int(status[:4]) != UNAVAILABLE
     if count:
         tell(f"questions with status 72, since what the program wrote isn't what check writes with its status: {count}")
     lines = []
@@ -479,6 +521,11 @@ def number_of_jobs(text):
     return text
 
 
+def name_of_folder(folder):
+    """The name of a folder, as it was given unless that has none of its own at its end."""
+    return os.path.abspath(folder) if os.path.basename(folder.rstrip("/")) in ("", ".", "..") else folder.rstrip("/")
+
+
 def options_of(words):
     """What is asked for."""
     parser = Parser(prog="many_logs.py", description="ask formulas of each log of a folder", allow_abbrev=False)
@@ -505,8 +552,8 @@ def options_of(words):
         parser.error("a bundle has at least one question")
     if any("\0" in word for word in words):
         parser.error("a word has a NUL byte")
-    options.to = options.to or options.logs.rstrip("/") + ".answers"
-    options.program = options.program or ("skewcheck" if shutil.which("skewcheck") or options.machines else str(BUILT))
+    options.to = options.to or name_of_folder(options.logs) + ".answers"
+    options.program = options.program or ("skewcheck" if shutil.which("skewcheck") or options.machines else str(OWN))
     if "/" in options.program and not options.machines:
         options.program = os.path.abspath(options.program)  # a job runs in a folder of its own
     return options
@@ -519,11 +566,12 @@ def main():
     except SystemExit as end:  # the words ask for help
         return int(end.code or 0)
     command = f"{in_job(options.program)} check" + (f" --conflicts {options.conflicts}" if options.conflicts else "")
-    command = f"timeout -k 5 {options.seconds:f} {command}" if options.seconds else command
+    command = f"timeout -k 5 {max(options.seconds, LEAST_TIME):f} {command}" if options.seconds else command
     if not shutil.which("parallel"):
         raise Trouble(UNAVAILABLE, "GNU parallel isn't there (Debian's package parallel)")
     if not options.machines and not shutil.which(options.program):
-        raise Trouble(UNAVAILABLE, f"{shown(options.program)} isn't there; ./skewcheck demo 7 builds it")
+        remedy = f", and no skewcheck is in the path: {REMEDY}" if options.program == str(OWN) else ""
+        raise Trouble(UNAVAILABLE, f"{shown(options.program)} isn't there{remedy}")
     questions = Questions(options, command)
     ask(options, command, questions)
     collect(questions)

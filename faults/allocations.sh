@@ -8,6 +8,7 @@ refuse() {
   exit "$2"
 }
 
+case ${SKEWCHECK-} in '' | /*) ;; *) SKEWCHECK=$PWD/$SKEWCHECK ;; esac
 cd "$(dirname "$0")/.." || refuse "the repository can't be entered" 74
 program=${SKEWCHECK:-./crates/skewcheck/out/skewcheck}
 [ -n "${SKEWCHECK-}" ] || [ -x "$program" ] || ./skewcheck -- </dev/null >/dev/null

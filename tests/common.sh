@@ -3,6 +3,7 @@
 # command of its own name, and names in SKEWCHECK the program: that of the environment, or the built one, which is
 # built where it isn't. A script that runs no program says so by `runs_program=no`, and none is built for it.
 folder=tests/$(basename "$(dirname "$(readlink -f "$0")")")
+case ${SKEWCHECK-} in '' | /*) ;; *) SKEWCHECK=$PWD/$SKEWCHECK ;; esac
 cd "$(dirname "${BASH_SOURCE[0]}")/.." || exit 74
 for package in python3 "${needs[@]}"; do
   if ! command -v "$package" >/dev/null; then

@@ -9,10 +9,11 @@ from ask.cautions import (
     Caution, add_strict_words, cautions_wanted, cautions_without_runs, values_of_status, wants_runs, with_cautions,
 )
 from ask.commands.check import refuse_wrong_conflicts
+from ask.ends import OutOfTime
 from ask.formulas import Tree, grows_truer, is_higher, read_formula, stray_mark, subtrees, with_number
 from ask.logs import Fault, Log
 from ask.macros import add_formula_words, formula_answer, written_out
-from ask.program import Run, Stopped, program_of
+from ask.program import STOPPED, Run, Stopped, program_of
 from ask.question import (
     REFUSED, Question, accepted_log, answered, run_facts, run_lines, shown_formula, sources_of, text_of_source,
 )
@@ -22,7 +23,7 @@ from ask.units import add_unit_words, scale_of_source, unit_facts
 from ask.windows.answer import Progress, setting_of
 from ask.windows.asking import Setting, Whole
 from ask.windows.bounds import Contradiction
-from ask.windows.cautions import cautions_of_long_log
+from ask.windows.cautions import cautions_of_long_log, unasked_in_time
 from ask.windows.least_number import Numbers, Undecided
 from ask.windows.longlog import LongLog
 from ask.windows.opening import LongQuestion, add_window_words, long_log_of, question_of
@@ -167,6 +168,8 @@ class Search:
         self.last = max(self.least, min(self.most, greatest_distance(log) + 1))
         try:
             answer, number = self.answer_at_edge()
+        except (Stopped, OutOfTime):
+            raise self.stopped(*self.known()) from None
         except Unknown as unknown:
             answer, number = self.unknown(unknown.number), unknown.number
         tree = self.tree and with_number(self.tree, number)
@@ -194,6 +197,19 @@ class Search:
             else:
                 failed = middle
         return met
+
+    def known(self) -> Tuple[Optional[int], Optional[int]]:
+        """Of the numbers that were tried the last one that will do, and the first one that won't."""
+        met = [number for number, run in self.runs.items() if run.status == 0]
+        failed = [number for number, run in self.runs.items() if run.status != 0]
+        of_met, of_failed = (min, max) if self.rises else (max, min)
+        return of_met(met, default=None), of_failed(failed, default=None)
+
+    def stopped(self, met: Optional[int], failed: Optional[int]) -> Trouble:
+        """That the time was over, with what is known of numbers that will do and that won't."""
+        known = [f"with {self.scale.span(met)} it is true by every timing"] * (met is not None)
+        known += [f"with {self.scale.span(failed)} it isn't true by every timing"] * (failed is not None)
+        return Trouble(STOPPED, "; ".join([f"stopped after {self.arguments.seconds:g} seconds", *known]))
 
     def found(self, number: int) -> Answer:
         """The answer where a number is the last one that will do."""
@@ -291,9 +307,12 @@ class LongSearch(Search):
         self.last = max(self.least, min(self.most, max(whole.times.greatest) - min(whole.times.least) + 1))
         progress = Progress(not self.arguments.quiet)
         setting = setting_of(self.at_least, self.arguments, progress)
+        numbers = Numbers(whole, setting, self.shape_at, self.rises)
         try:
             try:
-                answer, number = self.answer_at(Numbers(whole, setting, self.shape_at, self.rises))
+                answer, number = self.answer_at(numbers)
+            except (Stopped, OutOfTime):
+                raise self.stopped(None, numbers.failed) from None
             except Undecided as undecided:
                 answer, number = self.unknown(undecided.number), undecided.number
             cautions = self.cautions_at(number, whole, setting)
@@ -311,16 +330,15 @@ class LongSearch(Search):
         whole.take_shape(shape_of(asked.tree))
         try:
             return cautions_of_long_log(asked, whole, setting, verdict_of_slices(whole, setting))
-        except Stopped:
-            return [*told, Caution("unasked", "whether the formula is true for nothing isn't known: that was stopped")]
+        except (Stopped, OutOfTime):
+            return [*told, unasked_in_time()]
 
     def answer_at(self, numbers: Numbers) -> Tuple[Answer, int]:
         """The answer at the edge, and the number that it is about."""
         met, failed = numbers.edge(self.least, self.last)
-        words = "check of windows"
         for number, status in ((met, 0), (failed, 4)):
             if number is not None:
-                self.runs[number] = Run(f"{words} with {number}", status, b"")
+                self.take_status(number, status)
         if met is None:
             assert failed is not None
             return self.none(failed), failed
@@ -330,8 +348,13 @@ class LongSearch(Search):
 
     def unknown(self, number: int) -> Answer:
         """The answer where windows with a number left open whether they can be false."""
+        self.take_status(number, 4)
         said = f"Unknown: with {self.scale.span(number)} windows didn't tell whether it can be false."
-        return Answer(4, [bold(said)], {**self.facts(said, None, None), "unknown_at": number})
+        return Answer(4, [bold(said)], {**self.facts(said, None, None, number), "unknown_at": number})
+
+    def take_status(self, number: int, status: int) -> None:
+        """Takes the status that windows with a number show."""
+        self.runs[number] = Run(f"check of windows with {number}", status, b"")
 
     def question_at(self, number: int, log: Union[LongLog, Fault]) -> LongQuestion:
         """The question with a number in place of `?`."""

@@ -6,6 +6,7 @@ import argparse
 from typing import List, Optional, Sequence
 
 from ask.cautions import Caution, add_strict_words, caution_facts, caution_lines, cautions_wanted, strict_status
+from ask.ends import OutOfTime
 from ask.explain import left_out_words
 from ask.focus import Focus, focus_of
 from ask.logs import Log
@@ -14,7 +15,7 @@ from ask.nearer import Nearer, brought_nearer
 from ask.page import page_of
 from ask.panels import Panel
 from ask.picture import picture
-from ask.program import NOT_THERE, Run, program_of
+from ask.program import NOT_THERE, Run, Stopped, program_of
 from ask.question import (
     Question, accepted_log, accepted_tree, answered, formula_source, log_source, report_of_run, run_facts, shown_formula,
     step_of_run, unreadable,
@@ -117,11 +118,15 @@ class Drawing:
         stamps = self.log().stamps()
         if len(run.output.split(b"\n")) != len(stamps) + 1:
             raise unreadable("timing", run)
-        run = self.question.replay("true", stamps)
-        title = "By the stamps"
-        if run.status != 0:
-            title += f", which are no admissible timing: {self.broken(run, stamps)}"
-        return [Panel(title, stamps)]
+        return [Panel(f"By the stamps{self.broken_by(stamps)}", stamps)]
+
+    def broken_by(self, stamps: Sequence[int]) -> str:
+        """Whether the stamps are an admissible timing, where they aren't, or it isn't known."""
+        try:
+            run = self.question.replay("true", stamps)
+        except (Stopped, OutOfTime):
+            return ", of which it wasn't found in time whether they are an admissible timing"
+        return f", which are no admissible timing: {self.broken(run, stamps)}" if run.status != 0 else ""
 
     def broken(self, run: Run, times: Sequence[int]) -> str:
         """The bound that a timing breaks."""

@@ -9,9 +9,10 @@ from array import array
 from typing import Any, Dict, List, Optional, Sequence, Set, Tuple
 
 from ask import explain
-from ask.cautions import Caution, caution_facts, caution_lines, strict_status
+from ask.cautions import Caution, caution_facts, caution_lines, cautions_without_runs, strict_status
+from ask.ends import OutOfTime, limit_time
 from ask.nearer import brought_nearer
-from ask.program import STOPPED, Stopped
+from ask.program import MOST_TO_TELL, STOPPED, Stopped
 from ask.question import VERDICTS, accepted_tree, run_facts, run_lines, shown_formula, text_of_source
 from ask.reports import read_report
 from ask.texts import Trouble, say
@@ -19,7 +20,7 @@ from ask.units import unit_facts
 from ask.words import USAGE, Answer, bold, broken_words, counted, decided_words, grouped, listed, table, walk_facts, walk_words
 from ask.windows.asking import Keep, Said, Setting, Whole
 from ask.windows.bounds import Contradiction
-from ask.windows.cautions import cautions_of_long_log
+from ask.windows.cautions import cautions_of_long_log, unasked_in_time
 from ask.windows.keeping import VERDICT, Folder, question_facts
 from ask.windows.opening import LongQuestion
 from ask.windows.pool import cores
@@ -85,7 +86,7 @@ def long_answer(asked: LongQuestion, arguments: argparse.Namespace) -> Answer:
     setting = setting_of(asked, arguments, progress, folder)
     try:
         verdict = verdict_of_slices(whole, setting)
-    except Stopped:
+    except (Stopped, OutOfTime):
         more = "; the same words go on from here" if folder else "; with --keep FOLDER the same words would go on"
         raise Trouble(STOPPED, f"stopped after {arguments.seconds:g} seconds, {progress.words()}{more}") from None
     finally:
@@ -135,14 +136,22 @@ class LongReading:
         """The answer: its sections one after another."""
         self.whole, self.setting, self.verdict = whole, setting, verdict
         self.say_verdict()
-        warnings = cautions_of_long_log(self.asked, whole, setting, verdict)
+        warnings = self.warnings()
         self.say_warnings(warnings)
-        self.say_stamps()
-        self.say_windows()
-        self.say_failing()
-        self.say_grounds()
+        self.say_what_there_is_time_for()
         self.say_runs()
         return Answer(strict_status(self.arguments, warnings, verdict.status()), self.lines, self.facts)
+
+    def say_what_there_is_time_for(self) -> None:
+        """What is to be said of the verdict, until the time is over."""
+        for say_section in (self.say_stamps, self.say_windows, self.say_failing, self.say_grounds):
+            said = len(self.lines)
+            try:
+                say_section()
+            except (Stopped, OutOfTime):
+                del self.lines[said:]
+                self.say_stopped()
+                return
 
     # The verdict
 
@@ -153,6 +162,14 @@ class LongReading:
         names = {True: "yes", False: "no", None: "unknown"}
         can_be = {str(value).lower(): names[known] for value, known in self.verdict.can_be.items()}
         self.facts.update(verdict=VERDICTS[status], check_status=status, sentence=sentence, can_be=can_be)
+
+    def warnings(self) -> List[Caution]:
+        """The warnings, as far as there is time to find them."""
+        try:
+            return cautions_of_long_log(self.asked, self.whole, self.setting, self.verdict)
+        except (Stopped, OutOfTime):
+            limit_time(MOST_TO_TELL)
+            return [*cautions_without_runs(self.asked.formula, self.asked.log, self.asked.tree), unasked_in_time()]
 
     def say_warnings(self, warnings: Sequence[Caution]) -> None:
         self.facts["warnings"] = caution_facts(warnings)
@@ -343,6 +360,18 @@ class LongReading:
             self.facts["rests_on"] = []
             asked = " that was asked" if any(said.is_idle for said in self.verdict.findings.answers) else ""
             self.lines += ["", f"Why it can't be {word}: it can't in any of these windows, by a derivation for each{asked}."]
+
+    def say_stopped(self) -> None:
+        """That the time was over, and that what isn't told wasn't worked out."""
+        if "windows" not in self.facts:
+            self.say_windows()
+        for key, nothing in (("timings", {}), ("remarks", self.remarks), ("reasons", {})):
+            self.facts.setdefault(key, nothing)
+        if False in self.verdict.can_be.values():
+            self.facts.setdefault("rests_on", [])
+        note = f"It was stopped after {self.arguments.seconds:g} seconds, before more of the verdict was worked out."
+        self.facts["notes"] = [note]
+        self.lines += ["", note]
 
     def say_runs(self) -> None:
         runs = self.asked.program.runs

@@ -9,7 +9,7 @@ from __future__ import annotations
 
 from array import array
 from collections import deque
-from typing import Deque, Dict, Iterator, List, NamedTuple, Optional, Sequence, Tuple
+from typing import Deque, Dict, Iterable, Iterator, List, NamedTuple, Optional, Sequence, Set, Tuple
 
 from ask.reports import Step
 from ask.windows.longlog import NONE, LongLog
@@ -177,24 +177,42 @@ class Bounds:
         """Lowers greatest times until the bounds that go back, and those of clocks, hold of them too."""
         edges = zip(self.loose.source, self.loose.target, self.loose.distance)
         waiting = deque(target for source, target, distance in edges if found[target] - distance < found[source])
-        while waiting or self.is_lowered_by_clocks(found, waiting):
+        offsets = [FAR] * self.readings.count
+        clocks = self.clocks_lowered_by(self.readings.event, found, offsets)
+        while waiting or clocks:
+            for clock in clocks:
+                self.lower_by_clock(found, clock, offsets[clock], waiting)
+            clocks = self.clocks_lowered_by(self.lowered_before(found, waiting), found, offsets)
+
+    def lowered_before(self, found: array, waiting: Deque[int]) -> List[int]:
+        """Lowers what comes before rows that wait; the rows that were lowered."""
+        lowered = []
+        while waiting:
             event = waiting.popleft()
             time = found[event]
             for other, least in self.all_before(event):
                 if time - least < found[other]:
                     found[other] = time - least
                     waiting.append(other)
+                    lowered.append(other)
+        return lowered
 
-    def is_lowered_by_clocks(self, found: array, waiting: Deque[int]) -> bool:
-        """Lowers the rows that are later than their clocks' other rows allow, and has them wait; whether there are any."""
-        offsets = [FAR] * self.readings.count
-        for event, clock, low, _ in self.readings.rows():
-            offsets[clock] = min(offsets[clock], found[event] - low)
-        for event, clock, _, high in self.readings.rows():
-            if offsets[clock] + high < found[event]:
-                found[event] = offsets[clock] + high
+    def clocks_lowered_by(self, events: Iterable[int], found: array, offsets: List[int]) -> Set[int]:
+        """Lowers the greatest offsets to what rows allow; the clocks whose offsets were lowered."""
+        lowered = set()
+        for event in events:
+            reading = self.readings.of(event)
+            if reading and found[event] - reading.low < offsets[reading.clock]:
+                offsets[reading.clock] = found[event] - reading.low
+                lowered.add(reading.clock)
+        return lowered
+
+    def lower_by_clock(self, found: array, clock: int, offset: int, waiting: Deque[int]) -> None:
+        """Lowers the rows of a clock that are later than its offset allows, and has them wait."""
+        for event, _, high in self.readings.rows_of(clock):
+            if offset + high < found[event]:
+                found[event] = offset + high
                 waiting.append(event)
-        return bool(waiting)
 
     # Timings
 
@@ -239,44 +257,54 @@ class Raising:
         self.before = array("q", found)  # as the pass over the rows left them
         self.raised_by: Dict[int, Tuple[Step, int]] = {}
         self.offsets = [-FAR] * bounds.readings.count
-        self.left = len(found)  # raises until a closed walk is looked for
+        self.left = len(found)  # steps until a closed walk is looked for
 
     def settle(self) -> None:
         """Raises least times, or finds the contradiction."""
-        found, loose = self.found, self.bounds.loose
+        found, loose, readings = self.found, self.bounds.loose, self.bounds.readings
         edges = zip(loose.source, loose.target, loose.distance)
         self.spread(deque(source for source, target, distance in edges if found[source] + distance > found[target]))
-        while True:
-            waiting = self.raised_by_clocks()
-            if not waiting:
-                return
-            self.spread(waiting)
-            self.look_for_cycle()
+        clocks = self.clocks_raised_by(readings.event)
+        while clocks:
+            clocks = self.clocks_raised_by(self.spread(self.raised_by_clocks(clocks)))
 
-    def spread(self, waiting: Deque[int]) -> None:
-        """Raises what comes behind rows that were raised."""
+    def spread(self, waiting: Deque[int]) -> List[int]:
+        """Raises what comes behind rows that wait; the rows that were raised."""
         found, loose = self.found, self.bounds.loose
+        raised = []
         while waiting:
             event = waiting.popleft()
             for number in loose.numbers_from(event):
                 target, distance = loose.target[number], loose.distance[number]
                 if found[event] + distance > found[target]:
                     self.put(target, found[event] + distance, (loose.step(number), event), waiting)
+                    raised.append(target)
             for kind, other, least in self.bounds.out_of(event):
                 if found[event] + least > found[other]:
                     self.put(other, found[event] + least, (Step(kind, (other,)), event), waiting)
+                    raised.append(other)
+        return raised
 
-    def raised_by_clocks(self) -> Deque[int]:
-        """Raises offsets to what rows ask of them, and rows to what the offsets ask; the rows that were raised."""
-        found, offsets, readings = self.found, self.offsets, self.bounds.readings
+    def clocks_raised_by(self, events: Iterable[int]) -> Set[int]:
+        """Raises offsets to what rows ask of them; the clocks whose offsets were raised."""
+        found, offsets = self.found, self.offsets
+        raised = set()
+        for event in events:
+            reading = self.bounds.readings.of(event)
+            if reading and found[event] - reading.high > offsets[reading.clock]:
+                offsets[reading.clock] = found[event] - reading.high
+                self.raised_by[len(found) + reading.clock] = (Step("over", (event,)), event)
+                raised.add(reading.clock)
+        return raised
+
+    def raised_by_clocks(self, clocks: Iterable[int]) -> Deque[int]:
+        """Raises rows to what the offsets of their clocks ask; the rows that were raised."""
         waiting: Deque[int] = deque()
-        for event, clock, _, high in readings.rows():
-            if found[event] - high > offsets[clock]:
-                offsets[clock] = found[event] - high
-                self.raised_by[len(found) + clock] = (Step("over", (event,)), event)
-        for event, clock, low, _ in readings.rows():
-            if offsets[clock] + low > found[event]:
-                self.put(event, offsets[clock] + low, (Step("under", (event,)), len(found) + clock), waiting)
+        for clock in clocks:
+            for event, low, _ in self.bounds.readings.rows_of(clock):
+                if self.offsets[clock] + low > self.found[event]:
+                    self.put(event, self.offsets[clock] + low, (Step("under", (event,)), len(self.found) + clock), waiting)
+                self.count_step()
         return waiting
 
     def put(self, event: int, time: int, by: Tuple[Step, int], waiting: Deque[int]) -> None:
@@ -286,6 +314,10 @@ class Raising:
             raise Contradiction(self.walk(event))
         self.found[event] = time
         waiting.append(event)
+        self.count_step()
+
+    def count_step(self) -> None:
+        """Counts a step, and looks for a closed walk after as many as there are rows."""
         self.left -= 1
         if self.left == 0:
             self.left = len(self.found)

@@ -37,6 +37,7 @@ class Numbers:
 
     def __init__(self, whole: Whole, setting: Setting, shape_at: Callable[[int], Shape], rises: bool):
         self.whole, self.setting, self.shape_at, self.rises = whole, setting, shape_at, rises
+        self.failed: Optional[int] = None  # of the numbers that won't do the one nearest to those that will, as far as is known
 
     def edge(self, least: int, most: int) -> Edge:
         """The number beside which others don't do, among those from least to most."""
@@ -73,6 +74,8 @@ class Numbers:
                 raise Undecided(number)
             return None, []
         assert findings.failing_said
+        known = number if self.failed is None else self.failed
+        self.failed = max(known, number) if self.rises else min(known, number)
         place = findings.failing_said.part
         done = {said.part for said in findings.answers if said.can_fail is False}
         failing = next(part for part in slices if part.first <= place.first and place.last <= part.last)

@@ -106,6 +106,10 @@ class Readings:
         """The rows with their clocks, lows and highs."""
         return zip(self.event, self.clock, self.low, self.high)
 
+    def rows_of(self, clock: int) -> Iterator[Tuple[int, int, int]]:
+        """The rows of a clock with their lows and highs."""
+        return ((self.event[place], self.low[place], self.high[place]) for place in self.by_clock.of(clock))
+
     def ends(self, times: Sequence[int], moved: Dict[int, int]) -> Dict[int, Ends]:
         """For each clock that some rows read the offsets that its other rows leave it."""
         clocks = {reading.clock for reading in map(self.of, moved) if reading}

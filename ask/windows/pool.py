@@ -44,6 +44,11 @@ class Running(Generic[Key]):
     ends: Optional[float]
     written: bytearray = field(default_factory=bytearray)
 
+    def close(self) -> None:
+        """Leaves what the run writes to."""
+        assert self.process.stdout
+        self.process.stdout.close()
+
 
 class Pool(Generic[Key]):
     """The runs of a program, so many at a time, each of which may take so many seconds."""
@@ -70,6 +75,7 @@ class Pool(Generic[Key]):
             with uninterrupted():
                 for run in self.running.values():
                     kill(run.process)
+                    run.close()
                 self.running.clear()
                 self.selector.close()
 
@@ -122,9 +128,8 @@ class Pool(Generic[Key]):
     def leave(self, number: int) -> Done[Key]:
         """Leaves a run that has ended."""
         run = self.running.pop(number)
-        assert run.process.stdout
-        self.selector.unregister(run.process.stdout)
-        run.process.stdout.close()
+        self.selector.unregister(number)
+        run.close()
         return Done(run.key, run.process.returncode, bytes(run.written))
 
 

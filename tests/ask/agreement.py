@@ -27,6 +27,7 @@ import meanings
 import reference
 
 TIMINGS_MOST = 250  # ways to give each row a time of its window that are gone through for a question
+DEADLINE_EDGE_SHARE = 0.9  # of questions with no least and no greatest number, in place of which another one is drawn
 DECIDE_TIMINGS_MOST = 1000  # the same where skews are made smaller
 DECIDE_OPEN_SHARE = 0.97  # of logs that decide the formula or have no timing, in place of which another one is drawn
 WIDEST = 2  # by which skews are widened
@@ -95,6 +96,29 @@ def fitting(template):
     return least, min((int(high) for low, high in ends if low == b"?" and high != b"inf"), default=MOST_NUMBER)
 
 
+def is_mixed(template):
+    """Whether a greater number makes the formula easier to meet at one `?`, and harder at another."""
+    far = b"%d" % MOST_NUMBER
+    tree = formats.read_formula(MARKED.sub(lambda found: marked_interval(found, far), template))
+    return len(set(directions(tree, True))) > 1
+
+
+def marked_interval(found, far):
+    """An interval with a number that no interval without `?` has then, in a place that tells which bound it is."""
+    low, high = found.groups()
+    return b"[%b,inf]" % far if low == b"?" else b"[0,%b]" % far if high == b"?" else b"[0,0]"
+
+
+def directions(tree, is_positive):
+    """For each `?` of a formula whether a greater number makes it easier to meet."""
+    if tree.interval and MOST_NUMBER in tree.interval:
+        is_wider = tree.interval[1] == MOST_NUMBER
+        yield (is_wider == (tree.form in "FOUS")) == is_positive
+    for place, child in enumerate(tree.children):
+        is_turned = tree.form == "!" or tree.form == "->" and place == 0
+        yield from directions(child, is_positive != is_turned)
+
+
 def numbers_tried(timings, least, most):
     """Numbers from the least one that fits to beyond every distance of rows, and the greatest one that fits."""
     local = [row.local for row in timings.log.rows]
@@ -104,27 +128,44 @@ def numbers_tried(timings, least, most):
     return sorted({*near, most})
 
 
-def deadline_complaint(draw, folder):
-    """What `ask deadline` says that isn't so, or nothing."""
-    log, formula = small_question(draw)
-    template = with_marks(draw, formula)
-    while template is None:
+def deadline_question(draw):
+    """A log and a formula with `?`, which mostly has a number beyond which others won't do."""
+    log, template = marked_question(draw)
+    while draw.random() < DEADLINE_EDGE_SHARE and deadline_right(log, template).get("which") in (None, "any"):
+        log, template = marked_question(draw)
+    return log, template
+
+
+def marked_question(draw):
+    """A log and a formula with `?`."""
+    while True:
         log, formula = small_question(draw)
         template = with_marks(draw, formula)
+        if template is not None:
+            return log, template
+
+
+def deadline_right(log, template):
+    """What `ask deadline` has to answer."""
     least, most = fitting(template)
-    ended, facts = answer_of(folder, ["deadline", "f", "l"], template, log)
+    if is_mixed(template) or least > most:
+        return {"status": 64}
     timings = Timings(log, list(meanings.admissible_timings(log)))
-    if ended == 64 and template.count(b"?") > 1:
-        return ""  # one makes the formula easier to meet and another harder, or no number fits
-    if least > most or not timings.all:
-        return "" if ended == 3 and least <= most else f"no timing or no number for {template!r}, and {ended}"
+    if not timings.all:
+        return {"status": 3}
     tried = numbers_tried(timings, least, most)
     good = [number for number in tried if timings.is_always_true(template.replace(b"?", b"%d" % number))]
-    right = deadline_facts(tried, good, most)
-    said = {key: facts.get(key) for key in right}
-    words = facts.get("sentence", "")
-    if said != right or not words.startswith(deadline_words(right)):
-        return f"{template!r}: {said}, {words!r}, and right is {right}"
+    return deadline_facts(tried, good, most)
+
+
+def deadline_complaint(draw, folder):
+    """What `ask deadline` says that isn't so, or nothing."""
+    log, template = deadline_question(draw)
+    right = deadline_right(log, template)
+    ended, facts = answer_of(folder, ["deadline", "f", "l"], template, log)
+    said, words = {key: facts.get(key) for key in right}, facts.get("sentence", "")
+    if (ended, said) != (right["status"], right) or not words.startswith(deadline_words(right)):
+        return f"{template!r}: {ended}, {said}, {words!r}, and right is {right}"
     return ""
 
 
@@ -145,8 +186,8 @@ def deadline_facts(tried, good, most):
 
 def deadline_words(right):
     """How the sentence has to begin."""
-    if right["status"] == 1:
-        return "None: "
+    if right["status"]:
+        return {1: "None: ", 3: "No timing: ", 64: ""}[right["status"]]
     if right["which"] != "any":
         return f"{right['number']} is the {right['which']} number with which "
     if right["greatest"] is not None:

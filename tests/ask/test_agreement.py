@@ -1,7 +1,9 @@
 """A few questions of agreement.py of each command, or as many as CASES in the environment says."""
 
 import os
+import random
 import unittest
+from collections import Counter
 
 import agreement
 
@@ -27,6 +29,19 @@ class Agreement(unittest.TestCase):
             said = (right["which"], right.get("number"), right["least"], right["greatest"])
             self.assertEqual(said, (which, number, least, greatest))
         self.assertEqual(agreement.deadline_facts(tried, [], far)["status"], 1)
+
+    def test_what_deadlines_are_asked_for(self):
+        rights = [agreement.deadline_right(*agreement.deadline_question(random.Random(f"{SEED} deadline {place}"))) for place in range(CASES)]
+        counts = Counter(right.get("which", right["status"]) for right in rights)
+        self.assertGreaterEqual(min(counts["least"], counts["greatest"]), CASES // 6, counts)
+
+    def test_which_deadlines_are_refused(self):
+        for template, is_mixed in (
+            (b"F[0,?] a.p", False), (b"G[0,?] a.p", False), (b"F[0,?] G[0,?] a.p", True), (b"F[0,?] !G[0,?] a.p", False),
+            (b"F[?,9] a.p & F[0,?] a.q", True), (b"F[?,9] a.p & H[ 0 , ? ] a.q", False), (b"F[0,?] a.p -> G[0,?] a.q", False),
+            (b"F[0,?] a.p -> O[3,?] a.q", True), (b"a.p U[0,?] F[?,inf] a.q", True), (b"a.p S[?,5] (G[1,4] a.q -> a.p)", False),
+        ):
+            self.assertEqual(agreement.is_mixed(template), is_mixed, template)
 
     def test_which_numbers_fit(self):
         for template, least, most in (

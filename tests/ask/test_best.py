@@ -3,6 +3,7 @@
 import random
 import tempfile
 import unittest
+from collections import Counter
 from pathlib import Path
 
 from common import ROOT, asked, facts_of_text
@@ -11,7 +12,7 @@ import logs
 import reference
 
 EXAMPLES = ROOT / "examples"
-CASES = 8
+CASES = 24
 
 
 def facts_of(words, status, folder=EXAMPLES):
@@ -64,19 +65,22 @@ class Between(unittest.TestCase):
             self.assertIn("line 2", facts_of(["between", "l", "0", "1"], 66, folder)["refusal"])
 
     def test_generated_logs(self):
-        draw = random.Random(38)
+        draw, counts = random.Random(38), Counter()
         with tempfile.TemporaryDirectory() as folder:
-            for _ in range(CASES):
+            while sum(counts.values()) < CASES:
                 data = generate.log_file(draw, generate.some_log(draw), 0)
                 log = logs.read_log(data)
-                if b"pulse" in data or len(log.rows) < 2:
+                if isinstance(log, logs.LogFault) or len(log.rows) < 2:
                     continue
                 Path(folder, "l").write_bytes(data)
                 first, second = draw.sample(range(len(log.rows)), 2)
                 ended, text, said = asked(["between", "l", str(first), str(second), "--json"], folder)
                 self.assertIn(ended, (0, 3), said)
+                counts[ended] += 1
                 if ended == 0:
                     self.check_ends(facts_of_text(text), log, first, second)
+        self.assertGreaterEqual(counts[0], CASES // 2, counts)
+        self.assertGreaterEqual(counts[3], CASES // 12, counts)
 
     def check_ends(self, facts, log, first, second):
         """Asserts that the timings of both ends are admissible and have the delays."""

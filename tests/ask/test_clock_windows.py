@@ -2,6 +2,7 @@
 
 import os
 import random
+import time
 import unittest
 from collections import Counter
 
@@ -104,6 +105,19 @@ class Passes(unittest.TestCase):
         log = read_long_log(text.replace("host,h0,1000,0", "host,h0,0,0").encode())
         self.assertEqual([list(found) for found in Bounds(log).times()], [[0] * hosts] * 2)
 
+    def test_a_long_chain_of_clocks_takes_no_pass_for_each(self):
+        # Each clock is read by 12 rows, one of which is at the time of one by the clock before it.
+        clocks, rows = 1000, 12
+        text = HEAD + "host,a,1000,0\nhost,b,1000,0\n"
+        for number in range(clocks):
+            text += f"resync,a,{1000 if number else 0},0\nclock,a,0,k{number}\nclock,b,0,k{number}\nnote,a,0,x\n" + (rows - 1) * "note,b,0,x\n"
+        for first in range(rows, clocks * rows, rows):
+            text += f"bound,{first - rows + 1},{first},0\nbound,{first},{first - rows + 1},0\n"
+        log = read_long_log(text.encode())
+        began = time.process_time()
+        self.assertEqual([set(found) for found in Bounds(log).times()], [{0}] * 2)
+        self.assertLess(time.process_time() - began, 4)  # seconds of the processor; with such passes it takes over 8
+
 
 class Windows(unittest.TestCase):
     def whole(self, text, formula="G (h0.p -> F[0,3] h0.q)"):
@@ -205,20 +219,29 @@ class Verdicts(unittest.TestCase):
     """What windows of a log tell, against what the program tells of the whole; of as many cases as CASES says, else 40."""
 
     def test_windows_and_the_whole(self):
-        for seed in range(int(os.environ.get("CASES", "40"))):
+        cases, counts = int(os.environ.get("CASES", "40")), Counter()
+        for seed in range(cases):
             draw = random.Random(f"verdict {seed}")
             text, _ = clock_logs.some_log(draw, 6, draw.random() < 0.9)
             formula = clock_logs.some_formula(draw, read_log(text.encode()))
             with self.subTest(log=text, formula=formula):
-                self.assertEqual(self.by_windows(draw, text, formula), self.of_whole(text, formula))
+                right = self.of_whole(text, formula)
+                self.assertEqual(self.by_windows(draw, text, formula), right)
+                counts[right] += 1
+        for verdict in (*windows_agreement.STATUSES.values(), None):
+            self.assertGreaterEqual(counts[verdict], max(1, cases // 40), counts)
 
     def test_long_logs(self):
-        for place in range(int(os.environ.get("CASES", "6"))):
+        cases, counts = int(os.environ.get("CASES", "6")), Counter()
+        for place in range(cases):
             case = windows_agreement.case_of(f"clocks {place}", FAMILIES, (60, 100))
             with self.subTest(log=case.log, formula=case.formula):
                 said, wrong, _ = windows_agreement.windows_answer(find_program(None), case)
-                right = windows_agreement.whole_answer(find_program(None), case, 120)
-                self.assertEqual((wrong, windows_agreement.compared(said, right) == "DIFFERENT"), ("", False), (said, right))
+                outcome = windows_agreement.compared(said, windows_agreement.whole_answer(find_program(None), case, 120))
+                self.assertEqual((wrong, outcome == "DIFFERENT"), ("", False), said)
+                counts[said] += outcome == "same"
+        for verdict in windows_agreement.STATUSES.values():
+            self.assertGreaterEqual(counts[verdict], max(1, cases // 12), counts)
 
     def of_whole(self, text, formula):
         """Whether the formula can be true and false, None where no timing is admissible."""

@@ -76,6 +76,11 @@ class Durations(Made):
             self.assertEqual(self.bounds(LINES, *ACCESS, "--duration", text), wanted, text)
         self.assertEqual(self.bounds(LINES, *ACCESS, "--duration", "request_time")[:2], ["1,0,252", "0,1,-252"])
 
+    def test_numbers_of_json_with_a_power(self):
+        lines = '{"time": 1.000000, "host": "a", "name": "go", "id": 1}\n{"time": 1.000060, "host": "a", "name": "end", "id": 1, "took": %s}\n'
+        for took in ("5.2e-05", "5.2E-5", "0.000052", '"52us"', '"5.2e+1us"'):
+            self.assertEqual(self.bounds(lines % took, "--skew", "5us", "--unit", "us", "--duration", "took"), ["1,0,52", "0,1,-52"], took)
+
     def test_durations_are_rounded_to_both_sides(self):
         words = ["--access", "%{usec}t %D", "--skew", "5ms", "--unit", "ms", "--duration"]
         self.assertEqual(self.bounds("1700000010000000 1500\n", *words, "D"), ["1,0,2", "0,1,-1"])

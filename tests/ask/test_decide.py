@@ -15,7 +15,7 @@ from test_words import Terminal
 from ask.decide import Progress
 from ask.halving import Halving, Outcome
 from ask.logs import read_log
-from ask.program import Program, Run, find_program
+from ask.program import Program, Run, Stopped, find_program, started
 from ask.windows.pool import Job, Pool
 
 EXAMPLES = ROOT / "examples"
@@ -408,6 +408,18 @@ class Programs(Rooms):
     def test_a_pool_ends_what_takes_too_long(self):
         pool = Pool(Program(self.program("exec sleep 20\n")), 2, 0.2)
         self.assertEqual([(done.key, done.status) for done in pool.run([Job("slow", [], [])])], [("slow", 124)])
+
+    def test_a_pool_that_is_stopped_leaves_nothing_open(self):
+        runs = []
+
+        def starting(words, numbers):
+            runs.append(started(words, numbers))
+            return runs[-1]
+
+        pool = Pool(Program(self.program("exec sleep 20\n"), seconds=0.2), 2)
+        with mock.patch("ask.windows.pool.started", starting), self.assertRaises(Stopped):
+            list(pool.run([Job("slow", [], []), Job("slow too", [], [])]))
+        self.assertEqual([(run.poll(), run.stdout.closed) for run in runs], [(-9, True)] * 2)
 
     def test_progress_is_told_on_a_terminal_alone(self):
         with mock.patch("sys.stderr", Terminal()) as said:

@@ -16,7 +16,8 @@ from unittest import mock
 from common import PATIENCE, ROOT, asked
 
 from ask import ends, main, texts
-from ask.program import MOST_TO_TELL
+from ask.program import MOST_TO_TELL, Stopped
+from ask.texts import Trouble, make_empty_folder
 
 ASK = [sys.executable, "-B", str(ROOT / "ask" / "ask")]
 EXAMPLES = ROOT / "examples"
@@ -85,6 +86,59 @@ class Streams(unittest.TestCase):
             self.assertEqual(self.made_within(10**6, folder, "-o", "link").returncode, 0)
             self.assertEqual(Path(folder, "other").read_text().count("\n"), 902)
             self.assertTrue(Path(folder, "link").is_symlink())
+
+    def test_a_bar_is_no_file_to_write(self):
+        with tempfile.TemporaryDirectory() as folder:
+            Path(folder, "events").write_text("time,host,request,name\n1,a,q,x\n")
+            for words, option in (
+                (["log", "events", "--skew", "1", "--notes", "-"], "--notes"), (["split", "events", "--skew", "1", "--by", "request", "--into", "-"], "--into"),
+                (["split", "events", "--skew", "1", "--by", "request", "--into", "parts", "--notes", "-"], "--notes"),
+                (["check", "a.p", "l", "--report", "-"], "--report"), (["check", "a.p", "l", "--keep", "-"], "--keep"), (["check", "-", "l", "--report", "-"], "--report"),
+            ):
+                ended, text, said = asked(words, folder)
+                self.assertEqual((ended, text, os.listdir(folder)), (64, "", ["events"]))
+                self.assertIn(f"{option} -: `-` is the standard input, and nothing is written to that. Something of that name is ./-\n", said)
+            self.assertEqual(asked(["log", "events", "--skew", "1", "--notes", "./-"], folder)[0], 0)
+            self.assertIn("unit: ", Path(folder, "-").read_text())
+
+    def test_a_file_of_events_is_named_once(self):
+        with tempfile.TemporaryDirectory() as folder:
+            Path(folder, "events").write_text("time,host,request,name\n1,a,q,x\n")
+            os.symlink("events", Path(folder, "link"))
+            for files in (["events", "events"], ["events", "./events"], ["link", "events"]):
+                for words in (["log", *files, "--skew", "1"], ["split", *files, "--skew", "1", "--by", "request", "--into", "parts"]):
+                    ended, text, said = asked(words, folder)
+                    self.assertEqual((ended, text, sorted(os.listdir(folder))), (64, "", ["events", "link"]))
+                    self.assertIn(f"ask: {files[1]} is the file {files[0]} once more: each event would be there twice\n", said)
+            self.assertEqual(asked(["log", os.devnull, os.devnull, "--part"], folder)[0], 66)
+
+    def test_what_is_read_is_not_written(self):
+        with tempfile.TemporaryDirectory() as folder:
+            texts_of = {"events": "time,host,request,name\n1,a,q,x\n", "l": "kind,host,time,name\nhost,a,0,0\nset,a,1,p\n", "f": "F a.p", "p": "one: F a.p\n", "clock": ""}
+            for name, text in texts_of.items():
+                Path(folder, name).write_text(text)
+            os.symlink("events", Path(folder, "link"))
+            for words, option in (
+                (["log", "events", "--skew", "1", "--notes", "events"], "--notes events"), (["log", "events", "--skew", "1", "--notes", "link"], "--notes link"),
+                (["log", "events", "--skew", "1", "--unit", "s", "--clock", "a=clock", "--notes", "./clock"], "--notes ./clock"),
+                (["split", "l", "events", "--skew", "1", "--by", "request", "--into", "parts", "--notes", "l"], "--notes l"),
+                (["check", "f", "l", "--report", "l"], "--report l"), (["check", "f", "l", "--report", "f"], "--report f"),
+                (["check", "--properties", "p", "l", "--junit", "p"], "--junit p"), (["check", "--properties", "p", "l", "--junit", "l"], "--junit l"),
+            ):
+                ended, text, said = asked(words, folder)
+                self.assertEqual((ended, text), (64, ""), said)
+                self.assertIn(f"{option}: this file is read too, and would be lost\n", said)
+                self.assertEqual({name: Path(folder, name).read_text() for name in texts_of}, texts_of)
+            self.assertEqual(asked(["log", os.devnull, "--part", "--notes", os.devnull], folder)[0], 66)
+            self.assertEqual(asked(["log", "l", "-o", "l", "--quiet"], folder)[0], 0)
+
+    def test_what_a_killed_run_has_left_is_in_no_way(self):
+        with tempfile.TemporaryDirectory() as folder:
+            Path(folder, ".ask-12-34.new").write_text("half")
+            make_empty_folder(Path(folder), "--into")
+            Path(folder, ".ask-12.new").write_text("another's")
+            with self.assertRaises(Trouble):
+                make_empty_folder(Path(folder), "--into")
 
     def test_streams_that_are_named_as_files(self):
         with tempfile.TemporaryDirectory() as folder:
@@ -170,6 +224,22 @@ class Signals(unittest.TestCase):
             self.assertLess(time.monotonic() - began, 10)
             self.assertGone(self.begun(mock.Mock(**{"poll.return_value": None})))
 
+    def test_a_picture_without_time_for_all(self):
+        for end in (Stopped, ends.OutOfTime):
+            with mock.patch("ask.question.Question.replay", side_effect=end):
+                ended, text, said = asked(["draw", "set.csv", "--seconds", "60", "--json"], EXAMPLES)
+            self.assertEqual(ended, 0, said)
+            self.assertIn("wasn't found in time", json.loads(text)["panels"][0]["title"])
+
+    def test_what_a_deadline_knows(self):
+        for formula, known in (
+            ("G (a.req -> F[0,?] b.ack)", "with 9 it is true by every timing; with 8 it isn't true by every timing"),
+            ("G (a.req -> F[?,9] b.ack)", "with 0 it is true by every timing; with 1 it isn't true by every timing"),
+        ):
+            with mock.patch("ask.commands.deadline.Search.found", side_effect=Stopped):
+                ended, _, said = asked(["deadline", formula, "answered.csv", "--seconds", "60"], EXAMPLES)
+            self.assertEqual((ended, said), (124, f"ask: stopped after 60 seconds; {known}\n"))
+
     def test_time_bounds_what_ask_reads(self):
         os.mkfifo(self.room / "fifo")
         writer = os.open(self.room / "fifo", os.O_RDWR)  # which never writes
@@ -250,6 +320,10 @@ class Programs(unittest.TestCase):
             program.write_text(f"#!/bin/sh\n{text}\n")
             program.chmod(0o755)
             return asked([*words, "--program", str(program)], EXAMPLES)
+
+    def test_a_program_without_a_name(self):
+        ended, _, said = asked(["check", "a.p", "lease.csv", "--program", ""], ROOT / "examples")
+        self.assertEqual((ended, said), (72, "ask: '', which --program names, isn't a program that can be run: name another one, or none\n"))
 
     def test_a_status_without_a_report(self):
         for words in (

@@ -25,6 +25,7 @@ from ask.refusals import shown_place
 from ask.reports import verdict_of
 from ask.stamps import iso_moment
 from ask.texts import escaped, escaped_json, markup, place_of, width_of
+from ask.words import table
 
 EXAMPLES = ROOT / "examples"
 CONTROLS = [chr(code) for code in [*range(1, 32), 127]]
@@ -74,6 +75,10 @@ class Escapes(unittest.TestCase):
     def test_width(self):
         for text, wide in (("abc", 3), ("中", 2), ("e\u0301", 1), ("", 0)):
             self.assertEqual(width_of(text), wide)
+
+    def test_columns(self):
+        rows = [["\u691c\u67fb", "1"], ["ab", "22"], ["e\u0301\x07", "3"]]
+        self.assertEqual(table(["name", "n"], rows, left=(0,)), ["  name    n", "  \u691c\u67fb    1", "  ab     22", "  e\u0301\x07   3"])
 
     def test_markup(self):
         self.assertEqual(markup("<a>&\"]]>\x01\n"), "&lt;a&gt;&amp;&quot;]]&gt;\\x01\n")
@@ -221,6 +226,12 @@ class Linear(unittest.TestCase):
             ended, _, _ = self.took(["check", "f", str(EXAMPLES / "set.csv")], f=formula)
             self.assertEqual(ended, 65)
 
+    def test_formulas_of_many_propositions(self):
+        log = b"skewlog2,host,time,name\nhost,a,0,0\n" + b"".join(b"pulse,a,%d,p_%d\n" % (row, row) for row in range(20_000))
+        for formula in ("each{p in a.*: F p}", "each{p in a.*: once{q in a.* but a.p_1: F p & q}}", "at most one of a.*"):
+            ended, _, said = self.took(["check", formula, "l", "--formula"], l=log)
+            self.assertEqual((ended, "name fewer" in said), (67, True), said)
+
     def test_deep_formulas(self):
         for sign in ("!", "G ", "("):
             ended, _, said = self.took(["deadline", "f", str(EXAMPLES / "set.csv")], f=(sign * 20_000 + "F[0,?] a.p").encode())
@@ -230,6 +241,11 @@ class Linear(unittest.TestCase):
         lines = b"".join(b"1700000999.%03d 999.000 r%d\n" % (row % 1000, row) for row in range(20_000))
         ended, _, said = self.took(["log", "a", "--access", "$msec $request_time $request_id", "--skew", "5ms"], a=lines)
         self.assertEqual((ended, "20,000 hosts; at most 64" in said), (66, True), said)
+
+    def test_clocks_of_many_resyncs(self):
+        rows = b"".join(b"resync,a,%d,0\nset,a,%d,p\n" % (row % 2, row) for row in range(40_000))
+        ended, _, said = self.took(["log", "l", "--clock-error", "1"], l=b"skewlog2,host,time,name\nhost,a,0,0\n" + rows)
+        self.assertEqual((ended, "40,000 clocks; at most 1,024" in said), (66, True), said)
 
     def test_long_names_and_numbers(self):
         for line, status in (

@@ -6,7 +6,7 @@ import tempfile
 import unittest
 from pathlib import Path
 
-from common import ROOT, asked
+from common import ROOT, asked, asked_apart
 from schema import TABLES, complaint, complaint_of_type, table_of
 
 EXAMPLES = ROOT / "examples"
@@ -101,6 +101,13 @@ class AgainstThePage(unittest.TestCase):
             program.chmod(0o755)
             facts = self.answer(f"deadline F[0,?]a.req answered.csv --program {program}", 4)
         self.assertEqual((complaint("deadline", facts), facts["unknown_at"]), ("", 10))
+
+    def test_an_output_in_another_encoding(self):
+        with tempfile.TemporaryDirectory() as folder:
+            Path(folder, "\u00e9\u4e2d.csv").write_text("kind,host,time,name\nhost,a,0,0\nset,a,1,p\n")
+            for encoding in ("utf-8", "ascii", "latin-1"):
+                status, text, said = asked_apart(["check", "F a.p", "\u00e9\u4e2d.csv", "--json"], folder, PYTHONIOENCODING=encoding)
+                self.assertEqual((status, json.loads(text)["log"], "\u00e9" in text), (0, "\u00e9\u4e2d.csv", encoding == "utf-8"), said)
 
     def test_what_the_schema_refuses(self):
         for kind, value in (

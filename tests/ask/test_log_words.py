@@ -64,6 +64,17 @@ class Names(Made):
             self.assertEqual(self.made(self.HOSTS, "--skew", f"{spelling}=5", "--same-name")[0], log)
         self.refused(self.HOSTS, ["--skew", "wEb-01.prod=5", "--same-name"], 64, "no host wEb-01.prod")
 
+    def test_joined_keys_of_which_two_would_be_one(self):
+        text = event(1, part="b_c") + event(2, "a_b", part="c")
+        said = "l, line 2: joined with _, 'a', 'b_c' and 'a_b', 'c' are both 'a_b_c', and would be one under host, part"
+        self.refused(text, ["--host", "host,part", "--skew", "5"], 66, said)
+        self.refused(text, ["--machine", "host,part", "--skew", "5"], 66, said)
+        self.assertEqual(self.made(text.replace('"c"', '"d"'), "--host", "host,part", "--skew", "5")[0].count("host,"), 3)
+
+    def test_machines_are_one_where_the_words_say_so(self):
+        log, _, said = self.made(self.HOSTS, "--skew", "5", "--clock-error", "1", "--same-name")
+        self.assertEqual(([line for line in log.splitlines() if line.startswith("clock,")], said), (["clock,web_01_prod,1,web_01_prod"], ""))
+
     def test_names_of_rows(self):
         text = HEAD + "host,a,1,0\nhost,b,1,0\nset,a,1,Done\nset,b,2,done\nsend,a,3,M\nrecv,b,5,m\n"
         log, notes, said = self.made(text)
@@ -207,6 +218,16 @@ class Rows(Made):
         ):
             self.refused(self.TEXT, ["--skew", "1", *words], 64, part)
 
+    def test_words_that_contradict_each_other(self):
+        for option, one, other, part in (
+            ("--skew", "5", "3", "--skew 3: --skew says 5 of all hosts already"), ("--skew", "a=5ms", "a=6ms", "--skew a=6ms: --skew says 5ms of a already"),
+            ("--gap", "1", "2", "--gap says 1"), ("--latency", "a=1,5", "a=1,6", "--latency says 1,5 of a"), ("--clock-error", "1", "2", "--clock-error says 1"),
+        ):
+            words = ["--unit", "ms", *["--skew", "9"] * (option != "--skew")]
+            self.refused(self.TEXT, [*words, option, one, option, other], 64, part)
+            self.assertEqual(self.made(self.TEXT, *words, option, one, option, one)[0], self.made(self.TEXT, *words, option, one)[0])
+        self.assertEqual(self.skews(self.made(self.TEXT, "--unit", "ms", "--skew", "5ms", "--skew", "5", "--skew", "a=3")[0]), [3, 3])
+
 
 class Parts(Made):
     TEXT = SECOND + "host,a,5,1\nhost,b,7,2\nlatency,b,3,8\nset,a,10,p\n"
@@ -255,6 +276,50 @@ class Stamps(Made):
         ):
             self.refused(event(text), ["--skew", "1"], 66, part)
         self.assertEqual(self.made(event("2024-03-05T12:00:00+14:00"), "--skew", "1")[0], f"{HEAD}host,a,1,0\nnote,a,1709589600,x\n")
+
+
+class Twice(Made):
+    """A key, or a column, that stands twice is refused where it is asked for and has different values."""
+
+    ONE = '{"time": 1, "host": "a", "name": "x", "request": "q", "request": "r"}\n'
+
+    def test_a_key_that_is_asked_for(self):
+        for words in (["--id", "request"], ["--row", "x=pulse:r{request}"], ["--row", "x=pulse:r{request:.3}"], ["--kind", "request"], ["--duration", "request"],
+                      ["--host", "request"], ["--host", "host,request"], ["--machine", "request"]):
+            self.refused(self.ONE, ["--skew", "5", *words], 66, "l, line 1: 'request' stands there 2 times, as \"q\" and as \"r\": which is meant?")
+        self.refused('[{"time": 1, "host": "a", "name": "x", "time": 2}]', ["--skew", "5"], 66, "l, item 1: 'time' stands there 2 times")
+        self.refused('{"time": 1, "time": 1, "time": 2, "host": "a", "name": "x"}', ["--skew", "5"], 66, "stands there 3 times, as \"1\" and as \"2\"")
+
+    def test_a_key_within_another_one(self):
+        self.refused('{"time": 1, "host": {"a": "x"}, "host.a": "y", "name": "x"}', ["--skew", "5", "--host", "host.a"], 66, "'host.a' stands there 2 times")
+        self.refused('{"time": 1, "host": {"a": "x", "a": 5}, "name": "x"}', ["--skew", "5", "--host", "host.a"], 66, "as \"x\" and as \"5\"")
+
+    def test_columns_of_one_name(self):
+        self.refused("time,host,name,host\n1,a,x,b\n", ["--skew", "5"], 66, "l, line 2: 'host' stands there 2 times, as \"a\" and as \"b\"")
+
+    def test_what_is_not_asked_for_or_is_the_same(self):
+        log = f"{HEAD}host,a,5,0\nnote,a,1,x\n"
+        for text in (self.ONE, self.ONE.replace('"r"', '"q"'), "time,host,name,more,more\n1,a,x,5,6\n", "time,host,name,host\n1,a,x,a\n"):
+            self.assertEqual(self.made(text, "--skew", "5")[0], log)
+        self.assertEqual(self.made(self.ONE.replace('"r"', '"q"'), "--skew", "5", "--row", "x=note:{request}")[0], log.replace(",x", ",q"))
+
+
+class Kinds(Made):
+    def test_a_log_has_kinds_whatever_the_key_is_called(self):
+        for head in (HEAD, SECOND):
+            Path(self.room, "more").write_text(event(20, "b", "y", level="set"))
+            rows = "host,a,5,1\nset,a,10,p\n"
+            log, _, _ = self.made(head + rows, "more", "--kind", "level", "--skew", "b=2")
+            self.assertEqual(log, f"{HEAD}host,a,5,1\nhost,b,2,0\nset,a,10,p\nset,b,20,y\n")
+
+
+class Bytes(Made):
+    def test_names_that_are_no_text_are_kept_apart(self):
+        rows = [b'{"time": 1, "host": "h%b", "name": "x"}' % end for end in (b"\xff", b"\xfe")]
+        for data in (b"\n".join(rows), b"[%b]" % b",".join(rows)):
+            Path(self.room, "b").write_bytes(data)
+            status, log, said = asked(["log", "b", "--skew", "5"], self.room)
+            self.assertEqual((status, log), (0, f"{HEAD}host,h_,5,0\nhost,h__2,5,0\nnote,h_,1,x\nnote,h__2,1,x\n"), said)
 
 
 class Reported(Made):

@@ -313,6 +313,16 @@ class Places(unittest.TestCase):
             self.assertEqual(place_written(found, expanded.rindex(part)), (formula(text), place), part)
         self.assertEqual(place_written(found, len(expanded)), (formula(text), len(text)))
 
+    def test_places_behind_bytes_that_are_no_text(self):
+        data = b"\xff & once{h in n0: F h.b} & \xfe"
+        found = written_out(Source("f", data), LOG)
+        self.assertEqual(found.data, b"\xff & F n0.b & \xfe")
+        for part, place in ((b"n0", 20), (b"\xfe", 27)):
+            self.assertEqual(place_written(found, found.data.rindex(part))[1], place, part)
+        with self.assertRaises(Trouble) as refused:
+            written_out(Source("f", b"\xff & each{h in z: F h.b}"), LOG)
+        self.assertIn("f, line 1, column 15: the log has no host z", refused.exception.message)
+
     def test_numbers_keep_places(self):
         text = "once{h in n0, n1: F[?,?] h.b}"
         found = with_number_in(written_out(formula(text), LOG), 12345)

@@ -131,15 +131,27 @@ class AccessLines(Making):
             ("[$time_local]", "[14/Nov/2023:23:13:30 +0100]", "1700000010"), ("%t", "[14/Nov/2023:22:13:30 +0000]", "1700000010"),
             ("%{msec}t", "1700000010003", "1700000010003"), ("%{end:usec}t", "1700000010003001", "1700000010003001"),
             ("%{sec}t %h", "1700000010 -", "1700000010"), ("${msec}|$host", "1700000010.5|x", "1700000010500"),
+            ("%{sec}t.%{usec_frac}t", "1700000010.003001", "1700000010003001"), ("%{end:sec}t %{end:msec_frac}t", "1700000010 003", "1700000010003"),
+            ("%t %{msec_frac}t", "[14/Nov/2023:22:13:30 +0000] 250", "1700000010250"), ("%{begin:sec}t %{end:usec_frac}t", "1700000010 003001", "1700000010"),
+            (r"%t\t\"%r\"", '[14/Nov/2023:22:13:30 +0000]\t"GET / HTTP/1.1"', "1700000010"), (r"'$msec\'", "'1700000010.5'", "1700000010500"),
+            ("%{sec}t %!200,304{Referer}i %404>s", "1700000010 - -", "1700000010"),
         ):
             self.assertIn(f",{stamp},asked\n", self.made(line + "\n", "--access", form, "--skew", "1"), form)
+
+    def test_variables_that_would_have_one_key(self):
+        line, words = "1700000010 200 404 a b c\n", ["--skew", "1", "--access", "%{sec}t %<s %>s %{X}i %{X}o %{X}o"]
+        for key, name in (("<s", "200"), (">s", "404"), ("i:x", "a"), ("o:x", "c")):
+            self.assertIn(f",n{name}\n" if name.isdigit() else f",{name}\n", self.made(line, *words, "--row", f"end=note:{{{key}}}", "--row", f"begin=note:{{{key}}}"))
+        self.refused(line, [*words, "--row", "begin=note:{s}"], 66, "there is no 's'. It has: t:sec, <s, >s, i:x, o:x")
+        for form, key in (("%{sec}t %>s %{X}i", "s"), ("%{sec}t %s %{X}i", "x"), ("%{sec}t $status ${status}", "status")):
+            self.made("1700000010 200 200\n", "--skew", "1", "--access", form, "--row", f"begin=note:n{{{key}}}")
 
     def test_lines_and_formats_that_are_none(self):
         for text, form, status, part in (
             ("x\n", "$msec $request_time", 66, "line 1: it isn't of the format"), ("x 0.1\n", "$msec $request_time", 66, "msec is 'x'"),
             ("1.0 -\n", "$msec $request_time", 66, "request_time is '-'"), ("1.0\n", "msec", 64, "no variable"), ("1.0\n", "$host", 64, "no moment"),
             ("[31/Feb/2023:22:13:30 +0000]\n", "%t", 66, "no time"), ("\n", "$msec", 66, "no row"), ("1.0\n", "", 64, "no variable"),
-            ("\xff\xfe\0\n", "$msec", 66, "line 1"),
+            ("\xff\xfe\0\n", "$msec", 66, "line 1"), ("1700000010 03\n", "%{sec}t %{msec_frac}t", 66, "t:msec_frac is '03', and not 3 digits of a second"),
         ):
             self.refused(text, ["--access", form, "--skew", "1"], status, part)
         self.refused("1.0\n", ["--access", "$msec", "--skew", "1", "--time", "t"], 64, "has as moments: msec")
@@ -189,6 +201,16 @@ class Clocks(Making):
         self.refused(HEAD + "host,a,1,1\nset,a,1,p\n", ["--step", "1,1"], 64, "--unit")
         self.refused(EVENTS, ["--skew", "2", "--clock", "missing"], 74, "missing")
         self.assertIn("begins with no time", self.refusal("clock_step +0.031211 s\n", "--clock"))
+
+    def test_a_part_without_rows(self):
+        with tempfile.TemporaryDirectory() as folder:
+            Path(folder, "clock").write_text("Nov 14 22:13:28 h chronyd[1]: System clock was stepped by 0.5 seconds\n")
+            words = ["--part", "--skew", "2", "--unit", "ms", "--clock", str(Path(folder, "clock"))]
+            self.assertEqual(self.made("time,host,name\n", *words), HEAD)
+            self.assertEqual(self.made(EVENTS, *words, "--from", "2024-01-01T00:00:00Z"), HEAD)
+
+    def test_lines_as_an_editor_counts_them(self):
+        self.assertIn("clock, line 3: it begins with no time", self.refusal("a\x0cb\x1c\u2028\r\nc\x85\nclock_step +0.5 s\n", "--clock"))
 
 
 class Parts(unittest.TestCase):

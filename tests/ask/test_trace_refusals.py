@@ -2,6 +2,7 @@
 
 import copy
 import json
+import re
 import tempfile
 import unittest
 from pathlib import Path
@@ -140,6 +141,29 @@ class Alone(Refusing):
         ))
         self.assertIn("f.json, line 2: this is no JSON object on one line", self.said_of("otlp", lines[0] + "{"))
         self.assertIn("f.json, line 2: it is", self.said_of("otlp", lines[0] + '{"spans": []}'))
+
+    def test_keys_that_stand_twice(self):
+        for form, key, path in (
+            ("otlp", "spanId", "resourceSpans[0].scopeSpans[0].spans[0].spanId"), ("otlp", "resourceSpans", "resourceSpans"),
+            ("jaeger", "startTime", "data[0].spans[0].startTime"), ("jaeger", "data", "data"), ("zipkin", "traceId", "[0].traceId"),
+        ):
+            text = getattr(span_files, form)(SPANS)
+            found = re.search(rf'"{key}": ?', text)
+            twice = f'{text[: found.end()]}"other", {text[found.start() :]}'
+            self.assertIn(f"{path}: this key has 2 values in one object: which is meant?", self.said_of(form, twice), form)
+            json.loads(twice)
+
+    def test_an_attribute_that_stands_twice(self):
+        found = json.loads(span_files.otlp(SPANS))
+        attributes = found["resourceSpans"][1]["resource"]["attributes"]
+        attributes.append(attributes[0])
+        with tempfile.TemporaryDirectory() as folder:
+            Path(folder, "f.json").write_text(json.dumps(found))
+            self.assertEqual(asked(["log", "--otlp", "f.json", "--skew", "5", "--quiet"], folder)[0], 0)
+        attributes[-1] = {**attributes[0], "value": {"stringValue": "another"}}
+        said = self.said_of("otlp", json.dumps(found))
+        where = f"resourceSpans[1].resource.attributes[{len(attributes) - 1}]"
+        self.assertIn(f"f.json, {where}: the attribute service.name has another value before: which is meant?", said)
 
     def test_other_files(self):
         deep = '{"resourceSpans": ' + "[" * 100_000

@@ -55,6 +55,11 @@ def otlp(*resources):
     return json.dumps({"resourceSpans": resources}) + "\n"
 
 
+def clocks_of(log):
+    """The clocks that the records of a log name."""
+    return [line.split(",")[3] for line in log.splitlines() if line.startswith("clock,")]
+
+
 ERROR = {"status": {"code": 2}}
 SERVER, CLIENT, PRODUCER, CONSUMER = 2, 3, 4, 5
 
@@ -192,6 +197,16 @@ class Messages(Traces):
             "set,shop,100,work", "send,shop,100,early", "recv,mail,200,early", "set,mail,200,work", "send,mail,200,late",
             "clear,mail,300,work", "recv,shop,400,late", "clear,shop,400,work",
         ])
+
+    def test_spans_that_are_told_twice(self):
+        resources = [of("shop", span(1, 100, 200, kind=CLIENT)), of("pay", span(2, 120, 180, parent=1, kind=SERVER, events=[event(130, "hit")]))]
+        log, notes, _ = self.made(otlp(*resources), "--skew", "5")
+        self.assertNotIn("word for word", notes)
+        again, notes, _ = self.made(otlp(*resources) + otlp(*resources[1:]), "--skew", "5")
+        self.assertEqual(again, log)
+        self.assertIn("1 span told again, word for word, and taken once\n", notes)
+        other = [of("pay", span(2, 120, 181, parent=1, kind=SERVER, events=[event(130, "hit")]))]
+        self.refused(otlp(*resources) + otlp(*other), ["--skew", "5"], 66, "has the id of 'work'")
 
     def test_ids_that_several_traces_have(self):
         resources = [
@@ -347,6 +362,22 @@ class Choices(Traces):
         log, notes, said = self.made(text, "--skew", "5", "--same-name")
         self.assertEqual((said, [line.split(",")[1] for line in log.splitlines() if line.startswith("set,")]), ("", ["shop", "shop_2"]))
         self.assertIn("service: 'Shop' is taken as 'shop'\n", notes)
+        for word in ("shop", "Shop"):
+            self.assertEqual(self.made(text, "--skew", f"{word}=5", "--same-name", "--service", word)[0], log)
+        self.refused(text, ["--skew", "SHOP=5", "--same-name"], 64, "there is no host SHOP")
+
+    def test_machines_and_instances_in_other_letters(self):
+        text = otlp(*(of("shop", span(number, 100 * number, 100 * number + 50), host__name=name, rack=rack, k8s__pod__name=pod)
+                      for number, name, pod, rack in ((1, "Web-01", "a", "East"), (2, "web-01", "A", "east"))), of("pay", span(3, 300, 350), host__name="WEB-01", rack="east"))
+        log, _, said = self.made(text, "--skew", "5", "--clock-error", "1")
+        self.assertIn("differ in the case of letters alone, and are kept apart as shop_a and shop_a_2", said)
+        self.assertEqual(sorted(set(clocks_of(log))), ["web_01", "web_01_2", "web_01_3"])
+        log, notes, said = self.made(text, "--skew", "5", "--clock-error", "1", "--same-name")
+        self.assertEqual(([line for line in log.splitlines() if line.startswith("host,")], said), (["host,shop,5,0", "host,pay,5,0"], ""))
+        self.assertEqual(set(clocks_of(log)), {"web_01"})
+        self.assertIn("host.name: 'web-01' is taken as 'Web-01'\n", notes)
+        self.assertIn("k8s.pod.name: 'A' is taken as 'a'\n", notes)
+        self.assertEqual(set(clocks_of(self.made(text, "--skew", "5", "--clock-error", "1", "--same-name", "--machine", "rack")[0])), {"east"})
 
     def test_words(self):
         for words, part in (
@@ -402,6 +433,15 @@ class Parts(Traces):
         self.assertEqual(ended, 0, said)
         for name, text in parts.items():
             self.assertEqual(asked(["log", "--otlp", "spans", "--trace", name, *words], self.room)[1], text)
+
+    def test_a_part_has_the_names_and_clocks_of_all_processes(self):
+        text = otlp(*(of("shop", span(number, 100, 200, trace=number), service__instance__id=name) for number, name in ((1, "a"), (2, "b"))))
+        words = ["--skew", "5", "--skew", "shop_b=8", "--clock-error", "1", "--clock-error", "shop_b=2"]
+        ended, parts, said = self.split(*words, text=text)
+        self.assertEqual(ended, 0, said)
+        parts = [text for _, text in sorted(parts.items())]
+        self.assertEqual([text.splitlines()[1:3] for text in parts], [["host,shop,5,0", "clock,shop,1,shop_a"], ["host,shop,8,0", "clock,shop,2,shop_b"]])
+        self.assertEqual(asked(["log", "--otlp", "spans", "--trace", "2", *words], self.room)[1], parts[1])
 
     def test_words(self):
         ended, _, said = self.split("--skew", "5", "--by", "name")

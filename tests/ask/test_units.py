@@ -10,7 +10,7 @@ from common import ROOT, asked, facts_of_text
 
 from ask.stamps import stamp_of
 from ask.texts import Trouble
-from ask.units import BARE, Scale, read_notes, scale_of_making
+from ask.units import BARE, Scale, read_notes, scale_of_making, write_with_notes
 
 EXAMPLES = ROOT / "examples"
 CHECKOUT = "../tests/ask/logs/checkout_us.csv"
@@ -108,7 +108,50 @@ class Notes(Room):
         bare = self.put("bare.csv", "kind,host,time,name\nhost,c,0,0\nset,c,5,p\n")
         for files, kept in (([bare], BARE), ([str(self.room / "log.csv"), bare], BARE), ([str(self.room / name) for name in ("log.csv", "cut.csv")], Scale("ms", 0, "+01:00"))):
             self.assertEqual(scale_of_making(None, True, [], files), kept)
-        self.assertEqual(scale_of_making("us", True, [], [str(self.room / "log.csv")]), Scale("us"))
+        self.assertEqual(scale_of_making("us", True, [], [bare]), Scale("us"))
+
+    def joined(self, *zones, units=("ms", "ms"), epochs=(0, 0), words=()):
+        """How logs with notes on these units, beginnings of time and zones are joined: the status, the unit, and what is said."""
+        names = []
+        for host, unit, epoch, zone in zip("ab", units, epochs, zones):
+            names.append(self.put(f"{host}.csv", f"kind,host,time,name\nhost,{host},0,0\nset,{host},5,p\n"))
+            write_with_notes(names[-1], Path(names[-1]).read_text(), Scale(unit, epoch, zone))
+        joint = str(self.room / "joint.csv")
+        Path(f"{joint}.notes").unlink(missing_ok=True)
+        status, _, said = asked(["log", *names, "-o", joint, *words])
+        return status, read_notes(f"{joint}.notes") and read_notes(f"{joint}.notes").scale, said
+
+    def test_logs_of_several_zones_that_are_joined(self):
+        self.assertEqual(self.joined("+01:00", "+01:00")[:2], (0, Scale("ms", 0, "+01:00")))
+        self.assertEqual(self.joined("Z", "+01:00")[:2], (0, Scale("ms", 0, "Z")))
+        self.assertEqual(self.joined("-02:00", None)[:2], (0, Scale("ms", 0, "Z")))
+
+    def test_logs_of_several_units_are_not_joined(self):
+        for made, part in (
+            (self.joined("Z", "Z", units=("ms", "us")), "b.csv is in microseconds and"),
+            (self.joined("Z", "Z", epochs=(0, 1000)), "count from different moments, by the notes beside them"),
+        ):
+            self.assertEqual(made[:2], (66, None))
+            self.assertIn(part, made[2])
+        self.assertEqual(asked(["log", *(str(self.room / name) for name in ("a.csv", "b.csv"))])[:2], (66, ""))
+
+    def test_decimal_seconds_beside_a_log_in_another_unit(self):
+        self.joined("Z", "Z")
+        more = self.put("more", "time,host,name\n1.5,c,x\n")
+        for files in ([str(self.room / "a.csv"), more], [more, str(self.room / "a.csv")]):
+            status, log, said = asked(["log", *files, "--skew", "1"])
+            self.assertEqual((status, log), (66, ""))
+            self.assertIn("more, line 2: the stamp 1.5 is in seconds, and ", said)
+            self.assertIn("a.csv in milliseconds, by the notes beside it", said)
+        self.joined("Z", "Z", units=("s", "s"))
+        self.assertEqual(asked(["log", str(self.room / "a.csv"), more, "--skew", "1", "--quiet"])[0], 0)
+
+    def test_a_unit_that_the_notes_of_a_log_do_not_say(self):
+        status, kept, said = self.joined("Z", "Z", words=["--unit", "us"])
+        self.assertEqual((status, kept), (64, None))
+        self.assertIn("--unit us: ", said)
+        self.assertIn("a.csv.notes says milliseconds", said)
+        self.assertEqual(self.joined("Z", "Z", words=["--unit", "ms"])[:2], (0, Scale("ms", 0, "Z")))
 
     def test_a_log_that_was_changed(self):
         """Notes of another state of a log aren't taken for its own."""
@@ -138,6 +181,12 @@ class Notes(Room):
         self.assertFalse(Path("/dev/null.notes").exists())
         self.assertEqual(asked(["log", source, "-o", str(self.room / "missing" / "x"), "--skew", "5", "--quiet"])[0], 75)
 
+    def test_a_link_to_no_file_yet(self):
+        (self.room / "link").symlink_to("target")
+        self.assertEqual(asked(["log", self.put("in", JSONL), "-o", str(self.room / "link"), "--skew", "5", "--quiet"])[0], 0)
+        self.assertTrue((self.room / "target").is_file())
+        self.assertEqual(read_notes(str(self.room / "link.notes")).scale, Scale("ms", 0, "+01:00"))
+
     def test_notes_that_say_something_else(self):
         log = self.put("l", "kind,host,time,name\nhost,a,0,0\nset,a,5,p\n")
         for text in ("", "unit: milliseconds, as --unit says\n", "[1]", '{"unit": null}'):
@@ -146,7 +195,8 @@ class Notes(Room):
         for text, said in (
             ('{"unit": "min"}', "there is no unit 'min'. The units: s, ms, us, ns"), ("{", "they aren't JSON"), ('{"epoch": null}', "they have no unit"),
             ('{"unit": "ms", "epoch": "1.5"}', "the epoch '1.5' is no ISO 8601 time"), ('{"unit": "ms", "epoch": 5}', "the epoch 5 is no ISO 8601 time"),
-            ('{"unit": "ms", "zone": "CET"}', "'CET' is no zone, as +01:00"), ('{"unit": "ms", "zone": ""}', "'' is no zone"), ('{"unit": ["ms"]}', "there is no unit"),
+            ('{"unit": "ms", "zone": "CET"}', "'CET' is no zone, as +01:00"), ('{"unit": "ms", "zone": ""}', "'' is no zone"), ('{"unit": "ms", "zone": " Z"}', "' Z' is no zone"),
+            ('{"unit": "ms", "zone": ".5"}', "'.5' is no zone"), ('{"unit": ["ms"]}', "there is no unit"),
         ):
             self.put("l.notes", text)
             status, _, told = asked(["check", "F a.p", log])

@@ -6,6 +6,7 @@ import random
 import shutil
 import tempfile
 import unittest
+from collections import Counter
 from pathlib import Path
 from unittest import mock
 
@@ -234,12 +235,15 @@ class Guards(unittest.TestCase):
 
 class Verdicts(unittest.TestCase):
     def test_generated_cases(self):
-        program = find_program(None)
+        program, counts = find_program(None), Counter()
         for place in range(CASES):
             case = windows_agreement.case_of(f"test {place}", list(long_logs.FAMILIES), (60, 100))
             said, wrong, _ = windows_agreement.windows_answer(program, case)
             outcome = windows_agreement.compared(said, windows_agreement.whole_answer(program, case, 120))
             self.assertEqual((wrong, outcome == "DIFFERENT"), ("", False), (case.formula, said, outcome))
+            counts[said] += outcome == "same"
+        for verdict in windows_agreement.STATUSES.values():
+            self.assertGreaterEqual(counts[verdict], max(1, CASES // 12), counts)
 
     def test_ends_of_the_log(self):
         # The row in question is at the first or at the last moment of all.
@@ -529,6 +533,41 @@ class Commands(unittest.TestCase):
             with mock.patch("ask.lines.verdict_of_slices", side_effect=end):
                 ended, text, said = asked(words, self.folder)
             self.assertEqual((ended, [line["status"] for line in facts_of_text(text)["lines"]]), (124, [124, 124]), said)
+
+    def test_a_verdict_for_which_more_no_time_is_left(self):
+        right = {"true": "no", "false": "yes"}
+        for end in (Stopped, OutOfTime):
+            for part in ("cautions_of_long_log", "truth_of", "ShownWindow", "ShownWindow.ground_facts"):
+                with mock.patch(f"ask.windows.answer.{part}", side_effect=end):
+                    ended, text, said = asked(["check", "G (a.p -> F[10,14] b.q)", "l", "--json", "--seconds", "60"], self.folder)
+                facts = facts_of_text(text)
+                self.assertEqual((ended, facts.get("can_be"), schema.complaint("check", facts)), (1, right, ""), (part, said))
+                self.assertEqual("unasked" in [warning["kind"] for warning in facts["warnings"]], part == "cautions_of_long_log")
+                self.assertEqual(len(facts["notes"]), part != "cautions_of_long_log", part)
+
+    def test_time_that_is_over_before_a_verdict(self):
+        for end in (Stopped, OutOfTime):
+            with mock.patch("ask.windows.answer.verdict_of_slices", side_effect=end):
+                ended, _, said = asked(["check", "G (a.p -> F[0,9] b.q)", "l", "--seconds", "60"], self.folder)
+            self.assertEqual((ended, said.startswith("ask: stopped after 60 seconds, with 0 of 0 windows done; with --keep")), (124, True), said)
+
+    def test_a_deadline_that_windows_leave_open(self):
+        with mock.patch("ask.windows.asking.Findings.can_fail", return_value=None):
+            ended, text, said = asked(["deadline", "G (a.p -> F[0,?] b.q)", "l", "--json"], self.folder)
+        facts = facts_of_text(text)
+        self.assertEqual((ended, schema.complaint("deadline", facts)), (4, ""), said)
+        self.assertEqual(facts["statuses"], {str(facts["unknown_at"]): 4})
+
+    def test_what_a_deadline_knows_when_its_time_is_over(self):
+        words = ["deadline", "G (a.p -> F[0,?] b.q)", "l", "--seconds", "60"]
+        for end in (Stopped, OutOfTime):
+            with mock.patch("ask.windows.least_number.Numbers.halved", side_effect=end):
+                ended, _, said = asked(words, self.folder)
+            self.assertEqual((ended, said), (124, "ask: stopped after 60 seconds; with 7 it isn't true by every timing\n"))
+            with mock.patch("ask.commands.deadline.cautions_of_long_log", side_effect=end):
+                ended, text, said = asked([*words, "--json", "--strict-for", "end"], self.folder)
+            facts = facts_of_text(text)
+            self.assertEqual((ended, facts["number"], [warning["kind"] for warning in facts["warnings"]]), (0, 9, ["unasked"]), said)
 
     def test_strict(self):
         self.assertEqual(asked(["check", "G (a.x -> b.q)", "l", "--strict"], self.folder)[0], 65)

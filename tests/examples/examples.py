@@ -7,8 +7,8 @@ report that check writes there has to be the one that is kept, and is audited wi
 same files: by the program, and by the second audit in tests/reference, which judges the
 answers of tolerance and span too. Then the runs of many_rows.py have to end as it
 says. Then each command of README.md and docs/ that a block of shell shows, and that
-the program, cat or python3 is in, has to write what stands below it (those with jq are
-left out where there is none), each clause that a block of text quotes has to stand in
+the program, cat or python3 is in, has to write what stands below it, and to end below
+64 where no refusal is shown (those with jq are left out where there is none), each clause that a block of text quotes has to stand in
 the code, and each link has to lead to a file, and to a heading of it where it names
 one. What the tables of refusals show has to be refused so, and the picture of the
 crates has to be that of crates.txt. Every difference is printed. The last line says
@@ -42,6 +42,8 @@ import refusals
 PATIENCE = 60  # seconds that one run may take
 SHOWN = ("./skewcheck ", "cat ", "python3 ")  # what is in the commands of pages that are run
 ELSEWHERE = ("many-logs.md",)  # pages whose commands another test runs
+REFUSED = 64  # the least status that is no answer
+LEAST_LINKS = 100  # of all pages, so that they aren't overlooked
 
 
 class Run(NamedTuple):
@@ -178,6 +180,11 @@ def is_left_out(command):
     return True
 
 
+def is_refused(command, shown, status):
+    """Whether a command of a page ended with no answer, and the page shows neither a refusal nor its standard error."""
+    return not 0 <= status < REFUSED and "2>&1" not in command and not shown.startswith("refused ")
+
+
 def differences_of_pages(program):
     """What differs between the pages and what the program writes, as lines."""
     commands = list(commands_to_run())
@@ -192,6 +199,8 @@ def differences_of_pages(program):
         )
         if done.stdout != shown:
             yield f"{page.name}: {command}: it writes {done.stdout!r}, not {shown!r}"
+        elif is_refused(command, shown, done.returncode):
+            yield f"{page.name}: {command}: it ends with {done.returncode}, which isn't shown"
 
 
 # Clauses
@@ -241,12 +250,16 @@ def anchors(page):
 
 def differences_of_links():
     """The links of the pages that lead nowhere, as lines."""
+    count = 0
     for page in [*pages(), ROOT / "CONTRIBUTING.md", ROOT / "CHANGELOG.md"]:
         for link in re.findall(r"\]\(([^)\s]+)\)", page.read_text()):
+            count += 1
             name, _, anchor = link.partition("#")
             target = page.parent / name if name else page
             if "://" not in link and (not target.exists() or anchor and anchor not in anchors(target)):
                 yield f"{page.name}: the link {link} leads nowhere"
+    if count < LEAST_LINKS:
+        yield f"the pages have {count} links"
 
 
 def checks(program, is_written):

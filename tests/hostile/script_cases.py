@@ -1,9 +1,7 @@
 """Runs of the scripts in examples/ and of the second checker: on closed streams, odd files, names, words and signals."""
 
-import functools
 import shutil
 import signal
-import subprocess
 import sys
 
 from ask_cases import FILES, MARKS, ODD_FILES, ODD_LETTERS, REPORT, SLEEPING, STUBBORN, WORDS, turned_streams
@@ -34,19 +32,9 @@ def case(title, script, words, statuses=(), files=None, **more):
     return Run("scripts", title, script, words, {**SCRIPT_FILES, **(files or {})}, tuple(statuses), **more)
 
 
-@functools.lru_cache(maxsize=None)
-def has_statuses():
-    """Whether the second checker has the statuses of refusals, without which its runs are left out."""
-    has = subprocess.run([sys.executable, str(ROOT / CHECKER)], capture_output=True).returncode == 64
-    if not has:
-        print(f"tests/hostile: {CHECKER} is left out, since it has no statuses of refusals yet")
-    return has
-
-
 def scripts():
     """The scripts that can be run here, each with its words."""
-    missing = {MANY: not REMOTE, CHECKER: not has_statuses()}
-    return {script: base for script, base in BASES.items() if not missing.get(script)}
+    return {script: base for script, base in BASES.items() if script != MANY or REMOTE}
 
 
 def streams():
@@ -135,8 +123,6 @@ def signals():
 
 def checker():
     """What the second checker answers to words and files."""
-    if not has_statuses():
-        return
     for words, status in (
         ([], 64), (["f"], 64), (["f", "l"], 64), (["f", "l", "r", "x"], 64), (["--x", "f", "l", "r"], 64), (["f", "l", "r", "--conflicts", "0"], 64),
         (["f", "l", "r", "--conflicts", "x"], 64), (["-", "l", "r"], 64), (["f", "-", "r"], 64), (["f", "l", "-"], 64), (["nothing", "l", "r"], 74),

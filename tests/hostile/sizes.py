@@ -30,6 +30,13 @@ def at_once(rows):
     return log_of(*[b"host,%s,1000,0" % name for name in names], *[b"set,%s,0,p" % name for name in names])
 
 
+def two_at_once(skew):
+    """64 hosts with two rows each, all at the same local time, by clocks that may be off by a skew."""
+    names = [b"h%d" % host for host in range(64)]
+    rows = [b"%s,%s,0,p" % (act, name) for act in (b"set", b"clear") for name in names]
+    return log_of(*[b"host,%s,%d,0" % (name, skew) for name in names], *rows)
+
+
 def many(count, form=b"F[%d,%d]a.p"):
     """So many different untils or sinces, joined."""
     return joined([form % (number, number) for number in range(count)])
@@ -56,6 +63,7 @@ def cases():
     yield from by_one_clock()
     yield from pulses_beside_clears()
     yield from fewer_rows()
+    yield far_untils()
 
 
 def one_of_64_rows():
@@ -134,3 +142,12 @@ def fewer_rows():
     line = b"refused size %d" % (161**2 + 161**3)
     yield case("161 rows in turns, skew 10000, U", b"!a.p U b.p", turns(161, 10_000, 0), (67,), line)
     yield case("64 rows, 1 until in 5,000 places", joined([b"F b.p"] * 5_000), turns(64, 5))
+
+
+def far_untils():
+    """128 rows in any order, with the greatest size, whose bounds are numbers by the ten thousand: it holds most memory."""
+    formula = joined([b"F[%d,%d] h0.p" % (100_000 + number, 200_000 + number) for number in range(253)])
+    words = ["check", "--conflicts", "1", "f", "l"]
+    most = 4_608 * 1_048_576 // len(formula)
+    files = {"l": two_at_once(1_000_000_000), "f": formula}
+    return Case("size", "128 rows at once, 253 untils with great bounds", words, files, ANSWERED, b"skewcheck 1", most, is_search=True)

@@ -14,7 +14,7 @@ from common import ABOUT, PATIENCE, PROGRAM, ROOT, WithRoom, as_nobody, template
 sys.path[:0] = [str(ROOT), str(ROOT / "tests" / "examples")]
 
 from ask.main import parser
-from examples import shown_commands
+from examples import is_refused, shown_commands
 
 EXAMPLES = ROOT / "examples"
 CHECKER = ROOT / "tests" / "reference" / "reports.py"
@@ -71,22 +71,27 @@ class Installed(unittest.TestCase):
                     command = command.replace(old, new)
                 done = run(["bash", "-c", command], self.bin, self.about)
                 self.assertEqual(done.stdout.decode().replace("skewask: ", "ask: "), shown, f"{page.name}: {command}")
+                self.assertFalse(is_refused(command, shown, done.returncode), f"{page.name}: {command}")
                 count += 1
         self.assertGreater(count, 80)
         self.assertEqual(tree(self.prefix), earlier)
 
     def test_links_of_pages(self):
         """Each link from a page leads to a file that is installed, or into a part of the repository that isn't."""
+        links = 0
         for page in [*self.about.glob("*.md"), *(self.about / "docs").glob("*.md")]:
             for link in re.findall(r"\]\(([^)#\s]+)", page.read_text()):
+                links += 1
                 if "://" in link or (page.parent / link).is_file():
                     continue
                 there = os.path.relpath((page.parent / link).resolve(), self.about)
                 self.assertRegex(there, r"^(crates|tests|ask|faults|benches)/", f"{page.name}: {link}")
+        self.assertGreater(links, 100)
 
     def test_other_words_for_commands(self):
         """Where ask tells a command to type, it tells the one that is installed."""
         texts = {path: path.read_text() for path in (self.prefix / "share" / "skewcheck" / "ask").rglob("*.py")}
+        self.assertGreater(len(texts), 50)
         for path, text in texts.items():
             self.assertIsNone(re.search(r"(?<![a-z])ask (check|deadline|between|tolerance|each|log|draw)\b", text), path)
         for words, status, said in (
@@ -102,6 +107,16 @@ class Installed(unittest.TestCase):
             here, there = run(words, folder=ROOT), run(words, folder=self.about)
             self.assertEqual((there.returncode, there.stdout), (0, here.stdout), there.stderr)
         self.assertEqual([name for name in tree(self.prefix) if name.endswith(".pyc")], [])
+
+    def test_many_logs_finds_the_program_that_is_installed(self):
+        """Also where no skewcheck is in the path."""
+        if not shutil.which("parallel", path="/usr/bin:/bin"):
+            self.skipTest("for want of the package parallel")
+        with tempfile.TemporaryDirectory() as folder:
+            words = [sys.executable, "examples/many_logs.py", "examples/requests", "examples/within_5.formula", "--to", f"{folder}/to"]
+            done = run(words, folder=self.about, PATH="/usr/bin:/bin")
+            self.assertEqual((done.returncode, done.stderr), (66, b""))
+            self.assertEqual(done.stdout.split(b"\n")[1].split(), b"within_5.formula 1 1 1 1 0 1".split())
 
 
 class FindingTheProgram(WithRoom):
@@ -188,11 +203,17 @@ class FindingTheProgram(WithRoom):
             self.assertIn(f"{name}: No module named", done.stderr.decode())
 
     def test_a_prefix_of_links(self):
-        """Where the folder of the modules is a link, the program beside the command is found all the same."""
+        """Where the folder of the modules or that of the commands is a link, each finds the other and the program."""
         other = self.room / "other"
         shutil.move(self.prefix / "share", other)
         (self.prefix / "share").symlink_to(other)
         self.assertRan("beside", [self.bin / "skewask"])
+        shutil.move(self.bin, self.room / "commands")
+        self.bin.symlink_to("../commands")
+        self.assertRan("beside", [self.bin / "skewask"])
+        self.assertRan("beside", ["skewask"], path=f"{self.bin}:/usr/bin:/bin")
+        done = run([self.bin / "skewcheck-audit", "--help"])
+        self.assertEqual((done.returncode, done.stderr), (0, b""))
 
 
 class SecondChecker(unittest.TestCase):

@@ -7,7 +7,9 @@ import subprocess
 import tarfile
 import unittest
 
-from common import ABOUT, BASH, COMMANDS, FISH, LIST, PATIENCE, PROGRAM, ROOT, ZSH, WithRoom, expected, installed, needs_commit, tree
+from common import (
+    ABOUT, BASH, COMMANDS, FISH, LIST, PAGES, PATIENCE, PROGRAM, ROOT, ZSH, WithRoom, expected, installed, names_origin, needs_commit, source_names, tree,
+)
 
 FILES = ("FORMULA", "LOG", "REPORT", "TIMES", "FILE")  # operands that are names of files
 
@@ -69,6 +71,14 @@ class Refusals(WithRoom):
         self.assertRefused(["--dist", self.room / "d.tar", "--remove"], 64, "stands alone")
         self.assertRefused(["here"], 64, "here is no option")
 
+    def test_help_changes_nothing(self):
+        """Whether its line can be written or not."""
+        for turns in ("", ">/dev/full", "| true"):
+            done = subprocess.run(
+                ["bash", "-c", f'"$1" --help {turns}', "bash", ROOT / "install"], env={**os.environ, "HOME": str(self.room)}, capture_output=True,
+            )
+            self.assertEqual((done.returncode, done.stderr, tree(self.room)), (0, b"", []), turns)
+
     def test_no_program(self):
         self.assertRefused(["--prefix", self.prefix], 66, "isn't there", SKEWCHECK=str(self.room / "nothing"))
         self.assertRefused(["--dist", self.room / "d.tar"], 66, "isn't there", SKEWCHECK=str(self.room / "nothing"))
@@ -114,6 +124,32 @@ class Refusals(WithRoom):
     def test_no_place_for_a_package(self):
         self.assertRefused(["--dist", self.room / "nowhere" / "d.tar"], 73, "can't be written")
         self.assertRefused(["--dist", self.room], 73, "can't be written")
+
+
+class WithoutGit(WithRoom):
+    """What is put of files that are no clone of the repository."""
+
+    def setUp(self):
+        super().setUp()
+        self.top = self.room / "top"
+        for name in source_names():
+            (self.top / name).parent.mkdir(parents=True, exist_ok=True)
+            shutil.copy(ROOT / name, self.top / name)
+        shutil.copytree(ROOT / "tests" / "reference", self.top / "tests" / "reference")
+        for name in ("install", *PAGES):
+            shutil.copy(ROOT / name, self.top / name)
+
+    def test_in_a_repository_of_something_else(self):
+        """Neither its commit nor its tag is that of what is put."""
+        named = ("git", "-C", self.room, "-c", "user.name=n", "-c", "user.email=e")
+        for words in ((*named, "init", "-q"), (*named, "commit", "-q", "--allow-empty", "-m", "other"), (*named, "tag", "v3.1")):
+            subprocess.run(words, check=True, capture_output=True)
+        done = installed("--prefix", self.prefix, script=self.top / "install")
+        self.assertEqual((done.returncode, done.stderr), (0, ""))
+        self.assertEqual((self.prefix / ABOUT / "version").exists(), False)
+        if names_origin():
+            done = installed("--dist", self.room / "x.tar", script=self.top / "install")
+            self.assertEqual((done.returncode, done.stderr), (66, f"install: git names no commit of {self.top}, so there is none to pack\n"))
 
 
 class Packing(WithRoom):

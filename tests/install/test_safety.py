@@ -1,13 +1,16 @@
 """Installing where others can write, where something fails on the way, and by names that are more than names."""
 
 import os
+import re
 import shutil
 import subprocess
 import tarfile
 import unittest
 from pathlib import Path
 
-from common import ABOUT, COMMANDS, LIST, PARTS, PROGRAM, ROOT, WithRoom, as_nobody, contents, expected, installed, needs_commit, template, tree
+from common import ABOUT, COMMANDS, LIST, PARTS, PROGRAM, ROOT, WithRoom, as_nobody, contents, expected, installed, names_origin, needs_commit, template, tree
+
+PAGE = os.sysconf("SC_PAGE_SIZE")  # of whole ones a file of a small device takes
 
 
 class Names(WithRoom):
@@ -83,6 +86,16 @@ class NamesOfPackages(WithRoom):
         for name in ("folder", "pipe", "nowhere/x.tar", ".."):
             self.assertRefused(["--dist", self.room / name], 73, "can't be written")
         self.assertRefused(["--dist", "/dev/null"], 73, "/dev/null can't be written")
+
+    def test_at_the_top(self):
+        place = Path(f"/.skewcheck-test-{os.getpid()}.tar")
+        if not os.access("/", os.W_OK):
+            self.skipTest("only root writes into the folder at the top")
+        self.addCleanup(place.unlink, missing_ok=True)
+        done = installed("--dist", place)
+        self.assertEqual((done.returncode, done.stdout, done.stderr), (0, f"{place}\n", ""))
+        self.assertTrue(tarfile.is_tarfile(place))
+        self.assertEqual([name for name in os.listdir("/") if name.startswith(".skewcheck.")], [])
 
     def test_a_link_is_replaced_and_not_followed(self):
         (self.room / "precious").write_text("kept")
@@ -272,6 +285,50 @@ class Removing(WithRoom):
         self.put()
         self.assertRefused(["--prefix", self.prefix, "--remove"], 73, "can't be changed", before=before)
 
+    def test_files_that_can_not_be_removed(self):
+        """They stay with their list, so that they can be removed later."""
+        before = as_nobody(self)
+        self.room.chmod(0o755)
+        self.put()
+        for folder in (self.prefix, *(path for path in self.prefix.rglob("*") if path.is_dir())):
+            folder.chmod(0o1777)
+        self.assertRefused(["--prefix", self.prefix, "--remove"], 73, "can't be removed", before=before)
+        self.assertEqual(installed("--prefix", self.prefix, "--remove").returncode, 0)
+        self.assertEqual(tree(self.room), [])
+
+    def with_tool(self, name, what):
+        """How a run of --remove ended in which each call of a tool does something else first, in a group of its own."""
+        tools = self.room / "tools"
+        tools.mkdir(exist_ok=True)
+        (tools / name).write_text(f"#!/bin/bash\n{what}\nexec {shutil.which(name)} \"$@\"\n")
+        (tools / name).chmod(0o755)
+        done = subprocess.run(
+            [ROOT / "install", "--prefix", self.prefix, "--remove"], capture_output=True, text=True, start_new_session=True,
+            env={**os.environ, "PATH": f"{tools}:{os.environ['PATH']}"},
+        )
+        shutil.rmtree(tools)
+        return done
+
+    def test_signals(self):
+        """An interrupt of a terminal, which is for all processes, comes before the first removal, or changes nothing."""
+        self.put()
+        before = contents(self.room)
+        done = self.with_tool("sha256sum", "kill -INT 0")
+        self.assertEqual((done.returncode, done.stdout), (130, ""))
+        self.assertEqual(done.stderr, "install: interrupted, and nothing was changed\n")
+        self.assertEqual(contents(self.room), before)
+        done = self.with_tool("rm", "kill -INT 0")
+        self.assertEqual((done.returncode, done.stderr, tree(self.room)), (0, "", []))
+
+    def test_files_that_can_not_be_read(self):
+        """Whether they were changed can't be told, and all stays."""
+        self.put()
+        before = contents(self.room)
+        done = self.with_tool("sha256sum", "exit 1")
+        self.assertEqual((done.returncode, done.stdout, len(done.stderr.splitlines())), (73, "", 1))
+        self.assertIn("can't be read", done.stderr)
+        self.assertEqual(contents(self.room), before)
+
 
 class Failing(WithRoom):
     """Runs that fail or are interrupted on the way, after which all is as before."""
@@ -342,6 +399,37 @@ exec {shutil.which(name)} "$@"
         ):
             self.assertTakenBack(tool, place, "exit 1", 73, "can't be (written|made).*", is_older_there)
 
+    def later_calls(self, tool, place, what, later):
+        """Has the call of a tool with that number do something else first, and each later one something else too."""
+        self.tool(tool, place, f'{what}; elif [ "$calls" -gt {place} ]; then {later}')
+        (self.tools / f"{tool}.calls").unlink(missing_ok=True)
+
+    def test_a_second_signal(self):
+        """An interrupt of a terminal is for all processes, and those that put files back go on."""
+        calls = self.calls()
+        self.put_older()
+        before = contents(self.prefix)
+        self.later_calls("mv", calls["mv"] - 1, "kill -INT $PPID", "kill -INT $PPID $$")
+        done = self.run_with_tools()
+        self.assertEqual((done.returncode, done.stdout), (130, ""))
+        self.assertEqual(done.stderr, "install: interrupted, and nothing was changed\n")
+        self.assertEqual(contents(self.prefix), before)
+
+    def test_what_can_not_be_put_back_is_kept(self):
+        calls = self.calls()
+        self.put_older()
+        before = contents(self.prefix)
+        self.later_calls("mv", calls["mv"] - 1, "kill -TERM $PPID", "exit 1")
+        done = self.run_with_tools()
+        self.assertEqual((done.returncode, done.stdout), (143, ""))
+        told = re.findall(r"^install: (.*) can't be put back, and is kept as (.*)$", done.stderr, re.M)
+        self.assertEqual(len(told), len(done.stderr.splitlines()) - 1)
+        for name, kept in told:
+            shutil.move(kept, name)
+        self.assertIn(str(self.prefix / "bin" / "skewcheck"), dict(told))
+        after = contents(self.prefix)
+        self.assertEqual({name: after[name] for name in before}, before)
+
     def test_no_links_between_files(self):
         """Where the system has no second links to a file, older ones are kept as copies."""
         self.put_older()
@@ -350,15 +438,31 @@ exec {shutil.which(name)} "$@"
         self.assertEqual((self.prefix / "bin" / "skewcheck").read_bytes(), Path(PROGRAM).read_bytes())
         self.assertEqual([name for name in tree(self.prefix) if ".skewcheck." in name], [])
 
-    def test_a_full_device(self):
+    def device(self, share):
+        """A folder that takes a share of what is put, in tenths."""
         if os.geteuid() != 0:
             self.skipTest("a small device needs root")
-        device = self.room / "device"
+        device = self.room / f"device {share}"
         device.mkdir()
-        size = sum(path.stat().st_size for path in template().rglob("*") if path.is_file()) * 2 // 3
+        pages = sum(-(-path.stat().st_size // PAGE) for path in template().rglob("*"))
+        size = pages * PAGE * share // 10
         if subprocess.run(["mount", "-t", "tmpfs", "-o", f"size={size}", "tmpfs", device], capture_output=True).returncode != 0:
             self.skipTest("a small device can't be mounted here")
         self.addCleanup(subprocess.run, ["umount", device])
+        return device
+
+    def test_no_room_for_temporary_files(self):
+        """One line says so, whatever couldn't be made."""
+        small, larger = self.device(2), self.device(14)
+        self.assertRefused(["--prefix", self.prefix], 73, "the files can't be made in", TMPDIR=str(small))
+        if not names_origin():
+            return
+        self.assertRefused(["--dist", self.room / "x.tar"], 73, "the files can't be made in", TMPDIR=str(small))
+        self.assertRefused(["--dist", self.room / "x.tar"], 73, "no archive can be made in", TMPDIR=str(larger))
+        self.assertRefused(["--dist", self.room / "x.tar", "--deb", self.room / "x.deb"], 73, "can be made in", TMPDIR=str(larger))
+
+    def test_a_full_device(self):
+        device = self.device(7)
         (device / "bin").mkdir()
         (device / "bin" / "skewcheck").write_text("older")
         self.assertRefused(["--prefix", device], 73, "can't be written")

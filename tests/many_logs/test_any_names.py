@@ -12,6 +12,12 @@ import unittest
 from pathlib import Path
 
 ROOT = Path(__file__).resolve().parent.parent.parent
+sys.path.insert(0, str(ROOT / "examples"))
+heeded = signal.getsignal(signal.SIGINT)
+
+import many_logs
+
+signal.signal(signal.SIGINT, heeded)  # which the script turns
 SCRIPT = ROOT / "examples" / "many_logs.py"
 LOGS = ROOT / "examples" / "requests"
 FORMULA = ROOT / "examples" / "within_5.formula"
@@ -36,9 +42,10 @@ class WithRoom(unittest.TestCase):
         (self.logs / "met.csv").write_bytes(MET)
 
     def asked(self, words, turns="", program=PROGRAM):
-        """How a run of the script ended, its streams turned by the shell."""
+        """How a run of the script ended, its streams turned by the shell, or with a variable of its environment."""
+        before, turns = (turns, "") if "=" in turns else ("", turns)
         return subprocess.run(
-            ["bash", "-c", f'exec "$@" {turns}', "bash", sys.executable, "-B", SCRIPT, *words, "--program", program], stdin=subprocess.DEVNULL,
+            ["bash", "-c", f'{before} exec "$@" {turns}', "bash", sys.executable, "-B", SCRIPT, *words, "--program", program], stdin=subprocess.DEVNULL,
             capture_output=True, timeout=PATIENCE, cwd=self.room,
         )
 
@@ -171,8 +178,52 @@ class Folders(WithRoom):
         self.assertEqual(self.asked(self.words()).returncode, 0)
         for data in (b"", b"no archive", b"\0" * 10_240):
             (self.to / "answers" / "00001.tar").write_bytes(data)
-            done = self.asked(self.words())
-            self.assertEqual((done.returncode, b"Traceback" in done.stderr), (125, False), done.stderr)
+            done = self.asked(self.words())  # which asks again
+            self.assertEqual((done.returncode, done.stderr, self.statuses()), (0, b"", {"met.csv": 0}))
+        (self.to / "answers" / "00001.tar").unlink()
+        self.assertEqual((self.asked(self.words()).returncode, self.statuses()), (0, {"met.csv": 0}))
+
+    def test_a_folder_in_use(self):
+        """Two runs at once would take each other's answers away."""
+        wait = f"touch '{self.room}/begun'; for i in {{1..200}}; do [ -e '{self.room}/go' ] || sleep 0.05; done; exec '{PROGRAM}' \"$@\""
+        program = self.program(wait)
+        first = subprocess.Popen([sys.executable, "-B", SCRIPT, *self.words("--program", program)], stdout=subprocess.DEVNULL)
+        until = time.monotonic() + PATIENCE
+        while not (self.room / "begun").exists() and time.monotonic() < until:
+            time.sleep(0.02)
+        done = self.asked(self.words(), program=program)
+        (self.room / "go").write_text("")
+        self.assertEqual((done.returncode, done.stderr), (73, f"many_logs: {self.to} is in use by another run\n".encode()))
+        self.assertEqual((first.wait(PATIENCE), self.statuses()), (0, {"met.csv": 0}))
+
+    def test_a_folder_that_can_not_be_read(self):
+        """It isn't told as one without logs."""
+        python = shutil.which("python3", path="/usr/bin:/bin")
+        if not python or os.geteuid() == 0 and not shutil.which("setpriv"):
+            self.skipTest("another user needs python3 in /usr/bin, and setpriv of the package util-linux")
+        self.logs.chmod(0o300)
+        self.room.chmod(0o755)
+        before = ["setpriv", "--reuid=65534", "--regid=65534", "--clear-groups"] if os.geteuid() == 0 else []
+        done = subprocess.run(
+            [*before, python, "-B", SCRIPT, self.logs, FORMULA, "--to", self.to, "--program", "/bin/true"], stdin=subprocess.DEVNULL,
+            capture_output=True, timeout=PATIENCE,
+        )
+        self.assertEqual((done.returncode, done.stderr.decode()), (74, f"many_logs: {self.logs}: Permission denied\n"))
+
+    def test_the_folder_that_is_named_by_dots(self):
+        """Its answers are beside it all the same."""
+        for number, name in enumerate((".", "..", "./", "../logs/.")):
+            inner = self.logs if name != ".." else self.logs / "inner"
+            inner.mkdir(exist_ok=True)
+            done = subprocess.run(
+                [sys.executable, "-B", SCRIPT, name, FORMULA, "--program", PROGRAM], cwd=inner, stdin=subprocess.DEVNULL, capture_output=True,
+                timeout=PATIENCE,
+            )
+            self.assertEqual((done.returncode, (self.room / "logs.answers" / "statuses").is_file()), (0, True), name)
+            shutil.rmtree(self.room / "logs.answers")
+            if inner != self.logs:
+                inner.rmdir()
+        self.assertEqual(sorted(os.listdir(self.room)), ["logs"])
 
 
 class Ends(WithRoom):
@@ -200,11 +251,61 @@ class Ends(WithRoom):
             self.assertEqual((done.returncode, done.stderr.count(b"\n")), (74 if words == [b"\xff\n"] else 64, 1), words)
             self.assertFalse(self.to.exists())
 
+    def test_answers_that_can_not_be_kept_are_asked_for_again(self):
+        """Where a report can't be written, or its status, as on a full device."""
+        for text in ("exit 75", "rm -r answers", "rm -r answers; mkdir -p answers/1/1.status"):
+            program = self.program(f"{text}; exec '{PROGRAM}' \"$@\"")
+            done = self.asked(self.words(), program=program)
+            self.assertEqual((done.returncode, self.statuses()), (125, {"met.csv": 125}), text)
+            self.assertNotEqual(done.stderr, b"")
+            self.program(f"exec '{PROGRAM}' \"$@\"")
+            done = self.asked(self.words(), program=program)
+            self.assertEqual((done.returncode, done.stderr, self.statuses()), (0, b"", {"met.csv": 0}), text)
+            shutil.rmtree(self.to)
+
+    def test_jobs_whose_answers_are_lost(self):
+        """As where the power fails behind a job: it is told, and asked again."""
+        parallel = self.room / "bin" / "parallel"
+        parallel.parent.mkdir()
+        parallel.write_text(f'#!/bin/sh\n{shutil.which("parallel")} "$@"\nrm answers/*.tar\n')
+        parallel.chmod(0o755)
+        done = self.asked(self.words(), f"PATH='{self.room}/bin:{os.environ['PATH']}'")
+        self.assertEqual((done.returncode, self.statuses()), (125, {"met.csv": 125}))
+        self.assertEqual(done.stderr.decode(), f"many_logs: {self.to}/answers/00001.tar lacks answers, which the same words ask for again\n")
+        self.assertEqual((self.asked(self.words()).returncode, self.statuses()), (0, {"met.csv": 0}))
+
+    def test_shells_of_other_machines(self):
+        """A job is for each shell that reads what `sh` reads."""
+        bundle = self.room / "bundle"
+        bundle.write_bytes(many_logs.bundle([many_logs.Question(1, 1, FORMULA.read_bytes(), MET, False)]))
+        job = many_logs.JOB.format(program=PROGRAM, command=f"'{PROGRAM}' check", unwritten=75).replace("{}", str(bundle))
+        for shell in filter(shutil.which, ("sh", "bash", "dash", "zsh", "ksh", "mksh")):
+            done = subprocess.run([shell, "-c", job], capture_output=True, timeout=PATIENCE, env={**os.environ, "TMPDIR": str(self.room)})
+            self.assertEqual((done.returncode, done.stderr), (0, b""), shell)
+            (self.room / "answers").write_bytes(done.stdout)
+            found = many_logs.answers_of(self.room / "answers")
+            self.assertEqual((found[1, 1, "status"], many_logs.verdict_of(found[1, 1, "report"])), (b"0\n", 0), shell)
+            self.assertEqual(sorted(os.listdir(self.room)), ["answers", "bundle", "logs"], shell)
+
+    def test_a_program_that_is_none_by_its_own_status(self):
+        done = self.asked(self.words(), program=self.program("exit 72"))
+        self.assertEqual((done.returncode, done.stderr), (72, b""))
+
+    def test_hardly_any_time(self):
+        done = self.asked(self.words("--seconds", "0.0000001"), program=self.program("exec sleep 9"))
+        self.assertEqual(done.returncode, 124)
+
     def test_signals_end_the_jobs(self):
+        for words in ((), ("--seconds", "40")):
+            with self.subTest(words=words):
+                self.signals_end_the_jobs(*words)
+
+    def signals_end_the_jobs(self, *words):
         stubborn = f"trap '' TERM INT HUP; sleep 50 & echo $$ $! >'{self.room}/new'; mv '{self.room}/new' '{self.room}/begun'; sleep 50; sleep 50"
         for number in (signal.SIGINT, signal.SIGTERM, signal.SIGHUP):
             run = subprocess.Popen(
-                [sys.executable, "-B", SCRIPT, *self.words("--program", self.program(stubborn))], stderr=subprocess.PIPE, stdin=subprocess.DEVNULL,
+                [sys.executable, "-B", SCRIPT, *self.words("--program", self.program(stubborn), *words)], stderr=subprocess.PIPE,
+                stdin=subprocess.DEVNULL, env={**os.environ, "TMPDIR": str(self.room)},
                 preexec_fn=lambda: signal.signal(signal.SIGINT, signal.SIG_DFL),
             )
             until = time.monotonic() + PATIENCE
@@ -217,6 +318,8 @@ class Ends(WithRoom):
             for process in (self.room / "begun").read_text().split():
                 self.assertFalse(Path("/proc", process).exists() and "Z" not in Path("/proc", process, "stat").read_text())
             (self.room / "begun").unlink()
+            self.assertEqual([name for name in os.listdir(self.room) if name.startswith("tmp.")], [])
+            shutil.rmtree(self.to)
 
 
 if __name__ == "__main__":

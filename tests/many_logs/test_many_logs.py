@@ -62,13 +62,14 @@ class Answers(WithRoom):
         page = (ROOT / "docs" / "many-logs.md").read_text()
         block = re.search(r"^```sh\n(.*?)^```$", page, re.M | re.S)[1]
         commands = [part.partition("\n") for part in re.split(r"^\$ ", block, flags=re.M)[1:]]
+        self.assertGreater(len(commands), 3)
         places = {"./skewcheck": PROGRAM, "/tmp/answers": str(self.to)}
         for command, _, below in commands:
             command = re.sub("|".join(map(re.escape, places)), lambda match: places[match[0]], command)
             command = command.replace("--to", f"--program {PROGRAM} --to")
             with self.subTest(command=command):
                 done = subprocess.run(["bash", "-c", command], cwd=ROOT, stdout=subprocess.PIPE, text=True, timeout=PATIENCE)
-                self.assertEqual(done.stdout, below)
+                self.assertEqual((done.stdout, done.returncode), (below, 0))
 
     def test_reports(self):
         done = asked(self.words("--bundle", "3"))

@@ -156,15 +156,20 @@ def names() -> Names:
     return found
 
 
+def libraries(listed: str) -> Iterator["tuple[str, list[str]]"]:
+    """The crates of lines as those of crates.txt, each with its libraries."""
+    for line in listed.splitlines():
+        crate, _, given = line.partition(":")
+        if crate[:1].isalpha():
+            yield crate, given.split()
+
+
 def needless(listed: str) -> Iterator[str]:
     """The libraries that lines as those of crates.txt give a crate whose files don't name them."""
-    for line in listed.splitlines():
-        crate, _, libraries = line.partition(":")
-        if not crate[:1].isalpha():
-            continue
+    for crate, given in libraries(listed):
         folder = ROOT / "crates" / crate
         texts = [path.read_text() for part in ("src", "specs", "proofs") for path in (folder / part).rglob("*.*")]
         named = {word for text in texts for word in re.findall(r"\w+", text)}
-        for library in libraries.split():
+        for library in given:
             if library not in named:
                 yield f"{crate}: {library}"

@@ -3,7 +3,8 @@
 Run as: python3 compare_freshness.py PROGRAM [--cases N] [--seed S]
 
 Each case is a small log and formula made by chance, and a number of conflicts
-from one to three. Where the program leaves a value unknown, the lines of its
+from one to three. The status is 4 just where the program leaves a value unknown,
+which it has to do of some case at least. Where it does, the lines of its
 section have to spend just these conflicts: as many Learn lines, each fresh,
 used and over atoms that stand in clauses of rules, which freshness.py tests.
 The first difference is printed with its files, and the end is 1.
@@ -28,16 +29,18 @@ import reports
 from tables import read_log_arguments
 
 CONFLICTS = (1, 2, 3)
+CASES_WITH_UNKNOWN = 200  # among so many checks some value is left unknown
+UNKNOWN = 4  # the status where a value is left unknown
 PATIENCE = 60  # seconds that one run may take
 
 
-def output_of(program, formula_text, log_text, conflicts):
-    """What check writes for a formula, a log and a number of conflicts."""
+def done_by(program, formula_text, log_text, conflicts):
+    """A run of check for a formula, a log and a number of conflicts."""
     with tempfile.TemporaryDirectory() as folder:
         for name, text in (("formula", formula_text), ("log", log_text)):
             Path(folder, name).write_bytes(text)
         words = [program, "check", "--conflicts", str(conflicts), "formula", "log"]
-        return subprocess.run(words, cwd=folder, capture_output=True, timeout=PATIENCE).stdout
+        return subprocess.run(words, cwd=folder, capture_output=True, timeout=PATIENCE)
 
 
 def unknown_sections(report):
@@ -48,13 +51,15 @@ def unknown_sections(report):
                 yield value, section.lines
 
 
-def complaint(formula_text, log_text, output, conflicts):
+def complaint(formula_text, log_text, done, conflicts):
     """What is wrong with the report of check, or nothing; and how many values it leaves unknown."""
     log, formula = logs.read_log(log_text), formats.read_formula(formula_text)
-    report = reports.read_report(output)
+    report = reports.read_report(done.stdout)
     if isinstance(report, derivations.SyntaxFault):
-        return f"no report: {output[:80]!r}", 0
+        return f"no report: {done.stdout[:80]!r}", 0
     left = list(unknown_sections(report))
+    if (done.returncode == UNKNOWN) != bool(left):
+        return f"status {done.returncode}, and {len(left)} values left unknown", len(left)
     for value, lines in left:
         problem = derivations.problem_of(log, formula, value)
         found = freshness.complaint(problem, freshness.rules_of(problem), lines, conflicts)
@@ -72,13 +77,15 @@ def main():
         draw = random.Random(f"{arguments.seed} {number}")
         log_text, formula_text, _ = invent.some_problem(draw)
         conflicts = draw.choice(CONFLICTS)
-        output = output_of(program, formula_text, log_text, conflicts)
-        found, left = complaint(formula_text, log_text, output, conflicts)
+        done = done_by(program, formula_text, log_text, conflicts)
+        found, left = complaint(formula_text, log_text, done, conflicts)
         if found:
             print(f"difference: check {number} of seed {arguments.seed}, {conflicts} conflicts: {found}")
-            print(f"formula: {formula_text!r}\nlog: {log_text!r}\noutput: {output!r}")
+            print(f"formula: {formula_text!r}\nlog: {log_text!r}\noutput: {done.stdout!r}")
             sys.exit(1)
         count["unknown" if left else "decided"] += 1
+    if arguments.cases >= CASES_WITH_UNKNOWN and not count["unknown"]:
+        sys.exit(f"difference: of {arguments.cases} checks none left a value unknown")
     print(f"{arguments.cases} checks, no difference: {count['decided']} decided, {count['unknown']} unknown")
 
 

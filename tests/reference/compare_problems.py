@@ -37,7 +37,6 @@ NODES_MOST = 6
 TIMINGS_MOST = 16  # admissible timings of one log that are gone through
 SHARE_OPEN = 0.6  # of the formulas, at least, have both values in timings of their log
 RULE_ARGUMENTS_PRINTED = 4
-KINDS_OF_A_NODE = ("span", "gap", "wit", "node")  # in their order
 
 
 # Questions
@@ -202,30 +201,14 @@ def clauses_difference(question, printed):
 
 
 def atoms_difference(question, printed):
-    """Whether the atoms are apart, in their order, and each in some clause."""
+    """Whether the atoms are apart, and each in some clause."""
     used = {variable for clause in printed.clauses for variable, _ in clause}
     for variable, atom in enumerate(printed.atoms):
         if variable not in used:
             return f"atom {words(atom)} is in no clause"
         if printed.atoms.index(atom) < variable:
             return f"atom {words(atom)} is there twice"
-    for atom, other in zip(printed.atoms, printed.atoms[1:]):
-        if rank(question.problem.log, atom) > rank(question.problem.log, other):
-            return f"atom {words(other)} comes behind atom {words(atom)}"
     return None
-
-
-def rank(log, atom):
-    """What orders an atom among the others: orders, by how near their events are, then `same`, by nodes, and `first`."""
-    kind, *numbers = atom
-    if kind == "order":
-        e, f, _ = numbers
-        return 0, abs(log.rows[e].local - log.rows[f].local), 0
-    if kind == "same":
-        return 1, 0, 0
-    if kind == "first":
-        return 3, 0, 0
-    return 2, numbers[0], KINDS_OF_A_NODE.index(kind)
 
 
 def edges_difference(question, printed):

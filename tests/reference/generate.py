@@ -457,8 +457,8 @@ NUMBERS_OF_CONFLICTS = "1 5 1000000 0 1000001 05 +5 -5 5x 1e3".split() + [""]
 
 def words_case(draw):
     """A case of words that are often no command, with short files that are without fault."""
-    command = draw.choice((*OPERANDS_OF_WORDS, "replay", "check", "audit", "demo"))
-    words = OPERANDS_OF_WORDS.get(command, "l").split()
+    command = draw.choice((*OPERANDS_OF_WORDS, "replay", "check", "audit", "demo", "demo"))
+    words = [seed_of_demo(draw)] if command == "demo" else OPERANDS_OF_WORDS[command].split()
     for place in range(len(words)):
         if chance(draw, 0.2):
             words[place] = draw.choice(("-", "--", "--", "-x", "5", "", "none"))
@@ -471,15 +471,12 @@ def words_case(draw):
     words.insert(0, command)
     for _ in range(draw.choice((0, 0, 0, 1, 1, 2))):
         edit_words(draw, words)
-    if is_demo(words):
-        words.append("l")  # one operand too many: what a demo searches takes too long
     return Case([] if chance(draw, 0.05) else words, files_of_words(draw))
 
 
-def is_demo(words):
-    """Whether the words are the command demo with its seed."""
-    command = program.command_of(words)
-    return command is not None and command.name == "demo"
+def seed_of_demo(draw):
+    """A seed of a demo: at a limit, small, or anywhere."""
+    return str(draw.choice((draw.choice((0, 2**64 - 1, 2**64)), draw.randrange(1000), draw.getrandbits(64))))
 
 
 def option_words(draw):

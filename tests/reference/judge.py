@@ -112,9 +112,12 @@ def steps_complaint(log, lines):
             return "the steps are no closed walk"
     if sum(step.most for step in steps) >= 0:
         return "the sum of the steps isn't negative"
-    if len({step.start for step in steps}) < len(steps):
-        return "the walk visits a node twice"
-    return ""
+    return twice_complaint(steps)
+
+
+def twice_complaint(steps):
+    """What is wrong with a walk that comes to a node twice, or nothing."""
+    return "the walk visits a node twice" if len({step.start for step in steps}) < len(steps) else ""
 
 
 def cycle_complaint(log, output, status):
@@ -128,6 +131,8 @@ def cycle_complaint(log, output, status):
     events = [whole_number(text) for text in texts]
     if any(event is None or event >= len(log.rows) for event in events):
         return "a line isn't an event of the log"
+    if len(set(events)) < len(events):
+        return "an event stands twice"
     pairs = reference.directly_before(log)
     for pair in zip(events, events[1:] + events[:1]):
         if pair not in pairs:
@@ -152,6 +157,8 @@ def report_complaint(wanted, output, status):
         return f"the report fails in its part {place.part} at line {place.line}"
     if status != status_of(report):
         return f"the status of this report is {status_of(report)}"
+    if isinstance(report, Inconsistent):
+        return twice_complaint(reports.walk_of(wanted.log, report.steps))
     return verdicts_complaint(wanted.conflicts, report)
 
 
@@ -168,14 +175,14 @@ def status_of(report):
 
 def verdicts_complaint(conflicts, report):
     """What check may not write although an audit accepts it, or nothing."""
-    if isinstance(report, Inconsistent):
-        return ""
     sections = (report.on_true, report.on_false)
     if not any(isinstance(section, Witness) for section in sections):
         return "no section is a witness"
     for section in sections:
         if isinstance(section, Refuted) and conflicts_of(section.lines) >= conflicts:
             return "a refuted section has as many Learn lines as there may be conflicts"
+        if not isinstance(section, Witness) and len(section.lines) > 2 * conflicts:
+            return "a section has more than twice as many lines as there may be conflicts"
     return ""
 
 

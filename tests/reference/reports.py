@@ -241,16 +241,20 @@ def faulty_step(log, steps):
     the one before ends. Where the walk isn't closed or its sum isn't negative,
     it is the last one, and 0 where there is no step.
     """
-    known = {(bound.kind, bound.event): bound for bound in reference.bounds(log)}
     walk = []
-    for place, step in enumerate(steps, start=1):
-        bound = known.get((step.kind, step.numbers[0]))
+    for place, bound in enumerate(walk_of(log, steps), start=1):
         if bound is None or walk and walk[-1].end != bound.start:
             return place
         walk.append(bound)
     if walk and walk[-1].end == walk[0].start and sum(bound.most for bound in walk) < 0:
         return None
     return len(steps)
+
+
+def walk_of(log, steps):
+    """The bounds of the log that steps are, None for a step that is no bound."""
+    known = {(bound.kind, bound.event): bound for bound in reference.bounds(log)}
+    return [known.get((step.kind, step.numbers[0])) for step in steps]
 
 
 def faulty_line(log, formula, value, conflicts, section):

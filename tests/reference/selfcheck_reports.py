@@ -330,6 +330,8 @@ def check_judge(draw):
         question = invent_reports.some_question(draw)
         conflicts = draw.choice((1, 2, 3, 5, 200_000))
         report = invent_reports.whole_report(draw, question, conflicts)
+        if has_many_lines(report, conflicts):
+            continue
         wanted = program.Judged("check", question.log, question.formula(), conflicts)
         status = judge.status_of(report)
         check(not complaint(wanted, report, status), wanted, report)
@@ -343,13 +345,37 @@ def check_judge(draw):
     print("reports of check: " + ", ".join(f"{statuses[n]} with {n}" for n in sorted(statuses)))
 
 
+def has_many_lines(report, conflicts):
+    """Whether a section has more than twice as many lines as there may be conflicts."""
+    if isinstance(report, Inconsistent):
+        return False
+    sections = [section for section in (report.on_true, report.on_false) if not isinstance(section, Witness)]
+    return any(len(section.lines) > 2 * conflicts for section in sections)
+
+
 def complaint(wanted, report, status):
     """What the judge says of a report with a status."""
     return judge.report_complaint(wanted, reports.report_text(report), status)
 
 
+def check_cycles():
+    """A cycle of events is judged right where each is directly before the next, and none stands twice."""
+    log = logs.read_log(b"kind,host,time,name\nhost,a,0,0\nhost,b,0,0\nrecv,a,1,m\nsend,a,2,n\nrecv,b,1,n\nsend,b,2,m\n")
+    for events, is_right in (
+        ((0, 1, 2, 3), True), ((2, 3, 0, 1), True), ((0, 1, 2), False), ((1, 0, 3, 2), False), ((0, 1, 2, 4), False),
+        ((0, 1, 2, 3, 0, 1, 2, 3), False), ((), False),
+    ):
+        output = b"cycle %d\n" % len(events) + b"".join(b"%d\n" % event for event in events)
+        found = judge.cycle_complaint(log, output, 3)
+        check(bool(found) != is_right, events, found)
+        check(judge.cycle_complaint(log, output, 0), events)
+
+
 def check_shut(wanted, report):
-    """Both values refuted aren't what check may write of a log that admits no timing."""
+    """Both values refuted aren't what check may write of a log that admits no timing, nor a walk that goes round twice."""
+    twice = report._replace(steps=[*report.steps, *report.steps])
+    check(reports.first_faulty_place(wanted.log, wanted.formula, wanted.conflicts, twice) is None, wanted, twice)
+    check("twice" in complaint(wanted, twice, 3), wanted, twice)
     refuted = Refuted([derivations.Cycle(report.steps)])
     both = Verdicts(report.events, refuted, refuted)
     check(reports.first_faulty_place(wanted.log, wanted.formula, wanted.conflicts, both) is None, wanted, both)
@@ -384,7 +410,7 @@ def check_verdicts(draw, question, wanted, report):
         learned = judge.conflicts_of(section.lines)
         for count in {learned, learned + 1} - {0}:
             found = complaint(wanted._replace(conflicts=count), report, judge.status_of(report))
-            is_right = (count > learned) == isinstance(section, Refuted)
+            is_right = (count > learned) == isinstance(section, Refuted) and len(section.lines) <= 2 * count
             check(bool(found) != is_right, wanted, report, count, found)
 
 
@@ -402,6 +428,7 @@ def main():
     check_claims()
     check_audits(draw)
     check_judge(draw)
+    check_cycles()
     print("all checks hold")
 
 

@@ -58,7 +58,7 @@ class Ratios(unittest.TestCase):
             "3 questions; the program was stopped at 0 of them, and z3 at 1",
             "geometric mean of the ratios 0.100, the greatest 8.000 (jobs, 16 rows)",
             "geometric mean of the 2 that stamps don't decide 0.089",
-            "0 verdicts differ",
+            "0 of 3 verdicts differ",
         ])
 
 
@@ -77,14 +77,21 @@ class Verdicts(unittest.TestCase):
         self.assertFalse(beside.agree("either", (beside.STOPPED, "unsat")))
         self.assertFalse(beside.agree("either", ("sat", '(error "line 1")')))
         self.assertTrue(beside.agree("unknown", ("sat", "unsat")))
+        self.assertFalse(beside.agree("unknown", ("sat", '(error "line 1")')))
+        self.assertFalse(beside.agree("true", ("sat", "signal 11")))
+        for verdict in ("status 70", "signal 11"):
+            self.assertFalse(beside.agree(verdict, ("sat", "unsat")))
 
     def test_what_a_run_says(self):
         for status, seconds, said in ((0, 2, "sat"), (-9, 59.9, beside.STOPPED), (-24, 60.1, beside.STOPPED), (-9, 20, "signal 9")):
             self.assertEqual(beside.said_by(beside.check.Taken(status, seconds, 0, b"sat\n"), 60), said)
 
     def test_statuses(self):
-        self.assertEqual([beside.verdict_of(status) for status in (0, 1, 2, 3)], ["true", "false", "either", "inconsistent"])
-        self.assertEqual({beside.verdict_of(status) for status in (4, 64, -9)}, {"unknown"})
+        for status, seconds, verdict in (
+            (0, 2, "true"), (1, 2, "false"), (2, 2, "either"), (3, 2, "inconsistent"), (4, 2, "unknown"), (-9, 60, "unknown"),
+            (64, 2, "status 64"), (70, 60, "status 70"), (-11, 2, "signal 11"),
+        ):
+            self.assertEqual(beside.verdict_of(beside.check.Taken(status, seconds, 0, b""), 60), verdict)
 
     def test_marks_of_a_row(self):
         for said, is_decided, mark in (

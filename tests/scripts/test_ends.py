@@ -246,6 +246,16 @@ class Scripts(unittest.TestCase):
                 self.assertEqual((done.returncode, done.stdout), (72, ""))
                 self.assertEqual(done.stderr, f"{name[:-4]}: /no/program isn't there\n")
 
+    def test_a_program_is_named_from_where_the_script_is_run(self):
+        with tempfile.TemporaryDirectory() as folder:
+            folder = Path(folder).resolve()
+            for name, script in (("tests/edge", "tests/edge/run"), ("allocations.sh", "faults/allocations.sh")):
+                done = subprocess.run(
+                    [ROOT / script], cwd=folder, stdin=subprocess.DEVNULL, capture_output=True, text=True, timeout=PATIENCE,
+                    env=environment(SKEWCHECK="program"),
+                )
+                self.assertEqual((done.returncode, done.stderr), (72, f"{name}: {folder}/program isn't there\n"))
+
     def test_inputs_that_are_not_right(self):
         with tempfile.TemporaryDirectory() as folder:
             for file, text in (("f", "a.p &"), ("l", "kind,host,time,name\n"), ("d", "")):

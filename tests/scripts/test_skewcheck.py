@@ -127,6 +127,23 @@ class Building(WithRepository):
         self.assertNothingLeft()
 
 
+    def test_what_shows_how_far_it_is_ends_with_it(self):
+        """Also where it is killed, which it can't foresee."""
+        process = subprocess.Popen(
+            [self.top / "skewcheck", "demo", "7"], stdin=subprocess.DEVNULL, stdout=subprocess.DEVNULL, stderr=subprocess.PIPE, text=True,
+            env={**self.environment, "WAITS": "1"}, start_new_session=True,
+        )
+        for line in process.stderr:
+            if "3 of 3" in line:
+                break
+        process.kill()
+        process.wait(PATIENCE)
+        try:
+            self.assertEqual(process.communicate(timeout=PATIENCE), (None, ""))  # which comes once nobody else has the stream
+        finally:
+            os.killpg(process.pid, signal.SIGKILL)
+
+
 class Trouble(WithRepository):
     def test_a_crate_that_is_not_proved(self):
         done = self.asked("demo", "7", FAILS="high")
@@ -146,6 +163,53 @@ class Trouble(WithRepository):
         self.assertEqual((done.returncode, done.stdout), (72, ""))
         self.assertIn("the Rattle kit's command rt isn't there", done.stderr)
         self.assertNothingLeft()
+        self.environment["PATH"] = str(bare)
+        self.put_older()
+        self.assertIn("skewcheck: the program isn't built, or is older than a source, and the Rattle", self.asked("demo", "7").stderr)
+
+    def put_older(self):
+        """A program that was built before a source was changed."""
+        out = self.top / "crates" / "skewcheck" / "out"
+        out.mkdir(exist_ok=True)
+        for name in ("skewcheck", "built"):
+            (out / name).write_text("#!/bin/sh\necho older\n")
+            (out / name).chmod(0o755)
+            os.utime(out / name, (0, 0))
+
+    def test_a_folder_that_takes_no_program(self):
+        """That is said before half an hour of proving."""
+        out = self.top / "crates" / "skewcheck" / "out"
+        out.write_text("")
+        done = self.asked("demo", "7")
+        self.assertEqual((done.returncode, done.stdout, out.read_text()), (72, "", ""))
+        self.assertIn(f"skewcheck: the program can't be put into {out}, which can't be written\n", done.stderr)
+        self.assertFalse((self.room / "calls").exists())
+
+    def test_a_program_that_a_later_run_put_there_stays(self):
+        out = self.top / "crates" / "skewcheck" / "out"
+        self.put_older()
+        later = f"echo 'echo later' >'{out}/skewcheck'; touch -d '1 hour' '{out}/built'\n"
+        (self.room / "bin" / "rt").write_text(RT + later)
+        done = self.asked("demo", "7")
+        self.assertEqual((done.returncode, done.stdout), (0, "later\n"), done.stderr)
+        self.assertEqual(os.listdir(self.tmp), [])
+
+    def test_a_program_that_can_not_be_put_leaves_the_older_one(self):
+        self.put_older()
+        out = self.top / "crates" / "skewcheck" / "out"
+        (self.room / "bin" / "mv").write_text("#!/bin/sh\nexit 1\n")
+        (self.room / "bin" / "mv").chmod(0o755)
+        done = self.asked("demo", "7")
+        self.assertEqual((done.returncode, done.stdout, sorted(os.listdir(out))), (72, "", ["built", "skewcheck"]))
+        self.assertEqual((out / "skewcheck").read_text(), "#!/bin/sh\necho older\n")
+        self.assertEqual(os.listdir(self.tmp), [])
+
+    def test_a_relative_folder_for_temporary_files(self):
+        done = subprocess.run(
+            [self.top / "skewcheck", "demo", "7"], cwd=self.room, stdin=subprocess.DEVNULL, capture_output=True, text=True, timeout=PATIENCE,
+            env={**self.environment, "TMPDIR": "tmp"},
+        )
+        self.assertEqual((done.returncode, done.stdout, os.listdir(self.tmp)), (3, "asked demo 7\n", []), done.stderr)
 
     def test_no_room(self):
         done = self.asked("demo", "7", TMPDIR=str(self.room / "nowhere"))
@@ -162,7 +226,7 @@ class Trouble(WithRepository):
         self.assertEqual(sorted(os.listdir(out)), ["built", "skewcheck", "skewcheck.new.1"])
 
     def test_signals_leave_nothing(self):
-        for number in (signal.SIGTERM, signal.SIGHUP, signal.SIGINT):
+        for number in (signal.SIGTERM, signal.SIGHUP, signal.SIGINT, signal.SIGQUIT):
             process = subprocess.Popen(
                 [self.top / "skewcheck", "demo", "7"], stdin=subprocess.DEVNULL, stdout=subprocess.PIPE, stderr=subprocess.PIPE,
                 text=True, env={**self.environment, "WAITS": "1", "KEEPS": "1"},

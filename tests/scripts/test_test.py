@@ -68,17 +68,49 @@ class Counting(WithRepository):
         self.assertEqual((status, lines[-2:]), (1, ["failed: tests/ask", "19 passed, 3 failed"]))
 
     def test_no_check_passes_without_a_word(self):
-        for script in ("exit 0", "echo 4 passed, 0 failed; exit 3", "kill -9 $$"):
+        for script in (
+            "exit 0", "echo 4 passed, 0 failed; exit 3", "kill -9 $$", "echo 0 passed, 0 failed", "echo 4 passed, 0 failed; echo more",
+            "echo 4 passed, 0 failed of 9", "echo left out: a case: a reason",
+        ):
             self.check("install", script)
             status, lines = self.outcome("--quick")
             self.assertEqual(status, 1, script)
             self.assertRegex(lines[-1], "^1[48] passed, 1 failed$")
+            self.assertIn("failed: tests/install", lines)
+
+    def test_a_check_that_is_not_there(self):
+        (self.top / "tests" / "install" / "run").unlink()
+        status, lines = self.outcome("--quick")
+        self.assertEqual((status, lines[-1]), (1, "14 passed, 1 failed"))
+
+    def test_a_check_that_leaves_all_out(self):
+        self.check("install", "echo 'left out: tests/install: a reason'; echo 0 passed, 0 failed")
+        status, lines = self.outcome("--quick")
+        self.assertEqual((status, lines[-1]), (0, "14 passed, 0 failed"))
 
     def test_a_gate_that_fails(self):
         self.command("rt", "echo 40 passed, 1 failed; exit 1")
         status, lines = self.outcome()
         self.assertEqual((status, lines[-1]), (1, "40 passed, 1 failed"))
         self.assertIn(f"left out: {' '.join(CHECKS)}: the gate failed", lines)
+
+    def test_a_gate_that_leaves_no_program(self):
+        """It passed, but what it says of can't be checked."""
+        self.command("rt", f"rm -r '{self.top}/crates/skewcheck/out'; echo 41 passed, 0 failed")
+        status, lines = self.outcome()
+        self.assertEqual((status, lines[-2:]), (1, ["failed: rt ci", "41 passed, 1 failed"]))
+        self.assertIn(f"left out: {' '.join(CHECKS)}: the gate failed", lines)
+
+    def test_which_program_is_checked(self):
+        """The one that the gate has built, and without the gate the one that the environment names, from where it is named."""
+        self.check("names", 'echo "checks $SKEWCHECK"; echo 1 passed, 0 failed')
+        self.write(self.room / "other", "")
+        self.assertIn("checks ", self.outcome(SKEWCHECK=str(self.room / "other"))[1])
+        done = subprocess.run(
+            [self.top / "test", "--quick"], cwd=self.room, stdin=subprocess.DEVNULL, capture_output=True, text=True, timeout=PATIENCE,
+            env={**self.environment, "SKEWCHECK": "other"},
+        )
+        self.assertIn(f"checks {self.room}/other\n", done.stdout)
 
     def test_a_program_that_passed_is_taken_as_built(self):
         self.outcome()
@@ -116,6 +148,15 @@ class Refusals(WithRepository):
     def test_words(self):
         for words in (["--slow"], ["--quick", "--quick"], ["ask"], [""]):
             self.assertEqual(self.outcome(*words), (64, ["test: the words are ./test [--quick]"]))
+
+    def test_help_runs_nothing(self):
+        """Whether its line can be written or not."""
+        for turns in ("", ">/dev/full"):
+            done = subprocess.run(
+                ["bash", "-c", f'"$1" --help {turns}', "bash", self.top / "test"], env=self.environment, stdout=subprocess.PIPE,
+                stderr=subprocess.DEVNULL, text=True, timeout=PATIENCE,
+            )
+            self.assertEqual((done.stdout, self.calls()), ("" if turns else "./test [--quick]\n", []))
 
     def test_no_program(self):
         (self.top / "crates" / "skewcheck" / "out" / "skewcheck").unlink()

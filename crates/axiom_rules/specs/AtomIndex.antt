@@ -1,14 +1,14 @@
 -- Where the atoms of a list stand, by chains of those in one bucket.
-use Rattle.std.specs.Prelude.{◌≡◌, ℕ, ◌+◌, ◌*◌, ◌%◌, ◌<◌, ◌≤◌, min, if◌then◌else◌, List, length, Some, slice_get, slice_index, int_lt, pos, unsigned_abs}
+use Rattle.std.specs.Prelude.{◌≡◌, ℕ, ◌+◌, ◌*◌, ◌%◌, ◌<◌, ◌≤◌, if◌then◌else◌, List, length, Some, slice_get, slice_index, int_lt, pos, unsigned_abs}
 use Rattle.axiom_rules.specs.declared.atom_index.AtomIndex.{AtomIndex}
-use Rattle.axiom_rules.specs.declared.atom_index.TheConstants.{EVENT, FAR, GAP, NODE, SAME, SPAN}
+use Rattle.axiom_rules.specs.declared.atom_index.TheConstants.{CONSTANTS, EVENT, GAP, NODE, SAME, SPAN}
 use Rattle.axiom_rules.specs.declared.literal.Atom.{Atom}
 use Rattle.axiom_rules.specs.declared.literal.Atom.TheVariants.{Order, Node, First, Same, Wit, Span, Gap}
 use Rattle.axiom_rules.specs.Atoms.{AreOnce, IsVar}
 
 -- a number for an atom
 abbrev pub number_of : Atom → ℕ
-number_of (Order e f c) = NODE * min (unsigned_abs c) FAR + (if int_lt (pos 0) c then EVENT * f + e else EVENT * e + f)
+number_of (Order e f c) = NODE * (unsigned_abs c % CONSTANTS) + (if int_lt (pos 0) c then EVENT * f + e else EVENT * e + f)
 number_of (Node k e) = NODE * k + e
 number_of (First e) = e
 number_of (Same e x) = EVENT * e + x + SAME

@@ -143,10 +143,11 @@ module _ (s : Sought) where
   abbrev pub rule_16 : ℕ → ℕ → ℕ → Written
   rule_16 k i j = of_kind (reach_in (shape_at s k)) (λ u. Ok (is (Wit k i j) ∷ is_not_from u.direction u.interval i j ∷ option_map_or (λ b. is_not_up_to u.direction b i j) u.interval.high (Known false) ∷ is_not (Node u.right j) ∷ is_not (Span k i j) ∷ []))
 
-  -- the node is true where some event is a witness
+  -- where the node is true some event is a witness, ..
   abbrev pub rule_17 : ℕ → ℕ → Written
   rule_17 k i = of_kind (reach_in (shape_at s k)) (λ u. Ok (is_not (Node k i) ∷ for_each_event s (λ j. is (Wit k i j))))
 
+  -- .. and where some event is, the node is true
   abbrev pub rule_18 : ℕ → ℕ → ℕ → Written
   rule_18 k i j = of_kind (reach_in (shape_at s k)) (λ u. Ok (is (Node k i) ∷ is_not (Wit k i j) ∷ []))
 
@@ -186,6 +187,6 @@ module _ (s : Sought) where
   abbrev pub rule_27 : ℕ → ℕ → ℕ → Written
   rule_27 k e place = of_kind (proposition_in (shape_at s k)) (λ rows. option_map_or (λ u. Ok (not_same u e ∷ is (Node k e) ∷ [])) (slice_get rows.pulses place) (Err Range))
 
-  -- what is near and has the right side is a witness where the left side is `true`
+  -- what is in the interval and has the right side is a witness where the left side is `true`
   abbrev pub rule_28 : ℕ → ℕ → ℕ → Written
   rule_28 k i j = of_kind (reach_in (shape_at s k)) (λ u. if is_constant (shape_at s u.left) then Ok (is (Wit k i j) ∷ is_not_from u.direction u.interval i j ∷ option_map_or (λ b. is_not_up_to u.direction b i j) u.interval.high (Known false) ∷ is_not (Node u.right j) ∷ []) else Err Kind)

@@ -23,8 +23,8 @@ const EVENT: u64 = 0x2545_f491;
 
 const NODE: u64 = 0x1b87_3593;
 
-// Constants that are as great as this fall into one bucket.
-const FAR: u128 = 0xffff;
+// What counts of a constant is the remainder of its magnitude on division by this.
+const CONSTANTS: u128 = 0x1_0000_0000;
 
 // By what spans and gaps are apart from witnesses, and pairs of events at one instant from orders.
 const SPAN: u64 = 0x1234_5678;
@@ -42,7 +42,7 @@ fn number_of(atom: Atom) -> u64
     match atom {
         Atom::Order { e, f, c } => {
             let (first, last) = if 0 < c { (f, e) } else { (e, f) };
-            NODE * c.unsigned_abs().min(FAR) as u64 + EVENT * first as u64 + last as u64
+            NODE * (c.unsigned_abs() % CONSTANTS) as u64 + EVENT * first as u64 + last as u64
         }
         Atom::Node { k, e } => NODE * k as u64 + e as u64,
         Atom::First { e } => e as u64,
@@ -97,8 +97,8 @@ impl AtomIndex {
         Ok(())
     }
 
-    // Makes more than twice as many buckets as there are atoms, so that chains are short; where there aren't as many, the
-    // index becomes one of no atoms.
+    // Sees that there are more than twice as many buckets as atoms, so that chains are short. Where there weren't, there are
+    // new ones, and the index is one of no atoms.
     fn make_room(&mut self, atoms: &[Atom]) -> Result<(), AllocError>
         requires index { IsIndex atoms.now self.old }
         requires few { length atoms.now < 2 ^ 32 }

@@ -85,7 +85,7 @@ impl AtomTable {
         requires few { length vars.now < 2 ^ 32 }
         ensures atoms { IfOk result (AreTaken self.now vars.now) }
     {
-        // That each atom has one variable, their number is known with.
+        // For the proof: the call says that each atom has one variable.
         let _ = self.len();
         let mut atoms = Vec::new(alloc);
         for var in vars {

@@ -13,7 +13,8 @@ pub enum RuleFault {
     /// A node, an event, a change or a pulse that isn't there, or an unused argument that isn't 0.
     #[error("an argument that is out of range")]
     Range,
-    /// A node of another kind than the rule is about, or events in another order.
+    /// A node of another kind than the rule is about, a left side that isn't `true` where it has to be, or events in
+    /// another order.
     #[error("a node of another kind")]
     Kind,
     /// The clause is true whatever the timing.

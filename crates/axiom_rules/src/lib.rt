@@ -1,4 +1,5 @@
-//! The rules of the certificate: which clauses there are, and that each holds in every timing that a log admits.
+//! The rules that derivations cite: which clauses there are, and that each holds in every timing that a log admits, or, of
+//! the rule on the value sought, in each of them that gives this value.
 #![tactic(auto)]
 
 mod atom_index;

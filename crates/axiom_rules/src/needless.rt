@@ -1,7 +1,8 @@
 //! The tests by which instances of rules are needless.
 
 /// Where an instance of a rule on an until or a since is left out. What is said of an until is said of a since with
-/// the events met the other way round.
+/// the events met the other way round. The pair is that of the first two events; it is in reach from below where its
+/// distance is at least the interval's lower bound, and from above where it is at most the upper one.
 #[derive(Clone, Copy, PartialEq, Eq)]
 pub enum OfReach {
     /// The pair is always in reach from below, or is dead and may be in reach from below.

@@ -58,7 +58,7 @@ pub enum Argument {
 struct Arguments(Argument, Argument, Argument, Argument);
 
 impl Arguments {
-    // They in order.
+    // The four in order.
     fn listed(self) -> [Argument; 4]
         ensures { result ≡ arguments_in self }
     {
@@ -131,7 +131,7 @@ pub const MAX_RULE: u8 = 28;
 /// A proposition that is true has been changed, or is pulsed.
 pub const TRUTH_HAS_CAUSE: u8 = 1;
 
-/// From a change on up to the next one, a proposition is what the change makes it.
+/// From a change on up to the next one, a proposition is what the change makes it; where that clears it, it may be pulsed.
 pub const CHANGE_LASTS: u8 = 2;
 
 /// `true` is true.
@@ -209,7 +209,7 @@ pub const INSTANT_COVERS: u8 = 26;
 /// At the instant of a pulse its proposition is true.
 pub const PULSE_GIVES_TRUTH: u8 = 27;
 
-/// What is near and has the right side is a witness where the left side is `true`.
+/// What is in the interval and has the right side is a witness where the left side is `true`.
 pub const FREE_WITNESS_COVERS: u8 = 28;
 
 // A row of the table of rules: what a rule is about, what its arguments are, and which of its instances are needless.

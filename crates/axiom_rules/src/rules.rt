@@ -151,8 +151,8 @@ impl Rules {
         }
     }
 
-    /// The rows that tell of the proposition of a number; none where there is no such node or it is none. Takes no
-    /// memory.
+    /// The rows that tell of the proposition that is the node of a number, and None where there is no such node or it is
+    /// no proposition. Takes no memory.
     pub fn rows_at(&self, k: u32) -> Option<&PropositionRows>
         ensures rows { proposition_in (shape_at self.now k) ≡ option_copied result }
     {
@@ -162,7 +162,8 @@ impl Rules {
         }
     }
 
-    /// How many changes the proposition of a number has, and 0 where there is no such node or it is none. Takes no memory.
+    /// How many changes the proposition has that is the node of a number, and 0 where there is no such node or it is no
+    /// proposition. Takes no memory.
     pub fn change_count(&self, k: u32) -> u32
         ensures count { result ≡ option_map_or (λ changes. length changes) (changes_in (shape_at self.now k)) 0 }
     {
@@ -173,7 +174,8 @@ impl Rules {
         }
     }
 
-    /// How many pulse rows the proposition of a number has, and 0 where there is no such node or it is none. Takes no memory.
+    /// How many pulse rows the proposition has that is the node of a number, and 0 where there is no such node or it is no
+    /// proposition. Takes no memory.
     pub fn pulse_count(&self, k: u32) -> u32
         ensures count { result ≡ option_map_or (λ pulses. length pulses) (pulses_in (shape_at self.now k)) 0 }
     {
@@ -254,7 +256,8 @@ impl Rules {
         write_at_pulses(out, &parts, rows.pulses.as_slice(), e)
     }
 
-    // From a change on up to the next one, a proposition is what the change makes it; where that clears it, it may be pulsed.
+    // From a change on up to the next one, a proposition is what the change makes it; where that clears it, it may be
+    // pulsed.
     fn change_lasts(&self, k: u32, e: u32, place: u32, out: &mut Clause) -> Result<(), RuleFault>
         ensures { Gives (written.rule_2 self.now k e place) result out.new.items }
     {
@@ -582,7 +585,7 @@ impl Rules {
         write(out, &[not_same(pulse, e), is(Atom::Node { k, e })])
     }
 
-    // What is near and has the right side is a witness where the left side is `true`.
+    // What is in the interval and has the right side is a witness where the left side is `true`.
     fn free_witness_covers(&self, k: u32, i: u32, j: u32, out: &mut Clause) -> Result<(), RuleFault>
         ensures { Gives (written.rule_28 self.now k i j) result out.new.items }
     {

@@ -29,7 +29,7 @@ fn shape_of(alloc: Global, log: &Log, arena: &Arena, id: NodeId) -> Result<Shape
     requires { id < length arena.now }
     ensures { IfOk result (λ shape. IsShape log.now arena.now id shape) }
 {
-    // What an arena is, its length is known with.
+    // For the proof: the call says how many nodes an arena has at most.
     let _ = arena.len();
     cores_are_cores();
     match arena.node(id) {

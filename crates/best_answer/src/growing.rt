@@ -6,7 +6,7 @@ use crate::slack::walk_slack;
 use mt_model::{Log, Step};
 use proof_log::Line;
 
-/// Which bounds of a log grow, all by the same.
+/// Which bounds of a log grow, all by the same amount.
 #[derive(Clone, Copy)]
 pub enum Growing {
     /// The bounds Low and High of each row, as they do where all skews grow.
@@ -57,7 +57,7 @@ impl Growing {
         }
     }
 
-    /// By how much the bounds can grow with the sums of all walks of a derivation below 0, as far as this. No clause says
+    /// By how much, up to `most`, the bounds can grow with the sums of all walks of a derivation below 0. No clause says
     /// that they can: it is a guess, and the derivation is judged anew by whoever follows it.
     pub fn room(self, log: &Log, lines: &[Line], most: u128) -> u128
         ensures at_most { result ≤ most }

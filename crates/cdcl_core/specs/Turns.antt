@@ -55,8 +55,8 @@ RefuteMidway s c lines = (p : Problem) (n : ℕ) → IsMidway p s n c → AreRef
 abbrev pub RulesRefuteNone : Problem → Type 0
 RulesRefuteNone p = OfFitting p (λ log f v. IsRefutedByRules (sought_of log f v) p.rules → ⊥)
 
--- what was found answers whatever the problem fits; and where the budget was spent, it is below three to the number of atoms, and
--- propagation over the rules alone refutes nothing
+-- what was found answers whatever the problem fits; and where the budget was spent, it is below three to the power of the
+-- number of atoms, and propagation over the rules alone refutes nothing
 pub record IsAnswer (p : Problem) (budget : ℕ) (found : Found) : Type 0 where
   pub found_is : OfFitting p (λ log f v. IsFound p budget log f v found)
   pub bounded : IfSpent found (budget < 3 ^ length p.atoms)

@@ -1,4 +1,4 @@
-//! What a search does where a descent has ended.
+//! The theory of a search, and what it does where a descent has ended in conflict.
 
 ghost use Rattle.std.specs.Prelude.{◌≡◌, ℕ, ◌+◌, ◌<◌, ◌≤◌, [], false, length, map, All, IfNone, IfOk, IfSome, IsTrue, OnOk};
 ghost use Rattle.mtl_encode.specs.declared.problem.Problem.{Problem};

@@ -26,7 +26,7 @@ pub enum Decision {
     Done(Bits),
     /// This literal is decided. Then no variable below the start is unassigned.
     Decide { lit: Lit, start: u32 },
-    /// Each variable is assigned, and an order that has no edges may be another in the present timing.
+    /// Each variable is assigned, and an order that has no edges may have the other value in the present timing.
     Lost,
 }
 

@@ -30,7 +30,7 @@ pub enum Descent {
     Met(Bits),
     /// In conflict.
     Stopped(Conflict),
-    /// With each variable assigned, where an order that has no edges may be another in the graph's timing.
+    /// With each variable assigned, where an order that has no edges may have the other value in the graph's timing.
     Lost,
 }
 

@@ -15,7 +15,7 @@ pub struct Heads {
     clauses: Vec<ClauseRef>,
     // Of each variable whether it stands negated in a clause of which it isn't the head.
     denied: Vec<bool>,
-    // How many clauses have heads, how many of the first variables are orders, and how many are about times alone.
+    // How many clauses the problem has, how many of the first variables are orders, and how many are about times alone.
     problem: u32,
     orders: u32,
     timed: u32,

@@ -29,8 +29,8 @@ pub fn search(alloc: Global, problem: Problem, budget: u32) -> Result<Found, All
     requires posed { IsPosed problem }
     ensures found { IfOk result (λ found. OfFitting problem (λ log f v. IsFound problem budget log f v found)) }
 
-    // The budget isn't spent where it is three to the number of atoms, or more; nor where unit
-    // propagation over the rules alone refutes the value.
+    // The budget isn't spent where it is three to the power of the number of atoms, or more; nor where
+    // unit propagation over the rules alone refutes the value.
     ensures bounded { IfOk result (λ found. IfSpent found (budget < 3 ^ length problem.atoms)) }
     ensures refuted_by_rules { IfOk result (λ found. IfSpent found (RulesRefuteNone problem)) }
 {

@@ -27,7 +27,7 @@ fn replayed(
     requires admissible { Admissible question.now.log (times_in (length question.now.log.rows) numbers.now) }
     ensures gives { IfOk result (λ o. IfSome o (GivesValue question.now.log question.now.form value)) }
 {
-    // What a log is, it is known with.
+    // For the proof: the call says what a log holds to.
     log_is_valid(question.log());
     let times = times_of(alloc, question.log().rows().len(), numbers)?;
     if truth_by(alloc, question, times.as_slice())? == value {
@@ -58,7 +58,7 @@ fn search_within(
     ensures found { IfOk result (λ turn. IfSome turn.found (IsSearched question.entry.log question.entry.form value budget)) }
 {
     bounds_are_admissible();
-    // What a log and a formula are, their parts are known with.
+    // For the proof: the calls say what a log and a formula hold to.
     log_is_valid(question.log());
     let _ = question.formula().tree();
     question_is_asked(&question);

@@ -1,4 +1,4 @@
-//! What the atoms that are no orders are in a timing, as the clauses of their heads have it.
+//! The values that the atoms which are no orders have in a timing, by the clauses that they head.
 
 use crate::heads::Heads;
 use crate::sight::Sight;
@@ -91,7 +91,7 @@ impl Ratings {
         other
     }
 
-    // Takes the nodes' numbers over: whether one was another.
+    // Takes the nodes' numbers over: whether one of them had changed.
     fn take_numbers(&mut self, sight: Sight<'_>) -> bool {
         let mut other = false;
         for node in 0..sight.nodes {
@@ -106,7 +106,7 @@ impl Ratings {
         other
     }
 
-    /// Whether a literal that is no order is true in the present timing, if its variable isn't rated already.
+    /// Whether a literal that is no order is true: as its variable was rated already, or else in the present timing.
     pub fn rates(&mut self, sight: Sight<'_>, heads: &Heads, lit: Lit) -> Result<bool, AllocError> {
         let value = match self.rated(lit.var()) {
             None => self.rate(sight, heads, lit.var())?,

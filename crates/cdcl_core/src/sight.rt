@@ -82,7 +82,7 @@ impl<'a> Sight<'a> {
         }
     }
 
-    /// By how much the present timing misses an order literal, and 0 for another literal.
+    /// By how much the present timing misses an order literal, at most 0 where it meets it; 0 for a literal without an edge.
     pub fn excess(&self, lit: Lit) -> i128 {
         match self.edge(lit) {
             None => 0,

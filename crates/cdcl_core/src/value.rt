@@ -44,7 +44,7 @@ fn found_by(
     ensures found { IfOk result (IsFoundFor question.entry.log question.entry.form value budget) }
 {
     bounds_are_admissible();
-    // What a log and a formula are, their parts are known with.
+    // For the proof: the calls say what a log and a formula hold to.
     log_is_valid(question.log());
     let _ = question.formula().tree();
     question_is_asked(&question);
@@ -73,7 +73,7 @@ fn search_whole(
     requires tight { IsTight question.log tight.now }
     ensures found { IfOk result (IsSearched question.entry.log question.entry.form value budget) }
 {
-    // What a log is, it is known with.
+    // For the proof: the call says what a log holds to.
     log_is_valid(question.log());
     let rows = question.log().rows().len();
     let found = found_by(alloc, question, tight, value, budget)?;
@@ -135,7 +135,7 @@ fn refuted(alloc: Global, log: &Log, steps: Steps, budget: Budget) -> Result<Sea
     requires conflict { IsConflict log.now steps }
     ensures found { IfOk result (λ searched. (f : Form) (v : Bool) → IsSearched log.now f v budget searched) }
 {
-    // How small a budget is, its number is known with.
+    // For the proof: the call says how great a budget is at most.
     let _ = budget.get();
     let lines = refuted_by_conflict(alloc, log, steps)?;
     Ok(Searched::Refuted(lines))

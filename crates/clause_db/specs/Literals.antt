@@ -1,4 +1,4 @@
--- Literals: variables with a sense.
+-- Literals: variables with a sense, that is, variables and their negations.
 use Rattle.std.specs.Prelude.{◌≢◌, ℕ, List, Bool, not, if◌then◌else◌, AllPairs}
 use Rattle.clause_db.specs.declared.lit.Lit.{Lit}
 

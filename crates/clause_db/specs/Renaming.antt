@@ -2,7 +2,7 @@
 use Rattle.std.specs.Prelude.{◌≡◌, ℕ, ◌<◌, List, length, All, slice_index}
 use Rattle.clause_db.specs.declared.lit.Lit.{Lit}
 
--- a literal of the variable that stands at the place of its own
+-- the literal of the same sense whose variable stands in the list at the place that is the literal's own variable
 abbrev pub moved : List ℕ → Lit → Lit
 moved places l = record { var = slice_index places l.var; positive = l.positive }
 

@@ -83,8 +83,8 @@ impl Db {
         self.ends[place] - start
     }
 
-    /// The same clauses over other variables: each literal becomes that of the variable that
-    /// stands at the place of its own. Takes no memory.
+    /// The same clauses over other variables: a literal of variable v becomes that of variable `places[v]`, of the
+    /// same sense. Takes no memory.
     pub fn renamed(mut self, places: &[u32]) -> Db
         requires below { AreBelow (length places.now) self }
         requires apart { AreApart places.now }

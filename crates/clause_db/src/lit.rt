@@ -5,7 +5,7 @@ ghost use Rattle.clause_db.specs.Literals.{negation};
 
 use crate::Var;
 
-/// A literal: a variable with a sense.
+/// A literal: a variable with a sense, that is, the variable or its negation.
 #[derive(Clone, Copy, PartialEq, Eq, PartialOrd, Ord, Hash)]
 pub struct Lit {
     var: u32,

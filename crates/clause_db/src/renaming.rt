@@ -5,7 +5,7 @@ ghost use Rattle.clause_db.specs.Renaming.{moved};
 
 use crate::{Lit, Var};
 
-/// Turns each literal to that of the variable that stands at the place of its own.
+/// Turns each literal of a variable v to that of variable `places[v]`, of the same sense.
 pub fn rename(lits: &mut [Lit], places: &[u32])
     requires below { All (λ l. l.var < length places.now) lits.old }
     ensures literals { lits.new ≡ map (moved places.now) lits.old }
@@ -15,7 +15,7 @@ pub fn rename(lits: &mut [Lit], places: &[u32])
     }
 }
 
-// The literal of the variable that stands at the place of a literal's own.
+// What a literal is turned to.
 fn renamed_lit(lit: Lit, places: &[u32]) -> Lit
     requires below { lit.var < length places.now }
     ensures literal { result ≡ moved places.now lit }

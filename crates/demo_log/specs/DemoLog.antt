@@ -10,7 +10,7 @@ use Rattle.mt_model.specs.declared.limits.TheConstants.{MIN_DELAY}
 use Rattle.mt_model.specs.Log.{Logged, IsLog, plain_log}
 use Rattle.mt_model.specs.Timing.{Admissible}
 
--- the state after this one: a linear congruence modulo 2^64
+-- the state after this one: a linear congruential generator modulo 2^64
 abbrev pub next_state : ℕ → ℕ
 next_state x = (6364136223846793005 * x + 1442695040888963407) % 2 ^ 64
 
@@ -49,7 +49,7 @@ demo_act host n =
     else if host == 4 then Note (codes "tick")
     else switched (codes "r") n
 
--- row r, for which this is drawn: the hosts take turns, six rows a round, and the local time is 10 r and what is drawn
+-- row r, for which this is drawn: the hosts take turns, six rows a round, and the local time is 10 r plus what is drawn
 abbrev pub row_with : ℕ → ℕ → Row
 row_with r draw = record { host = r % 6; local = pos (10 * r + draw); act = demo_act (r % 6) (r / 6) }
 

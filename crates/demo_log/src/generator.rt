@@ -1,4 +1,4 @@
-//! The log of a seed: six hosts and 24 rows, whose local times are drawn by a linear congruence.
+//! The log of a seed: six hosts and 24 rows, whose local times are drawn by a linear congruential generator.
 
 ghost use Rattle.std.specs.Prelude.{◌≡◌, ◌<◌, ◌+◌, ◌*◌, ◌/◌, ◌%◌, IfOk, true, map};
 ghost use Rattle.std.specs.List.{range_with_len};

@@ -10,7 +10,7 @@ use neg_cycle::{MAX_BOUND, MAX_NODES};
 // How far below 0 a number may be where an edge is to be met.
 const NEAR: i128 = 1 << 113;
 
-/// Brings all numbers near to 0, and keeps the differences between them where all are small.
+/// Brings all numbers near to 0, and keeps the differences between them where none of these is above 2^113.
 pub fn bring_near(numbers: &mut [i128])
     requires some { 0 < length numbers.old }
     requires few { length numbers.old ≤ MAX_NODES }
@@ -88,7 +88,7 @@ fn next_below(numbers: &[i128], level: i128) -> Option<i128>
     found
 }
 
-// Whether a number below a level is greater than the one that was found.
+// Whether a number is below a level and greater than the one that was found, if any.
 fn is_next(found: Option<i128>, number: i128, level: i128) -> bool
     ensures next { IsTrue result ↔ ((number <ℤ level) × IfSome found (λ best. best <ℤ number)) }
 {

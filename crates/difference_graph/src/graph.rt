@@ -185,7 +185,7 @@ fn zeros(alloc: Global, count: usize) -> Result<Vec<i128>, AllocError>
     Ok(numbers)
 }
 
-// The greatest of some numbers, or 0.
+// The greatest of 0 and some numbers.
 fn greatest(numbers: &[i128]) -> i128 {
     let mut greatest = 0;
     for number in numbers {
@@ -201,7 +201,7 @@ fn within(number: i128, by: i128) -> i128
     number.saturating_sub(by).max(-(1 << 112)).min(0)
 }
 
-// Numbers, each lowered by the greatest of them.
+// Numbers, each lowered by the greatest of 0 and them, and within what a node can have.
 fn lowered(alloc: Global, numbers: &[i128]) -> Result<Vec<i128>, AllocError>
     ensures count { IfOk result (λ v. length v.items ≡ length numbers.now) }
     ensures numbers { IfOk result (λ v. All IsNumber v.items) }

@@ -13,8 +13,8 @@ use crate::waiting::{Missed, next_waiting, wait};
 use neg_cycle::Edge;
 use std::collections::BinaryHeap;
 
-/// Puts the edge at a place among those that wait, if the numbers miss it. Gives the place in place of
-/// that, if the edge begins at the end.
+/// Puts the edge at a place among those that wait, if the numbers miss it. One that they miss and that
+/// begins at the end isn't put there: its place is the answer.
 pub fn enqueue_missed(
     edges: &[Edge],
     place: u32,

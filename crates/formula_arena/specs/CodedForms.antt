@@ -36,12 +36,12 @@ pieces_of (Always I f) ps = pieces_of f (OfAlways I ∷ ps)
 pieces_of (Once I f) ps = pieces_of f (OfOnce I ∷ ps)
 pieces_of (Historically I f) ps = pieces_of f (OfHistorically I ∷ ps)
 
--- the last form in place of itself under an operator
+-- the forms, the last one first, with an operator put over the last one; none where there is none
 abbrev pub over_last : (Form → Form) → List Form → List Form
 over_last make [] = []
 over_last make (f ∷ fs) = make f ∷ fs
 
--- the last two forms in place of themselves under an operator
+-- the forms, the last one first, with an operator put over the last two; none where there are no two
 abbrev pub over_last_two : (Form → Form → Form) → List Form → List Form
 over_last_two make [] = []
 over_last_two make (g ∷ []) = []

@@ -12,7 +12,7 @@ pub record TruthOfCore : Type 0 where
   pub at_position : (log : Logged) (t : List ℤ) (i : ℕ) (f : Form) → truth log t i (core_of f) ≡ truth log t i f
   pub at_row : (log : Logged) (t : List ℤ) (e : ℕ) (f : Form) → truth_of log t e (core_of f) ≡ truth_of log t e f
 
--- a core is a core tree, and the test of equality decides it
+-- the core of a formula is a core tree, and the test of equality tells trees apart exactly where they differ
 pub record CoresAreCores : Type 0 where
   pub core : (f : Form) → IsCore (core_of f)
   pub equality : (f g : Form) → (same_form f g ≡ true) ↔ (f ≡ g)

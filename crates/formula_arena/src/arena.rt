@@ -117,7 +117,7 @@ impl Arena {
         ensures arena { IsArena self.new }
     {
         let node = self.walk(f.tree());
-        // What an arena is, its length is known with.
+        // For the proof: the call says how many nodes an arena has at most.
         let _ = self.len();
         node
     }

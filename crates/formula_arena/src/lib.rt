@@ -1,4 +1,4 @@
-//! The nodes of formulas of metric temporal logic: the distinct subtrees of their cores, each held once.
+//! The nodes of formulas of metric temporal logic: the distinct subtrees of their cores, each held once (hash-consing).
 #![tactic(auto)]
 
 mod arena;

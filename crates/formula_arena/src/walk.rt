@@ -43,7 +43,7 @@ fn push_some<'a>(
     tasks.extend_from_slice(&[Task::Over(operator), Task::Tree(tree), Task::True])
 }
 
-// An operator that is nowhere false: its negation, with the negation on its right side.
+// The dual of an operator whose left side is `true`: the negation of the operator over the negation of a tree.
 fn push_each<'a>(
     tasks: &mut Vec<Task<'a>>,
     operator: Operator,

@@ -1,5 +1,6 @@
--- Refutation by hints. Literals are assumed, and clauses, the hints, are taken in order: each but the last gives one more
--- literal, and the last is false. A clause is a list of literals; `neg` gives the negation of a literal.
+-- Refutation by hints, which is reverse unit propagation over given clauses. Literals are assumed, and clauses, the hints,
+-- are taken in order: each but the last is unit and gives one more literal, and the last is false. A clause is a list of
+-- literals; `neg` gives the negation of a literal.
 use Rattle.std.specs.Prelude.{◌≡◌, ◌⊎◌, List, [], ◌∷◌, map, All, Any, Contains}
 
 -- each literal of the clause is false: its negation is assumed

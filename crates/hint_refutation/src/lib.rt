@@ -1,7 +1,7 @@
 //! The words of refutation by hints, over any type of literals with a negation, and their laws.
 //!
-//! A hint is a clause that a step of a derivation cites, as in the proof format LRAT
-//! (Cruz-Filipe, Heule, Hunt, Kaufmann and Schneider-Kamp 2017).
+//! A hint is a clause that a step of a derivation cites for its reverse unit propagation, as in the proof format
+//! LRAT (Cruz-Filipe, Heule, Hunt, Kaufmann and Schneider-Kamp 2017).
 #![tactic(auto)]
 
 mod laws;

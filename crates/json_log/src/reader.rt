@@ -37,8 +37,9 @@ fn records(alloc: Global, bytes: &[u8]) -> Result<RecordList, JsonFault>
 /// of `events` is an object of a `kind`, a `host`, a `time` and a `name`, the kind being neither `host` nor
 /// `latency`; or, for the kind `resync`, of a `kind`, a `host`, a `skew` and a `gap`, for the kind `clock`, of
 /// a `kind`, a `host`, a `clock` and an `error`, and for the kind `bound`, of a `kind`, a `later` row, an
-/// `earlier` one and how much `most` is between them. Hosts, names, clocks and kinds are strings, and all else
-/// whole numbers, those of rows from 0 and the others in the log's one unit of time.
+/// `earlier` one and `most`, how long the later row comes at most after the earlier one. Hosts, names, clocks
+/// and kinds are strings, and all else whole numbers, those of rows from 0 and the others in the log's one unit
+/// of time.
 ///
 /// The log is that of the records that these entries stand for, of version 3 where some event is of the
 /// kind `clock` or `bound` and else of version 2. A fault of the log is that of these records: record 1 is

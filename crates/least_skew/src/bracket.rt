@@ -44,8 +44,8 @@ impl Bracket {
         }
     }
 
-    /// The widening to be searched next: the lowest at first, since a search there settles what is found, then the
-    /// greatest while no timing is known, and then the middle.
+    /// The widening to be searched next: the lowest at first, since a timing there ends the search and lines there often
+    /// refute with greater ones too, then once the greatest, if no timing is known, and then the middle.
     pub fn next(&self) -> u64
         requires { self.now.low < self.now.high }
         ensures from { self.now.low ≤ result }

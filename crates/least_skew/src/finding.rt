@@ -89,7 +89,7 @@ pub fn least(
     ensures right { IfOk result (LeastRight log.now (form_of f.now) value max budget) }
 
     // A least widening is the least with the value, never is for every widening up to the greatest, and a budget isn't spent
-    // that is three to the number of atoms, or more.
+    // that is three to the power of the number of atoms, or more.
     ensures tells { IfOk result (Tells log.now (form_of f.now) value max budget) }
     ensures inconsistent { IfOk result (IsInconsistentExactly log.now max) }
     ensures asked { OnOk result (IsAsked log.now (form_of f.now) max) }

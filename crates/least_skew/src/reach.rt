@@ -77,7 +77,7 @@ pub fn admitted_from(
     }
 }
 
-// How far the walks of lines keep their sums below 0 beyond the widening of a log, as far as `high`.
+// The widening, from that of a log to `high`, up to which the walks of lines keep their sums below 0.
 fn kept_up_to(there: &WideLog, high: u64, lines: &[Line]) -> u64
     requires order { there.now.s ≤ high }
     ensures from { there.now.s ≤ result }
@@ -121,9 +121,9 @@ pub fn refuted_up_to(
     if r == there.s {
         return Ok(r);
     }
-    if refutes_with(alloc, aim, r, lines)? {
-        Ok(r)
-    } else {
-        Ok(there.s)
+    // A widening whose lines can't be judged for want of memory isn't taken.
+    match refutes_with(alloc, aim, r, lines) {
+        Ok(true) => Ok(r),
+        Ok(false) | Err(_) => Ok(there.s),
     }
 }

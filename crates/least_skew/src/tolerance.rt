@@ -19,7 +19,7 @@ pub enum Tolerance {
     },
     /// With the greatest widening no timing is admissible: these bounds are in conflict.
     Inconsistent(Steps),
-    /// The search at the widening s spent its budget.
+    /// The search at the widening s spent its budget, as these lines show.
     Unknown {
         s: u64,
         lines: Lines,

@@ -80,7 +80,7 @@ with_record l r = record {
   bounds = l.bounds ++ option_to_list (bound_in r);
 }
 
--- a call changed what was listed so far as is due where there is no fault, and else answered the fault, or want of memory
+-- a call made of what was listed what is due, where there is no fault, and else answered the fault, or want of memory
 abbrev pub Adds : Result (Unit {0}) LogFault → Option LogFault → Listing → Listing → Type 0
 Adds result fault now due = MatchResult result (λ _. (fault ≡ None) × (now ≡ due)) (λ f. (f ≡ Memory) ⊎ (fault ≡ Some f))
 

@@ -33,7 +33,7 @@ pub enum LogFault {
     UnmatchedReceive { place: u32 },
     /// There is no row.
     NoEvent,
-    /// A host is declared above the 64th.
+    /// A host is declared behind the 64th.
     TooManyHosts { place: u32 },
     /// A row stands behind the 1,024th.
     TooManyEvents { place: u32 },
@@ -41,7 +41,7 @@ pub enum LogFault {
     DoubleLatency { place: u32 },
     /// A greatest delay is below the least one.
     LatencyRange { place: u32 },
-    /// A clock is named above the 1,024th.
+    /// A clock is named behind the 1,024th.
     TooManyClocks { place: u32 },
     /// A bound is of one row alone.
     SameRow { place: u32 },

@@ -7,8 +7,8 @@ pub fn logs_are_valid()
     ensures { LogsAreValid }
 {}
 
-/// The log that a file's bytes are can be stated by a file again: no skew is above the greatest, and there are
-/// no more extra bounds, than a file may state.
+/// The log that a file's bytes are can be stated by a file again: it has no greater skew, and no more extra bounds,
+/// than a file may state.
 pub fn logs_are_plain()
     ensures { LogsArePlain }
 {}

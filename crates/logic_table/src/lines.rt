@@ -1,4 +1,7 @@
-//! The section on the texts of derivations, and on walks of steps.
+//! The section on the texts of derivations, on trimming them, and on walks of steps.
+
+ghost use Rattle.std.specs.Prelude.{All};
+ghost use Rattle.proof_log.specs.Spelled.{IsSpelled};
 
 use crate::case::LogicCase;
 use crate::edges::edge_of;
@@ -9,6 +12,7 @@ use mt_model::Log;
 use neg_cycle::Edge;
 use proof_check::check_cycle;
 use proof_log::{Hint, Hints, Line, LineFault, Lits, has_spelling, print_lines, read_lines};
+use proof_trim::{TrimFault, trim};
 use std::alloc::Global;
 use table_case::{number_of, push_line, push_marked, split_word, text_of};
 
@@ -25,6 +29,33 @@ fn push_printed(alloc: Global, text: &[u8], out: &mut Vec<u8>) -> Option<()> {
         Err(LineFault::Syntax { line }) => push_items(alloc, "syntax", &[line], out),
         Err(LineFault::Memory) => None,
     }
+}
+
+// Adds the lines that the last of these needs, as they are printed, or why they can't be trimmed.
+fn push_trimmed(alloc: Global, lines: &[Line], out: &mut Vec<u8>) -> Option<()>
+    requires { All IsSpelled lines.now }
+{
+    if lines.len() >= (1 << 32) - 1 {
+        return None;
+    }
+    match trim(alloc, lines) {
+        Ok(left) => {
+            let printed = print_lines(alloc, left.as_slice()).ok()?;
+            out.extend_from_slice(&printed).ok()
+        }
+        Err(TrimFault::Empty) => push_line(out, b"empty"),
+        Err(TrimFault::Hint { line }) => push_items(alloc, "forward", &[line], out),
+        Err(TrimFault::Memory) => None,
+    }
+}
+
+// Adds that of the lines of a derivation.
+fn push_trimmed_of(alloc: Global, text: &[u8], out: &mut Vec<u8>) -> Option<()> {
+    if text.len() >= 1 << 31 {
+        return None;
+    }
+    let lines = read_lines(alloc, text).ok()?;
+    push_trimmed(alloc, lines.as_slice(), out)
 }
 
 // Whether the sign of a text is `+`, and what stands behind it.
@@ -103,6 +134,7 @@ fn answer(alloc: Global, case: &LogicCase, mark: u8, text: &[u8], out: &mut Vec<
     match mark {
         b'?' => push_printed(alloc, case.derivation(), out),
         b'*' => push_first_walk(alloc, case, out),
+        b'%' => push_trimmed_of(alloc, case.derivation(), out),
         _ => push_spelled(alloc, text_of(text)?, out),
     }
 }
@@ -115,7 +147,7 @@ pub fn take(
     text: &[u8],
     out: &mut Vec<u8>,
 ) -> Option<()> {
-    if let b'?' | b'*' | b'!' = mark {
+    if let b'?' | b'*' | b'%' | b'!' = mark {
         push_marked(out, mark, text)?;
         answer(alloc, case, mark, text, out)?;
         case.clear_derivation();

@@ -1,5 +1,5 @@
-//! Answers questions on the solver, from systems of differences up to verdicts. The standard input is a table. The
-//! first character of a line says what it is, and any other line is left out:
+//! Answers questions on the solver, from systems of difference constraints up to verdicts. The standard input is a table.
+//! The first character of a line says what it is, and any other line is left out:
 //!
 //! - `[`: the name of a section and `]`. The lines up to the next one are of that section.
 //!
@@ -21,7 +21,8 @@
 //!   rule and its four arguments, and after each rule the variables of its clause with their senses, and at last
 //!   `atom` with the atom of each variable, in order. `@`: a name. The same is told of the problem of the instances
 //!   that the value sought asks for. `*`: a name. The size of the problem is told. `!`: a name. The numbers of the
-//!   problem's clauses and atoms are told.
+//!   problem's clauses and atoms are told. Where the log admits no timing, `inconsistent` is told in place of
+//!   each but the size.
 //! - in `[derivations]` `?`: a name. It is told what the derivation shows: `refutes`, `derives`, `wrong` and the
 //!   number of the first wrong line, or `syntax` and the number of the first faulty line. `%`: a name. It is told of
 //!   each Learn line whether it is fresh over the rules of the problem. After either the derivation is empty.
@@ -37,7 +38,9 @@
 //! - in `[lines]` `?`: a name. The derivation is told as it is printed, or `syntax` and the number of its first
 //!   faulty line. `*`: a name. It is told of the walk of its first line, which is a Cycle line, whether it is a
 //!   `cycle` of the log's bounds, or else the step at which it stops to be one. `!`: two order literals and a hint,
-//!   with `; ` between them. It is told whether their line has a spelling. After each the derivation is empty.
+//!   with `; ` between them. It is told whether their line has a spelling. `%`: a name. It is told which lines the last
+//!   one needs, with the hints renumbered, or `empty`, or `forward` and the number of the first line with a hint that
+//!   names no earlier one. After each the derivation is empty.
 //! - in `[faults]` `?`: the name of a rule's fault. Its text is told.
 //!
 //! Other sections have no such cases. In them

@@ -34,7 +34,7 @@ fn search_question(
     requires small { IsSmall question.log (nodes_of question.form) }
 {
     bounds_are_admissible();
-    // What a log and a formula are, their parts are known with.
+    // For the proof: the calls say what a log and a formula hold to.
     log_is_valid(question.log());
     let _ = question.formula().tree();
     let encoded = encode_by(alloc, question, asked.value, tight)?;

@@ -1,4 +1,4 @@
-//! The section on systems of differences.
+//! The section on systems of difference constraints.
 
 use crate::edges::{Numbered, numbered_of};
 use crate::writing::push_items;

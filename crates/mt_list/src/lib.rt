@@ -1,4 +1,4 @@
-//! The one list type that the other crates name by what it holds.
+//! The one list type, which the other crates name by what it holds, and a push onto a list that has room.
 #![tactic(auto)]
 
 mod list_of;

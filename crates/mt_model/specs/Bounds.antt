@@ -66,7 +66,7 @@ shift_of log t e = time_of t e -ℤ local_of log e
 abbrev pub read_one : Logged → ℕ → ℕ → Bool
 read_one log e f = option_map_or (λ k. option_map_or (λ m. k == m) (clock_of log f) false) (clock_of log e) false
 
--- rows e and f read one clock, and e is ahead of f by more than both errors
+-- rows e and f read one clock, and the shift of e is greater than that of f by more than both errors together
 abbrev pub is_too_far_ahead : Logged → List ℤ → ℕ → ℕ → Bool
 is_too_far_ahead log t e f = read_one log e f && not (int_le (shift_of log t e -ℤ shift_of log t f) (error_of log e +ℤ error_of log f))
 

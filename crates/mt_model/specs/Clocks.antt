@@ -29,7 +29,7 @@ least_offset log t e = shift_of log t e -ℤ error_of log e
 abbrev pub greater_of : Option ℤ → ℤ → ℤ
 greater_of o x = option_map_or (λ y. if int_le x y then y else x) o x
 
--- the greatest of those that the rows below n allow of clock k, where one reads it
+-- the greatest of the least offsets that the rows below n allow of clock k, where one of them reads it
 abbrev pub greatest_below : Logged → List ℤ → ℕ → ℕ → Option ℤ
 greatest_below log t k zero = None
 greatest_below log t k (suc e) = if reads log k e then Some (greater_of (greatest_below log t k e) (least_offset log t e)) else greatest_below log t k e

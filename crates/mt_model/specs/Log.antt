@@ -125,7 +125,8 @@ pub record IsReading (hosts rows clocks : ℕ) (r : Reading) : Type 0 where
 abbrev pub AreInTurn : List Reading → Type 0
 AreInTurn readings = (i k : ℕ) (d : Reading) → i < length readings → k < (slice_index_or readings i d).clock → IsRead k (take i readings)
 
--- readings of a log of so many hosts, rows and clocks: their places do not fall, and each clock is read
+-- readings of a log of so many hosts, rows and clocks: their places do not fall, each clock is read, and they are first
+-- read in their order
 pub record AreReadings (hosts rows clocks : ℕ) (readings : List Reading) : Type 0 where
   pub each : All (IsReading hosts rows clocks) readings
   pub in_order : AllPairs (λ q r. q.place ≤ r.place) readings

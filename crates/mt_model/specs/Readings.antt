@@ -1,4 +1,4 @@
--- How many clocks readings are of.
+-- How many clocks are read.
 use Rattle.std.specs.Prelude.{ℕ, ◌<◌, List, All}
 use Rattle.mt_model.specs.declared.reading.Reading.{Reading}
 use Rattle.mt_model.specs.Log.{AreInTurn, IsRead}

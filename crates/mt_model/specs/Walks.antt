@@ -7,7 +7,8 @@ use Rattle.mt_model.specs.declared.limits.TheConstants.{MAX_ORDER}
 use Rattle.mt_model.specs.Log.{Logged}
 use Rattle.mt_model.specs.Timing.{time_of, local_of, skew_of, gap_of, previous_row, send_of, least_delay, most_delay, clock_of, error_of}
 
--- the constraint that the time of a node less that of another is at most a bound
+-- the difference constraint that the time of the node `from` less that of the node `to` is at most the bound; as a step of a
+-- walk it goes from the one to the other
 pub record Edge : Type 0 where
   pub from : ℕ
   pub to : ℕ

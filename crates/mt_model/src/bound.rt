@@ -8,7 +8,7 @@ use mt_list::ListOf;
 pub enum Bound {
     /// A row's true time is at least its local time less its skew.
     Low(EventId),
-    /// A row's true time is at most its local time and its skew.
+    /// A row's true time is at most its local time plus its skew.
     High(EventId),
     /// A row comes at least its gap after the row before it on its host.
     Rise(EventId),
@@ -18,7 +18,7 @@ pub enum Bound {
     Late(EventId),
     /// What a row's clock shows is at least the row's local time less the error of the reading.
     Under(EventId),
-    /// What a row's clock shows is at most the row's local time and the error of the reading.
+    /// What a row's clock shows is at most the row's local time plus the error of the reading.
     Over(EventId),
     /// An extra bound, by its place from 0.
     Extra(u32),

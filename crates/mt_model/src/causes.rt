@@ -25,7 +25,7 @@ fn sender(rows: &[Row], message: &[u8]) -> Option<usize>
 }
 
 impl Log {
-    /// The last row before row `f` that is of its host.
+    /// The last row before row `f` that is of its host, and None where there is none.
     pub fn row_before(&self, f: usize) -> Option<usize>
         requires { f < length self.now.rows }
         ensures row { result ≡ previous_row self.now f }
@@ -40,7 +40,7 @@ impl Log {
         None
     }
 
-    /// The row that sends the message that row `r` receives.
+    /// The row that sends the message that row `r` receives, and None where `r` is no receive.
     pub fn send_for(&self, r: usize) -> Option<usize>
         requires { r < length self.now.rows }
         ensures row { result ≡ send_of self.now r }

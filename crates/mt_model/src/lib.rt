@@ -1,4 +1,5 @@
-//! Logs of several hosts, their timings, and the walks of bounds that exclude them.
+//! Names, logs of several hosts, and formulas; and what they mean: the timings that a log admits, the closed walks of
+//! bounds that exclude all of these, and the truth of a formula in a timing.
 #![tactic(auto)]
 
 mod bound;

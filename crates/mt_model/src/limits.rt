@@ -55,5 +55,6 @@ pub const TOO_MANY_PROPOSITIONS: u32 = 2_147_483_648;
 /// The greatest bound of an interval.
 pub const MAX_DISTANCE: u64 = 1_000_000_000_000_000_000;
 
-/// The greatest magnitude of a true time that a timing may have.
+/// The greatest magnitude of a true time in a file of times or a report. Each time of a timing that a log admits is
+/// nearer to 0.
 pub const MAX_TIME: i128 = 10_000_000_000_000_000_000;

@@ -1,4 +1,5 @@
-//! Logs: hosts, rows, resyncs, clocks and extra bounds that fit together, and how a log is copied, bounded further or widened.
+//! Logs: hosts, rows, resyncs, clocks and extra bounds that fit together, and how a log is copied, bounded further or
+//! widened.
 
 ghost use Rattle.std.specs.Prelude.{◌≡◌, ◌↔◌, IsTrue, IsSome, IfSome, IfOk, IfErr, option_copied, Some, All, pos, ◌+ℤ◌, ◌≤ℤ◌};
 ghost use Rattle.mt_model.specs.Log.{Logged, IsLog, MayWiden, logged, log_with, plain_log, IsPlain, name_in, sent_by, received_by, with_extra, widened};

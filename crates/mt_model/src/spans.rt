@@ -1,5 +1,5 @@
-//! What a log says of how far a row may be off, how long after the row before it it comes at least, and the
-//! delay of a receive.
+//! What a log says of its rows: how far a stamp may be off, how long a row comes at least after the one before it on
+//! its host, and how long a receive comes at least and at most after its send.
 
 ghost use Rattle.std.specs.Prelude.{◌≡◌, ◌==◌, ◌<◌, ◌≤◌, ◌&&◌, length, find, reverse, slice_get, slice_index_or, slice_set, take, nat_le, ℕ, map, All, IfOk, IfSome, Some, pos, ◌≤ℤ◌};
 ghost use Rattle.mt_model.specs.Log.{IsHost, IsResync, IsWithin};
@@ -93,7 +93,7 @@ fn set_span(host_spans: &mut [Span], resync: &Resync)
 }
 
 // Sets the spans of hosts by the resyncs from a place on that do not stand behind row e, and gives the place
-// of the first that does. All before the place do not stand behind the row either.
+// of the first that does, or their number. None before the place stands behind the row either.
 fn pass_resyncs(log: &Log, host_spans: &mut [Span], from: usize, e: usize) -> usize
     requires from { from ≤ length log.now.resyncs }
     requires before { (i : ℕ) (d : Resync) → i < from → (slice_index_or log.now.resyncs i d).place ≤ e }

@@ -8,7 +8,7 @@ use std::fmt;
 pub enum Step {
     /// The true time of a row is at least its local time less its skew.
     Low(u32),
-    /// The true time of a row is at most its local time and its skew.
+    /// The true time of a row is at most its local time plus its skew.
     High(u32),
     /// A row comes at least its gap after the row before it on its host.
     Rise(u32),
@@ -18,7 +18,7 @@ pub enum Step {
     Late(u32),
     /// What a row's clock shows is at least the row's local time less the error of the reading.
     Under(u32),
-    /// What a row's clock shows is at most the row's local time and the error of the reading.
+    /// What a row's clock shows is at most the row's local time plus the error of the reading.
     Over(u32),
     /// An extra bound of the log.
     Extra(u32),

@@ -21,8 +21,8 @@ abbrev pub BreakOff : {D : Type 0} → (D → Result ℕ Error → D → Type 0)
 BreakOff Comes zero from to = to ≡ from
 BreakOff {D} Comes (suc n) from to = (mid : D) × BreakOff Comes n from mid × BreaksOff Comes mid to
 
--- what is told is the answer of one call, before which less than so many were made, all broken off; that it was broken off itself
--- is told only where no more may be made
+-- what is told is the answer of one call, before which fewer than so many were made, all broken off; that it was broken off
+-- itself is told only where no more may be made
 pub record IsTold {D T : Type 0} (Comes : D → Result ℕ Error → D → Type 0) (tries : ℕ) (Tells : Result ℕ Error → T → Type 0) (from to : D) (told : T) : Type 0 where
   pub before : ℕ
   pub within : before < tries

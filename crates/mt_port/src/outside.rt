@@ -24,7 +24,7 @@ pub fn limit_is_a_number()
 
 // Reads the next bytes of an inlet to the front of a buffer.
 //
-// The system may break a call off for a signal, and asks for it again: that isn't a failure.
+// A call that a signal broke off is made again, `TRIES` times in all at most: only then is it a failure.
 fn read_next<R: Inlet>(reader: &mut R, buf: &mut [u8]) -> Result<usize, Failed>
     ensures size { length buf.new ≡ length buf.old }
     ensures count { IfOk result (λ n. n ≤ length buf.new) }

@@ -1,5 +1,5 @@
-//! The calls of the system by which the program reads and writes: a file is opened, the standard input is taken, and bytes come
-//! and go. What stands above these makes no other, and is held to what they answer.
+//! The calls of the system by which the program reads and writes: a file is opened, the standard input is taken, and bytes
+//! come and go. What stands above these makes no other, and is held to what they answer.
 
 ghost use Rattle.std.specs.Prelude.{ℕ, List, Option, Result, ⊤};
 ghost use Rattle.std.specs.Io.{ReadsAtMost, WritesAtMost};

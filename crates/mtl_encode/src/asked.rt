@@ -73,8 +73,8 @@ impl Wanted {
 pub struct Most {
     /// How many instances may say that some row is a witness, which name all rows.
     pub witnesses: u32,
-    /// How many literals those have at least before no more are taken that say what a change made of a proposition, which
-    /// name all its pulses.
+    /// How many literals those clauses may have that say what a change makes of a proposition, and that name all its pulses:
+    /// once they have as many, no more of them are taken.
     pub literals: usize,
 }
 

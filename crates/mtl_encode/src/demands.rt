@@ -152,8 +152,8 @@ impl Asking<'_> {
         Ok(())
     }
 
-    // A gap, but for one further than the interval reaches: what is no span up to an event says of that by itself that it is
-    // none.
+    // A gap, but for one that is always further than the interval reaches: that there is no span up to an event in reach
+    // says by itself that there is no such gap.
     fn ask_gap(&mut self, args: [u32; 4]) -> Result<(), AllocError> {
         let [k, i, m, _] = args;
         let Some(u) = self.scene.rules.reach_at(k) else {
@@ -298,7 +298,8 @@ impl Asking<'_> {
     }
 
     // Adds what follows from a literal, and where it is about a node without untils and sinces from its negation too: with
-    // clauses of both senses what is found of a proposition goes both ways. Of an until they would ask for all its witnesses.
+    // clauses of both senses what is found of a proposition goes both ways. Of an until they would ask for all its
+    // witnesses.
     fn follow_both(&mut self, literal: Literal) -> Result<(), AllocError> {
         self.follow(literal)?;
         match literal.atom {
@@ -308,8 +309,8 @@ impl Asking<'_> {
     }
 }
 
-// Where an instance stands among those of one literal: by its number, and then by its arguments. So the clauses of a head are
-// gone through in the order of the log.
+// Where an instance stands among those of one literal: by its number, and then by its arguments. So the clauses of a head
+// are gone through in the order of the log.
 fn rank(rule: Rule) -> u128 {
     let [_, second, third, fourth] = rule.args;
     let args = (second as u128) << 64 | (third as u128) << 32 | fourth as u128;

@@ -98,7 +98,7 @@ pub fn encode_by(
     let count = nodes.arena().len();
     let sought = Rules::new(alloc, question.log(), nodes.arena(), nodes.root(), value)?;
     let problem = problem_of(alloc, &sought, count, question.into_system(), tight)?;
-    // That each atom has one variable, their number is known with.
+    // For the proof: the call says that each atom has one variable.
     let _ = problem.atoms.len();
     Ok(problem)
 }
@@ -132,7 +132,7 @@ pub fn encode(
             let tight = tight_by(alloc, log, &system, times.as_slice())?;
             let sought = Rules::new(alloc, log, arena, root, value)?;
             let problem = problem_of(alloc, &sought, arena.len(), system, &tight)?;
-            // That each atom has one variable, their number is known with.
+            // For the proof: the call says that each atom has one variable.
             let _ = problem.atoms.len();
             Ok(problem)
         }
@@ -169,9 +169,9 @@ fn ordered_of(
 }
 
 /// The problem of the instances that a value sought of a question's formula can ask for: of each literal that has to be true
-/// those that say what follows, from the rows on that can be first, by windows over the rows' least times. An instance is left
-/// out where the bounds make its clause true, and one whose clause is long where as much as `most` of its kind is there. An
-/// error is want of memory.
+/// those that say what follows, from the rows on that can be first, by windows over the rows' least times. An instance is
+/// left out where the bounds make its clause true, and one whose clause is long where as much as `most` of its kind is
+/// there. An error is want of memory.
 pub fn encode_asked(
     alloc: Global,
     question: Question,

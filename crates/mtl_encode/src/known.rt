@@ -107,7 +107,8 @@ fn negated(value: Option<bool>) -> Option<bool> {
     }
 }
 
-/// Whether event e comes at most so long after event f, where the least and the greatest differences say so of all timings.
+/// Whether event e comes at most so long after event f, in the log's unit of time: `Some(true)` where it does in each timing
+/// that the log admits, `Some(false)` where in none, and None where in some alone.
 pub fn order_value(tight: &Tight, e: u32, f: u32, c: i128) -> Option<bool>
     ensures always { (result ≡ Some true) ↔ ((extremes_of tight.now).greatest f e ≤ℤ c) }
     ensures never { result ≡ Some false → c <ℤ (extremes_of tight.now).least f e }

@@ -23,4 +23,4 @@ pub use encoding::{encode, encode_asked, encode_by};
 pub use known::order_value;
 pub use laws::{meanings_satisfy_rules, rules_are_exact};
 pub use problem::{Part, Problem};
-pub use question::{MAX_SIZE, size_of};
+pub use question::size_of;

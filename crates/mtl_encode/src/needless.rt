@@ -18,14 +18,14 @@ fn is_never_first(tight: &Tight, events: u32, e: u32) -> bool
     (0..events).any(|f| greatest_between(tight, e, f) < 0)
 }
 
-/// Whether the least distance of two events is from the interval on.
+/// Whether the least distance of two events is at least the lower bound of the interval.
 pub fn is_always_from(u: &Reach, nearest: i128) -> bool
     ensures { result ≡ int_le (pos u.now.interval.low) nearest }
 {
     u.interval.low as i128 <= nearest
 }
 
-/// Whether their greatest distance comes before the interval.
+/// Whether their greatest distance is less than that.
 pub fn is_never_from(u: &Reach, farthest: i128) -> bool
     ensures { result ≡ int_lt farthest (pos u.now.interval.low) }
 {
@@ -38,7 +38,7 @@ fn may_be_from(u: &Reach, farthest: i128) -> bool
     u.interval.low as i128 <= farthest
 }
 
-/// Whether their greatest distance is no further than the interval.
+/// Whether their greatest distance is at most the upper bound, where there is one.
 pub fn is_always_up_to(u: &Reach, farthest: i128) -> bool
     ensures { result ≡ option_map_or (λ b. int_le farthest (pos b)) u.now.interval.high true }
 {
@@ -48,7 +48,7 @@ pub fn is_always_up_to(u: &Reach, farthest: i128) -> bool
     }
 }
 
-/// Whether their least distance is further.
+/// Whether their least distance is more than that.
 pub fn is_never_up_to(u: &Reach, nearest: i128) -> bool
     ensures { result ≡ option_map_or (λ b. int_lt (pos b) nearest) u.now.interval.high false }
 {

@@ -6,7 +6,7 @@ use mt_model::BoundList;
 use neg_cycle::EdgeList;
 
 /// What is to be solved: truth values of atoms that make a literal of each clause true, with numbers of nodes
-/// that meet each edge, and each order atom in the sense of its value.
+/// that meet each edge, and of the order atoms just those that are true.
 #[derive(Drop)]
 pub struct Problem {
     /// The clauses, over the variables of the atoms.

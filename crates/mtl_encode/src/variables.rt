@@ -215,7 +215,7 @@ impl Clauses {
             atoms,
         } = self;
         let ordered = ordered_atoms(alloc, rules.log(), &atoms)?;
-        // That each atom has one variable, their number is known with.
+        // For the proof: the call says that each atom has one variable.
         let _ = (atoms.len(), ordered.atoms.len());
         let db = db.renamed(&ordered.places);
         Ok(Clauses {

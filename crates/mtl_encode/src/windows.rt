@@ -73,7 +73,7 @@ impl Windows {
         })
     }
 
-    /// A row that is always first, if there is such a row.
+    /// A row whose greatest time is as small as any: the one that is always before all others, if there is such a row.
     pub fn earliest(&self) -> u32 {
         self.earliest
     }

@@ -12,24 +12,25 @@ pub enum FormulaFault {
     /// A byte begins no token, or a word is longer than 32 bytes.
     #[error("no token at byte {byte}")]
     Token { byte: u32 },
-    /// No formula goes on with the token here, or the text ends too early.
+    /// No formula goes on with the token here, or the text ends too early: then the byte is its length.
     #[error("another token is expected at byte {byte}")]
     Expected { byte: u32 },
     /// A number has a leading zero or is above 10^18.
     #[error("a number with a leading zero or above 10^18 at byte {byte}")]
     Number { byte: u32 },
-    /// An interval has its first bound above its second.
+    /// The interval whose `[` stands here has its first bound above its second.
     #[error("an empty interval at byte {byte}")]
     EmptyInterval { byte: u32 },
-    /// The formula is higher than 200.
+    /// The formula is higher than 200. The byte is 0.
     #[error("a formula higher than 200")]
     TooDeep { byte: u32 },
     /// The formula ends before the token here.
     #[error("the formula ends before byte {byte}")]
     Trailing { byte: u32 },
-    /// The text has no token.
+    /// The text has no token. The byte is 0.
     #[error("no formula")]
     Empty { byte: u32 },
+    /// There is no memory.
     #[error("out of memory")]
     Memory,
 }

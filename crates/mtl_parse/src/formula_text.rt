@@ -36,8 +36,9 @@ fn read_tokens(alloc: Global, tokens: &[Placed<'_>], end: u32) -> Result<Operand
 /// From the loosest to the tightest there are `f -> g`, which binds to the right, `f | g` and `f & g`,
 /// which bind to the left, `f U g` and `f S g`, which bind together to the right, and `! f`, `F f`,
 /// `G f`, `O f` and `H f`. The letters take an interval `[a,b]` or `[a,inf]` behind them, a and b in the
-/// log's unit and at most 10^18, and without one have `[0,inf]`. The smallest formulas are `true`, `false` and `host.name`, and parentheses
-/// group. Spaces, tabs, carriage returns and newlines may stand between tokens.
+/// log's unit and at most 10^18, and without one have `[0,inf]`. The smallest formulas are `true`, `false`
+/// and `host.name`, and parentheses group. Spaces, tabs, carriage returns and newlines may stand between
+/// tokens.
 ///
 /// The faults come in this order: a byte that begins no token or a number out of form, whichever is
 /// first; no token at all; a token that no formula goes on with, or an early end; an empty interval, the

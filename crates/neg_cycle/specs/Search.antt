@@ -26,7 +26,7 @@ pub record IsTrail (nodes : ℕ) (edges : List Edge) (a : ℕ) (places : List �
 abbrev pub Covers : List Edge → List ℤ → ℕ → List ℕ → Type 0
 Covers edges numbers a places = (i : ℕ) → i ≤ length places → pos 0 ≤ℤ (number_of numbers (slice_index (nodes_of edges a places) i) +ℤ sum_of_bounds edges (take i places))
 
--- a walk from node a to node v that visits no node twice and gives v its number
+-- a walk from node a to node v that visits no node twice and gives v its number, and no node on the way more than its own
 pub record IsBest (edges : List Edge) (numbers : List ℤ) (v a : ℕ) (places : List ℕ) : Type 0 where
   pub trail : IsTrail (length numbers) edges a places v
   pub number : number_of numbers v +ℤ sum_of_bounds edges places ≡ pos 0

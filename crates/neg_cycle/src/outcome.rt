@@ -13,6 +13,6 @@ pub type Places = ListOf<u32>;
 pub enum Outcome {
     /// A number for each node that meets every edge.
     Potential(Numbers),
-    /// The edges of a closed walk of negative sum that visits no node twice.
+    /// The places of the edges of a negative cycle: a closed walk of negative sum that visits no node twice.
     Cycle(Places),
 }

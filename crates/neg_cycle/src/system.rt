@@ -14,7 +14,7 @@ pub const MAX_EDGES: usize = 1 << 30;
 /// The greatest magnitude of a bound.
 pub const MAX_BOUND: i128 = 1 << 90;
 
-/// The constraint `x_from - x_to <= bound`, over nodes that count from 0. It is also a step of a
+/// The difference constraint `x_from - x_to <= bound`, over nodes that count from 0. It is also a step of a
 /// walk, which goes from `from` to `to`.
 #[derive(Clone, Copy, PartialEq, Eq)]
 pub struct Edge {

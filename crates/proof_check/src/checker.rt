@@ -77,8 +77,8 @@ impl Checker {
     /// What lines are for the log, the formula and the value. Fewer than 2^32 lines are asked for, and each call judges its
     /// lines alone. A formula has no value that lines refute.
     ///
-    /// The time is that of the clauses which the lines have and cite. An error is want of memory. It is `check_text` of the
-    /// lines' text: one of 2^31 bytes or more is told as want of memory.
+    /// The time is that of the clauses which the lines have and cite. An error is want of memory. The lines are checked by
+    /// their text, as by `check_text`: a text of 2^31 bytes or more is told as want of memory.
     pub fn check(&mut self, lines: &[Line]) -> Result<Check, AllocError>
         requires few { length lines.now < 2 ^ 32 }
         ensures refutes { IfOk result (λ c. OfSought self.old (λ log f v. (c ≡ Check.Refutes) ↔ Refutes log f v lines.now)) }

@@ -11,7 +11,7 @@ use crate::kept::Clauses;
 use axiom_rules::{Literal, order_literal};
 use mt_model::{MAX_ORDER, Step};
 
-/// The negation of an order step.
+/// The negation of an order step that has a spelling, and None for any other step.
 pub fn negated_step(step: Step) -> Option<Literal>
     ensures { IsSpelledStep step → result ≡ negated_step_of step }
 {

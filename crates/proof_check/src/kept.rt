@@ -107,7 +107,7 @@ impl Clauses {
         self.get(self.len().saturating_sub(1))
     }
 
-    /// The literals of all clauses.
+    /// The literals of all clauses, at the end those of the pending one.
     pub fn literals(&self) -> &[Literal] {
         &self.literals
     }

@@ -66,7 +66,7 @@ impl<'a> Model for Assumed<'a> {
 }
 
 impl<'a> Assumed<'a> {
-    /// The negations of a clause's literals.
+    /// The negations of a clause's literals. Where `is_listing`, what is given from then on is listed too.
     pub fn denying(
         alloc: Global,
         lits: &'a [Literal],

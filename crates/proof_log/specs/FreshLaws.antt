@@ -23,9 +23,10 @@ abbrev pub FreshLinesDiffer : Type 0
 FreshLinesDiffer = (log : Logged) (f : Form) (v : Bool) (rules : List Rule) (lines : List Line) (m n : ℕ) (earlier : IsLearnAt lines m) (fresh : Fresh log f v rules lines n) → m < n
     → HaveSameLiterals earlier.lits fresh.learn.lits → ⊥
 
--- so fewer conflicts are spent than three to the number of atoms, which is the number of sets of literals with no atom twice
+-- so fewer conflicts are spent than three to the power of the number of atoms, which is the number of sets of literals with
+-- no atom twice
 pub record SpentIsBounded : Type 0 where
-  -- the atoms of the lines are among these
+  -- the atoms of the Learn lines are among these
   pub by_lines : (log : Logged) (f : Form) (v : Bool) (rules : List Rule) (conflicts : ℕ) (lines : List Line) (atoms : List Atom) → Spends log f v rules conflicts lines
       → All (All (λ l. Contains atoms l.atom)) (learnt lines) → conflicts < 3 ^ length atoms
   -- or all atoms in clauses of rules are

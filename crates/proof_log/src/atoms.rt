@@ -5,7 +5,7 @@ ghost use Rattle.std.specs.Prelude.{◌≡◌, ◌≢◌, ◌↔◌, AllPairs, I
 use axiom_rules::{Atom, Literal};
 use std::alloc::{AllocError, Global};
 
-/// Whether no two atoms are equal. They are left in order.
+/// Whether no two atoms are equal. They are left sorted.
 pub fn are_apart(atoms: &mut [Atom]) -> bool
     ensures { IsTrue result ↔ AllPairs (λ a b. a ≢ b) atoms.old }
 {

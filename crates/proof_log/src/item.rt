@@ -1,4 +1,4 @@
-//! What stands at the front of the words of a line.
+//! What stands at the front of the words of a line, and the words after it: None where something else stands there.
 
 ghost use Rattle.std.specs.Prelude.{◌≢◌, ◌<◌, Some, None, MatchOption, IfSome};
 ghost use Rattle.mt_model.specs.declared.limits.TheConstants.{MAX_ORDER};

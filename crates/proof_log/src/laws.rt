@@ -3,7 +3,7 @@
 ghost use Rattle.proof_log.specs.FreshLaws.{FreshLinesDiffer, RefutedByRulesIsNotSpent, SpentIsBounded};
 ghost use Rattle.proof_log.specs.Laws.{BytesAreUnambiguous, StepsReadAlike, TextsReadBack, TextsTellApart};
 
-/// Bytes are at most one list of lines, or have at most one first faulty line.
+/// Bytes are at most one list of lines, or have at most one first faulty line, and not both.
 pub fn bytes_are_unambiguous()
     ensures { BytesAreUnambiguous }
 {}
@@ -28,8 +28,8 @@ pub fn fresh_lines_differ()
     ensures { FreshLinesDiffer }
 {}
 
-/// Fewer conflicts are spent than three to the power of the number of atoms in the lines' clauses, and so of
-/// those in clauses of rules.
+/// Fewer conflicts are spent than three to the power of the number of atoms in the clauses of the Learn lines, and
+/// fewer than three to the power of the number of those in clauses of rules.
 pub fn spent_is_bounded()
     ensures { SpentIsBounded }
 {}

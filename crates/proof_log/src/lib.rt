@@ -13,7 +13,6 @@ mod reader;
 mod spelling;
 mod word;
 
-pub use atoms::has_atoms_once;
 pub use fault::LineFault;
 pub use laws::{
     bytes_are_unambiguous, fresh_lines_differ, refuted_by_rules_is_not_spent, spent_is_bounded,
@@ -22,7 +21,7 @@ pub use laws::{
 pub use line::{Hint, Hints, Line, Lines, Lits};
 pub use parts::{LineWords, next_words, read_count, read_hint, read_literal, read_step};
 pub use passing::pass_line;
-pub use printer::{print_lines, push_hints, push_line};
-pub use reader::{read_line, read_lines};
+pub use printer::{print_lines, push_line};
+pub use reader::read_lines;
 pub use spelling::{has_spelling, is_number};
 pub use word::next_word;

@@ -40,7 +40,7 @@ pub fn next_words(bytes: &[u8]) -> Option<(LineWords, &[u8])>
     }
 }
 
-/// The number with which the words of a line go on, and the words after it.
+/// The number with which the words of a line go on, and the words after it; 0 and all the words where they go on with none.
 pub fn read_count(words: &[u8]) -> (u32, &[u8])
     ensures number { (n : ℕ) (after : List Word) → IsNumber n → words_after words.now ≡ decimal n ∷ after → HasRead n after result }
 {
@@ -50,21 +50,21 @@ pub fn read_count(words: &[u8]) -> (u32, &[u8])
     }
 }
 
-/// The step with which the words of a line go on, and the words after it.
+/// The step with which the words of a line go on, and the words after it. None where they go on with no step.
 pub fn read_step(words: &[u8]) -> Option<(Step, &[u8])>
     ensures step { Reads IsSpelledStep step_words words.now result }
 {
     next_step(words)
 }
 
-/// The literal with which the words of a line go on, and the words after it.
+/// The literal with which the words of a line go on, and the words after it. None where they go on with no literal.
 pub fn read_literal(words: &[u8]) -> Option<(Literal, &[u8])>
     ensures literal { Reads IsSpelledLiteral literal_words words.now result }
 {
     next_literal(words)
 }
 
-/// The hint with which the words of a line go on, and the words after it.
+/// The hint with which the words of a line go on, and the words after it. None where they go on with no hint.
 pub fn read_hint(words: &[u8]) -> Option<(Hint, &[u8])>
     ensures hint { Reads IsSpelledHint hint_words words.now result }
 {

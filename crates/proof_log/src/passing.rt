@@ -118,8 +118,8 @@ fn is_line(alloc: Global, bytes: &[u8]) -> Result<bool, AllocError>
     }
 }
 
-/// What follows the line with which the bytes begin. Memory is taken for its atoms alone. The error only says that memory
-/// ran out.
+/// What follows the line with which the bytes begin, and None where they begin with none. Memory is taken for its atoms
+/// alone. The error only says that memory ran out.
 pub fn pass_line(alloc: Global, bytes: &[u8]) -> Result<Option<&[u8]>, AllocError>
     ensures front { IfOk result (λ o. MatchOption o (BeginsWithLine bytes.now → ⊥) (λ rest. (line : Line) × IsFrontLine bytes.now line rest.now)) }
 {

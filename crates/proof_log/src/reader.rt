@@ -131,7 +131,8 @@ fn has_each_atom_once(alloc: Global, line: &Line) -> Result<bool, AllocError>
     }
 }
 
-/// The line whose text, without its newline, the bytes are. The error only says that memory ran out.
+/// The line whose text, without its newline, the bytes are, and None where they are the text of none. The error only
+/// says that memory ran out.
 pub fn read_line(alloc: Global, bytes: &[u8]) -> Result<Option<Line>, AllocError>
     ensures line { IfOk result (λ o. MatchOption o ((l : Line) → IsLine bytes.now l → ⊥) (λ l. IsLine bytes.now l)) }
 {

@@ -28,7 +28,8 @@ pub fn cut_word(words: &[u8]) -> (&[u8], &[u8])
     (&words[..end], &words[end..])
 }
 
-/// The word after a space, and what is left from the next space on.
+/// The word after a space, and what is left from the next space on. None where nothing is left. The first byte is passed
+/// over as the space.
 pub fn next_word(words: &[u8]) -> Option<(&[u8], &[u8])>
     ensures word { MatchOption result (words_after words.now ≡ []) (λ r. words_after words.now ≡ r.0.now ∷ words_after r.1.now) }
     ensures shorter { IfSome result (λ r. length r.1.now < length words.now) }

@@ -20,7 +20,7 @@ abbrev pub named_of : Line → List ℕ
 named_of (line.Cycle steps) = []
 named_of (line.Learn lits hints) = filter_map named_by hints
 
--- the number names an earlier line than one of this number
+-- n is the number of a line before the one of this number
 abbrev pub IsEarlier : ℕ → ℕ → Type 0
 IsEarlier number n = (1 ≤ n) × (n < number)
 

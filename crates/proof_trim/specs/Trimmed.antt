@@ -24,7 +24,7 @@ abbrev pub renumbered : (ℕ → ℕ) → Line → Line
 renumbered place (line.Cycle steps) = line.Cycle steps
 renumbered place (line.Learn lits hints) = line.Learn lits (map (hint_renumbered place) hints)
 
--- a line with the numbers that these places are of lines 1, 2 and so on
+-- a line whose hints name lines 1, 2 and so on by these places instead
 abbrev pub moved : List ℕ → Line → Line
 moved places l = renumbered (λ n. slice_index places (n - 1)) l
 

@@ -40,7 +40,7 @@ fn add_line(numbers: &mut Vec<u32>, words: LineWords) -> Result<(), AllocError>
     }
 }
 
-/// The lines that the hints of a text name, of so many lines, for the ends of whose numbers room is taken at once.
+/// The lines that the hints of a text name. Room for the ends of the numbers of `count` lines is taken at once.
 pub fn named_lines(alloc: Global, text: &[u8], count: u32) -> Result<NamedLines, AllocError>
     requires lines { (lines : List Line) × IsTextOf text.now lines }
     ensures named { IfOk result (λ n. (lines : List Line) → IsTextOf text.now lines → AreNamed lines n.numbers.items n.ends.items) }

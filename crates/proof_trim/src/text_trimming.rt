@@ -75,8 +75,8 @@ fn trim_named(
 }
 
 /// What `trim` makes of the lines whose text the bytes are. Room for the ends of `count` lines is taken at once; nothing
-/// else goes by that number. Beside the text of what is left, memory is taken for a few numbers a line, and for one number
-/// for each line that a hint names.
+/// else goes by that number. Beside room for a text as long as the given one, memory is taken for a few numbers a line, and
+/// for one number for each hint that names a line.
 pub fn trim_text(alloc: Global, text: &[u8], count: u32) -> Result<TrimmedText, TrimFault>
     requires few { length text.now < 2 ^ 31 }
     requires lines { (lines : List Line) × IsTextOf text.now lines }

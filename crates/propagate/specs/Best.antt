@@ -31,7 +31,8 @@ pub record IsLastFalse (entries : List Entry) (seen : List Lit) (beside : Option
   pub at : IsTrueAt entries (negation f.lit) f.level
   pub others : AreFalseUpTo entries f.level seen beside
 
--- what was seen so far of a clause, none of it but that one literal open
+-- nothing was seen so far of a clause but perhaps the other literal; or all that was seen but perhaps that one is false, and
+-- this is the literal that became so last
 abbrev pub IsSeen : List Entry → List Lit → Option Lit → Option Falsified → Type 0
 IsSeen entries seen beside None = All (λ x. beside ≡ Some x) seen
 IsSeen entries seen beside (Some f) = IsLastFalse entries seen beside f

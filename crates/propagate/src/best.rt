@@ -53,7 +53,7 @@ pub fn best_beside(trail: &Trail, clause: &[Lit], beside: Option<Lit>, from: usi
     Some(Found { lit, place: from })
 }
 
-// The same where a literal beside the other one is false. At the present level none became false later.
+// The same where a literal beside the other one is false: if it became so at the present level, none did later.
 pub fn best_after(
     trail: &Trail,
     clause: &[Lit],

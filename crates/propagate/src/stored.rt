@@ -26,7 +26,7 @@ pub fn present_start(levels: &[Level]) -> u32
     }
 }
 
-// As many variables, whose literals no clause watches.
+// So many variables, whose literals no clause watches.
 pub fn no_watchers(alloc: Global, vars: u32) -> Result<Vec<Watchers>, AllocError>
     ensures count { IfOk result (λ watchers. length watchers.items ≡ vars) }
 {

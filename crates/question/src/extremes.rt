@@ -9,7 +9,7 @@ use formula_arena::Direction;
 use mt_model::EventId;
 use skew_bounds::Tight;
 
-/// The greatest `t_f - t_e`, and 0 where there is no such event.
+/// The greatest `t_f - t_e` over all timings that the log admits, in its unit of time, and 0 where there is no such event.
 pub fn greatest_between(tight: &Tight, e: u32, f: u32) -> i128
     ensures greatest { result ≡ (extremes.extremes_of tight.now).greatest e f }
     ensures small { IsWithin (MAX_TIME +ℤ MAX_TIME) result }
@@ -22,7 +22,7 @@ pub fn greatest_between(tight: &Tight, e: u32, f: u32) -> i128
     }
 }
 
-/// The least `t_f - t_e`, and 0 where there is no such event.
+/// The least `t_f - t_e` over all timings that the log admits, in its unit of time, and 0 where there is no such event.
 pub fn least_between(tight: &Tight, e: u32, f: u32) -> i128
     ensures least { result ≡ (extremes.extremes_of tight.now).least e f }
     ensures small { IsWithin (MAX_TIME +ℤ MAX_TIME) result }

@@ -47,7 +47,7 @@ impl<'a> Question<'a> {
         ensures log { IfOk result (λ q. q.log ≡ log.now) }
         ensures form { IfOk result (λ q. q.form ≡ nodes.now) }
     {
-        // What nodes are, that they are few is known with.
+        // For the proof: the call says that nodes are few.
         let _ = nodes.arena();
         let system = system_of(alloc, log)?;
         Ok(Question { log, nodes, system })

@@ -6,8 +6,8 @@ use skew_bounds::Tight;
 /// Whether the bounds of a log can be met.
 #[derive(Drop)]
 pub enum Settled {
-    /// By this timing; and how far apart the log's events are in all that it admits.
+    /// By this timing, a true time for each row; and how far apart rows are over all timings that the log admits.
     Timing { times: Times, tight: Tight },
-    /// These bounds are in conflict.
+    /// They can't: the edges of these bounds form a closed walk of negative sum, in its order.
     Conflict(Steps),
 }

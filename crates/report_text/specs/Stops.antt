@@ -100,7 +100,7 @@ pub record IsMarked (bytes : List ℕ) : Type 0 where
   pub spelled : IsSpelled report
   pub text : marked_text report ≡ bytes
 
--- the texts of so many times, bounds of a walk, or lines of a derivation
+-- the texts of so many times
 abbrev pub AreTimes : ℕ → List ℕ → Type 0
 AreTimes count bytes = AreItems (IsWithin MAX_TIME) time_text count bytes
 
@@ -108,9 +108,11 @@ AreTimes count bytes = AreItems (IsWithin MAX_TIME) time_text count bytes
 abbrev pub AreTimesRead : ℕ → List ℕ → List ℤ → List ℕ → Type 0
 AreTimesRead count bytes times rest = AreRead (IsWithin MAX_TIME) time_text count bytes times rest
 
+-- the texts of so many bounds of a walk
 abbrev pub AreBounds : ℕ → List ℕ → Type 0
 AreBounds count bytes = AreItems IsSpelledBound bound_text count bytes
 
+-- the texts of so many lines of a derivation
 abbrev pub AreDerivation : ℕ → List ℕ → Type 0
 AreDerivation count bytes = AreItems IsSpelledLine line_text count bytes
 

@@ -1,4 +1,4 @@
-//! What stands at the front of bytes, up to a newline.
+//! What stands at the front of bytes, up to a newline, and what follows it: None where something else stands there.
 
 ghost use Rattle.std.specs.Prelude.{◌≡◌, ◌↔◌, ◌++◌, IfOk, IsTrue, List, MatchOption, ℕ, ℤ};
 ghost use Rattle.mt_model.specs.declared.limits.TheConstants.{MAX_TIME};

@@ -1,4 +1,5 @@
-//! Items of which a number was announced. Memory is taken for those that were read alone.
+//! Items of which a number was announced. Memory is taken for those that were read alone. Each call answers what follows
+//! them, or where and why reading stopped.
 
 ghost use Rattle.std.specs.Prelude.{◌≡◌, [], MatchResult};
 ghost use Rattle.mt_model.specs.declared.limits.TheConstants.{MAX_TIME};

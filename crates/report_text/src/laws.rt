@@ -2,7 +2,7 @@
 
 ghost use Rattle.report_text.specs.Laws.{BytesAreUnambiguous, CutTextsAreFaulty, TextsReadBack, TextsTellApart};
 
-/// Bytes are at most one report, or have at most one first faulty line.
+/// Bytes are at most one report, or have at most one first faulty line, and not both.
 pub fn bytes_are_unambiguous()
     ensures { BytesAreUnambiguous }
 {}

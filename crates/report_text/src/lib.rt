@@ -24,6 +24,6 @@ pub use outline_printer::print_outline;
 pub use outlining::read_outline;
 pub use part::Kind;
 pub use printer::{print_report, push_derivation, push_ended, push_section};
-pub use reader::{read_report, steps_of, times_of};
+pub use reader::{read_report, times_of};
 pub use report::{Report, Section};
 pub use spelling::has_spelling;

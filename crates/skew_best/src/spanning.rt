@@ -34,7 +34,7 @@ use verdict_span::{SpanFault, Widest, widest};
 /// timings that give the formula a value. The events count from 0.
 #[derive(Clone, Copy)]
 pub struct Distance {
-    /// How many conflicts each search may have.
+    /// How many conflicts each search may have, from 1 to 1,000,000.
     pub conflicts: u32,
     /// The value of the formula.
     pub value: bool,

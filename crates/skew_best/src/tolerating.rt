@@ -33,11 +33,11 @@ use std::alloc::{AllocError, Global};
 /// formula can have a value.
 #[derive(Clone, Copy)]
 pub struct Widening {
-    /// How many conflicts each search may have.
+    /// How many conflicts each search may have, from 1 to 1,000,000.
     pub conflicts: u32,
     /// The value of the formula.
     pub value: bool,
-    /// The greatest widening that is tried.
+    /// The greatest widening that is tried, at most 10^18.
     pub max: u64,
 }
 

@@ -1,4 +1,4 @@
--- Bounds of a log as edges of a system of differences.
+-- Bounds of a log as edges of a system of difference constraints.
 use Rattle.std.specs.Prelude.{◌≡◌, ℕ, ◌<◌, List, length, Some, map, slice_index_or}
 use Rattle.neg_cycle.specs.declared.system.Edge.{Edge as SystemEdge}
 use Rattle.mt_model.specs.declared.bound.Bound.{Bound}

@@ -1,4 +1,4 @@
--- The bounds of a log as a system of differences.
+-- The bounds of a log as a system of difference constraints.
 use Rattle.std.specs.Prelude.{◌≡◌, All}
 use Rattle.neg_cycle.specs.Systems.{IsEdge}
 use Rattle.mt_model.specs.Bounds.{bounds_of}

@@ -85,7 +85,7 @@ fn exceeds(first: i128, second: i128, error: i128) -> bool
     !(first - second <= error)
 }
 
-// Whether rows e and f read one clock, and e is ahead of f by more than both errors.
+// Whether rows e and f read one clock, and the shift of e is greater than that of f by more than both errors together.
 fn is_too_far_ahead(
     log: &Log,
     readings: &[Option<Reading>],

@@ -16,7 +16,7 @@ fn node_of(log: &Log, e: usize) -> u32
     requires { e < length log.now.rows }
     ensures { result ≡ e + 1 }
 {
-    // How many rows a log has at most is known with its rows.
+    // For the proof: the call says how many rows a log has at most.
     log_is_valid(log);
     e as u32 + 1
 }
@@ -26,7 +26,7 @@ fn node_of_clock(log: &Log, clock: ClockId) -> u32
     requires { clock < length log.now.clocks }
     ensures { result ≡ clock_node log.now clock }
 {
-    // How many rows and clocks a log has at most is known with them.
+    // For the proof: the call says how many rows and clocks a log has at most.
     log_is_valid(log);
     log.rows().len() as u32 + 1 + clock.get()
 }
@@ -168,12 +168,12 @@ fn extra(log: &Log, k: usize) -> Option<Edge>
 /// clocks. Takes no memory.
 ///
 /// - Low e: from 0 to e + 1, the row's skew less its local time.
-/// - High e: from e + 1 to 0, the row's local time and its skew.
+/// - High e: from e + 1 to 0, the row's local time plus its skew.
 /// - Rise f: from e + 1 to f + 1, where e is the row before f on its host, the negated gap of row f.
 /// - Message r: from s + 1 to r + 1, where s is the send of what r receives, the negated least delay of r.
 /// - Late r: from r + 1 to s + 1, the greatest delay of r, where there is one.
 /// - Under e: from the clock of row e to e + 1, the error of its reading less its local time.
-/// - Over e: from e + 1 to the clock of row e, its local time and the error of its reading.
+/// - Over e: from e + 1 to the clock of row e, its local time plus the error of its reading.
 /// - Extra k, which says `t_e - t_f <= c`: from e + 1 to f + 1, c.
 pub fn edge_of(log: &Log, bound: Bound) -> Option<Edge>
     ensures edge { option_map edge_in result ≡ edge_of log.now (step_of bound) }

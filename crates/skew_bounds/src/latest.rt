@@ -18,8 +18,8 @@ pub const UNREACHED: i128 = 2 * FAR;
 /// has there (Dijkstra, A note on two problems in connexion with graphs, 1959), in the unit of the bounds.
 ///
 /// `incoming` has for each node the edges that end there. `potential` meets them all, and says from which
-/// node to go on, and `zero` are these numbers for the zero moment, where they are known: only the time
-/// depends on these two. An error is want of memory.
+/// node to go on, and `zero` are these numbers for the zero moment, where they are known: what the clauses
+/// say depends on neither, and how long the search takes on both. An error is want of memory.
 pub fn latest(
     alloc: Global,
     incoming: &[Vec<Edge>],

@@ -27,7 +27,7 @@ mod times;
 
 pub use bound_list::bounds;
 pub use broken::first_broken;
-pub use consistency::{Consistency, edges_of, settle, settle_by};
+pub use consistency::{Consistency, settle, settle_by};
 pub use differences::Tight;
 pub use edges::{edge_of, node_count};
 pub use row_edges::EdgeTable;

@@ -34,7 +34,7 @@ fn greater(other: Option<i128>, number: i128) -> i128
     }
 }
 
-// The greatest of those that the rows up to row e allow of clock k, where those before it allow this one.
+// The greatest of the least offsets that the rows up to row e allow of clock k, by that of the rows before it.
 fn greatest_with(
     log: &Log,
     readings: &[Option<Reading>],

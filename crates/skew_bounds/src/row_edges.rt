@@ -58,7 +58,7 @@ fn edges_at(log: &Log, spans: &[Span], e: EventId) -> RowEdges
     }
 }
 
-// What a row has that the log lacks.
+// The edges of a row that isn't in the log: none.
 const NO_EDGES: RowEdges = RowEdges {
     low: None,
     high: None,

@@ -1,4 +1,4 @@
-//! The bounds of a log as a system of differences.
+//! The bounds of a log as a system of difference constraints.
 
 ghost use Rattle.std.specs.Prelude.{IfOk};
 ghost use Rattle.skew_bounds.specs.System.{IsSystemOf};

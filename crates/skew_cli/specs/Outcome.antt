@@ -40,7 +40,7 @@ pub record Due : Type 1 where
 abbrev pub HasNoTurns : Files → Openings → Openings → Type 0
 HasNoTurns files before now = Unit {0}
 
--- of a command that reads no file
+-- what is due of a command that reads no file
 abbrev pub due_of_nothing : (List ℕ → Status → Type 0) → Due
 due_of_nothing Given = record { outcome = λ files. Given; possible = Given; holds = λ files. Unit {0}; named = []; in_turn = HasNoTurns }
 

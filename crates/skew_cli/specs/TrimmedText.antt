@@ -37,7 +37,7 @@ pub record AreOutlined (events : ℕ) (true_outline false_outline : SectionOutli
   pub true_spelled : IsSpelledSection events on_true
   pub false_spelled : IsSpelledSection events on_false
 
--- so of the report with the sections of two outlines
+-- this holds of the report with the sections of two outlines
 abbrev pub OfOutlined : ℕ → SectionOutline → SectionOutline → (Report → Type 0) → Type 0
 OfOutlined events true_outline false_outline Holds = (s t : Section) → AreOutlined events true_outline false_outline s t → Holds (report.Verdicts events s t)
 

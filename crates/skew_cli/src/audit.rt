@@ -1,4 +1,4 @@
-//! What `audit` answers: whether a report is right for a formula and a log.
+//! What `audit` answers: whether a report shows what it claims of a formula and a log.
 
 ghost use Rattle.std.specs.Prelude.{◌≡◌, ◌∷◌, [], ◌^◌, ◌<◌, ◌≤◌, ℕ, List, length, codes, true, IfOk, IsErrOf, None, Ok};
 ghost use Rattle.formula_arena.specs.Nodes.{nodes_of};

@@ -39,8 +39,8 @@ pub fn checks_are_accepted()
     right_reports_are_accepted();
 }
 
-/// `check` leaves a value unknown only where the number of conflicts is below three to the number of atoms of the
-/// rules, and unit propagation over the rules alone doesn't refute the value.
+/// `check` leaves a value unknown only where the number of conflicts is below three to the power of the number of
+/// atoms of the rules, and unit propagation over the rules alone doesn't refute the value.
 pub fn unknown_is_bounded()
     ensures { UnknownIsBounded }
 {
@@ -64,8 +64,8 @@ pub fn demos_are_exact()
     ensures exact { DemosAreExact }
 {}
 
-/// `demo` leaves a value unknown only where its conflicts are fewer than three to the number of atoms of the rules, and unit
-/// propagation over the rules alone doesn't refute the value.
+/// `demo` leaves a value unknown only where its conflicts are fewer than three to the power of the number of atoms of the
+/// rules, and unit propagation over the rules alone doesn't refute the value.
 pub fn demo_unknown_is_bounded()
     ensures { DemoUnknownIsBounded }
 {

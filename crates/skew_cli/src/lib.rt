@@ -11,13 +11,11 @@ mod program;
 mod report_file;
 mod trim;
 
-pub use demo_log::{MAX_SEED, demo_log};
+pub use demo_log::demo_log;
 pub use laws::{
     accepted_files_are_true, checks_are_accepted, checks_are_exact, demo_unknown_is_bounded,
     demos_are_exact, trims_are_accepted, unknown_is_bounded, witnesses_are_replayed,
 };
-pub use limits::{JSON_LIMIT, REPORT_LIMIT, limits_are_numbers};
+pub use limits::limits_are_numbers;
 pub use program::run;
 pub use skew_answers::Status;
-pub use skew_commands::{FORMULA_LIMIT, LOG_LIMIT, TIMES_LIMIT};
-pub use skew_words::{DEFAULT_CONFLICTS, MAX_CONFLICTS};

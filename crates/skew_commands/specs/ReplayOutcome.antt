@@ -46,7 +46,7 @@ pub record Broken (log : Logged) (t : List ℤ) (out : List ℕ) (s : Status) : 
 abbrev pub ReplayOfTimes : Logged → Form → List ℤ → List ℕ → Status → Type 0
 ReplayOfTimes log f t out s = Valued log f t out s ⊎ Broken log t out s
 
--- so of each formula of a core
+-- this holds of each formula of a core
 abbrev pub OfCore : Form → (Form → Type 0) → Type 0
 OfCore core Holds = (f : Form) → core_of f ≡ core → Holds f
 

@@ -1,4 +1,4 @@
-//! The tests that a command makes of its files, in their order.
+//! The tests that a command makes of its files, each of which gives what it found, or refuses it.
 
 ghost use Rattle.std.specs.Prelude.{◌≡◌, ◌∷◌, [], ◌^◌, ◌<◌, ◌≤◌, true, None, Some, All, length, IfOk, OnOk, IsErrOf, IsSome, Ok};
 ghost use Rattle.mt_model.specs.Form.{form_of};
@@ -25,7 +25,7 @@ use std::alloc::Global;
 use times_read::{TimesFault, read_times};
 use witness_replay::Replayer;
 
-/// Reads a file that a command names.
+/// Reads a file that a command names: refused as `named` where it has more bytes than the limit.
 pub fn file<S: Shelf>(
     alloc: Global,
     shelf: &mut S,

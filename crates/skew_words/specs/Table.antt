@@ -55,8 +55,8 @@ name_of operand.From = codes "from"
 name_of operand.To = codes "to"
 name_of operand.Seed = codes "seed"
 
--- operands are names of files, but a truth value, a greatest widening, which is a number from 0 to 10^18, an event, which is a number from 0 to
--- 4,294,967,295, and a seed, which is a number from 0 to 18,446,744,073,709,551,615
+-- an operand is the name of a file, but for a truth value, a greatest widening, which is a number from 0 to 10^18, an event,
+-- which is a number from 0 to 4,294,967,295, and a seed, which is a number from 0 to 18,446,744,073,709,551,615
 abbrev pub kind_of : Operand → Kind
 kind_of operand.Formula = kind.File
 kind_of operand.Log = kind.File

@@ -66,7 +66,7 @@ pub record Given : Type 0 where
 abbrev pub plain : List Word → Given
 plain operands = record { operands = operands; conflicts = None }
 
--- what an option and the words after it give: none of these is an option again
+-- what an option and the words after it give: up to the first `--` none of these is an option again
 abbrev pub given_by : Word → List Word → Option Given
 given_by option words =
     option_and_then (λ v. option_map (λ operands. record { operands = operands; conflicts = Some v.0 }) (operands_of v.1)) (option_value option words)

@@ -2,7 +2,7 @@
 
 ghost use Rattle.std.specs.Prelude.{◌≡◌};
 
-/// The number of conflicts in each section of a report, where none is given.
+/// The number of conflicts of each section of a report or of each search, where none is given.
 pub const DEFAULT_CONFLICTS: u32 = 200_000;
 
 /// The greatest number of conflicts that can be given.

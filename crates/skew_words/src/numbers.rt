@@ -1,4 +1,4 @@
-//! The numbers that words write.
+//! The numbers that words write, and None for a word that writes none within its limits.
 
 ghost use Rattle.std.specs.Prelude.{◌≡◌, ◌≤◌, IfSome};
 ghost use Rattle.skew_words.specs.declared.limits.TheConstants.{MAX_CONFLICTS, MAX_WIDENING};

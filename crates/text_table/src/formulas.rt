@@ -72,7 +72,7 @@ fn push_tree(alloc: Global, text: &[u8], out: &mut Vec<u8>) -> Option<()> {
     }
 }
 
-// Adds a byte so many times.
+// Adds a letter so many times.
 fn push_times(letter: char, count: u32, out: &mut String) -> Option<()> {
     for _ in 0..count {
         out.push(letter).ok()?;

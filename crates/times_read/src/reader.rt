@@ -43,9 +43,10 @@ fn time(line: &[u8]) -> Option<i128>
 
 /// The times that the first `count` lines of a file's bytes write, where it has no more lines.
 ///
-/// A line ends with a newline, which may be missing after the last one; one carriage return before
-/// the newline is left out. The fault is that of the first of those lines that writes no time, else
-/// of the first line that is missing or too many; or it is want of memory.
+/// A time is a whole number from -10^19 to 10^19 in decimal, in the log's unit. A line ends with a newline,
+/// which may be missing after the last one; one carriage return before the newline is left out. The fault
+/// is that of the first of those lines that writes no time, else of the first line that is missing or too
+/// many; or it is want of memory.
 pub fn read_times(alloc: Global, bytes: &[u8], count: usize) -> Result<Times, TimesFault>
     requires few { count < 2 ^ 31 }
     ensures answer { Answers result (times_of count bytes.now) }

@@ -31,7 +31,7 @@ pub record AreBoundsOf (count : ℕ) (text : List ℕ) (steps : List Step) : Typ
 abbrev pub IsWalkAudit : Logged → List Step → Audit → Type 0
 IsWalkAudit log steps a = (f : Form) (budget events : ℕ) → events ≡ length log.rows → IsAudit log f budget (report.Inconsistent events steps) a
 
--- so of the report of an outline
+-- this holds of the report of an outline
 abbrev pub OfOutline : Outline → (Report → Type 0) → Type 0
 OfOutline o Holds = (r : Report) → IsOutlineOf o r → IsSpelled r → Holds r
 
@@ -52,7 +52,7 @@ IsOutlineJudgedAt log f budget v o line = OfSection o (length log.rows) (λ s. I
 abbrev pub IsAuditOfVerdicts : Logged → Form → ℕ → SectionOutline → SectionOutline → Audit → Type 0
 IsAuditOfVerdicts log f budget on_true on_false a = OfVerdicts on_true on_false (length log.rows) (λ r. IsAudit log f budget r a)
 
--- so of the lines for which a check answered this
+-- this holds of the lines for which a check answered so
 abbrev pub OfAnswer : Check → (Logged → Form → Bool → List Line → Type 0) → Type 0
 OfAnswer c Holds = (log : Logged) (f : Form) (v : Bool) (lines : List Line) → IsAnswer log f v lines c → Holds log f v lines
 

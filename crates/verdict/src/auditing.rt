@@ -39,8 +39,8 @@ fn outline_of(alloc: Global, text: &[u8]) -> Result<Outline<'_>, AllocError>
 /// doesn't. What an accepted report claims is so, whoever wrote it. The report has a spelling; its unknown sections are to
 /// have as many Learn lines as the budget.
 ///
-/// Whether the lines of an unknown section are fresh isn't asked. The faults are those of `decide`. It is `audit_outline` of
-/// the report's text: one of 2^31 bytes or more is answered with want of memory.
+/// Whether the lines of an unknown section are fresh isn't asked. The faults are those of `decide`. The report is audited by
+/// its text, as by `audit_outline`: a text of 2^31 bytes or more is answered with want of memory.
 pub fn audit(
     alloc: Global,
     log: &Log,

@@ -36,7 +36,7 @@ fn searched(
     ensures spelled { IfOk result (IsSpelledSection (length question.entry.log.rows)) }
 {
     log_is_valid(question.log());
-    // How small a budget is, its number is known with.
+    // For the proof: the call says how great a budget is at most.
     let _ = budget.get();
     match search_value(alloc, question, tight, value, budget)? {
         Searched::Timing(times) => Ok(Section::Witness(times)),

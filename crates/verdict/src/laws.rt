@@ -34,8 +34,8 @@ pub fn right_reports_are_true()
     right_reports_are_accepted();
 }
 
-/// Where conflicts are spent on a value, they are fewer than three to the number of atoms of the rules, and unit propagation
-/// over the rules alone doesn't refute the value.
+/// Where conflicts are spent on a value, they are fewer than three to the power of the number of atoms of the rules, and
+/// unit propagation over the rules alone doesn't refute the value.
 pub fn spent_conflicts_are_bounded()
     ensures bounded { SpentConflictsAreBounded }
 {

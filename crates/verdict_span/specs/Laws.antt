@@ -14,7 +14,7 @@ use Rattle.verdict_span.specs.Widest.{WidestRight}
 -- a log with an extra bound more admits the timings that it admits without it and that meet the bound
 pub record ExtrasOnlyExclude : Type 0 where
   pub admits : (log : Logged) (x : Extra) (t : List ℤ) → Admissible (with_extra log x) t ↔ (Admissible log t × ((time_of t x.e -ℤ time_of t x.f) ≤ℤ x.c))
-  -- so those in which row `to` comes at least c after row e
+  -- so the log with the bound that row `to` comes at least c after row e admits those in which it does
   pub spaces : (log : Logged) (e to : ℕ) (c : ℤ) (t : List ℤ) → Admissible (spaced e to c log) t ↔ (Admissible log t × (c ≤ℤ difference t e to))
 
 -- what a formula's truth is in a timing doesn't depend on the extra bounds

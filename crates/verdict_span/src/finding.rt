@@ -148,7 +148,7 @@ pub fn widest(
     ensures right { IfOk result (WidestRight log.now (form_of f.now) value e to budget) }
 
     // A greatest distance is the greatest with the value, never is for every timing, and a budget isn't spent that is three
-    // to the number of atoms, or more.
+    // to the power of the number of atoms, or more.
     ensures tells { IfOk result (Tells log.now (form_of f.now) value e to budget) }
     ensures inconsistent { IfOk result (IsInconsistentExactly log.now) }
     ensures judged { OnOk result (IsJudged log.now (form_of f.now)) }

@@ -20,7 +20,8 @@ pub enum Widest {
     },
     /// No timing is admissible: these bounds are in conflict.
     Inconsistent(Steps),
-    /// A search spent its budget: that of the log, or of the log in which the other event comes at least so long after the one.
+    /// A search spent its budget, as these lines show: that of the log, or of the log in which the other event comes at
+    /// least so long after the one.
     Unknown {
         least: Option<i128>,
         lines: Lines,

@@ -57,9 +57,9 @@ pub fn refuted_from(
         return Ok(there.c);
     }
     let c = there.c - r as i128;
-    if refutes_at(alloc, span, c, lines)? {
-        Ok(c)
-    } else {
-        Ok(there.c)
+    // A distance whose lines can't be judged for want of memory isn't taken.
+    match refutes_at(alloc, span, c, lines) {
+        Ok(true) => Ok(c),
+        Ok(false) | Err(_) => Ok(there.c),
     }
 }

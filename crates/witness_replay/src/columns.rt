@@ -72,8 +72,8 @@ pub fn fill_conjunction(left: &[bool], right: &[bool], column: &mut [bool])
     }
 }
 
-/// Where an until holds, or a since where it looks behind. The rows are gone through from the one that is met last,
-/// and what is near comes nearer with each of them.
+/// Where an until holds, or a since where it looks behind. The rows are gone through from the one that is met last:
+/// what is far enough from one of them is so from each that is met before it.
 pub fn fill_reaches(
     operator: Operator,
     timeline: Timeline,

@@ -85,8 +85,8 @@ fn is_up_to_gap(direction: Direction, times: &[i128], gap: Option<usize>, m: usi
     gap.is_none_or(|g| is_not_after(direction, times, m, g))
 }
 
-/// Whether an until holds at row e, or a since where it looks behind: the nearest row that is far enough and has
-/// the right side is a witness, where there is one.
+/// Whether an until holds at row e, or a since where it looks behind. `witness` is the nearest row from there on that
+/// is far enough and has the right side, and `gap` the nearest one at which the left side fails, each if there is one.
 pub fn is_reached(
     operator: Operator,
     times: &[i128],

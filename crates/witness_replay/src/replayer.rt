@@ -155,7 +155,7 @@ pub fn truth_by(alloc: Global, question: &Question, times: &[i128]) -> Result<bo
     truth_of_core();
     nodes_are_subtrees();
     question_is_asked(question);
-    // What a formula is, its parts are known with.
+    // For the proof: the call says what a formula holds to.
     let _ = question.formula().tree();
     let (log, nodes) = (question.log(), question.nodes());
     let mut moments = make_moments(alloc, log.rows().len())?;

@@ -1,6 +1,7 @@
 //! How a log comes about:
 //!
 //! - `build`: of the hosts and the rows, which are none from then on. `build_with`: of these and the resyncs.
+//!   `build_read`: of all parts.
 //! - `read`: of the text and what stands here.
 //! - `records`: of the records, which are none from then on.
 //! - `extra`: the last log with an extra bound: an event, another one, and the most that the first may come after it.
@@ -9,7 +10,7 @@
 use crate::logs::parts::Parts;
 use crate::telling::{name_text, push_part, tell};
 use log_read::{LogFault, RecordList, read_log, read_records};
-use mt_model::{Act, Extra, Host, Log, MIN_DELAY, Name, Resync, Row};
+use mt_model::{Act, Extra, Host, Log, MIN_DELAY, Name, Reading, Resync, Row};
 use std::alloc::Global;
 use table_case::{extra_of, number_of};
 
@@ -47,6 +48,18 @@ fn push_resync(line: &mut String, resync: &Resync) -> Option<()> {
     )
 }
 
+fn push_clock(line: &mut String, clock: &Name) -> Option<()> {
+    push_part(line, format_args!("clock {}", name_text(clock)?))
+}
+
+fn push_reading(line: &mut String, reading: &Reading) -> Option<()> {
+    let (host, clock) = (reading.host.get(), reading.clock.get());
+    push_part(
+        line,
+        format_args!("reading {} {host} {clock} {}", reading.place, reading.error),
+    )
+}
+
 fn push_row(line: &mut String, row: &Row) -> Option<()> {
     let (word, name) = act_words(&row.act);
     let name = name_text(name)?;
@@ -80,6 +93,20 @@ fn push_resyncs(line: &mut String, resyncs: &[Resync]) -> Option<()> {
     Some(())
 }
 
+fn push_clocks(line: &mut String, clocks: &[Name]) -> Option<()> {
+    for clock in clocks {
+        push_clock(line, clock)?;
+    }
+    Some(())
+}
+
+fn push_readings(line: &mut String, readings: &[Reading]) -> Option<()> {
+    for reading in readings {
+        push_reading(line, reading)?;
+    }
+    Some(())
+}
+
 fn push_extras(line: &mut String, extras: &[Extra]) -> Option<()> {
     for extra in extras {
         push_extra(line, extra)?;
@@ -87,12 +114,14 @@ fn push_extras(line: &mut String, extras: &[Extra]) -> Option<()> {
     Some(())
 }
 
-/// Adds a log: its hosts, its rows, its resyncs and its extra bounds.
+/// Adds a log: its hosts, its rows, its resyncs, its clocks, the readings of them, and its extra bounds.
 pub fn tell_log(alloc: Global, log: &Log, out: &mut Vec<u8>) -> Option<()> {
     let mut line = String::new(alloc);
     push_hosts(&mut line, log.hosts())?;
     push_rows(&mut line, log.rows())?;
     push_resyncs(&mut line, log.resyncs())?;
+    push_clocks(&mut line, log.clocks())?;
+    push_readings(&mut line, log.readings())?;
     push_extras(&mut line, log.extras())?;
     tell(alloc, out, line)
 }
@@ -186,6 +215,7 @@ pub fn built(
     match word {
         "build" => parts.build(alloc),
         "build_with" => parts.build_with(alloc),
+        "build_read" => parts.build_read(alloc),
         _ => changed(log?, word, rest),
     }
 }

@@ -2,23 +2,31 @@
 //!
 //! - `host`: a host by its name, skew and gap, and maybe its least and greatest delay. `set`, `clear`, `send`, `recv`,
 //!   `note`, `pulse`: a row by the place of its host, its local time and a name. `resync`: a resync by the rows before
-//!   it, the place of its host, its skew and gap.
+//!   it, the place of its host, its skew and gap. `clock`: a clock by its name. `reading`: a reading by the rows before
+//!   it, the places of its host and its clock, and its error. `bound`: an extra bound by an event, another one, and the
+//!   most that the first may come after it.
 //! - `line`: a line of a text; `empty`: the text has no line.
 //! - `record`: a record by its fields, with `,` between two.
 
 use crate::telling::{decoded, name_of, push_decoded};
 use log_read::{Fields, RecordList};
-use mt_model::{Act, Host, HostId, HostList, Log, Resync, ResyncList, Row, RowList};
+use mt_model::{
+    Act, ClockId, ExtraList, Host, HostId, HostList, Log, NameList, Reading, ReadingList, Resync,
+    ResyncList, Row, RowList,
+};
 use std::alloc::Global;
 use std::mem::replace;
-use table_case::{number_of, split_word};
+use table_case::{extra_of, number_of, split_word};
 
-/// Hosts, rows and resyncs, a text, and records.
+/// Hosts, rows, resyncs, clocks, readings and extra bounds, a text, and records.
 #[derive(Drop)]
 pub struct Parts {
     hosts: HostList,
     rows: RowList,
     resyncs: ResyncList,
+    clocks: NameList,
+    readings: ReadingList,
+    extras: ExtraList,
     text: Vec<u8>,
     records: RecordList,
 }
@@ -67,6 +75,18 @@ fn resync_of(text: &str) -> Option<Resync> {
     })
 }
 
+fn reading_of(text: &str) -> Option<Reading> {
+    let (place, rest) = split_word(text);
+    let (host, rest) = split_word(rest);
+    let (clock, error) = split_word(rest);
+    Some(Reading {
+        place: number_of(place)?,
+        host: HostId::new(number_of(host)?),
+        error: number_of(error)?,
+        clock: ClockId::new(number_of(clock)?),
+    })
+}
+
 fn act_of(alloc: Global, word: &str, name: &str) -> Option<Act> {
     let name = name_of(alloc, name.as_bytes())?;
     match word {
@@ -106,6 +126,10 @@ fn push_host(alloc: Global, hosts: &mut HostList, text: &str) -> Option<()> {
     hosts.push(host_of(alloc, text)?).ok()
 }
 
+fn push_clock(alloc: Global, clocks: &mut NameList, text: &str) -> Option<()> {
+    clocks.push(name_of(alloc, text.as_bytes())?).ok()
+}
+
 fn push_row(alloc: Global, rows: &mut RowList, word: &str, text: &str) -> Option<()> {
     rows.push(row_of(alloc, word, text)?).ok()
 }
@@ -126,6 +150,9 @@ impl Parts {
             hosts: HostList::new(alloc),
             rows: RowList::new(alloc),
             resyncs: ResyncList::new(alloc),
+            clocks: NameList::new(alloc),
+            readings: ReadingList::new(alloc),
+            extras: ExtraList::new(alloc),
             text: Vec::new(alloc),
             records: RecordList::new(alloc),
         }
@@ -136,6 +163,9 @@ impl Parts {
         match word {
             "host" => push_host(alloc, &mut self.hosts, rest),
             "resync" => self.resyncs.push(resync_of(rest)?).ok(),
+            "clock" => push_clock(alloc, &mut self.clocks, rest),
+            "reading" => self.readings.push(reading_of(rest)?).ok(),
+            "bound" => self.extras.push(extra_of(rest)?).ok(),
             "line" => push_text(&mut self.text, rest),
             "record" => push_record(alloc, &mut self.records, rest),
             "empty" => {
@@ -159,6 +189,17 @@ impl Parts {
         let rows = replace(&mut self.rows, RowList::new(alloc));
         let resyncs = replace(&mut self.resyncs, ResyncList::new(alloc));
         Log::build_with(hosts, rows, resyncs)
+    }
+
+    /// The log of all parts, which are none from then on.
+    pub fn build_read(&mut self, alloc: Global) -> Option<Log> {
+        let hosts = replace(&mut self.hosts, HostList::new(alloc));
+        let rows = replace(&mut self.rows, RowList::new(alloc));
+        let resyncs = replace(&mut self.resyncs, ResyncList::new(alloc));
+        let clocks = replace(&mut self.clocks, NameList::new(alloc));
+        let readings = replace(&mut self.readings, ReadingList::new(alloc));
+        let extras = replace(&mut self.extras, ExtraList::new(alloc));
+        Log::build_read(hosts, rows, resyncs, clocks, readings, extras)
     }
 
     /// The text and another one.
