@@ -1,10 +1,13 @@
 //! How far bounds of a log can grow with the walks of a derivation staying negative.
 
 ghost use Rattle.std.specs.Prelude.{◌≡◌, ◌≤◌, ◌≤ℤ◌, pos};
+ghost use Rattle.skew_bounds.specs.RowEdges.{IsEdgeTableOf};
 
 use crate::slack::walk_slack;
 use mt_model::{Log, Step};
 use proof_log::Line;
+use skew_bounds::EdgeTable;
+use std::alloc::Global;
 
 /// Which bounds of a log grow, all by the same amount.
 #[derive(Clone, Copy)]
@@ -49,25 +52,38 @@ impl Growing {
         growing
     }
 
-    // By how much the bounds can grow with the sum of a walk below 0.
-    fn walk_room(self, log: &Log, steps: &[Step]) -> i128 {
-        match walk_slack(log, steps).checked_div(self.steps_of(steps)) {
+    // By how much the bounds can grow with the sum of a walk below 0, in a log whose edges these are.
+    fn walk_room(self, log: &Log, table: &EdgeTable, steps: &[Step]) -> i128
+        requires { IsEdgeTableOf log.now table.now }
+    {
+        match walk_slack(log, table, steps).checked_div(self.steps_of(steps)) {
             Some(room) => room,
             None => i128::MAX,
         }
     }
 
-    /// By how much, up to `most`, the bounds can grow with the sums of all walks of a derivation below 0. No clause says
-    /// that they can: it is a guess, and the derivation is judged anew by whoever follows it.
-    pub fn room(self, log: &Log, lines: &[Line], most: u128) -> u128
+    // The same of all walks of a derivation, up to `most`.
+    fn room_by(self, log: &Log, table: &EdgeTable, lines: &[Line], most: u128) -> u128
+        requires { IsEdgeTableOf log.now table.now }
         ensures at_most { result ≤ most }
     {
         let mut room = most;
         for line in lines {
             if let Line::Cycle(steps) = line {
-                room = clamped(self.walk_room(log, steps.as_slice()), room);
+                room = clamped(self.walk_room(log, table, steps.as_slice()), room);
             }
         }
         room
+    }
+
+    /// By how much, up to `most`, the bounds can grow with the sums of all walks of a derivation below 0. No clause says
+    /// that they can: it is a guess, 0 for want of memory, and the derivation is judged anew by whoever follows it.
+    pub fn room(self, alloc: Global, log: &Log, lines: &[Line], most: u128) -> u128
+        ensures at_most { result ≤ most }
+    {
+        match EdgeTable::of(alloc, log) {
+            Ok(table) => self.room_by(log, &table, lines, most),
+            Err(_) => 0,
+        }
     }
 }

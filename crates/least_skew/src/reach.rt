@@ -78,13 +78,13 @@ pub fn admitted_from(
 }
 
 // The widening, from that of a log to `high`, up to which the walks of lines keep their sums below 0.
-fn kept_up_to(there: &WideLog, high: u64, lines: &[Line]) -> u64
+fn kept_up_to(alloc: Global, there: &WideLog, high: u64, lines: &[Line]) -> u64
     requires order { there.now.s ≤ high }
     ensures from { there.now.s ≤ result }
     ensures to { result ≤ high }
 {
     let most = (high - there.s) as u128;
-    there.s + Growing::Skews.room(&there.log, lines, most) as u64
+    there.s + Growing::Skews.room(alloc, &there.log, lines, most) as u64
 }
 
 // Whether lines refute the value with the widening s.
@@ -117,7 +117,7 @@ pub fn refuted_up_to(
     ensures to { IfOk result (λ r. r ≤ high) }
     ensures refutes { IfOk result (λ r. AreRefuting aim.now (wide r aim.now.log.now) lines.now) }
 {
-    let r = kept_up_to(there, high, lines);
+    let r = kept_up_to(alloc, there, high, lines);
     if r == there.s {
         return Ok(r);
     }

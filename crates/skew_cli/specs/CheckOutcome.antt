@@ -9,7 +9,7 @@ use Rattle.report_text.specs.declared.report.Report.{Report}
 use Rattle.report_text.specs.declared.report.Report.TheVariants as report
 use Rattle.report_text.specs.ReportText.{report_text}
 use Rattle.verdict.specs.Claims.{Claims}
-use Rattle.verdict.specs.Right.{CyclesOnce, IsRight, is_unknown, is_witness}
+use Rattle.verdict.specs.Right.{CyclesOnce, HasFewLines, IsRight, is_unknown, is_witness}
 use Rattle.skew_answers.specs.declared.status.Status.{Status}
 use Rattle.skew_answers.specs.declared.status.Status.TheVariants as status
 use Rattle.skew_words.specs.Words.{Word}
@@ -41,12 +41,13 @@ abbrev pub IsWitnessed : Report → Type 0
 IsWitnessed (report.Inconsistent events steps) = Unit {0}
 IsWitnessed (report.Verdicts events on_true on_false) = IsTrue (is_witness on_true || is_witness on_false)
 
--- the answer is the text and the status of a report that is right; what the report claims is so, and a negative cycle in it comes to no moment twice
+-- the answer is the text and the status of a report that is right; what the report claims is so, a negative cycle in it comes to no moment twice, and lines in it are at most twice as many as the conflicts
 pub record Checked (conflicts : ℕ) (f : Form) (log : Logged) (out : List ℕ) (s : Status) : Type 0 where
   pub report : Report
   pub right : IsRight log f conflicts report
   pub claims : Claims log f report
   pub once : CyclesOnce log report
+  pub few : HasFewLines conflicts report
   pub written : out ≡ report_text report
   pub status : IsReportStatus report s
 

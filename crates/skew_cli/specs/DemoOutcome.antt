@@ -7,7 +7,7 @@ use Rattle.report_text.specs.declared.report.Report.{Report}
 use Rattle.report_text.specs.declared.report.Report.TheVariants as report
 use Rattle.report_text.specs.ReportText.{report_text, value_word}
 use Rattle.verdict.specs.Claims.{Claims}
-use Rattle.verdict.specs.Right.{IsRight}
+use Rattle.verdict.specs.Right.{HasFewLines, IsRight}
 use Rattle.skew_words.specs.declared.limits.TheConstants.{DEFAULT_CONFLICTS}
 use Rattle.skew_answers.specs.declared.status.Status.{Status}
 use Rattle.demo_log.specs.DemoFormula.{demo_formula}
@@ -34,10 +34,11 @@ summary_text seed r = line (codes "demo " ++ decimal seed) ++ line (codes "hosts
 abbrev pub demo_text : ℕ → Report → List ℕ
 demo_text seed r = summary_text seed r ++ (if is_undecided r then report_text r else [])
 
--- what `demo` gives: the summary and the status of a report that is right for the log of the seed, and what the report claims is so. No test refuses the log and the formula
+-- what `demo` gives: the summary and the status of a report that is right for the log of the seed, with few lines, and what the report claims is so. No test refuses the log and the formula
 pub record DemoOutcome (seed : ℕ) (out : List ℕ) (s : Status) : Type 0 where
   pub report : Report
   pub right : IsRight (log_of_seed seed) demo_formula DEFAULT_CONFLICTS report
   pub claims : Claims (log_of_seed seed) demo_formula report
+  pub few : HasFewLines DEFAULT_CONFLICTS report
   pub written : out ≡ demo_text seed report
   pub status : IsReportStatus report s

@@ -9,7 +9,7 @@ ghost use Rattle.report_text.specs.ReportText.{report_text};
 ghost use Rattle.report_text.specs.Spelled.{IsSpelled};
 ghost use Rattle.verdict.specs.Claims.{Claims};
 ghost use Rattle.question.specs.Faults.{IsJudged};
-ghost use Rattle.verdict.specs.Right.{CyclesOnce, IsRight, is_witness};
+ghost use Rattle.verdict.specs.Right.{CyclesOnce, HasFewLines, IsRight, is_witness};
 ghost use Rattle.skew_words.specs.declared.limits.TheConstants.{MAX_CONFLICTS};
 ghost use Rattle.skew_answers.specs.Statuses.{IsVerdict};
 ghost use Rattle.skew_cli.specs.CheckOutcome.{CheckOfLog, CheckOutcome, IsReportStatus, IsVerdictsStatus, IsWitnessed};
@@ -85,6 +85,7 @@ pub fn report_on(
     ensures right { IfOk result (IsRight log.now (form_of formula.now) conflicts) }
     ensures claims { IfOk result (Claims log.now (form_of formula.now)) }
     ensures once { IfOk result (CyclesOnce log.now) }
+    ensures few { IfOk result (HasFewLines conflicts) }
     ensures judged { OnOk result (IsJudged log.now (form_of formula.now)) }
     ensures reads_nothing { IsErrOf result Stop.ReadFailed → ⊥ }
     ensures refused { RefusesFor result (TellsLarge (form_of formula.now) log.now) }

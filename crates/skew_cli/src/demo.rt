@@ -6,7 +6,7 @@ ghost use Rattle.report_text.specs.Spelled.{IsSpelled};
 ghost use Rattle.skew_answers.specs.Statuses.{IsVerdict};
 ghost use Rattle.skew_answers.specs.Texts.{line};
 ghost use Rattle.verdict.specs.Claims.{Claims};
-ghost use Rattle.verdict.specs.Right.{IsRight};
+ghost use Rattle.verdict.specs.Right.{HasFewLines, IsRight};
 ghost use Rattle.demo_log.specs.DemoFormula.{demo_formula as demo_form};
 ghost use Rattle.demo_log.specs.DemoLog.{log_of_seed};
 ghost use Rattle.skew_words.specs.declared.limits.TheConstants.{DEFAULT_CONFLICTS};
@@ -127,6 +127,7 @@ fn demo_reply(alloc: Global, seed: u64, report: &Report) -> Result<Reply, AllocE
 fn demo_report(alloc: Global, seed: u64) -> Result<Report, Stop>
     ensures right { IfOk result (IsRight (log_of_seed seed) demo_form DEFAULT_CONFLICTS) }
     ensures claims { IfOk result (Claims (log_of_seed seed) demo_form) }
+    ensures few { IfOk result (HasFewLines DEFAULT_CONFLICTS) }
     ensures reads_nothing { IsErrOf result Stop.ReadFailed → ⊥ }
     ensures refused { RefusesFor result (λ r. ⊥) }
 {

@@ -1,5 +1,5 @@
 -- Which reports are right for a log, a formula and a number of conflicts, which a search for each value may have.
-use Rattle.std.specs.Prelude.{◌≡◌, ℕ, ◌<◌, ◌||◌, List, length, Bool, true, false, IsTrue, ℤ}
+use Rattle.std.specs.Prelude.{◌≡◌, ℕ, ◌<◌, ◌≤◌, ◌*◌, ◌||◌, List, length, Bool, true, false, IsTrue, ℤ}
 use Rattle.mt_model.specs.Form.{Form}
 use Rattle.mt_model.specs.Log.{Logged}
 use Rattle.mt_model.specs.Timing.{Admissible}
@@ -76,3 +76,14 @@ pub record IsRight (log : Logged) (f : Form) (conflicts : ℕ) (r : Report) : Ty
 abbrev pub CyclesOnce : Logged → Report → Type 0
 CyclesOnce log (report.Inconsistent events steps) = VisitsOnce log steps
 CyclesOnce log (report.Verdicts events on_true on_false) = Unit {0}
+
+-- the section has no lines, or at most twice as many as the conflicts
+abbrev pub HasFewLinesIn : ℕ → Section → Type 0
+HasFewLinesIn conflicts (section.Witness t) = Unit {0}
+HasFewLinesIn conflicts (section.Refuted lines) = length lines ≤ 2 * conflicts
+HasFewLinesIn conflicts (section.Unknown lines) = length lines ≤ 2 * conflicts
+
+-- each section of the report has
+abbrev pub HasFewLines : ℕ → Report → Type 0
+HasFewLines conflicts (report.Inconsistent events steps) = Unit {0}
+HasFewLines conflicts (report.Verdicts events on_true on_false) = HasFewLinesIn conflicts on_true × HasFewLinesIn conflicts on_false

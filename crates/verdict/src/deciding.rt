@@ -10,7 +10,7 @@ ghost use Rattle.question.specs.Settled.{IsSettled};
 ghost use Rattle.report_text.specs.Spelled.{IsSpelledSection};
 ghost use Rattle.verdict.specs.Claims.{Claims};
 ghost use Rattle.question.specs.Faults.{IsFault, IsJudged};
-ghost use Rattle.verdict.specs.Right.{CyclesOnce, IsRight, IsRightSection};
+ghost use Rattle.verdict.specs.Right.{CyclesOnce, HasFewLines, HasFewLinesIn, IsRight, IsRightSection};
 
 use crate::VerdictFault;
 use crate::laws::right_reports_are_true;
@@ -34,6 +34,7 @@ fn searched(
     requires tight { IsTight question.log tight.now }
     ensures right { IfOk result (IsRightSection question.entry.log question.entry.form budget value) }
     ensures spelled { IfOk result (IsSpelledSection (length question.entry.log.rows)) }
+    ensures few { IfOk result (HasFewLinesIn budget) }
 {
     log_is_valid(question.log());
     // For the proof: the call says how great a budget is at most.
@@ -67,6 +68,7 @@ fn verdicts(
     requires admissible { Admissible question.log times }
     ensures right { IfOk result (IsRight question.entry.log question.entry.form budget) }
     ensures once { IfOk result (CyclesOnce question.entry.log) }
+    ensures few { IfOk result (HasFewLines budget) }
 {
     let log = question.log();
     let value = value_in(alloc, &question, times.as_slice())?;
@@ -99,6 +101,7 @@ fn report_of(
     requires settled { IsSettled question.log settled }
     ensures right { IfOk result (IsRight question.entry.log question.entry.form budget) }
     ensures once { IfOk result (CyclesOnce question.entry.log) }
+    ensures few { IfOk result (HasFewLines budget) }
 {
     match settled {
         Settled::Conflict(steps) => {
@@ -119,6 +122,7 @@ fn report_on(
     requires hosts { unknown_host log.now nodes.now ≡ None }
     ensures right { IfOk result (IsRight log.now nodes.now budget) }
     ensures once { IfOk result (CyclesOnce log.now) }
+    ensures few { IfOk result (HasFewLines budget) }
     ensures judged { OnOk result (IsJudged log.now nodes.now) }
     ensures fault { IfErr result (IsFault log.now nodes.now) }
 {
@@ -129,8 +133,8 @@ fn report_on(
 
 /// A report of the values that a formula can have, over all timings that a log admits: where it admits none, a negative
 /// cycle that comes to no moment twice; else for each value a timing in which the formula has it, lines that refute it,
-/// or, of one value alone, lines with as many fresh clauses learnt as the budget. The budget is from 1 to 1,000,000, for
-/// each value.
+/// or, of one value alone, lines with as many fresh clauses learnt as the budget; at most twice as many lines as the
+/// budget either way. The budget is from 1 to 1,000,000, for each value.
 ///
 /// The faults other than want of memory come exactly where the formula isn't judged of the log, and say why: a host
 /// that isn't in the log, then too many nodes, then a problem that is too large.
@@ -140,6 +144,7 @@ pub fn decide(alloc: Global, log: &Log, f: &Formula, budget: u32) -> Result<Repo
     ensures right { IfOk result (IsRight log.now (form_of f.now) budget) }
     ensures claims { IfOk result (Claims log.now (form_of f.now)) }
     ensures once { IfOk result (CyclesOnce log.now) }
+    ensures few { IfOk result (HasFewLines budget) }
     ensures judged { OnOk result (IsJudged log.now (form_of f.now)) }
     ensures fault { IfErr result (IsFault log.now (form_of f.now)) }
 {

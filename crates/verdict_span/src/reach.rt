@@ -25,12 +25,18 @@ fn refutes_at(alloc: Global, span: &Span, c: i128, lines: &[Line]) -> Result<boo
 }
 
 // How much less than that of a log the distance can be with the sums of all walks below 0, as far as this.
-fn room_below(span: &Span, there: &SpacedLog, most: u128, lines: &[Line]) -> u128
+fn room_below(
+    alloc: Global,
+    span: &Span,
+    there: &SpacedLog,
+    most: u128,
+    lines: &[Line],
+) -> u128
     ensures at_most { result ≤ most }
 {
     log_is_valid(span.aim.log);
     let extra = span.aim.log.extras().len() as u32;
-    Growing::Extra(extra).room(&there.log, lines, most)
+    Growing::Extra(extra).room(alloc, &there.log, lines, most)
 }
 
 /// The least distance from `low` on with which lines refute the value that do with that of a log, so far as their walks
@@ -52,7 +58,7 @@ pub fn refuted_from(
     ensures to { IfOk result (λ c. c ≤ℤ there.now.c) }
     ensures refutes { IfOk result (λ c. AreRefuting span.now.aim (distant span.now c) lines.now) }
 {
-    let r = room_below(span, there, gap(low, there.c), lines);
+    let r = room_below(alloc, span, there, gap(low, there.c), lines);
     if r == 0 {
         return Ok(there.c);
     }

@@ -30,6 +30,7 @@ returns-clause-outcome c =
       right = c.in_ok-report.ensures.right;
       claims = c.in_ok-report.ensures.claims;
       once = c.in_ok-report.ensures.once;
+      few = c.in_ok-report.ensures.few;
       written = c.in_ok-report_reply.ensures.text;
       status = c.in_ok-report_reply.ensures.status;
     } in

@@ -24,6 +24,7 @@ returns-clause-outcome c = record {
   report = c.in_ok-report.report;
   right = c.in_ok-report.ensures.right;
   claims = c.in_ok-report.ensures.claims;
+  few = c.in_ok-report.ensures.few;
   written = c.in_ok-demo_reply.ensures.text;
   status = c.in_ok-demo_reply.ensures.status;
 }

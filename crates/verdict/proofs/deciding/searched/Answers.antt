@@ -7,6 +7,7 @@ returns-in-Timing c =
     record {
       right = timing_right c.args.question.log c.args.question.form c.args.budget c.args.value (rw c.log.ensures.log at c.log_is_valid.ensures.valid) c.in-Timing.times found;
       spelled = timing_spelled c.args.question.log c.args.question.form c.args.budget c.args.value (rw c.log.ensures.log at c.log_is_valid.ensures.valid) c.in-Timing.times found;
+      few = tt;
     }
 
 pub returns-in-Refuted : goal.returns-in-Refuted
@@ -15,6 +16,7 @@ returns-in-Refuted c =
     record {
       right = refuted_right c.args.question.log c.args.question.form c.args.budget c.args.value (rw c.log.ensures.log at c.log_is_valid.ensures.valid) c.in-Refuted.lines c.get.ensures.most found;
       spelled = refuted_spelled c.args.question.log c.args.question.form c.args.budget c.args.value (rw c.log.ensures.log at c.log_is_valid.ensures.valid) c.in-Refuted.lines c.get.ensures.most found;
+      few = found.few;
     }
 
 pub returns-in-Spent : goal.returns-in-Spent
@@ -23,4 +25,5 @@ returns-in-Spent c =
     record {
       right = spent_right c.args.question.log c.args.question.form c.args.budget c.args.value (rw c.log.ensures.log at c.log_is_valid.ensures.valid) c.in-Spent.lines c.get.ensures.most found;
       spelled = spent_spelled c.args.question.log c.args.question.form c.args.budget c.args.value (rw c.log.ensures.log at c.log_is_valid.ensures.valid) c.in-Spent.lines c.get.ensures.most found;
+      few = found.few;
     }
