@@ -25,13 +25,7 @@ fn refutes_at(alloc: Global, span: &Span, c: i128, lines: &[Line]) -> Result<boo
 }
 
 // How much less than that of a log the distance can be with the sums of all walks below 0, as far as this.
-fn room_below(
-    alloc: Global,
-    span: &Span,
-    there: &SpacedLog,
-    most: u128,
-    lines: &[Line],
-) -> u128
+fn room_below(alloc: Global, span: &Span, there: &SpacedLog, most: u128, lines: &[Line]) -> u128
     ensures at_most { result ≤ most }
 {
     log_is_valid(span.aim.log);
