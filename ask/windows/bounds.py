@@ -8,8 +8,8 @@ may go back, and for clocks, whose offsets are to and from all rows that read th
 from __future__ import annotations
 
 from array import array
-from collections import deque
-from typing import Deque, Dict, Iterable, Iterator, List, NamedTuple, Optional, Sequence, Set, Tuple
+from heapq import heapify, heappop, heappush
+from typing import Dict, Iterator, List, NamedTuple, Optional, Sequence, Tuple
 
 from ask.reports import Step
 from ask.windows.longlog import NONE, LongLog
@@ -170,49 +170,8 @@ class Bounds:
             if send != NONE and time - delay[event] < found[send]:
                 found[send] = time - delay[event]
         if len(self.loose) or len(self.readings):
-            self.lower(found)
+            Lowering(self, found).settle()
         return found
-
-    def lower(self, found: array) -> None:
-        """Lowers greatest times until the bounds that go back, and those of clocks, hold of them too."""
-        edges = zip(self.loose.source, self.loose.target, self.loose.distance)
-        waiting = deque(target for source, target, distance in edges if found[target] - distance < found[source])
-        offsets = [FAR] * self.readings.count
-        clocks = self.clocks_lowered_by(self.readings.event, found, offsets)
-        while waiting or clocks:
-            for clock in clocks:
-                self.lower_by_clock(found, clock, offsets[clock], waiting)
-            clocks = self.clocks_lowered_by(self.lowered_before(found, waiting), found, offsets)
-
-    def lowered_before(self, found: array, waiting: Deque[int]) -> List[int]:
-        """Lowers what comes before rows that wait; the rows that were lowered."""
-        lowered = []
-        while waiting:
-            event = waiting.popleft()
-            time = found[event]
-            for other, least in self.all_before(event):
-                if time - least < found[other]:
-                    found[other] = time - least
-                    waiting.append(other)
-                    lowered.append(other)
-        return lowered
-
-    def clocks_lowered_by(self, events: Iterable[int], found: array, offsets: List[int]) -> Set[int]:
-        """Lowers the greatest offsets to what rows allow; the clocks whose offsets were lowered."""
-        lowered = set()
-        for event in events:
-            reading = self.readings.of(event)
-            if reading and found[event] - reading.low < offsets[reading.clock]:
-                offsets[reading.clock] = found[event] - reading.low
-                lowered.add(reading.clock)
-        return lowered
-
-    def lower_by_clock(self, found: array, clock: int, offset: int, waiting: Deque[int]) -> None:
-        """Lowers the rows of a clock that are later than its offset allows, and has them wait."""
-        for event, _, high in self.readings.rows_of(clock):
-            if offset + high < found[event]:
-                found[event] = offset + high
-                waiting.append(event)
 
     # Timings
 
@@ -245,6 +204,94 @@ class Bounds:
         return self.least(low, high)
 
 
+class Agenda:
+    """Rows and clocks whose times or offsets were changed, that with the greatest number first, and each once in a pass.
+
+    The number is by how much a row is off its stamp, so that between rows which bounds tie to each other with room at
+    the stamps no change comes behind another one that is further off: they are settled in one pass (Dijkstra 1959).
+    Others take a further pass for each bound on their way that the stamps break, and so not more than passes over all
+    would (Dinitz and Itzikson 2017). Clocks are numbered behind the rows.
+    """
+
+    def __init__(self, count: int):
+        self.heap: List[Tuple[int, int]] = []
+        self.later: List[Tuple[int, int]] = []  # that were changed once more
+        self.is_done = bytearray(count)  # in this pass
+
+    def put(self, node: int, number: int) -> None:
+        """Has a row or a clock wait."""
+        if self.is_done[node]:
+            self.later.append((-number, node))
+        else:
+            heappush(self.heap, (-number, node))
+
+    def __iter__(self) -> Iterator[int]:
+        """Those that wait, as long as there are any; more may come meanwhile."""
+        while self.heap or self.later:
+            if not self.heap:
+                self.begin_pass()
+            _, node = heappop(self.heap)
+            if not self.is_done[node]:
+                self.is_done[node] = 1
+                yield node
+
+    def begin_pass(self) -> None:
+        """Begins the next pass."""
+        self.heap, self.later = self.later, []
+        heapify(self.heap)
+        self.is_done = bytearray(len(self.is_done))
+
+
+class Lowering:
+    """Greatest times that are lowered until the bounds that go back, and those of clocks, hold of them too."""
+
+    def __init__(self, bounds: Bounds, found: array):
+        self.bounds, self.found, self.stamps = bounds, found, bounds.log.rows.stamp
+        self.offsets = [FAR] * bounds.readings.count
+        self.agenda = Agenda(len(found) + bounds.readings.count)
+
+    def settle(self) -> None:
+        """Lowers greatest times of a log that admits a timing."""
+        found, loose = self.found, self.bounds.loose
+        for source, target, distance in zip(loose.source, loose.target, loose.distance):
+            if found[target] - distance < found[source]:
+                self.agenda.put(target, self.stamps[target] - found[target])
+        for event in self.bounds.readings.event:
+            self.lower_clock_of(event)
+        for node in self.agenda:
+            if node < len(found):
+                self.lower_before(node)
+                self.lower_clock_of(node)
+            else:
+                self.lower_rows_of(node - len(found))
+
+    def lower_before(self, event: int) -> None:
+        """Lowers what comes before a row."""
+        time = self.found[event]
+        for other, least in self.bounds.all_before(event):
+            if time - least < self.found[other]:
+                self.put(other, time - least)
+
+    def lower_clock_of(self, event: int) -> None:
+        """Lowers the greatest offset of the clock that a row reads to what the row allows."""
+        reading = self.bounds.readings.of(event)
+        if reading and self.found[event] - reading.low < self.offsets[reading.clock]:
+            self.offsets[reading.clock] = self.found[event] - reading.low
+            self.agenda.put(len(self.found) + reading.clock, -self.offsets[reading.clock])
+
+    def lower_rows_of(self, clock: int) -> None:
+        """Lowers the rows of a clock that are later than its offset allows."""
+        offset = self.offsets[clock]
+        for event, _, high in self.bounds.readings.rows_of(clock):
+            if offset + high < self.found[event]:
+                self.put(event, offset + high)
+
+    def put(self, event: int, time: int) -> None:
+        """Lowers a row to a time that is earlier than its own."""
+        self.found[event] = time
+        self.agenda.put(event, self.stamps[event] - time)
+
+
 class Raising:
     """Least times that are raised until the bounds that go back, and those of clocks, hold of them too.
 
@@ -253,7 +300,8 @@ class Raising:
     """
 
     def __init__(self, bounds: Bounds, found: array, high: Sequence[int]):
-        self.bounds, self.found, self.high = bounds, found, high
+        self.bounds, self.found, self.high, self.stamps = bounds, found, high, bounds.log.rows.stamp
+        self.agenda = Agenda(len(found) + bounds.readings.count)
         self.before = array("q", found)  # as the pass over the rows left them
         self.raised_by: Dict[int, Tuple[Step, int]] = {}
         self.offsets = [-FAR] * bounds.readings.count
@@ -261,59 +309,53 @@ class Raising:
 
     def settle(self) -> None:
         """Raises least times, or finds the contradiction."""
-        found, loose, readings = self.found, self.bounds.loose, self.bounds.readings
-        edges = zip(loose.source, loose.target, loose.distance)
-        self.spread(deque(source for source, target, distance in edges if found[source] + distance > found[target]))
-        clocks = self.clocks_raised_by(readings.event)
-        while clocks:
-            clocks = self.clocks_raised_by(self.spread(self.raised_by_clocks(clocks)))
-
-    def spread(self, waiting: Deque[int]) -> List[int]:
-        """Raises what comes behind rows that wait; the rows that were raised."""
         found, loose = self.found, self.bounds.loose
-        raised = []
-        while waiting:
-            event = waiting.popleft()
-            for number in loose.numbers_from(event):
-                target, distance = loose.target[number], loose.distance[number]
-                if found[event] + distance > found[target]:
-                    self.put(target, found[event] + distance, (loose.step(number), event), waiting)
-                    raised.append(target)
-            for kind, other, least in self.bounds.out_of(event):
-                if found[event] + least > found[other]:
-                    self.put(other, found[event] + least, (Step(kind, (other,)), event), waiting)
-                    raised.append(other)
-        return raised
+        for source, target, distance in zip(loose.source, loose.target, loose.distance):
+            if found[source] + distance > found[target]:
+                self.agenda.put(source, found[source] - self.stamps[source])
+        for event in self.bounds.readings.event:
+            self.raise_clock_of(event)
+        for node in self.agenda:
+            if node < len(found):
+                self.raise_behind(node)
+                self.raise_clock_of(node)
+            else:
+                self.raise_rows_of(node - len(found))
 
-    def clocks_raised_by(self, events: Iterable[int]) -> Set[int]:
-        """Raises offsets to what rows ask of them; the clocks whose offsets were raised."""
-        found, offsets = self.found, self.offsets
-        raised = set()
-        for event in events:
-            reading = self.bounds.readings.of(event)
-            if reading and found[event] - reading.high > offsets[reading.clock]:
-                offsets[reading.clock] = found[event] - reading.high
-                self.raised_by[len(found) + reading.clock] = (Step("over", (event,)), event)
-                raised.add(reading.clock)
-        return raised
+    def raise_behind(self, event: int) -> None:
+        """Raises what comes behind a row."""
+        found, loose = self.found, self.bounds.loose
+        for number in loose.numbers_from(event):
+            target, distance = loose.target[number], loose.distance[number]
+            if found[event] + distance > found[target]:
+                self.put(target, found[event] + distance, (loose.step(number), event))
+        for kind, other, least in self.bounds.out_of(event):
+            if found[event] + least > found[other]:
+                self.put(other, found[event] + least, (Step(kind, (other,)), event))
 
-    def raised_by_clocks(self, clocks: Iterable[int]) -> Deque[int]:
-        """Raises rows to what the offsets of their clocks ask; the rows that were raised."""
-        waiting: Deque[int] = deque()
-        for clock in clocks:
-            for event, low, _ in self.bounds.readings.rows_of(clock):
-                if self.offsets[clock] + low > self.found[event]:
-                    self.put(event, self.offsets[clock] + low, (Step("under", (event,)), len(self.found) + clock), waiting)
-                self.count_step()
-        return waiting
+    def raise_clock_of(self, event: int) -> None:
+        """Raises the offset of the clock that a row reads to what the row asks of it."""
+        reading = self.bounds.readings.of(event)
+        if reading and self.found[event] - reading.high > self.offsets[reading.clock]:
+            self.offsets[reading.clock] = self.found[event] - reading.high
+            self.raised_by[len(self.found) + reading.clock] = (Step("over", (event,)), event)
+            self.agenda.put(len(self.found) + reading.clock, self.offsets[reading.clock])
 
-    def put(self, event: int, time: int, by: Tuple[Step, int], waiting: Deque[int]) -> None:
+    def raise_rows_of(self, clock: int) -> None:
+        """Raises rows to what the offset of their clock asks."""
+        offset = self.offsets[clock]
+        for event, low, _ in self.bounds.readings.rows_of(clock):
+            if offset + low > self.found[event]:
+                self.put(event, offset + low, (Step("under", (event,)), len(self.found) + clock))
+            self.count_step()
+
+    def put(self, event: int, time: int, by: Tuple[Step, int]) -> None:
         """Raises a row to a time that is later than its own."""
         self.raised_by[event] = by
         if time > self.high[event]:
             raise Contradiction(self.walk(event))
         self.found[event] = time
-        waiting.append(event)
+        self.agenda.put(event, time - self.stamps[event])
         self.count_step()
 
     def count_step(self) -> None:

@@ -7,11 +7,13 @@ the rows that can see a moved one says whether it can hold there.
 from __future__ import annotations
 
 from array import array
+from bisect import bisect_left
 from typing import Dict, Iterator, List, NamedTuple, Optional, Sequence
 
 from ask.logs import MOST_ROWS
 from ask.windows.asking import Asker, Said, Whole
 from ask.windows.cuts import Ranges, Slice, size_of
+from ask.windows.loose import Offsets
 from ask.windows.timings import holds, keeps, room, truth_of
 from ask.windows.truth import Evaluator
 from ask.windows.window import Window
@@ -42,6 +44,7 @@ class Joint:
     def timing(self) -> Optional[array]:
         """A timing that holds at every position, or None where none was found."""
         self.times, self.left = self.best(self.candidates())
+        self.offsets = Offsets(self.whole.bounds.readings, self.times)
         self.reach: Dict[int, int] = {}  # how often the repair of a place has grown
         while self.left:
             repairs = self.repairs()
@@ -103,7 +106,7 @@ class Joint:
         moved = self.whole.glazier.events_in(self.whole.extent.ranges(moment - past - reach, moment + future + reach))
         if len(moved) > MOST_MOVED:
             return None
-        least, greatest = room(self.whole.bounds, self.times, moved)
+        least, greatest = room(self.whole.bounds, self.times, self.offsets, moved)
         part = Slice(min(least.values()) - future, max(greatest.values()) + past)
         ranges = self.ranges_now(self.whole.glazier.seen(part))
         if size_of(ranges) >= MOST_ROWS - 2:
@@ -141,11 +144,12 @@ class Joint:
     def take(self, repair: Repair, said: Said) -> bool:
         """Takes what the window of a repair says; whether there is anything left to try."""
         moved = self.moved(repair, said)
-        if moved is not None and keeps(self.whole.bounds, self.times, moved):
+        if moved is not None and keeps(self.whole.bounds, self.times, self.offsets, moved):
             for event, time in moved.items():
                 self.times[event] = time
+            self.offsets.take(moved)
             first, last = repair.window.slice
-            self.left = [moment for moment in self.left if not first <= moment <= last]
+            del self.left[bisect_left(self.left, first) : bisect_left(self.left, last + 1)]
             return True
         if repair.is_all and said.can_hold is False:
             self.excluding = said

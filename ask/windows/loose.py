@@ -3,7 +3,8 @@
 from __future__ import annotations
 
 from array import array
-from typing import Dict, Iterator, List, NamedTuple, Optional, Sequence, Tuple
+from heapq import heappop, heappush
+from typing import Callable, Container, Dict, Iterable, Iterator, List, NamedTuple, Optional, Sequence, Set, Tuple
 
 from ask.reports import Step
 from ask.windows.longlog import NONE, Links, LongLog
@@ -110,20 +111,6 @@ class Readings:
         """The rows of a clock with their lows and highs."""
         return ((self.event[place], self.low[place], self.high[place]) for place in self.by_clock.of(clock))
 
-    def ends(self, times: Sequence[int], moved: Dict[int, int]) -> Dict[int, Ends]:
-        """For each clock that some rows read the offsets that its other rows leave it."""
-        clocks = {reading.clock for reading in map(self.of, moved) if reading}
-        return {clock: self.ends_of(clock, times, moved) for clock in clocks}
-
-    def ends_of(self, clock: int, times: Sequence[int], moved: Dict[int, int]) -> Ends:
-        """The offsets that the rows of a clock leave it that aren't moved."""
-        ends = Ends()
-        for place in self.by_clock.of(clock):
-            event = self.event[place]
-            if event not in moved:
-                ends = ends.with_row(times[event], times[event], Reading(clock, self.low[place], self.high[place]))
-        return ends
-
     def broken(self, times: Sequence[int]) -> Optional[Step]:
         """The first row whose reading of a clock doesn't agree with those before it, with the bound of it, or None."""
         ends = [Ends() for _ in range(self.count)]
@@ -135,3 +122,96 @@ class Readings:
                 return Step("over", (event,))
             ends[clock] = before.with_row(time, time, Reading(clock, low, high))
         return None
+
+
+class Offsets:
+    """The offsets that clocks can have by the rows that read them in a timing, whose rows may be moved."""
+
+    def __init__(self, readings: Readings, times: Sequence[int]):
+        self.readings, self.times = readings, times
+        self.known: Dict[int, Tuple[Ranking, Ranking]] = {}  # of each clock that was asked for: by least and greatest offsets
+
+    def rankings(self, clock: int) -> "Tuple[Ranking, Ranking]":
+        """The rows of a clock by the least offset that each allows it, from the greatest down, and by the greatest one."""
+        if clock not in self.known:
+            events = [event for event, _, _ in self.readings.rows_of(clock)]
+            self.known[clock] = Ranking(events, self.least_negated), Ranking(events, self.greatest)
+        return self.known[clock]
+
+    def least_negated(self, event: int) -> int:
+        """The least offset that a row allows its clock, negated."""
+        return self.readings.high[self.readings.place[event]] - self.times[event]
+
+    def greatest(self, event: int) -> int:
+        """The greatest offset that a row allows its clock."""
+        return self.times[event] - self.readings.low[self.readings.place[event]]
+
+    def without(self, moved: Dict[int, int]) -> Dict[int, Ends]:
+        """For each clock that some rows read the offsets that its other rows leave it."""
+        clocks = {reading.clock for reading in map(self.readings.of, moved) if reading}
+        return {clock: self.ends_of(clock, moved) for clock in clocks}
+
+    def ends_of(self, clock: int, moved: Dict[int, int]) -> Ends:
+        """The offsets that the rows of a clock leave it that aren't moved."""
+        least, greatest = (ranking.first(moved) for ranking in self.rankings(clock))
+        return Ends(-FAR if least is None else -least, FAR if greatest is None else greatest)
+
+    def take(self, moved: Iterable[int]) -> None:
+        """Takes it that the timing has rows at other times."""
+        for event in moved:
+            reading = self.readings.of(event)
+            for ranking in self.known.get(reading.clock, ()) if reading else ():
+                ranking.change(event)
+
+
+class Ranking:
+    """Rows by a number that each has in a timing, the least first; rows that are moved get others.
+
+    Those whose numbers were changed are kept apart, so that the order of all others stays.
+    """
+
+    def __init__(self, events: Sequence[int], number_of: Callable[[int], int]):
+        self.number_of = number_of
+        self.order = array("i", sorted(events, key=number_of))
+        self.start = 0  # before which there are only changed ones
+        self.changed: Set[int] = set()
+        self.heap: List[Tuple[int, int]] = []  # the numbers that changed ones have, or had before, and these
+
+    def change(self, event: int) -> None:
+        """Takes another number of a row."""
+        self.changed.add(event)
+        heappush(self.heap, (self.number_of(event), event))
+
+    def first(self, left_out: Container[int]) -> Optional[int]:
+        """The least number of a row, but for some rows; None where there is no other."""
+        numbers = (self.first_unchanged(left_out), self.first_changed(left_out))
+        return min((number for number in numbers if number is not None), default=None)
+
+    def first_unchanged(self, left_out: Container[int]) -> Optional[int]:
+        """The same of those whose numbers were never changed."""
+        while self.start < len(self.order) and self.order[self.start] in self.changed:
+            self.start += 1
+        events = (self.order[place] for place in range(self.start, len(self.order)))
+        event = next((event for event in events if event not in self.changed and event not in left_out), None)
+        return None if event is None else self.number_of(event)
+
+    def first_changed(self, left_out: Container[int]) -> Optional[int]:
+        """The same of the others."""
+        passed = self.passed(left_out)
+        found = self.heap[0][0] if self.heap else None
+        for one in passed:
+            heappush(self.heap, one)
+        return found
+
+    def passed(self, left_out: Container[int]) -> List[Tuple[int, int]]:
+        """Takes away what stands before the first number of the others; what of it is still so."""
+        passed = []
+        while self.heap and (self.is_old(*self.heap[0]) or self.heap[0][1] in left_out):
+            one = heappop(self.heap)
+            if not self.is_old(*one):
+                passed.append(one)
+        return passed
+
+    def is_old(self, number: int, event: int) -> bool:
+        """Whether a row has another number by now."""
+        return self.number_of(event) != number

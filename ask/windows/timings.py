@@ -9,7 +9,7 @@ from typing import Deque, Dict, List, Sequence
 from ask.windows.bounds import Bounds, Times
 from ask.windows.cuts import Slice
 from ask.windows.longlog import LongLog
-from ask.windows.loose import Ends
+from ask.windows.loose import Ends, Offsets
 from ask.windows.shape import Shape
 from ask.windows.truth import Evaluator, Truth
 
@@ -60,7 +60,9 @@ def with_moved(bounds: Bounds, timing: Sequence[int], moved: Dict[int, int]) -> 
     return found
 
 
-def room(bounds: Bounds, times: Sequence[int], moved: Sequence[int]) -> "tuple[Dict[int, int], Dict[int, int]]":
+def room(
+    bounds: Bounds, times: Sequence[int], offsets: Offsets, moved: Sequence[int]
+) -> "tuple[Dict[int, int], Dict[int, int]]":
     """The least and the greatest times of rows where all others stay as they are in a timing."""
     least = {event: bounds.low[event] for event in moved}
     greatest = {event: bounds.high[event] for event in moved}
@@ -71,7 +73,7 @@ def room(bounds: Bounds, times: Sequence[int], moved: Sequence[int]) -> "tuple[D
         for other, distance in bounds.all_behind(event):
             if other not in least:
                 greatest[event] = min(greatest[event], times[other] - distance)
-    narrow(bounds, least, greatest, bounds.readings.ends(times, least))
+    narrow(bounds, least, greatest, offsets.without(least))
     return least, greatest
 
 
@@ -112,7 +114,7 @@ def is_narrowed_by_clocks(
     return bool(rising or falling)
 
 
-def keeps(bounds: Bounds, times: Sequence[int], moved: Dict[int, int]) -> bool:
+def keeps(bounds: Bounds, times: Sequence[int], offsets: Offsets, moved: Dict[int, int]) -> bool:
     """Whether a timing stays one where these rows are moved."""
 
     def time(event: int) -> int:
@@ -125,12 +127,12 @@ def keeps(bounds: Bounds, times: Sequence[int], moved: Dict[int, int]) -> bool:
             return False
         if any(time(other) < moment + least for other, least in bounds.all_behind(event)):
             return False
-    return has_offsets(bounds, times, moved)
+    return has_offsets(bounds, offsets, moved)
 
 
-def has_offsets(bounds: Bounds, times: Sequence[int], moved: Dict[int, int]) -> bool:
+def has_offsets(bounds: Bounds, offsets: Offsets, moved: Dict[int, int]) -> bool:
     """Whether each clock that these rows read has an offset where they are moved."""
-    ends = bounds.readings.ends(times, moved)
+    ends = offsets.without(moved)
     for event, moment in moved.items():
         reading = bounds.readings.of(event)
         if reading:

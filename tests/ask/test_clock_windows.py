@@ -5,6 +5,7 @@ import random
 import time
 import unittest
 from collections import Counter
+from unittest import mock
 
 import common  # sets the path
 import clock_logs
@@ -17,9 +18,10 @@ from ask.program import Program, find_program
 from ask.reports import Step
 from ask.texts import Source
 from ask.windows.asking import Setting, View, Whole
-from ask.windows.bounds import Bounds, Contradiction
+from ask.windows.bounds import Bounds, Contradiction, Lowering, Raising
 from ask.windows.cuts import Slice
 from ask.windows.longlog import read_long_log
+from ask.windows.loose import Offsets
 from ask.windows.shape import shape_of
 from ask.windows.timings import keeps, room
 from ask.windows.verdict import verdict_of_slices
@@ -83,19 +85,47 @@ class Passes(unittest.TestCase):
     def test_rows_that_move(self):
         for draw, text, times in generated():
             log, bounds = read_log(text.encode()), Bounds(read_long_log(text.encode()))
-            moved = draw.sample(range(len(times)), draw.randint(1, len(times)))
-            least, greatest = room(bounds, times, moved)
-            pinned = [*times]
-            with self.subTest(log=text, moved=moved):
-                for ends in (least, greatest):
-                    tried = [ends.get(event, time) for event, time in enumerate(pinned)]
-                    self.assertTrue(clock_logs.is_timing(log, tried))
-                for _ in range(4):
-                    tried = {event: times[event] + draw.choice((0, 0, -1, 1, 2)) for event in moved}
-                    whole = [tried.get(event, time) for event, time in enumerate(times)]
-                    self.assertEqual(keeps(bounds, times, tried), clock_logs.is_timing(log, whole))
-                    if clock_logs.is_timing(log, whole):
-                        self.assertTrue(all(least[event] <= tried[event] <= greatest[event] for event in moved))
+            offsets = Offsets(bounds.readings, times)
+            for _ in range(4):
+                moved = draw.sample(range(len(times)), draw.randint(1, len(times)))
+                with self.subTest(log=text, times=times, moved=moved):
+                    tried = self.check_moved(draw, log, (bounds, times, offsets), moved)
+                for event, time in tried.items():
+                    times[event] = time
+                offsets.take(tried)
+
+    def check_moved(self, draw, log, timing, moved):
+        """Asserts how far rows of a timing can move; times that they can have."""
+        bounds, times, offsets = timing
+        least, greatest = room(bounds, times, offsets, moved)
+        for ends in (least, greatest):
+            self.assertTrue(clock_logs.is_timing(log, [ends.get(event, time) for event, time in enumerate(times)]))
+        found = draw.choice((least, greatest, {}))
+        for _ in range(4):
+            tried = {event: times[event] + draw.choice((0, 0, -1, 1, 2)) for event in moved}
+            whole = [tried.get(event, time) for event, time in enumerate(times)]
+            self.assertEqual(keeps(bounds, times, offsets, tried), clock_logs.is_timing(log, whole))
+            if clock_logs.is_timing(log, whole):
+                self.assertTrue(all(least[event] <= tried[event] <= greatest[event] for event in moved))
+                found = tried
+        return found
+
+    def test_a_move_takes_no_pass_over_all_rows_of_its_clock(self):
+        draw, count = random.Random(63), 20_000
+        rows = "".join(f"note,a,{10 * place},x\n" for place in range(count))
+        bounds = Bounds(read_long_log(f"{HEAD}host,a,9,0\nclock,a,9,k\n{rows}".encode()))
+        times = [time + draw.randint(-4, 4) for time in bounds.log.rows.stamp]
+        offsets = Offsets(bounds.readings, times)
+        self.assertEqual(room(bounds, times, offsets, [0])[0], {0: max(-9, max(t - s for t, s in zip(times, bounds.log.rows.stamp)) - 18)})
+        with mock.patch.object(Offsets, "least_negated", autospec=True, side_effect=Offsets.least_negated) as asked:
+            rankings = Offsets(bounds.readings, times)
+            for _ in range(2000):
+                first = draw.randrange(count - 9)
+                moved = {event: 10 * event + draw.randint(-4, 4) for event in range(first, first + 9)}
+                self.assertTrue(keeps(bounds, times, rankings, moved))
+                times[first : first + 9] = moved.values()
+                rankings.take(moved)
+        self.assertLess(asked.call_count, 10 * count)
 
     def test_a_chain_of_clocks(self):
         hosts = 40
@@ -117,6 +147,22 @@ class Passes(unittest.TestCase):
         began = time.process_time()
         self.assertEqual([set(found) for found in Bounds(log).times()], [{0}] * 2)
         self.assertLess(time.process_time() - began, 4)  # seconds of the processor; with such passes it takes over 8
+
+    def test_a_chain_of_clocks_that_each_ask_for_more_is_settled_in_one_pass(self):
+        # The rows of all clocks are tied to one time, and the skews of each clock narrow it a bit more.
+        clocks, rows = 200, 20
+        for skews in (range(1000, 1000 + clocks), range(1000 + clocks, 1000, -1)):
+            text = HEAD + "host,a,9999,0\nhost,b,9999,0\n"
+            for number, skew in enumerate(skews):
+                text += f"resync,a,{skew},0\nclock,a,0,k{number}\nclock,b,0,k{number}\nnote,a,0,x\n" + (rows - 1) * "note,b,0,x\n"
+            for first in range(rows, clocks * rows, rows):
+                text += f"bound,{first - rows + 1},{first},0\nbound,{first},{first - rows + 1},0\n"
+            least = min(skews)
+            for made in (Raising, Lowering):
+                with mock.patch.object(made, "put", autospec=True, side_effect=made.put) as put:
+                    times = Bounds(read_long_log(text.encode())).times()
+                self.assertEqual([set(found) for found in times], [{-least}, {least}])
+                self.assertLess(put.call_count, 3 * clocks * rows)
 
 
 class Windows(unittest.TestCase):
