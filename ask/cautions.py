@@ -142,6 +142,11 @@ def unasked(what: str, run: Optional[Run]) -> Caution:
     return Caution("unasked", f"{what} isn't known: {why}", run.words if run else None)
 
 
+def unasked_in_time() -> Caution:
+    """The warning that the time was over before all warnings were asked for."""
+    return Caution("unasked", "whether the formula is true for nothing isn't known: that was stopped")
+
+
 def wanting_words(word: str) -> str:
     """What is asked of a value that the formula may have only since no rows come after the last one."""
     return f"whether the formula is {word} only for want of rows after the last one"

@@ -5,6 +5,7 @@ from __future__ import annotations
 from dataclasses import dataclass
 from typing import FrozenSet, List, Optional, Sequence, Tuple
 
+from ask.ends import OutOfTime
 from ask.explain import Moment, Span, Timing, reasons_of
 from ask.formulas import Tree
 from ask.logs import Log
@@ -53,6 +54,7 @@ def focus_of(question: Question, log: Log, tree: Tree, times: Sequence[int], val
     timing = Timing(question, log, times)
     try:
         sentences = reasons_of(timing, tree, value, is_all=False)
-    except (Trouble, Stopped):
+    except (Trouble, Stopped, OutOfTime):
+        question.program.begin_telling()
         return None
     return Focus(value, tuple(sentences), tuple(timing.moments), frozenset(timing.named), tuple(timing.spans))

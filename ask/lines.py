@@ -11,7 +11,7 @@ from ask.cautions import (
 from ask.ends import OutOfTime
 from ask.logs import Fault, Log
 from ask.program import STOPPED, Program, Stopped
-from ask.question import VERDICTS, Question, accepted_tree, log_with_rows, report_of_run
+from ask.question import VERDICTS, Question, accepted_tree, has_true_witness, log_with_rows, report_of_run
 from ask.refusals import refusal
 from ask.reports import Step
 from ask.texts import Source
@@ -74,15 +74,20 @@ class ShortTable(Table):
         return self.read
 
     def line(self, name: str, formula: Source, shown: str) -> Line:
-        question = Question(self.program, formula, self.source, self.options)
         try:
-            run = question.check()
-        except Stopped:
+            return self.line_in_time(name, formula, shown)
+        except (Stopped, OutOfTime):
+            self.program.begin_telling()
             return Line(name, shown, STOPPED, sentence=stopped_words(shown, self.source))
+
+    def line_in_time(self, name: str, formula: Source, shown: str) -> Line:
+        """The same where the time suffices."""
+        question = Question(self.program, formula, self.source, self.options)
+        run = question.check()
         if run.status not in VERDICTS:
             raise refusal(run, formula, self.source)
         report = report_of_run(run)
-        said = verdict_words(run.status, shown, self.source.name, report, self.options)
+        said = verdict_words(run.status, shown, self.source.name, has_true_witness(run), self.options)
         if run.status == 3:
             return Line(name, shown, 3, (), report.walk, said)
         tree = accepted_tree(formula)

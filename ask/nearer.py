@@ -4,6 +4,7 @@ from __future__ import annotations
 
 from typing import List, NamedTuple, Sequence, Set
 
+from ask.ends import OutOfTime
 from ask.logs import Log
 from ask.program import Stopped
 from ask.question import Question, text_of_source
@@ -41,8 +42,9 @@ def brought_nearer(question: Question, log: Log, times: Sequence[int], value: bo
             pass
     except OutOfRuns:
         return Nearer(search.times, f"bringing it nearer to the stamps was ended after {MOST_RUNS} runs: {LEFT}")
-    except Stopped:
-        return Nearer(search.times, f"bringing it nearer to the stamps was ended, since a run took too long: {LEFT}")
+    except (Stopped, OutOfTime):
+        question.program.begin_telling()
+        return Nearer(search.times, f"bringing it nearer to the stamps was ended, since it took too long: {LEFT}")
     return Nearer(search.times)
 
 

@@ -80,6 +80,11 @@ class Program:
         part, self.is_first = left if self.is_first else left / 2, False
         return part
 
+    def begin_telling(self) -> None:
+        """Has the time begin that it takes to tell what was found, behind what is left of the whole."""
+        if self.ends is not None:
+            limit_time(max(0.0, self.ends - time.monotonic()) + MOST_TO_TELL)
+
     def run(self, command: str, sources: Sequence[Source], options: Sequence[str] = ()) -> Run:
         """Runs a command on files whose bytes are handed over as they were read."""
         shown = words_whole(command, options, sources)

@@ -130,6 +130,11 @@ def report_of_run(run: Run) -> Report:
         raise unreadable("report", run) from None
 
 
+def has_true_witness(run: Run) -> bool:
+    """Whether a run of `check` found a timing in which the formula is true."""
+    return b"\ntrue witness\n" in run.output
+
+
 def with_report(run: Run) -> Run:
     """A run of `check`, which with a verdict has to have written the report of it."""
     if run.status in VERDICTS and verdict_of(run.output) != run.status:

@@ -9,7 +9,7 @@ from dataclasses import dataclass, field
 from typing import Any, Dict, List, Optional, Sequence
 
 from ask.logs import MOST_SKEW, Bound, Log, Row, bound_of
-from ask.reports import Report, Step
+from ask.reports import Step
 from ask.texts import escaped, escaped_json, escaped_lines, width_of, write_output
 from ask.units import Scale
 from ask.walks import Ground, bound_between, broken_ground, grounds_of
@@ -144,15 +144,19 @@ def no_timing_words(log: str) -> str:
     return f"No timing: {log} admits none, since these bounds contradict each other."
 
 
-def verdict_words(status: int, formula: str, log: str, report: Report, options: Sequence[str]) -> str:
-    """The verdict of a report in a sentence."""
+def untold_words(seconds: float) -> str:
+    """That the time was over before all was worked out that is said of a verdict."""
+    return f"It was stopped after {seconds:g} seconds, before more of the verdict was worked out."
+
+
+def verdict_words(status: int, formula: str, log: str, is_true_found: bool, options: Sequence[str]) -> str:
+    """The verdict of a report in a sentence; of one that leaves a value unknown whether it has a timing for true."""
     told = decided_words(status, formula, log)
     if told is not None:
         return told
     if status == 3:
         return no_timing_words(log)
-    found = "true" if report.sections[True].kind == "witness" else "false"
-    other = "false" if found == "true" else "true"
+    found, other = ("true", "false") if is_true_found else ("false", "true")
     limit = grouped(int(options[1])) if options else "200,000"
     return f"Unknown: {formula} can be {found}, and whether it can be {other} wasn't found within {limit} conflicts."
 

@@ -7,25 +7,27 @@ from typing import Any, Dict, List, Optional, Sequence, Set, Tuple
 
 from ask import explain
 from ask.cautions import (
-    Caution, add_strict_words, caution_facts, caution_lines, cautions_of, strict_status, values_of_status,
+    Caution, add_strict_words, caution_facts, caution_lines, cautions_of, cautions_without_runs, strict_status,
+    unasked_in_time, values_of_status,
 )
+from ask.ends import OutOfTime
 from ask.grounds import ground_facts, ground_lines
 from ask.macros import add_formula_words, formula_answer, written_out
 from ask.nearer import brought_nearer
 from ask.program import STOPPED, Run, Stopped, program_of
 from ask.properties import add_properties_words, properties_answer
 from ask.question import (
-    VERDICTS, Question, accepted_log, accepted_tree, answered, report_of_run, run_facts, run_lines, shown_formula,
-    sources_of, step_of_run, text_of_source,
+    VERDICTS, Question, accepted_log, accepted_tree, answered, has_true_witness, report_of_run, run_facts, run_lines,
+    shown_formula, sources_of, step_of_run, text_of_source,
 )
-from ask.reports import Section
+from ask.reports import Report, Section
 from ask.steady import EITHER, steady_answer
 from ask.texts import Trouble, write_text
 from ask.units import add_unit_words, unit_facts
 from ask.windows.answer import long_answer
 from ask.windows.opening import add_window_words, long_question
 from ask.words import (
-    USAGE, Answer, bold, broken_words, counted, error_words, table, verdict_words, walk_facts, walk_words,
+    USAGE, Answer, bold, broken_words, counted, error_words, untold_words, table, verdict_words, walk_facts, walk_words,
 )
 
 FEW_CONFLICTS = 100  # what is tried where a run was stopped
@@ -125,37 +127,56 @@ class Reading:
         self.question, self.run, self.notes, self.arguments = question, run, notes, arguments
         self.log = accepted_log(question.log_source)
         self.tree = accepted_tree(question.formula)
-        self.report = report_of_run(run)
+        self.report = Report(len(self.log.rows))  # until it is read
         self.remarks: List[str] = []  # on the timings
         self.lines: List[str] = []
         self.facts: Dict[str, Any] = {}
 
     def answer(self) -> Answer:
         """The answer: its sections one after another."""
-        status = self.run.status
-        values = values_of_status(status)
-        warnings = [] if status == 3 else cautions_of(self.question, self.log, self.tree, values)
         self.say_verdict()
+        warnings = self.warnings()
         self.say_warnings(warnings)
-        self.say_contradiction()
-        self.say_stamps()
-        self.say_steady()
-        timings = self.timings()
-        reasons, named = self.reasons(timings)
-        self.say_timings(timings, named)
-        self.say_reasons(reasons)
-        self.say_grounds()
+        self.say_what_there_is_time_for()
         self.say_runs()
-        return Answer(strict_status(self.arguments, warnings, status), self.lines, self.facts)
+        return Answer(strict_status(self.arguments, warnings, self.run.status), self.lines, self.facts)
+
+    def say_what_there_is_time_for(self) -> None:
+        """What is to be said of the verdict, until the time is over."""
+        for say_section in (
+            self.read_report, self.say_contradiction, self.say_stamps, self.say_steady, self.say_shown, self.say_grounds,
+        ):
+            said = len(self.lines)
+            try:
+                say_section()
+            except (Stopped, OutOfTime):
+                del self.lines[said:]
+                self.question.program.begin_telling()
+                self.say_stopped()
+                return
+
+    def read_report(self) -> None:
+        """Reads what the run wrote."""
+        self.report = report_of_run(self.run)
 
     # The verdict
 
     def say_verdict(self) -> None:
         formula, log = shown_formula(self.question.formula), self.question.log_source.name
-        sentence = verdict_words(self.run.status, formula, log, self.report, self.question.options)
+        sentence = verdict_words(self.run.status, formula, log, has_true_witness(self.run), self.question.options)
         self.lines += [*self.notes, bold(sentence)]
         self.facts.update(verdict=VERDICTS[self.run.status], check_status=self.run.status, sentence=sentence)
         self.facts.update(formula=formula, log=log, notes=self.notes, **unit_facts(self.log.scale))
+
+    def warnings(self) -> List[Caution]:
+        """The warnings, as far as there is time to find them."""
+        if self.run.status == 3:
+            return []
+        try:
+            return cautions_of(self.question, self.log, self.tree, values_of_status(self.run.status))
+        except (Stopped, OutOfTime):
+            self.question.program.begin_telling()
+            return [*cautions_without_runs(self.question.formula, self.log, self.tree), unasked_in_time()]
 
     def say_warnings(self, warnings: Sequence[Caution]) -> None:
         self.facts["warnings"] = caution_facts(warnings)
@@ -186,9 +207,20 @@ class Reading:
 
     # Timings
 
+    def say_shown(self) -> None:
+        """The timings, and why the formula has its values in them."""
+        timings = self.timings()
+        reasons, named = self.reasons(timings)
+        self.say_timings(timings, named)
+        self.say_reasons(reasons)
+
+    def found(self) -> Dict[bool, List[int]]:
+        """The timings that the report has."""
+        return {value: section.times for value, section in self.report.sections.items() if section.kind == "witness"}
+
     def timings(self) -> Dict[bool, List[int]]:
-        """The timings that the report has, brought nearer to the stamps unless they are wanted as found."""
-        found = {v: s.times for v, s in self.report.sections.items() if s.kind == "witness"}
+        """The same, brought nearer to the stamps unless they are wanted as found."""
+        found = self.found()
         if self.arguments.as_found:
             return found
         nearer = {value: brought_nearer(self.question, self.log, times, value) for value, times in found.items()}
@@ -197,7 +229,7 @@ class Reading:
 
     def say_timings(self, timings: Dict[bool, List[int]], named: Set[int]) -> None:
         """The timings side by side, a line a row."""
-        self.facts["timings"] = {str(value).lower(): times for value, times in timings.items()}
+        self.facts["timings"] = timing_facts(timings)
         self.facts["remarks"] = self.remarks
         if not timings:
             return
@@ -276,7 +308,8 @@ class Reading:
             timing = explain.Timing(self.question, self.log, times)
             try:
                 reasons[str(value).lower()] = explain.reasons_of(timing, self.tree, value, self.arguments.all)
-            except (Trouble, Stopped):
+            except (Trouble, Stopped, OutOfTime):
+                self.question.program.begin_telling()
                 self.remarks.append(explain.left_out_words(value))
                 continue  # the table stands without it
             named |= timing.named
@@ -312,8 +345,25 @@ class Reading:
         self.lines += ["", f"Why it can't be {word}: the derivation, of {counted(len(section.lines), 'line')}, rests on"]
         self.lines += grounds
 
+    def say_stopped(self) -> None:
+        """That the time was over, and that what isn't told wasn't worked out."""
+        nothing: Dict[str, Any] = {"timings": timing_facts(self.found()), "remarks": self.remarks, "reasons": {}}
+        if self.run.status in (0, 1):
+            nothing["rests_on"] = []
+        if self.run.status == 3:
+            nothing["contradiction"] = []
+        self.facts.update((key, value) for key, value in nothing.items() if key not in self.facts)
+        note = untold_words(self.arguments.seconds)
+        self.notes.append(note)
+        self.lines += ["", note]
+
     def say_runs(self) -> None:
         runs = self.question.program.runs
         self.facts["runs"] = run_facts(runs)
         if self.arguments.runs:
             self.lines += run_lines(runs)
+
+
+def timing_facts(timings: Dict[bool, List[int]]) -> Dict[str, List[int]]:
+    """Timings for programs."""
+    return {str(value).lower(): times for value, times in timings.items()}

@@ -6,7 +6,8 @@ import argparse
 from typing import Any, Dict, List, Optional, Tuple, Union
 
 from ask.cautions import (
-    Caution, add_strict_words, cautions_wanted, cautions_without_runs, values_of_status, wants_runs, with_cautions,
+    Caution, add_strict_words, cautions_wanted, cautions_without_runs, unasked_in_time, values_of_status, wants_runs,
+    with_cautions,
 )
 from ask.commands.check import refuse_wrong_conflicts
 from ask.ends import OutOfTime
@@ -15,7 +16,8 @@ from ask.logs import Fault, Log
 from ask.macros import add_formula_words, formula_answer, written_out
 from ask.program import STOPPED, Run, Stopped, program_of
 from ask.question import (
-    REFUSED, Question, accepted_log, answered, run_facts, run_lines, shown_formula, sources_of, text_of_source,
+    REFUSED, Question, accepted_log, answered, has_true_witness, run_facts, run_lines, shown_formula, sources_of,
+    text_of_source,
 )
 from ask.refusals import file_hint
 from ask.texts import Source, Trouble, place_of
@@ -23,7 +25,7 @@ from ask.units import add_unit_words, scale_of_source, unit_facts
 from ask.windows.answer import Progress, setting_of
 from ask.windows.asking import Setting, Whole
 from ask.windows.bounds import Contradiction
-from ask.windows.cautions import cautions_of_long_log, unasked_in_time
+from ask.windows.cautions import cautions_of_long_log
 from ask.windows.least_number import Numbers, Undecided
 from ask.windows.longlog import LongLog
 from ask.windows.opening import LongQuestion, add_window_words, long_log_of, question_of
@@ -154,7 +156,7 @@ class Search:
     def is_met(self, number: int) -> bool:
         """Whether the formula with a number is true by every timing."""
         status = self.run_at(number).status
-        if status == 4 and b"\ntrue witness\n" in self.runs[number].output:
+        if status == 4 and has_true_witness(self.runs[number]):
             raise Unknown(number)
         return status == 0
 

@@ -5,7 +5,10 @@ from __future__ import annotations
 import argparse
 from typing import List, Optional, Sequence
 
-from ask.cautions import Caution, add_strict_words, caution_facts, caution_lines, cautions_wanted, strict_status
+from ask.cautions import (
+    Caution, add_strict_words, caution_facts, caution_lines, cautions_wanted, cautions_without_runs, strict_status,
+    unasked_in_time,
+)
 from ask.ends import OutOfTime
 from ask.explain import left_out_words
 from ask.focus import Focus, focus_of
@@ -15,13 +18,13 @@ from ask.nearer import Nearer, brought_nearer
 from ask.page import page_of
 from ask.panels import Panel
 from ask.picture import picture
-from ask.program import NOT_THERE, Run, Stopped, program_of
+from ask.program import NOT_THERE, STOPPED, Run, Stopped, program_of
 from ask.question import (
-    Question, accepted_log, accepted_tree, answered, formula_source, log_source, report_of_run, run_facts, shown_formula,
-    step_of_run, unreadable,
+    VERDICTS, Question, accepted_log, accepted_tree, answered, formula_source, log_source, report_of_run, run_facts,
+    shown_formula, step_of_run, unreadable,
 )
 from ask.refusals import refusal
-from ask.reports import Report, Step, Unreadable, read_report, steps_of
+from ask.reports import Report, Step, Unreadable, read_report, steps_of, verdict_of
 from ask.texts import Source, Trouble, read_source, say
 from ask.units import add_unit_words, unit_facts
 from ask.words import Answer, broken_words, counted
@@ -60,27 +63,13 @@ def do(arguments: argparse.Namespace) -> Answer:
     source = log_source(arguments.log, arguments.unit)
     formula = written_out(asked, source) if asked else None
     drawing = Drawing(Question(program, formula or ANY, source), formula)
-    if arguments.times is not None:
-        panels = drawing.panels_of_times(read_source(arguments.times, "times"))
-    elif arguments.report is not None:
-        panels = drawing.panels_of_report(read_source(arguments.report, "report"))
-    elif formula:
-        panels = drawing.panels_of_check(arguments.as_found)
-    else:
-        panels = drawing.panels_of_stamps()
-    log = drawing.log()
-    cautions = drawing.cautions(arguments)
-    if not arguments.json and not arguments.quiet:
-        for line in [*caution_lines(cautions), *dict.fromkeys(drawing.remarks)]:
-            say(f"ask: {line}")
-    heading = drawing.question.log_source.name + (f": {shown_formula(formula)}" if formula else "")
-    text = picture(log, panels, heading) if arguments.svg else page_of(heading, log, panels)
-    titles = [{"title": panel.title, "times": list(panel.times)} for panel in panels]
-    facts = {
-        "panels": titles, "picture": text, "remarks": list(dict.fromkeys(drawing.remarks)),
-        "warnings": caution_facts(cautions), **unit_facts(log.scale), "runs": run_facts(program.runs),
-    }
-    return Answer(strict_status(arguments, cautions, 0), [text], facts)
+    try:
+        return drawing.answer(arguments)
+    except (Stopped, OutOfTime):
+        if not drawing.known:
+            raise
+        known = f"stopped after {arguments.seconds:g} seconds, before the picture was done; {drawing.known}"
+        raise Trouble(STOPPED, known) from None
 
 
 class Drawing:
@@ -91,12 +80,43 @@ class Drawing:
         self.remarks: List[str] = []  # on timings and reasons
         self.values: List[bool] = []  # that the formula has in the panels
         self.has_timing = True
+        self.known = ""  # what the program has said of the formula
+
+    def answer(self, arguments: argparse.Namespace) -> Answer:
+        """The picture with its warnings."""
+        panels = self.panels(arguments)
+        log = self.log()
+        cautions = self.cautions(arguments)
+        heading = self.question.log_source.name + (f": {shown_formula(self.formula)}" if self.formula else "")
+        text = picture(log, panels, heading) if arguments.svg else page_of(heading, log, panels)
+        if not arguments.json and not arguments.quiet:
+            for line in [*caution_lines(cautions), *dict.fromkeys(self.remarks)]:
+                say(f"ask: {line}")
+        titles = [{"title": panel.title, "times": list(panel.times)} for panel in panels]
+        facts = {
+            "panels": titles, "picture": text, "remarks": list(dict.fromkeys(self.remarks)),
+            "warnings": caution_facts(cautions), **unit_facts(log.scale), "runs": run_facts(self.question.program.runs),
+        }
+        return Answer(strict_status(arguments, cautions, 0), [text], facts)
+
+    def panels(self, arguments: argparse.Namespace) -> List[Panel]:
+        """The panels that the words want."""
+        if arguments.times is not None:
+            return self.panels_of_times(read_source(arguments.times, "times"))
+        if arguments.report is not None:
+            return self.panels_of_report(read_source(arguments.report, "report"))
+        return self.panels_of_check(arguments.as_found) if self.formula else self.panels_of_stamps()
 
     def cautions(self, arguments: argparse.Namespace) -> List[Caution]:
         """The warnings of the formula, where there is one and the log has a timing."""
         if not self.formula or not self.has_timing:
             return []
-        return cautions_wanted(arguments, self.question, self.log(), accepted_tree(self.formula), self.values)
+        tree = accepted_tree(self.formula)
+        try:
+            return cautions_wanted(arguments, self.question, self.log(), tree, self.values)
+        except (Stopped, OutOfTime):
+            self.question.program.begin_telling()
+            return [*cautions_without_runs(self.formula, self.log(), tree), unasked_in_time()]
 
     def log(self) -> Log:
         return accepted_log(self.question.log_source)
@@ -144,6 +164,7 @@ class Drawing:
         numbers = [int(line) for line in times.data.decode("ascii").split("\n") if line.strip()]
         if run.status == 6:
             return [Panel(f"No admissible timing: {self.broken(run, numbers)}", numbers)]
+        self.known = f"by the timing of {times.name} the formula is {run.line()}" if self.formula else ""
         title = f"The timing of {times.name}"
         if not self.formula:
             return [Panel(title, numbers)]
@@ -152,6 +173,8 @@ class Drawing:
     def panels_of_report(self, source: Source) -> List[Panel]:
         """The timings of a report that the program accepts; without a formula, those that are admissible."""
         run = self.run("audit", [self.question.formula, self.question.log_source, source])
+        verdict = verdict_of(source.data) if self.formula and run.status == 0 else None
+        self.known = "" if verdict is None else f"by {source.name}, which audit accepts, it is {VERDICTS[verdict]}"
         report = self.report(source, run)
         if self.formula and run.status != 0:
             raise Trouble(run.status, (
@@ -199,6 +222,7 @@ class Drawing:
     def panels_of_check(self, as_found: bool) -> List[Panel]:
         """The timings that `check` finds."""
         run = answered(self.question.check(), self.question)
+        self.known = f"by check it is {VERDICTS[run.status]}"
         return self.panels_of_sections(report_of_run(run), None if as_found else self.question)
 
     def panels_of_sections(self, report: Report, nearer: Optional[Question]) -> List[Panel]:

@@ -9,7 +9,7 @@ from array import array
 from typing import Any, Dict, List, Optional, Sequence, Set, Tuple
 
 from ask import explain
-from ask.cautions import Caution, caution_facts, caution_lines, cautions_without_runs, strict_status
+from ask.cautions import Caution, caution_facts, caution_lines, cautions_without_runs, strict_status, unasked_in_time
 from ask.ends import OutOfTime, limit_time
 from ask.nearer import brought_nearer
 from ask.program import MOST_TO_TELL, STOPPED, Stopped
@@ -17,10 +17,12 @@ from ask.question import VERDICTS, accepted_tree, run_facts, run_lines, shown_fo
 from ask.reports import read_report
 from ask.texts import Trouble, say
 from ask.units import unit_facts
-from ask.words import USAGE, Answer, bold, broken_words, counted, decided_words, grouped, listed, table, walk_facts, walk_words
+from ask.words import (
+    USAGE, Answer, bold, broken_words, counted, decided_words, grouped, listed, untold_words, table, walk_facts, walk_words,
+)
 from ask.windows.asking import Keep, Said, Setting, Whole
 from ask.windows.bounds import Contradiction
-from ask.windows.cautions import cautions_of_long_log, unasked_in_time
+from ask.windows.cautions import cautions_of_long_log
 from ask.windows.keeping import VERDICT, Folder, question_facts
 from ask.windows.opening import LongQuestion
 from ask.windows.pool import cores
@@ -369,7 +371,7 @@ class LongReading:
             self.facts.setdefault(key, nothing)
         if False in self.verdict.can_be.values():
             self.facts.setdefault("rests_on", [])
-        note = f"It was stopped after {self.arguments.seconds:g} seconds, before more of the verdict was worked out."
+        note = untold_words(self.arguments.seconds)
         self.facts["notes"] = [note]
         self.lines += ["", note]
 

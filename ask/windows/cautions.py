@@ -29,11 +29,6 @@ def cautions_of_long_log(asked: LongQuestion, whole: Whole, setting: Setting, ve
     ]
 
 
-def unasked_in_time() -> Caution:
-    """The warning that the time was over before all warnings were asked for."""
-    return Caution("unasked", "whether the formula is true for nothing isn't known: that was stopped")
-
-
 def cautions_of_implications(asked: LongQuestion, whole: Whole, setting: Setting) -> Iterator[Caution]:
     """The implications whose left side is never true; most are in one timing, and windows tell of the others."""
     implications = {text_of(part.parts[0]): part for part in subtrees(asked.tree) if part.form == "->"}

@@ -13,7 +13,8 @@ import unittest
 from pathlib import Path
 from unittest import mock
 
-from common import PATIENCE, ROOT, asked
+from common import PATIENCE, ROOT, asked, facts_of_text
+import schema
 
 from ask import ends, main, texts
 from ask.program import MOST_TO_TELL, Stopped
@@ -230,6 +231,73 @@ class Signals(unittest.TestCase):
                 ended, text, said = asked(["draw", "set.csv", "--seconds", "60", "--json"], EXAMPLES)
             self.assertEqual(ended, 0, said)
             self.assertIn("wasn't found in time", json.loads(text)["panels"][0]["title"])
+
+    def test_a_picture_for_which_no_time_is_left(self):
+        drawn = ["draw", "lease.csv", "--formula", "lease.formula"]
+        for words, part, known in (
+            (drawn, "page_of", "by check it is either"), ([*drawn, "--svg"], "picture", "by check it is either"),
+            (drawn, "report_of_run", "by check it is either"),
+            ([*drawn, "--report", "lease.report"], "page_of", "by lease.report, which audit accepts, it is either"),
+            ([*drawn, "--times", "lease.times"], "page_of", "by the timing of lease.times the formula is true"),
+        ):
+            for end in (Stopped, ends.OutOfTime):
+                with mock.patch(f"ask.commands.draw.{part}", side_effect=end):
+                    ended, text, said = asked([*words, "--seconds", "60"], EXAMPLES)
+                told = f"ask: stopped after 60 seconds, before the picture was done; {known}\n"
+                self.assertEqual((ended, text, said), (124, "", told), part)
+
+    def test_warnings_of_a_picture_for_which_no_time_is_left(self):
+        for end in (Stopped, ends.OutOfTime):
+            with mock.patch("ask.commands.draw.cautions_wanted", side_effect=end):
+                ended, text, said = asked(["draw", "lease.csv", "--formula", "F a.x", "--seconds", "60", "--json"], EXAMPLES)
+            facts = facts_of_text(text)
+            self.assertEqual((ended, schema.complaint("draw", facts)), (0, ""), said)
+            self.assertEqual([warning["kind"] for warning in facts["warnings"]], ["unset", "unasked"])
+
+    def test_a_verdict_for_which_more_no_time_is_left(self):
+        either, refuted = ["lease.formula", "lease.csv"], ["within_8000.formula", "checkout.csv"]
+        for words, status, parts in (
+            (either, 2, ("report_of_run", "steady_answer", "Question.replay", "brought_nearer", "Reading.cells", "cautions_of")),
+            (refuted, 0, ("report_of_run", "ground_facts", "ground_lines", "Reading.rows_shown", "cautions_of")),
+            (["F a.p", "received_first.csv"], 3, ("report_of_run", "walk_facts", "Question.replay")),
+        ):
+            for part in parts:
+                for end in (Stopped, ends.OutOfTime):
+                    with self.subTest(words=words, part=part, end=end):
+                        self.check_what_is_told(words, status, part, end)
+
+    def check_what_is_told(self, words, status, part, end):
+        """Asserts that the verdict is told where the time is over in a part of what is said of it."""
+        with mock.patch(f"ask.commands.check.{part}", side_effect=end):
+            ended, text, said = asked(["check", *words, "--json", "--seconds", "60"], EXAMPLES)
+            with_lines = asked(["check", *words, "--seconds", "60"], EXAMPLES)
+        facts = facts_of_text(text)
+        self.assertEqual((ended, facts["check_status"], schema.complaint("check", facts)), (status, status, ""), said)
+        self.assertEqual("rests_on" in facts, status in (0, 1))
+        self.assertEqual("contradiction" in facts, status == 3)
+        kinds, is_warning = [warning["kind"] for warning in facts["warnings"]], part == "cautions_of"
+        self.assertEqual((kinds, len(facts["notes"])), (["unasked"], 0) if is_warning else ([], 1))
+        self.assertEqual(with_lines[0], status)
+        self.assertTrue(with_lines[1].startswith(facts["sentence"]), with_lines)
+        for note in facts["notes"]:
+            self.assertIn(f"\n\n{note}\n", with_lines[1])
+
+    def test_timings_and_reasons_for_which_no_time_is_left(self):
+        for part, remark in (("ask.nearer.Search.takes_back", "bringing it nearer"), ("ask.explain.explained", "why the formula is")):
+            for end in (Stopped, ends.OutOfTime):
+                with mock.patch(part, side_effect=end):
+                    ended, text, said = asked([*LEASE, "--json", "--seconds", "60"], EXAMPLES)
+                facts = facts_of_text(text)
+                self.assertEqual((ended, facts["notes"], schema.complaint("check", facts)), (2, [], ""), said)
+                self.assertEqual([len(times) for times in facts["timings"].values()], [4, 4])
+                self.assertIn(remark, facts["remarks"][0])
+
+    def test_lines_for_which_no_time_is_left(self):
+        words = ["each", "F {}", "lease.csv", "--over", r"\w+\.holds", "--json", "--seconds", "60"]
+        for end in (Stopped, ends.OutOfTime):
+            with mock.patch("ask.lines.cautions_of_names", side_effect=end):
+                ended, text, said = asked(words, EXAMPLES)
+            self.assertEqual((ended, [line["status"] for line in facts_of_text(text)["lines"]]), (124, [124, 124]), said)
 
     def test_what_a_deadline_knows(self):
         for formula, known in (
