@@ -21,6 +21,7 @@ MOST_NAME = 32
 MOST_LEVELS = 100  # of objects within one another
 SAME_BEGINNING = 24  # letters of a name, by which the numbers behind names are counted
 CUT = re.compile(r"(.*):\.(\d{1,3})", re.S)  # a field of which only the beginning is taken
+Known = Dict[Tuple[Sequence[str], str], List[str]]  # keys and what is joined under them, with the parts that it is made of
 BRACED = re.compile(r"(\{\{\})|\{([^}]*)\}|(\{)")  # an opening brace itself, a field, and one that isn't closed
 
 
@@ -145,7 +146,7 @@ class Found:
     cuts: Cuts = field(default_factory=Cuts)
     named: Dict[str, List[str]] = field(default_factory=dict)  # the hosts that a word names beside those of that name
     shown: Dict[str, str] = field(default_factory=dict)  # hosts of parts, each with its name in its part
-    parts: Dict[Tuple[Sequence[str], str], List[str]] = field(default_factory=dict)  # of which joined names were made
+    parts: Known = field(default_factory=dict)
     scales: Dict[str, Scale] = field(default_factory=dict)  # what the notes beside logs say of their units
 
 
@@ -363,9 +364,13 @@ def part(fields: Fields, key: str, where: str) -> str:
     return str(found)
 
 
-def joined(fields: Fields, keys: Sequence[str], where: str, known: Dict[Tuple[Sequence[str], str], List[str]]) -> str:
-    """The fields under keys, joined; where others make the same, they are refused, since both would be one host or machine."""
-    parts = [part(fields, key, where) for key in keys]
+def joined(fields: Fields, keys: Sequence[str], where: str, known: Known) -> str:
+    """The fields under keys, joined."""
+    return joined_parts([part(fields, key, where) for key in keys], keys, where, known)
+
+
+def joined_parts(parts: List[str], keys: Sequence[str], where: str, known: Known) -> str:
+    """Parts under keys, joined; where others make the same, they are refused, since both would be one host or machine."""
     text = "_".join(parts)
     if len(parts) > 1 and known.setdefault((keys, text), parts) != parts:
         shown = " and ".join(", ".join(shortened(repr(one)) for one in those) for those in (known[keys, text], parts))

@@ -4,7 +4,7 @@ from __future__ import annotations
 
 from typing import Callable, Dict, Iterator, List, NamedTuple, Sequence, Tuple
 
-from ask.events import WRONG, Event, Found
+from ask.events import WRONG, Event, Found, Known, joined_parts
 from ask.jaeger import read_jaeger
 from ask.lanes import Hosts, hosts_of_spans
 from ask.messages import Messages, messages_of, walked
@@ -52,6 +52,7 @@ def events_of_traces(sources: Sequence[Source], words: TraceWords) -> Found:
     refuse_cycles(everything)
     spans = chosen(read.spans, words.choice._replace(services=[services.get(name, name) for name in words.choice.services]))
     refuse_untold_machines(spans, words.machine)
+    refuse_joined_machines(spans, words.machine)
     found = events_of(spans, everything, read, words)
     found.named.update((name, found.named[kept]) for name, kept in services.items() if kept in found.named)
     return found
@@ -92,6 +93,13 @@ def refuse_untold_machines(spans: Sequence[Span], keys: Sequence[str]) -> None:
             if not span.process.attributes.get(key):
                 told = listed([shortened(name) for name in span.process.attributes]) or "nothing"
                 raise Trouble(WRONG, f"{span.where}: --machine {key}: its process tells no {key}. It tells: {told}")
+
+
+def refuse_joined_machines(spans: Sequence[Span], keys: Sequence[str]) -> None:
+    """Refuses spans of two machines whose names would be one where they are joined."""
+    known: Known = {}
+    for span in spans:
+        joined_parts([span.process.attributes.get(key, "") for key in keys], keys, span.where, known)
 
 
 # Events

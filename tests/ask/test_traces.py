@@ -305,6 +305,13 @@ class Clocks(Traces):
         self.assertEqual(self.clocks(*resources, words=("--machine", "k8s.node.name")), [("shop", "2", "n"), ("pay", "2", "n")])
         self.refused(otlp(*resources), ["--skew", "5", "--machine", "rack"], 66, "resourceSpans[0].scopeSpans[0].spans[0]: --machine rack: its process tells no rack")
 
+    def test_machines_whose_joined_names_would_be_one(self):
+        resources = (of("shop", span(1, 100, 200), rack="a", node="b_c"), of("pay", span(2, 300, 310), rack="a_b", node="c"))
+        said = "resourceSpans[1].scopeSpans[0].spans[0]: joined with _, 'a', 'b_c' and 'a_b', 'c' are both 'a_b_c', and would be one under rack, node"
+        self.refused(otlp(*resources), ["--skew", "5", "--machine", "rack,node"], 66, said)
+        one = of("pay", span(2, 300, 310), rack="a", node="b_c")
+        self.assertEqual(self.clocks(resources[0], one, words=("--machine", "rack,node")), [("shop", "2", "a_b_c"), ("pay", "2", "a_b_c")])
+
     def test_durations(self):
         log = self.made(otlp(of("shop", span(1, 100, 350, **ERROR))), "--skew", "5", "--steady-spans", "3us")[0]
         self.assertEqual(log, THIRD + (
