@@ -278,11 +278,16 @@ def open_to_write(name: str, flags: int) -> int:
     return descriptor
 
 
+def has_files(folder: Path) -> bool:
+    """Whether a folder has something in it, but for what a killed run may have left of a file."""
+    return not all(LEFT_OVER.fullmatch(path.name) for path in folder.iterdir())
+
+
 def make_empty_folder(folder: Path, option: str) -> None:
     """Makes a folder that an option names, or takes one that is empty, but for what a killed run may have left of a file."""
     try:
         folder.mkdir(parents=True, exist_ok=True)
-        is_empty = all(LEFT_OVER.fullmatch(path.name) for path in folder.iterdir())
+        is_empty = not has_files(folder)
     except (OSError, ValueError) as error:
         raise Trouble(NO_ROOM, f"{escaped(str(folder))} can't be made: {reason_of(error)}") from None
     if not is_empty:

@@ -41,8 +41,8 @@ from ask.macros import has_words, written_out
 from ask.program import BUILT, IS_SOURCE, REMEDY, ROOT
 from ask.reports import verdict_of
 from ask.texts import (
-    CANNOT_READ, CANNOT_WRITE, LIMITS, TOO_LONG, Source, Trouble, escaped, read_file, reason_of, replace_file, say, width_of,
-    write_output,
+    CANNOT_READ, CANNOT_WRITE, LIMITS, TOO_LONG, Source, Trouble, escaped, has_files, read_file, reason_of, replace_file, say,
+    width_of, write_output,
 )
 from ask.units import UNITS, scaled
 
@@ -253,7 +253,7 @@ def refuse_folder(folder):
         raise Trouble(CANNOT_READ, f"{shown(folder)} is no folder")
     mark = folder / MARK
     is_own = mark.is_file() and not mark.is_symlink() and read_file(mark, len(MARK_TEXT) + 1) == MARK_TEXT
-    if not is_own and any(folder.iterdir()):
+    if not is_own and has_files(folder):
         words = "isn't empty, and it has no mark of answers; name another folder by --to"
         raise Trouble(NO_ROOM, f"{shown(folder)} {words}")
 
@@ -331,7 +331,7 @@ def clear_undone(questions):
     """
     jobs, answers = questions.top / "jobs", questions.top / "answers"
     done = jobs_done(questions)
-    done = {name: line for name, line in done.items() if is_whole(questions, name, answers_of(answers / name))}
+    done = {name: line for name, line in done.items() if given_in(answers / name).is_whole(questions.bundles[name])}
     if jobs.exists():
         title = jobs.read_bytes().splitlines()[:1]
         write(jobs, b"".join(line + b"\n" for line in [*title, *done.values()]))
@@ -397,45 +397,45 @@ def troubles(questions):
 # Answers
 
 
-def answers_of(path):
-    """What a job gave: the report and the status of each question, by its numbers and by which of the two it is, as far as
-    its archive can be read."""
-    found = {}
+def answers_in(path):
+    """What a job gave, one after another, as far as its archive can be read: the numbers of the question, which of the two
+    it is, and its bytes. Reports may be great, and no two of them are held at once."""
     try:
         with tarfile.open(path) as archive:
             for entry in archive:
                 match = ANSWER.fullmatch(entry.name)
                 if entry.isfile() and match:
-                    found[int(match[1]), int(match[2]), match[3]] = archive.extractfile(entry).read()
+                    yield (int(match[1]), int(match[2])), match[3], archive.extractfile(entry).read()
     except (OSError, EOFError, ValueError, tarfile.TarError):
         pass  # is_whole tells what lacks
-    return found
 
 
-def is_whole(questions, name, found):
-    """Whether a job gave a report and a status of each question of its bundle."""
-    statuses = [found.get((*question, "status"), b"").strip() for question in questions.bundles[name]]
-    return all(map(bytes.isdigit, statuses)) and all((*question, "report") in found for question in questions.bundles[name])
+class Given(NamedTuple):
+    """Of which questions a job gave a report, and the statuses that it gave."""
+
+    reports: set
+    statuses: dict
+
+    def is_whole(self, asked):
+        """Whether there is a report and a status of each question that was asked."""
+        return all(self.statuses.get(question, b"").isdigit() and question in self.reports for question in asked)
+
+
+def given_in(path):
+    """What a job gave, but for the reports themselves."""
+    given = Given(set(), {})
+    for question, kind, data in answers_in(path):
+        if kind == "status":
+            given.statuses[question] = data.strip()
+        else:
+            given.reports.add(question)
+        del data  # before the next one is read
+    return given
 
 
 def collect(questions):
     """Writes the reports of the jobs that are done, and the status of each question."""
-    count = 0
-    for name in jobs_done(questions):
-        path = questions.top / "answers" / name
-        found = answers_of(path)
-        if not is_whole(questions, name, found):
-            tell(f"{shown(path)} lacks answers, which the same words ask for again")
-        for formula, log, kind in found:
-            if kind == "report" and (formula, log) in questions.statuses:
-                formula_name, log_name = questions.name_of(formula, log)
-                report, reports = found[formula, log, kind], questions.top / "reports" / formula_name
-                write(reports / name_beside(log_name, "report"), report)
-                if (formula, log) in questions.written:
-                    write(reports / name_beside(log_name, "formula"), questions.written[formula, log])
-                status = found.get((formula, log, "status"), b"").strip()
-                questions.statuses[formula, log] = status_of_answer(status, report)
-                count += questions.statuses[formula, log] == UNAVAILABLE and int(status[:4]) != UNAVAILABLE
+    count = sum(collect_job(questions, name) for name in jobs_done(questions))
     if count:
         tell(f"questions with status 72, since what the program wrote isn't what check writes with its status: {count}")
     lines = []
@@ -443,6 +443,30 @@ def collect(questions):
         formula_name, log_name = questions.name_of(formula, log)
         lines.append(f"{status}\t{shown(formula_name)}\t{shown(log_name)}\n")
     write(questions.top / "statuses", "".join(lines).encode())
+
+
+def collect_job(questions, name):
+    """The same of one job; of how many questions the program wrote no report with its status."""
+    path, count = questions.top / "answers" / name, 0
+    given = given_in(path)
+    if not given.is_whole(questions.bundles[name]):
+        tell(f"{shown(path)} lacks answers, which the same words ask for again")
+    for question, kind, report in answers_in(path):
+        if kind == "report" and question in questions.statuses:
+            count += take_report(questions, question, report, given.statuses.get(question, b""))
+        del report
+    return count
+
+
+def take_report(questions, question, report, status):
+    """Writes a report, and takes the status of its question; whether that isn't the one that the run had."""
+    formula_name, log_name = questions.name_of(*question)
+    reports = questions.top / "reports" / formula_name
+    write(reports / name_beside(log_name, "report"), report)
+    if question in questions.written:
+        write(reports / name_beside(log_name, "formula"), questions.written[question])
+    questions.statuses[question] = status_of_answer(status, report)
+    return questions.statuses[question] == UNAVAILABLE and int(status[:4]) != UNAVAILABLE
 
 
 def name_beside(log, kind):
@@ -516,7 +540,7 @@ def number_of_conflicts(text):
 
 def number_of_jobs(text):
     """A number of jobs, or a share of the cores."""
-    if not re.fullmatch(r"[+-]?[0-9]{1,6}%?", text, re.ASCII):
+    if not re.fullmatch(r"[+-][0-9]{1,6}%?|0*[1-9][0-9]{0,5}%?", text, re.ASCII):
         raise argparse.ArgumentTypeError(f"a number of jobs is as 4, +1 or 50%, and not {text!r}")
     return text
 

@@ -13,7 +13,7 @@ from pathlib import Path
 from typing import Any, Dict, Iterator, List, NamedTuple, Optional, Sequence, Tuple
 
 from ask.reports import verdict_of
-from ask.texts import CANNOT_READ, CANNOT_WRITE, NO_ROOM, Trouble, escaped, read_file, reason_of, replace_file
+from ask.texts import CANNOT_READ, CANNOT_WRITE, NO_ROOM, Trouble, escaped, has_files, read_file, reason_of, replace_file
 from ask.words import USAGE
 from ask.windows.asking import Keep, Said, View, Whole
 from ask.windows.cuts import Ranges, Slice
@@ -100,7 +100,7 @@ class Folder(Keep):
         """Makes the folder for a question, or goes on in one of the same question."""
         if os.path.lexists(self.top) and not self.top.is_dir():
             raise Trouble(NO_ROOM, f"{shown(self.top)} is no folder")
-        if self.top.is_dir() and any(self.top.iterdir()):
+        if self.top.is_dir() and has_files(self.top):
             self.refuse_other(facts)
             return
         try:

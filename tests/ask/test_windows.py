@@ -418,6 +418,18 @@ class Folders(unittest.TestCase):
         self.assertEqual(raised.exception.status, 75)
         self.assertEqual((os.listdir(folder.top), (folder.top / "index").read_bytes()), (["index"], b"before"))
 
+    def test_what_a_killed_run_has_left_is_of_no_question(self):
+        top = Path(self.folder, "k")
+        top.mkdir()
+        (top / ".ask-12-34.new").write_text("half of a mark")
+        ended, first, said = asked(self.words, self.folder)
+        self.assertLess(ended, 3, said)
+        (top / "windows" / ".ask-12-35.new").write_text("half of a report")
+        with mock.patch("ask.windows.pool.Pool.start", side_effect=AssertionError("asked once more")):
+            again, second, said = asked(self.words, self.folder)
+        self.assertEqual((ended, self.told(first)), (again, self.told(second)), said)
+        self.assertEqual(asked(["audit", "k"], self.folder)[0], 0)
+
     def test_other_questions_and_folders_are_refused(self):
         asked([*self.words, "--quiet"], self.folder)
         ended, _, said = asked(["check", "G c0.p", *self.words[2:]], self.folder)

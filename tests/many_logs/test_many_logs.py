@@ -23,6 +23,32 @@ formula           true  false  either  no timing  unknown  none
 within_5.formula     1      1       1          1        0     1
 within_9.formula     2      1       0          1        0     1
 """
+GREAT = """\
+import io, sys, tarfile, tracemalloc
+from pathlib import Path
+from types import SimpleNamespace
+sys.path.insert(0, sys.argv[1])
+import many_logs
+top = Path(sys.argv[2])
+(top / "answers").mkdir(parents=True)
+asked = [(1, log) for log in range(1, 9)]
+with tarfile.open(top / "answers" / "00001.tar", "w") as archive:
+    for formula, log in asked:
+        for kind, data in (("report", bytes(1 << 22)), ("status", b"2")):
+            entry = tarfile.TarInfo(f"./{formula}/{log}.{kind}")
+            entry.size = len(data)
+            if log > 1 or kind == "report":
+                archive.addfile(entry, io.BytesIO(data))
+done = ["1", ":", "0", "0", "0", "0", "0", "0", ""]
+(top / "jobs").write_text("title\\n" + "\\t".join(done) + "\\n")
+questions = SimpleNamespace(
+    top=top, bundles={"00001.tar": asked}, statuses=dict.fromkeys(asked, 125), written={}, name_of=lambda formula, log: ("f", f"{log}.csv"),
+)
+many_logs.tell = lambda words: None
+tracemalloc.start()
+many_logs.collect(questions)
+print(tracemalloc.get_traced_memory()[1], *questions.statuses.values())
+"""
 
 
 def asked(words, **environment):
@@ -222,6 +248,17 @@ class GoingOn(WithRoom):
         self.assertEqual((done.returncode, done.stderr), (75, f"many_logs: {self.to}/jobs can't be written: File too large\n"))
         self.assertEqual({path: path.read_bytes() for path in self.to.iterdir() if path.is_file()}, before)
 
+    def test_great_reports_are_not_held_all_at_once(self):
+        done = subprocess.run(
+            [sys.executable, "-B", "-c", GREAT, SCRIPT.parent, self.to], stdin=subprocess.DEVNULL, capture_output=True, text=True,
+            timeout=PATIENCE,
+        )
+        self.assertEqual((done.returncode, done.stderr), (0, ""))
+        peak, *statuses = map(int, done.stdout.split())
+        self.assertEqual(statuses, [125] + 7 * [72])  # none has a status of its report, and the first none at all
+        self.assertLess(peak, 3 << 22)  # of eight reports of 4 MB
+        self.assertEqual({path.stat().st_size for path in (self.to / "reports" / "f").iterdir()}, {1 << 22})
+
     def test_a_machine_that_failed(self):
         missing = asked(self.words("--machines", ":", "--program", self.room / "nothing"))
         self.assertEqual(missing.returncode, 125)
@@ -241,6 +278,8 @@ class Refusals(WithRoom):
         self.assertRefused([LOGS], 64, "FORMULA")
         self.assertRefused(self.words("--fast"), 64, "--fast")
         self.assertRefused(self.words("--bundle", "0"), 64, "bundle")
+        for jobs in ("0", "000", "0%", "four", "4x", "1.5", "1000000000"):
+            self.assertRefused(self.words("--jobs", jobs), 64, f"argument --jobs: a number of jobs is as 4, +1 or 50%, and not {jobs!r}")
         self.assertRefused(self.words(FORMULAS[0]), 64, "one name")
 
     def test_files(self):
