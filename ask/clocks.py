@@ -5,10 +5,11 @@ from __future__ import annotations
 import heapq
 import math
 import re
-from bisect import bisect_right
+from bisect import bisect_left, bisect_right
 from dataclasses import dataclass, field
 from fractions import Fraction
-from typing import Dict, List, NamedTuple, Sequence, Tuple
+from itertools import accumulate
+from typing import Dict, Iterable, List, NamedTuple, Sequence, Tuple
 
 from ask.events import WRONG, read_stamp
 from ask.making import Line, Making, moment_in
@@ -52,16 +53,16 @@ class Clock:
 
     def errors(self, lines: Sequence[Line]) -> List[int]:
         """By how much the stamp of each row of a host, in their order, may be off beside the skew."""
-        steps, passed, found = sorted(self.steps), 0, []
-        firsts, sizes = [step.first for step in steps], [step.size for step in steps] + [0]
+        steps, passed, found = Steps(self.steps), 0, []
+        sizes = [step.size for step in steps.all] + [0]
         tracked = self.tracked_errors(lines)
         for line in lines:
-            while passed < len(steps) and line.stamp > steps[passed].last:
+            while passed < len(steps.all) and line.stamp > steps.all[passed].last:
                 passed += 1
             moment = line.known_at()
-            before = passed if moment == line.stamp else passed_by(steps, moment)
+            before = passed if moment == line.stamp else steps.passed_by(moment)
             # The size of the step that comes next, 0 where no more comes; of those that may be next, the greatest.
-            end = max(before, bisect_right(firsts, moment))
+            end = max(before, steps.begun_by(moment))
             found.append(max(sizes[before : end + 1]) + max(tracked.get(moment, 0), self.reported))
         return found
 
@@ -97,9 +98,26 @@ class Clock:
 # Steps
 
 
-def passed_by(steps: Sequence[ClockStep], moment: int) -> int:
-    """How many steps, in their order, are surely before a moment."""
-    return next((place for place, step in enumerate(steps) if moment <= step.last), len(steps))
+class Steps:
+    """The steps of a clock in their order, of which is asked what they are at a moment."""
+
+    def __init__(self, steps: Iterable[ClockStep]):
+        self.all = sorted(steps)
+        self.firsts = [step.first for step in self.all]
+        self.lasts = list(accumulate((step.last for step in self.all), max))  # the greatest one up to each
+        self.sums = [0, *accumulate(step.size for step in self.all)]
+
+    def passed_by(self, moment: int) -> int:
+        """How many are surely before a moment."""
+        return bisect_left(self.lasts, moment)
+
+    def begun_by(self, moment: int) -> int:
+        """How many may be before a moment."""
+        return bisect_right(self.firsts, moment)
+
+    def doubt(self, passed: int, moment: int) -> int:
+        """How far those go together that may be before a moment, but for so many that are passed."""
+        return self.sums[max(passed, self.begun_by(moment))] - self.sums[passed]
 
 
 def steps_told(making: Making, telling: str) -> List[ClockStep]:

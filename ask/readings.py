@@ -4,9 +4,9 @@ from __future__ import annotations
 
 from collections import Counter
 from dataclasses import dataclass, field
-from typing import Dict, List, Optional, Sequence, Set, Tuple
+from typing import Dict, Optional, Set, Tuple
 
-from ask.clocks import Clock, ClockStep, passed_by
+from ask.clocks import Clock, Steps
 from ask.events import WRONG, Limits, name_map
 from ask.limits import FEWER, Told, in_file
 from ask.logs import MOST_CLOCKS, MOST_SKEW
@@ -16,12 +16,14 @@ from ask.words import counted, listed, shortened
 
 Key = Tuple[str, int, str, int]  # a machine, the steps before, and where resyncs of a file tell more, the host and how many
 
+NO_STEPS = Steps(())
+
 
 @dataclass
 class Host:
     """A host as far as its rows were gone through: the steps and resyncs that are passed."""
 
-    steps: Sequence[ClockStep]
+    steps: Steps
     passed: int = 0
     resyncs: int = 0
     limits: Optional[Limits] = None
@@ -29,16 +31,17 @@ class Host:
 
     def pass_to(self, line: Line) -> int:
         """Goes on to the next row of the host, and tells how many steps were passed when it read its clock."""
-        while self.passed < len(self.steps) and moment_of(line) > self.steps[self.passed].last:
+        steps = self.steps.all
+        while self.passed < len(steps) and moment_of(line) > steps[self.passed].last:
             self.passed += 1
         if self.limits is not None and line.limits is not None and line.limits is not self.limits:
             self.resyncs += 1
         self.limits = line.limits
-        return self.passed if line.known_at() == line.stamp else passed_by(self.steps, line.known_at())
+        return self.passed if line.known_at() == line.stamp else self.steps.passed_by(line.known_at())
 
     def doubt(self, line: Line, passed: int) -> int:
         """How far the clock may have been stepped already or not yet, where a row is near to steps that aren't passed."""
-        return sum(step.size for step in self.steps[passed:] if step.first <= moment_of(line))
+        return self.steps.doubt(passed, moment_of(line))
 
 
 def moment_of(line: Line) -> int:
@@ -60,7 +63,7 @@ def settle_readings(making: Making, errors: Told, clocks: Dict[str, Clock], erro
         if line.is_carried:
             continue
         error = error_told(line, errors, making)
-        host = hosts.setdefault(line.host, Host(steps.get(line.machine, ())))
+        host = hosts.setdefault(line.host, Host(steps.get(line.machine, NO_STEPS)))
         passed = host.pass_to(line)
         if error is None:
             continue
@@ -80,10 +83,10 @@ def settle_readings(making: Making, errors: Told, clocks: Dict[str, Clock], erro
     take_names(making, hosts)
 
 
-def steps_of_machines(making: Making, clocks: Dict[str, Clock]) -> Dict[str, List[ClockStep]]:
+def steps_of_machines(making: Making, clocks: Dict[str, Clock]) -> Dict[str, Steps]:
     """The steps of each machine: those that are told of any of its hosts."""
     return {
-        machine: sorted({step for host in hosts if host in clocks for step in clocks[host].steps})
+        machine: Steps({step for host in hosts if host in clocks for step in clocks[host].steps})
         for machine, hosts in making.machines().items()
     }
 

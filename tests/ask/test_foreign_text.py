@@ -2,6 +2,7 @@
 
 import json
 import os
+import random
 import subprocess
 import sys
 import tempfile
@@ -14,7 +15,7 @@ from common import PATIENCE, ROOT, asked
 
 from ask import logs
 from ask.access import Request, format_of, on_hosts
-from ask.clocks import Clock, ClockStep, Update
+from ask.clocks import Clock, ClockStep, Steps, Update
 from ask.events import Cuts, filled, name_map
 from ask.formulas import read_formula
 from ask.making import Line
@@ -300,6 +301,17 @@ class Clocks(unittest.TestCase):
         # By the updates: 2 up to 60, since 50 and a second; 5 from 50 up to 110; 3 from 100 on. By the steps: 7 before
         # the first, 9 where either may be next, 9 before the second, 0 behind both.
         self.assertEqual(clock.errors(lines), [2 + 7, 5 + 7, 5 + 9, 3 + 9, 3 + 9, 3 + 0])
+
+    def test_steps_that_are_looked_up(self):
+        draw = random.Random(64)
+        for _ in range(200):
+            firsts = [draw.randint(0, 90) for _ in range(draw.randint(0, 9))]
+            steps = Steps(ClockStep(first, first + draw.randint(0, 30), draw.randint(0, 5)) for first in firsts)
+            for moment in range(-1, 125, 3):
+                passed = next((place for place, step in enumerate(steps.all) if moment <= step.last), len(firsts))
+                self.assertEqual(steps.passed_by(moment), passed)
+                after = draw.randint(0, len(firsts))
+                self.assertEqual(steps.doubt(after, moment), sum(s.size for s in steps.all[after:] if s.first <= moment))
 
 
 class Heights(unittest.TestCase):
