@@ -152,6 +152,14 @@ def wanting_words(word: str) -> str:
     return f"whether the formula is {word} only for want of rows after the last one"
 
 
+def caution_of_the_end(word: str, line: int, run: Optional[str]) -> Caution:
+    """The warning that the formula has a value only since no rows come after the last one, at a line."""
+    return Caution("end", (
+        f"the formula is {word} only for want of rows after the last one (line {line}): an F, G or U looks beyond it, and "
+        f"if what comes there counted for the other value, the formula couldn't be {word}. Later rows might change it"
+    ), run)
+
+
 def cautions_of_the_end(question: Question, log: Log, tree: Tree, values: Sequence[bool]) -> Iterator[Caution]:
     """Of the values that the formula has those that it has only since no rows come after the last one."""
     for value in values:
@@ -168,11 +176,7 @@ def cautions_of_the_end(question: Question, log: Log, tree: Tree, values: Sequen
         if run is None or run.status not in VERDICTS or f"\n{word} unknown ".encode() in run.output:
             yield unasked(wanting_words(word), run)
         elif run.status == status_of_other:
-            yield Caution("end", (
-                f"the formula is {word} only where an interval reaches beyond the last row "
-                f"(line {log.rows[-1].line}): where such an interval counts for the other value, it can't be {word}. "
-                f"Later rows might change it"
-            ), run.words)
+            yield caution_of_the_end(word, log.rows[-1].line, run.words)
 
 
 def cautions_of(question: Question, log: Log, tree: Tree, values: Sequence[bool]) -> List[Caution]:

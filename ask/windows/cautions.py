@@ -4,7 +4,7 @@ from __future__ import annotations
 
 from typing import Iterator, List, Union
 
-from ask.cautions import MOST_PARTS, Caution, cautions_without_runs, run_of, unasked, wanting_words
+from ask.cautions import MOST_PARTS, Caution, caution_of_the_end, cautions_without_runs, run_of, unasked, wanting_words
 from ask.formulas import beyond_the_end, made, parts_written, subtrees, text_of
 from ask.program import Run, Stopped
 from ask.question import VERDICTS, accepted_tree
@@ -79,11 +79,9 @@ def cautions_of_the_end(asked: LongQuestion, whole: Whole, verdict: Verdict) -> 
         told.append(found)
     if len(may) > MOST_AT_THE_END:
         told.append(Caution("unasked", f"{wanting_words(word)} isn't known: that would take more than {MOST_AT_THE_END} windows"))
-    yield next((one for one in told if isinstance(one, Caution)), None) or Caution("end", (
-        f"the formula is {word} only where an interval reaches beyond the last row "
-        f"(line {asked.log.rows.line[-1]}): where such an interval counts for the other value, it can't be {word}. "
-        f"Later rows might change it"
-    ), told[0].words if isinstance(told[0], Run) else None)
+    run = told[0].words if isinstance(told[0], Run) else None
+    unknown = next((one for one in told if isinstance(one, Caution)), None)
+    yield unknown or caution_of_the_end(word, asked.log.rows.line[-1], run)
 
 
 def told_of_the_end(shown: ShownWindow, value: bool) -> Union[Run, Caution, None]:

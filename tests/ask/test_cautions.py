@@ -46,6 +46,14 @@ class Cautions(unittest.TestCase):
         _, text, _ = asked(["check", "G (web.aksed -> F[0,5] pay.done)", "checkout.csv"], EXAMPLES)
         self.assertIn(f"Warning (unset): {ASKED[1]}. [check 'F web.aksed' checkout.csv]\n", text)
 
+    def test_a_value_for_want_of_later_rows(self):
+        # The formula has no interval of its own: its F goes on to the end of the log.
+        _, text, _ = asked(["check", "F web.done", "checkout.csv"], EXAMPLES)
+        self.assertIn((
+            "Warning (end): the formula is false only for want of rows after the last one (line 10): an F, G or U looks beyond "
+            "it, and if what comes there counted for the other value, the formula couldn't be false. Later rows might change it. "
+        ), text)
+
     def test_no_timing_has_no_warning(self):
         for words in (["deadline", "F[0,?] a.x"], ["tolerance", "true", "F a.x"], ["check", "F a.x"]):
             ended, text, said = asked([*words, "received_first.csv"], EXAMPLES)
