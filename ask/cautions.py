@@ -5,6 +5,7 @@ from __future__ import annotations
 import argparse
 from typing import Any, Dict, Iterator, List, NamedTuple, Optional, Sequence, Tuple
 
+from ask.ends import OutOfTime
 from ask.formulas import Tree, beyond_the_end, parts_written, propositions, subtrees, text_of
 from ask.logs import Log
 from ask.program import Run, Stopped
@@ -193,8 +194,17 @@ def cautions_wanted(
 ) -> List[Caution]:
     """The warnings by the log alone, or all of them where the words make an error of one that wants a run."""
     if tree and wants_runs(arguments):
-        return cautions_of(question, log, tree, values)
+        return cautions_in_time(question, log, tree, values)
     return cautions_without_runs(question.formula, log, tree)
+
+
+def cautions_in_time(question: Question, log: Log, tree: Tree, values: Sequence[bool]) -> List[Caution]:
+    """All warnings, as far as there is time to find them."""
+    try:
+        return cautions_of(question, log, tree, values)
+    except (Stopped, OutOfTime):
+        question.program.begin_telling()
+        return [*cautions_without_runs(question.formula, log, tree), unasked_in_time()]
 
 
 def values_of_status(status: int) -> List[bool]:

@@ -7,8 +7,7 @@ from typing import Any, Dict, List, Optional, Sequence, Set, Tuple
 
 from ask import explain
 from ask.cautions import (
-    Caution, add_strict_words, caution_facts, caution_lines, cautions_of, cautions_without_runs, strict_status,
-    unasked_in_time, values_of_status,
+    Caution, add_strict_words, caution_facts, caution_lines, cautions_in_time, strict_status, values_of_status,
 )
 from ask.ends import OutOfTime
 from ask.grounds import ground_facts, ground_lines
@@ -135,11 +134,12 @@ class Reading:
     def answer(self) -> Answer:
         """The answer: its sections one after another."""
         self.say_verdict()
-        warnings = self.warnings()
+        status, values = self.run.status, values_of_status(self.run.status)
+        warnings = [] if status == 3 else cautions_in_time(self.question, self.log, self.tree, values)
         self.say_warnings(warnings)
         self.say_what_there_is_time_for()
         self.say_runs()
-        return Answer(strict_status(self.arguments, warnings, self.run.status), self.lines, self.facts)
+        return Answer(strict_status(self.arguments, warnings, status), self.lines, self.facts)
 
     def say_what_there_is_time_for(self) -> None:
         """What is to be said of the verdict, until the time is over."""
@@ -167,16 +167,6 @@ class Reading:
         self.lines += [*self.notes, bold(sentence)]
         self.facts.update(verdict=VERDICTS[self.run.status], check_status=self.run.status, sentence=sentence)
         self.facts.update(formula=formula, log=log, notes=self.notes, **unit_facts(self.log.scale))
-
-    def warnings(self) -> List[Caution]:
-        """The warnings, as far as there is time to find them."""
-        if self.run.status == 3:
-            return []
-        try:
-            return cautions_of(self.question, self.log, self.tree, values_of_status(self.run.status))
-        except (Stopped, OutOfTime):
-            self.question.program.begin_telling()
-            return [*cautions_without_runs(self.question.formula, self.log, self.tree), unasked_in_time()]
 
     def say_warnings(self, warnings: Sequence[Caution]) -> None:
         self.facts["warnings"] = caution_facts(warnings)

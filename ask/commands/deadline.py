@@ -162,13 +162,12 @@ class Search:
 
     def answer(self) -> Answer:
         """Which numbers will do, with the checks that show it."""
-        first = self.run_at(self.least)
-        if first.status == 3:
-            said = f"No timing: {self.question.log_source.name} admits none, so there is nothing to ask."
-            return Answer(3, [bold(said)], self.facts(said, None, None))
-        log = accepted_log(self.question.log_source)
-        self.last = max(self.least, min(self.most, greatest_distance(log) + 1))
         try:
+            if self.run_at(self.least).status == 3:
+                said = f"No timing: {self.question.log_source.name} admits none, so there is nothing to ask."
+                return Answer(3, [bold(said)], self.facts(said, None, None))
+            log = accepted_log(self.question.log_source)
+            self.last = max(self.least, min(self.most, greatest_distance(log) + 1))
             answer, number = self.answer_at_edge()
         except (Stopped, OutOfTime):
             raise self.stopped(*self.known()) from None
@@ -328,9 +327,9 @@ class LongSearch(Search):
         told = cautions_without_runs(self.question.formula, self.at_least.log, tree)
         if not (tree and wants_runs(self.arguments)):
             return told
-        asked = self.question_at(number, self.at_least.log)
-        whole.take_shape(shape_of(asked.tree))
         try:
+            asked = self.question_at(number, self.at_least.log)
+            whole.take_shape(shape_of(asked.tree))
             return cautions_of_long_log(asked, whole, setting, verdict_of_slices(whole, setting))
         except (Stopped, OutOfTime):
             return [*told, unasked_in_time()]

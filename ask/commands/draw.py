@@ -5,10 +5,7 @@ from __future__ import annotations
 import argparse
 from typing import List, Optional, Sequence
 
-from ask.cautions import (
-    Caution, add_strict_words, caution_facts, caution_lines, cautions_wanted, cautions_without_runs, strict_status,
-    unasked_in_time,
-)
+from ask.cautions import Caution, add_strict_words, caution_facts, caution_lines, cautions_wanted, strict_status
 from ask.ends import OutOfTime
 from ask.explain import left_out_words
 from ask.focus import Focus, focus_of
@@ -111,12 +108,7 @@ class Drawing:
         """The warnings of the formula, where there is one and the log has a timing."""
         if not self.formula or not self.has_timing:
             return []
-        tree = accepted_tree(self.formula)
-        try:
-            return cautions_wanted(arguments, self.question, self.log(), tree, self.values)
-        except (Stopped, OutOfTime):
-            self.question.program.begin_telling()
-            return [*cautions_without_runs(self.formula, self.log(), tree), unasked_in_time()]
+        return cautions_wanted(arguments, self.question, self.log(), accepted_tree(self.formula), self.values)
 
     def log(self) -> Log:
         return accepted_log(self.question.log_source)

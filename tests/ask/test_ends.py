@@ -215,7 +215,10 @@ class Signals(unittest.TestCase):
 
     def test_the_end_of_the_time_ends_the_program_with_its_children(self):
         program = self.program(STUBBORN)
-        for words in (["tolerance", "true", "a.p"], ["deadline", "F[0,?] a.p"]):
+        for words in (
+            ["tolerance", "true", "a.p"], ["deadline", "F[0,?] a.p"], ["deadline", "--windows", "G (a.p -> F[0,?] !a.p)"],
+            ["check", "--windows", "G !a.p"],
+        ):
             began = time.monotonic()
             done = subprocess.run(
                 [*ASK, *words, str(EXAMPLES / "set.csv"), "--program", program, "--seconds", "0.5"], cwd=self.room,
@@ -246,13 +249,14 @@ class Signals(unittest.TestCase):
                 told = f"ask: stopped after 60 seconds, before the picture was done; {known}\n"
                 self.assertEqual((ended, text, said), (124, "", told), part)
 
-    def test_warnings_of_a_picture_for_which_no_time_is_left(self):
+    def test_warnings_for_which_no_time_is_left(self):
         for end in (Stopped, ends.OutOfTime):
-            with mock.patch("ask.commands.draw.cautions_wanted", side_effect=end):
-                ended, text, said = asked(["draw", "lease.csv", "--formula", "F a.x", "--seconds", "60", "--json"], EXAMPLES)
-            facts = facts_of_text(text)
-            self.assertEqual((ended, schema.complaint("draw", facts)), (0, ""), said)
-            self.assertEqual([warning["kind"] for warning in facts["warnings"]], ["unset", "unasked"])
+            for words in (["draw", "lease.csv", "--formula", "F a.x"], ["deadline", "F[0,?] (a.x | true)", "lease.csv"]):
+                with mock.patch("ask.cautions.cautions_of", side_effect=end):
+                    ended, text, said = asked([*words, "--seconds", "60", "--json", "--strict-for", "end"], EXAMPLES)
+                facts = facts_of_text(text)
+                self.assertEqual((ended, schema.complaint(words[0], facts)), (0, ""), said)
+                self.assertEqual([warning["kind"] for warning in facts["warnings"]], ["unset", "unasked"])
 
     def test_a_verdict_for_which_more_no_time_is_left(self):
         either, refuted = ["lease.formula", "lease.csv"], ["within_8000.formula", "checkout.csv"]
@@ -268,7 +272,7 @@ class Signals(unittest.TestCase):
 
     def check_what_is_told(self, words, status, part, end):
         """Asserts that the verdict is told where the time is over in a part of what is said of it."""
-        with mock.patch(f"ask.commands.check.{part}", side_effect=end):
+        with mock.patch(f"ask.cautions.{part}" if part == "cautions_of" else f"ask.commands.check.{part}", side_effect=end):
             ended, text, said = asked(["check", *words, "--json", "--seconds", "60"], EXAMPLES)
             with_lines = asked(["check", *words, "--seconds", "60"], EXAMPLES)
         facts = facts_of_text(text)
@@ -307,6 +311,19 @@ class Signals(unittest.TestCase):
             with mock.patch("ask.commands.deadline.Search.found", side_effect=Stopped):
                 ended, _, said = asked(["deadline", formula, "answered.csv", "--seconds", "60"], EXAMPLES)
             self.assertEqual((ended, said), (124, f"ask: stopped after 60 seconds; {known}\n"))
+
+    def test_what_a_deadline_knows_as_soon_as_it_knows_it(self):
+        words = ["deadline", "G (a.req -> F[0,?] b.ack)", "answered.csv", "--seconds", "60"]
+        for part, known in (
+            ("Search.run_at", ""), ("accepted_log", "; with 0 it isn't true by every timing"),
+            ("greatest_distance", "; with 0 it isn't true by every timing"), ("Search.edge", (
+                "; with 10 it is true by every timing; with 0 it isn't true by every timing"
+            )),
+        ):
+            for end in (Stopped, ends.OutOfTime):
+                with mock.patch(f"ask.commands.deadline.{part}", side_effect=end):
+                    ended, _, said = asked(words, EXAMPLES)
+                self.assertEqual((ended, said), (124, f"ask: stopped after 60 seconds{known}\n"), part)
 
     def test_time_bounds_what_ask_reads(self):
         os.mkfifo(self.room / "fifo")
