@@ -101,6 +101,31 @@ class Notes(Room):
         self.made("time,host,name\n1,a,p\n")
         self.assertIn("says its unit, not known: --unit states it.", self.said)
 
+    def test_notes_and_a_log_on_the_standard_output_agree(self):
+        log = "kind,host,time,name\nhost,a,5,0\nset,a,10,p\nset,a,20,q\n"
+        second = '{"time": "%s", "host": "a", "name": "x"}\n'
+        for name, text, words, stamps, skew, notes in (
+            ("a.csv", log, (), (10, 20), 5, ["unit: microseconds, as --unit says"]),
+            ("a.jsonl", second % "2023-11-14T22:13:20.000010Z" + second % "2023-11-14T23:13:20.00002+01:00", ("--skew", "5us"),
+             (1_700_000_000_000_010, 1_700_000_000_000_020), 5, ["unit: microseconds since 1970-01-01T00:00:00Z"]),
+            ("a.jsonl", second % "0.00001" + second % "0.0000207", ("--skew", "5"), (10, 20), 6, [
+                "unit: microseconds of the seconds in the file",
+                "digits below a unit are cut off in 1 stamp of a: each skew of it is 1 unit greater for that",
+            ]),
+        ):
+            with self.subTest(name=name, text=text):
+                words = ["log", self.put(name, text), "--unit", "us", *words]
+                status, written, said = asked(words)
+                self.assertEqual((status, said.splitlines()), (0, [f"ask: {note}" for note in notes]))
+                rows = [line.split(",") for line in written.splitlines()[1:]]
+                self.assertEqual((rows[0][:3], [int(row[2]) for row in rows[1:]]), (["host", "a", str(skew)], [*stamps]))
+                facts = facts_of_text(asked([*words, "--json"])[1])
+                self.assertEqual((facts["log"], facts["notes"]), (written, notes))
+                self.assertEqual(asked([*words, "-o", str(self.room / "log.csv"), "--quiet"])[0], 0)
+                kept = json.loads((self.room / "log.csv.notes").read_text())
+                self.assertEqual(((self.room / "log.csv").read_text(), kept["unit"]), (written, "us"))
+                self.assertEqual(kept["epoch"], UNIX if "since" in notes[0] else None)
+
     def test_a_window_of_a_log_has_its_unit(self):
         self.made(JSONL)
         self.assertEqual(asked(["log", str(self.room / "log.csv"), "-o", str(self.room / "cut.csv"), "--from", "1700000010100", "--quiet"])[0], 0)
