@@ -24,6 +24,7 @@ import stat
 import subprocess
 import sys
 import tarfile
+import tempfile
 from collections import Counter
 from hashlib import sha256
 from pathlib import Path
@@ -53,6 +54,7 @@ TROUBLES = 10  # lines of them that are told, and refusals of formulas
 REFUSED = 64  # the least status that is no answer
 WRONG_WORDS, UNAVAILABLE, NO_ROOM, NOT_ASKED = 64, 72, 73, 125
 MOST_TO_END = 10  # seconds that parallel has to end its jobs
+MOST_HELD = 1 << 22  # bytes of bundles that are held in memory
 LEAST_TIME = 0.001  # seconds of a question that has a limit, since 0 is none for timeout
 MARK, MARK_TEXT = "many_logs.mark", b"This folder has answers of examples/many_logs.py.\n"
 MOST_NAME = 255  # bytes of the name of a file
@@ -182,6 +184,38 @@ def bundle(questions):
     return whole.getvalue()
 
 
+class Spool:
+    """Bundles one after another, in a file without a name where they are many, since they may be more than memory holds."""
+
+    def __init__(self):
+        self.sizes, self.digests = [], []
+        self.file = tempfile.SpooledTemporaryFile(MOST_HELD)
+
+    def add(self, data):
+        """Adds a bundle."""
+        try:
+            self.file.write(data)
+        except OSError as error:
+            raise unkept(error) from None
+        self.sizes.append(len(data))
+        self.digests.append(sha256(data).digest())
+
+    def bundles(self):
+        """All of them, one after another, after which the file is closed."""
+        with self.file:
+            try:
+                self.file.seek(0)  # which writes what waits to be written
+            except OSError as error:
+                raise unkept(error) from None
+            for size in self.sizes:
+                yield self.file.read(size)
+
+
+def unkept(error):
+    """The trouble that there is no room for bundles."""
+    return Trouble(CANNOT_WRITE, f"what is asked can't be kept in a temporary file: {reason_of(error)}")
+
+
 class Gathering:
     """The bundles of the questions that can be asked, what is asked in each, the statuses of all questions, and why those
     are refused that can't be."""
@@ -190,7 +224,7 @@ class Gathering:
         self.sources = [Source(shown(name), bytes_of(path, "formula")) for name, path in formulas.items()]
         self.unit, self.size = options.unit, options.bundle
         self.statuses, self.written, self.refusals = {}, {}, []
-        self.bundles, self.asked, self.waiting = [], [], []
+        self.spool, self.asked, self.waiting = Spool(), [], []
         for log, path in enumerate(logs.values(), 1):
             data = log_of(path)
             for formula in range(1, len(self.sources) + 1):
@@ -219,7 +253,7 @@ class Gathering:
     def close_bundle(self):
         """Makes a bundle of the questions that wait for one, if there are any."""
         if self.waiting:
-            self.bundles.append(bundle(self.waiting))
+            self.spool.add(bundle(self.waiting))
             self.asked.append([(question.formula, question.log) for question in self.waiting])
             self.waiting = []
 
@@ -284,13 +318,13 @@ class Questions:
         logs, formulas = files_of(options)
         self.logs, self.formulas = list(logs), list(formulas)
         gathered = Gathering(options, logs, formulas)
-        bundles, self.statuses, self.written = gathered.bundles, gathered.statuses, gathered.written
+        self.statuses, self.written = gathered.statuses, gathered.written
         names = [os.fsencode(name) for name in [command, *self.logs, "", *self.formulas]]
-        digest = sha256(b"\0".join([*names, *(sha256(data).digest() for data in bundles)])).hexdigest()
+        digest = sha256(b"\0".join([*names, *gathered.spool.digests])).hexdigest()
         self.top = Path(options.to)
         self.folder = self.top / f"questions-{digest[:12]}"
         self.bundles = {f"{number:05}.tar": asked for number, asked in enumerate(gathered.asked, 1)}
-        self.write(bundles)
+        self.write(gathered.spool.bundles())
         gathered.tell_refusals()
 
     def write(self, bundles):

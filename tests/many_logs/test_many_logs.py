@@ -49,6 +49,14 @@ tracemalloc.start()
 many_logs.collect(questions)
 print(tracemalloc.get_traced_memory()[1], *questions.statuses.values())
 """
+GATHERED = """\
+import sys, tracemalloc
+sys.path.insert(0, sys.argv[1])
+import many_logs
+tracemalloc.start()
+many_logs.Questions(many_logs.options_of(sys.argv[2:]), "check")
+print(tracemalloc.get_traced_memory()[1])
+"""
 
 
 def asked(words, **environment):
@@ -258,6 +266,36 @@ class GoingOn(WithRoom):
         self.assertEqual(statuses, [125] + 7 * [72])  # none has a status of its report, and the first none at all
         self.assertLess(peak, 3 << 22)  # of eight reports of 4 MB
         self.assertEqual({path.stat().st_size for path in (self.to / "reports" / "f").iterdir()}, {1 << 22})
+
+    def great_logs(self):
+        """A folder of eight logs of a megabyte each."""
+        logs = self.room / "logs"
+        logs.mkdir()
+        for name in "abcdefgh":
+            (logs / f"{name}.csv").write_text(f"kind,host,time,name\nhost,{name},0,0\n" + 1_000_000 * "\n" + f"note,{name},1,x\n")
+        return logs
+
+    def test_great_logs_are_not_held_all_at_once(self):
+        words = [self.great_logs(), *FORMULAS, FORMULAS[0].with_name("not_q.formula"), "--bundle", "1", "--to", self.to]
+        done = subprocess.run(
+            [sys.executable, "-B", "-c", GATHERED, SCRIPT.parent, *words], stdin=subprocess.DEVNULL, capture_output=True,
+            text=True, timeout=PATIENCE,
+        )
+        self.assertEqual((done.returncode, done.stderr), (0, ""))
+        self.assertLess(int(done.stdout), 18_000_000)  # of 24 bundles with a log of a megabyte each
+        sizes = [path.stat().st_size for path in self.to.glob("questions-*/*.tar")]
+        self.assertEqual((len(sizes), min(sizes) > 1_000_000), (24, True))
+
+    def test_no_room_for_what_is_asked(self):
+        words = self.words("--bundle", "1", logs=self.great_logs())
+        for most in (0, 4096):
+            done = subprocess.run(
+                [sys.executable, "-B", SCRIPT, *words], stdin=subprocess.DEVNULL, capture_output=True, text=True,
+                timeout=PATIENCE, preexec_fn=lambda: resource.setrlimit(resource.RLIMIT_FSIZE, (most, most)),
+            )
+            self.assertEqual((done.returncode, done.stdout), (75, ""), done.stderr)
+            self.assertTrue(done.stderr.startswith("many_logs: what is asked can't be kept in a temporary file: "), done.stderr)
+            self.assertFalse(self.to.exists())
 
     def test_a_machine_that_failed(self):
         missing = asked(self.words("--machines", ":", "--program", self.room / "nothing"))
