@@ -9,7 +9,7 @@ from ask import explain
 from ask.cautions import (
     Caution, add_strict_words, caution_facts, caution_lines, cautions_in_time, strict_status, values_of_status,
 )
-from ask.ends import OutOfTime
+from ask.ends import OutOfTime, unlimit_time
 from ask.grounds import ground_facts, ground_lines
 from ask.macros import add_formula_words, formula_answer, written_out
 from ask.nearer import brought_nearer
@@ -150,8 +150,8 @@ class Reading:
             try:
                 say_section()
             except (Stopped, OutOfTime):
+                unlimit_time()  # what is known is told
                 del self.lines[said:]
-                self.question.program.begin_telling()
                 self.say_stopped()
                 return
 
