@@ -210,7 +210,7 @@ class Agenda:
     The number is by how much a row is off its stamp, so that between rows which bounds tie to each other with room at
     the stamps no change comes behind another one that is further off: they are settled in one pass (Dijkstra 1959).
     Others take a further pass for each bound on their way that the stamps break, and so not more than passes over all
-    would (Dinitz and Itzikson 2017). Clocks are numbered behind the rows.
+    would (Dinitz and Itzik 2017). Clocks are numbered behind the rows.
     """
 
     def __init__(self, count: int):
