@@ -51,7 +51,7 @@ class Cautions(unittest.TestCase):
         _, text, _ = asked(["check", "F web.done", "checkout.csv"], EXAMPLES)
         self.assertIn((
             "Warning (end): the formula is false only for want of rows after the last one (line 10): an F, G or U looks beyond "
-            "it, and if what comes there counted for the other value, the formula couldn't be false. Later rows might change it. "
+            "it, and if what comes there counted for the other value, the formula couldn't be false. Later rows might change it"
         ), text)
 
     def test_no_timing_has_no_warning(self):

@@ -116,7 +116,8 @@ class Passes(unittest.TestCase):
         bounds = Bounds(read_long_log(f"{HEAD}host,a,9,0\nclock,a,9,k\n{rows}".encode()))
         times = [time + draw.randint(-4, 4) for time in bounds.log.rows.stamp]
         offsets = Offsets(bounds.readings, times)
-        self.assertEqual(room(bounds, times, offsets, [0])[0], {0: max(-9, max(t - s for t, s in zip(times, bounds.log.rows.stamp)) - 18)})
+        greatest = max(time - stamp for time, stamp in zip(times, bounds.log.rows.stamp))
+        self.assertEqual(room(bounds, times, offsets, [0])[0], {0: max(-9, greatest - 18)})
         with mock.patch.object(Offsets, "least_negated", autospec=True, side_effect=Offsets.least_negated) as asked:
             rankings = Offsets(bounds.readings, times)
             for _ in range(2000):
@@ -154,7 +155,8 @@ class Passes(unittest.TestCase):
         for skews in (range(1000, 1000 + clocks), range(1000 + clocks, 1000, -1)):
             text = HEAD + "host,a,9999,0\nhost,b,9999,0\n"
             for number, skew in enumerate(skews):
-                text += f"resync,a,{skew},0\nclock,a,0,k{number}\nclock,b,0,k{number}\nnote,a,0,x\n" + (rows - 1) * "note,b,0,x\n"
+                text += f"resync,a,{skew},0\nclock,a,0,k{number}\nclock,b,0,k{number}\n"
+                text += "note,a,0,x\n" + (rows - 1) * "note,b,0,x\n"
             for first in range(rows, clocks * rows, rows):
                 text += f"bound,{first - rows + 1},{first},0\nbound,{first},{first - rows + 1},0\n"
             least = min(skews)

@@ -287,7 +287,9 @@ class Signals(unittest.TestCase):
             self.assertIn(f"\n\n{note}\n", with_lines[1])
 
     def test_timings_and_reasons_for_which_no_time_is_left(self):
-        for part, remark in (("ask.nearer.Search.takes_back", "bringing it nearer"), ("ask.explain.explained", "why the formula is")):
+        for part, remark in (
+            ("ask.nearer.Search.takes_back", "bringing it nearer"), ("ask.explain.explained", "why the formula is"),
+        ):
             for end in (Stopped, ends.OutOfTime):
                 with mock.patch(part, side_effect=end):
                     ended, text, said = asked([*LEASE, "--json", "--seconds", "60"], EXAMPLES)

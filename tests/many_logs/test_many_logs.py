@@ -42,7 +42,8 @@ with tarfile.open(top / "answers" / "00001.tar", "w") as archive:
 done = ["1", ":", "0", "0", "0", "0", "0", "0", ""]
 (top / "jobs").write_text("title\\n" + "\\t".join(done) + "\\n")
 questions = SimpleNamespace(
-    top=top, bundles={"00001.tar": asked}, statuses=dict.fromkeys(asked, 125), written={}, name_of=lambda formula, log: ("f", f"{log}.csv"),
+    top=top, bundles={"00001.tar": asked}, statuses=dict.fromkeys(asked, 125), written={},
+    name_of=lambda formula, log: ("f", f"{log}.csv"),
 )
 many_logs.tell = lambda words: None
 tracemalloc.start()
@@ -272,7 +273,8 @@ class GoingOn(WithRoom):
         logs = self.room / "logs"
         logs.mkdir()
         for name in "abcdefgh":
-            (logs / f"{name}.csv").write_text(f"kind,host,time,name\nhost,{name},0,0\n" + 1_000_000 * "\n" + f"note,{name},1,x\n")
+            head, row = f"kind,host,time,name\nhost,{name},0,0\n", f"note,{name},1,x\n"
+            (logs / f"{name}.csv").write_text(head + 1_000_000 * "\n" + row)
         return logs
 
     def test_great_logs_are_not_held_all_at_once(self):
@@ -317,7 +319,8 @@ class Refusals(WithRoom):
         self.assertRefused(self.words("--fast"), 64, "--fast")
         self.assertRefused(self.words("--bundle", "0"), 64, "bundle")
         for jobs in ("0", "000", "0%", "four", "4x", "1.5", "1000000000"):
-            self.assertRefused(self.words("--jobs", jobs), 64, f"argument --jobs: a number of jobs is as 4, +1 or 50%, and not {jobs!r}")
+            said = f"argument --jobs: a number of jobs is as 4, +1 or 50%, and not {jobs!r}"
+            self.assertRefused(self.words("--jobs", jobs), 64, said)
         self.assertRefused(self.words(FORMULAS[0]), 64, "one name")
 
     def test_files(self):
