@@ -147,7 +147,7 @@ class Passes(unittest.TestCase):
         log = read_long_log(text.encode())
         began = time.process_time()
         self.assertEqual([set(found) for found in Bounds(log).times()], [{0}] * 2)
-        self.assertLess(time.process_time() - began, 4)  # seconds of the processor; with such passes it takes over 8
+        self.assertLess(time.process_time() - began, 6)  # seconds of the processor; with such passes it takes over 8
 
     def test_a_chain_of_clocks_that_each_ask_for_more_is_settled_in_one_pass(self):
         # The rows of all clocks are tied to one time, and the skews of each clock narrow it a bit more.
