@@ -24,10 +24,10 @@ class Case(NamedTuple):
     statuses: tuple  # each of them is right
     line: Optional[bytes]  # the first line, or None where several may be right
     most: Optional[int] = None  # the most memory that it may take, in lengths of the hostile file
-    seconds: Optional[int] = None  # the most processor time that it may take
+    seconds: Optional[int] = None  # the most processor time that it may take, less than that after which each run is stopped
     text: Optional[bytes] = None  # all that has to be written, or None where the first line is enough
     judged: bool = False  # whether tests/reference judges all that is written
-    is_search: bool = False  # whether it may take long, and be stopped
+    is_search: bool = False  # whether it may take long, and be stopped; what memory it may take holds then too
 
     def size(self):
         """The bytes of the hostile file, or None where no file is hostile or it is none of these."""

@@ -104,7 +104,9 @@ class Runner:
 
 
 def complaint(case, outcome):
-    """What is wrong with the outcome of a case, or nothing. How long a search takes isn't promised."""
+    """What is wrong with the outcome of a case, or nothing. How long a search takes isn't promised, and what it holds is."""
+    if case.most is not None and outcome.bytes > case.most * case.size():
+        return f"it takes {outcome.bytes} bytes, more than {case.most} times the file's {case.size()}"
     if case.is_search and outcome.status == STOPPED:
         return ""
     wanted = " or ".join(str(status) for status in case.statuses)
@@ -112,8 +114,6 @@ def complaint(case, outcome):
         return f"status {outcome.status}, not {wanted}, with {outcome.line[:200]!r}"
     if case.line is not None and outcome.line != case.line:
         return f"it writes {outcome.line[:200]!r}, not {case.line[:200]!r}"
-    if case.most is not None and outcome.bytes > case.most * case.size():
-        return f"it takes {outcome.bytes} bytes, more than {case.most} times the file's {case.size()}"
     if case.seconds is not None and outcome.seconds > case.seconds:
         return f"it takes {outcome.seconds:.3f} seconds, more than {case.seconds}"
     return ""
@@ -131,9 +131,9 @@ def written_complaint(runner, case, status):
 
 
 def audit_complaint(runner, case):
-    """What is wrong with the audit of what `check` has written, or nothing."""
+    """What is wrong with the audit of what `check` has written, with as many conflicts as that had, or nothing."""
     report = runner.output.read_bytes()
-    words = ["audit", "--conflicts", "1", "f", "l", "r"]
+    words = ["audit", *case.words[1:], "r"]
     outcome = runner.outcome(words, {**case.files, "r": report})
     is_right = (outcome.status, outcome.line) == (0, b"accepted")
     return "" if is_right else f"its audit ends with {outcome.status} and {outcome.line!r}"

@@ -107,14 +107,18 @@ def by_one_clock():
 
 
 def pulses_beside_clears():
-    """512 clears and 512 pulses of one proposition: what a clear made of it names all pulses, for each row and clear."""
+    """512 clears and 512 pulses of one proposition: what a clear made of it names all pulses, for each row and clear.
+
+    Where all rows may change places the search may take longer than a run may, and be stopped: then memory alone is told.
+    """
     rows = [b"clear,a,%d,p\n" % row for row in range(512)] + [b"pulse,a,%d,p\n" % (512 + row) for row in range(512)]
     joint = joined([b"F[0,%d] a.p" % number for number in range(1, 5)])
-    for skew, formula, seconds, memory in ((0, b"a.p", 2, 300), (100_000, b"a.p", 30, 1_024), (100_000, joint, 60, 2_048)):
+    for skew, formula, seconds, memory in ((0, b"a.p", 10, 300), (100_000, b"a.p", None, 1_024), (100_000, joint, None, 2_048)):
         log = b"skewlog2,host,time,name\nhost,a,%d,0\n" % skew + b"".join(rows)
         title = f"512 clears and 512 pulses, skew {skew}, {formula.decode()}"
         most = memory * 1_048_576 // len(formula)
-        yield Case("size", title, ["check", "f", "l"], {"l": log, "f": formula}, ANSWERED, b"skewcheck 1", most, seconds)
+        files = {"l": log, "f": formula}
+        yield Case("size", title, ["check", "f", "l"], files, ANSWERED, b"skewcheck 1", most, seconds, is_search=skew > 0)
 
 
 def fewer_rows():
