@@ -14,13 +14,15 @@ import invent_best
 from compare import Comparison
 from generate import Case
 from generate_logs import chance
-from tables import read_log_arguments
+from tables import end_if_rare, read_log_arguments
 
 ODD_WORDS = (
     "true false True FALSE 0 1 2 00 01 -1 -0 +1 1e3 1.0 4294967295 4294967296 1000000000000000000 1000000000000000001 "
     "99999999999999999999 f l - -- -x --conflicts --conflicts=5 --conflicts=0 none check tolerance span"
 ).split(" ") + [""]
-ANSWERS = ((0, "with a number"), (1, "without one"), (3, "without a timing"), (4, "unknown"))
+ANSWERS = {0: "with a number", 1: "without one", 3: "without a timing", 4: "unknown"}  # by their status
+REFUSED = "refused"
+SHARES = {"with a number": 0.04, "without one": 0.01, "without a timing": 0.01, "unknown": 0.001, REFUSED: 0.01}
 
 
 def edited(draw, case):
@@ -46,17 +48,25 @@ def random_case(draw, command):
 
 
 class Best(Comparison):
-    """A comparison that counts the answers by their status."""
+    """A comparison that counts the answers, and those to cases made by chance apart."""
 
     def __init__(self, program, folder, seed):
         super().__init__(program, folder, seed)
-        self.statuses = Counter()
+        self.answers = Counter()
+        self.by_chance = Counter()
 
     def outcome(self, title, case, by_hand):
         """The outcome of a case where it is right, or None; a difference is printed."""
         found = super().outcome(title, case, by_hand)
-        self.statuses[found and found.status] += 1
+        if found is not None:
+            self.told(found.status, by_hand)
         return found
+
+    def told(self, status, by_hand):
+        """Counts an answer by its status."""
+        answer = ANSWERS.get(status, REFUSED)
+        self.answers[answer] += 1
+        self.by_chance[answer] += not by_hand
 
 
 def of_command(cases, command):
@@ -83,7 +93,6 @@ def main(command):
         comparison = Best(os.path.abspath(arguments.program), folder, arguments.seed)
         if not compare_all(comparison, command, arguments.cases, arguments.seed):
             sys.exit(1)
-    counts = comparison.statuses
-    told = [f"{counts[status]} {what}" for status, what in ANSWERS]
-    refused = sum(counts.values()) - sum(counts[status] for status, _ in ANSWERS)
-    print(f"{sum(counts.values())} cases of {command}, no difference: {', '.join(told)}, {refused} refused")
+    end_if_rare(comparison.by_chance, SHARES, arguments.cases)
+    told = [f"{comparison.answers[answer]} {answer}" for answer in SHARES]
+    print(f"{sum(comparison.answers.values())} cases of {command}, no difference: {', '.join(told)}")

@@ -15,6 +15,7 @@ import random
 import subprocess
 import sys
 import tempfile
+from collections import Counter
 from pathlib import Path
 from typing import NamedTuple
 
@@ -26,10 +27,12 @@ import json_logs
 import logs
 import program as answers
 from generate_logs import chance
-from tables import PATIENCE, read_log_arguments
+from tables import PATIENCE, end_if_rare, read_log_arguments
 
 SHARE_BROKEN = 0.6
 SHARE_CHECKED = 0.2  # of the logs that are right
+# Of the files made by chance, at least.
+SHARES = {"the log": 0.03, "another log": 0.005, "no log": 0.007, "no JSON": 0.04, "a check": 0.007}
 
 
 class Case(NamedTuple):
@@ -246,28 +249,43 @@ def checks_differ(program, seed, case, text):
     return outcome(program, words, {"f": formula, "l": text}) != outcome(program, words, {"f": formula, "l": by_hand})
 
 
+def read_of(case):
+    """What a file is by the reference: the log that it was made of, another one, or none."""
+    found = json_logs.read_json(case.data)
+    if isinstance(found, logs.Log):
+        return "another log" if case.log is None else "the log"
+    return "no JSON" if isinstance(found, json_logs.JsonFault) else "no log"
+
+
+def compare_all(program, seed, cases):
+    """How many cases came to what, the number of checks among them, or None; the first difference is printed."""
+    chosen, counts = random.Random(seed), Counter()
+    for case in cases:
+        found, what = complaint(program, case), read_of(case)
+        counts[what] += 1
+        if found is None and what == "the log" and chance(chosen, SHARE_CHECKED):
+            counts["a check"] += 1
+            if checks_differ(program, seed, case, logs.log_text(case.log)):
+                found = "check writes something else of the log's text"
+        if found is not None:
+            print(f"difference: {case.title}: {found}\nfile = {case.data!r}")
+            return None
+    return counts
+
+
 def main():
     """Compares, and ends with 0 where there is no difference and with 1 where there is one."""
     arguments = read_log_arguments("compare the reading of logs in JSON", 400, "files")
     program = os.path.abspath(arguments.program)
-    chosen = random.Random(arguments.seed)
-    cases = [*fixed_cases(), *(random_case(arguments.seed, number) for number in range(arguments.cases))]
-    checked = 0
-    for case in cases:
-        found = complaint(program, case)
-        if found is None and is_right(case) and chance(chosen, SHARE_CHECKED):
-            checked += 1
-            if checks_differ(program, arguments.seed, case, logs.log_text(case.log)):
-                found = "check writes something else of the log's text"
-        if found is not None:
-            print(f"difference: {case.title}: {found}\nfile = {case.data!r}")
-            sys.exit(1)
-    print(f"{len(cases)} files of JSON and {checked} checks, no difference")
-
-
-def is_right(case):
-    """Whether nothing was changed, and the log has no fault."""
-    return case.log is not None and isinstance(json_logs.read_json(case.data), logs.Log)
+    fixed = list(fixed_cases())
+    random_cases = (random_case(arguments.seed, number) for number in range(arguments.cases))
+    if compare_all(program, arguments.seed, fixed) is None:
+        sys.exit(1)
+    counts = compare_all(program, arguments.seed, random_cases)
+    if counts is None:
+        sys.exit(1)
+    end_if_rare(counts, SHARES, arguments.cases)
+    print(f"{len(fixed) + arguments.cases} files of JSON and {counts['a check']} checks, no difference")
 
 
 if __name__ == "__main__":

@@ -35,6 +35,8 @@ from generate_logs import chance
 from invent_reports import Question
 
 MUTANTS = 12  # of the reports on one question
+SHARES = {"accepted": 0.01, "refused report": 0.05, "refused events": 0.001, "refused inconsistent": 0.001,
+          "refused true": 0.003, "refused false": 0.003}  # of the endings, at least
 
 
 def some_question(draw):
@@ -199,6 +201,7 @@ def compare_all(program, count, seed):
                     return False
                 done += 1
     print(", ".join(f"{number} {ending}" for ending, number in sorted(audits.endings.items())))
+    tables.end_if_rare(audits.endings, SHARES, count)
     return True
 
 

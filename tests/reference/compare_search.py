@@ -26,13 +26,14 @@ import meanings
 from compare_derivations import head_of
 from compare_problems import answers_of
 from generate_logs import chance
-from tables import print_table, read_log_arguments, table_of
+from tables import end_if_rare, print_table, read_log_arguments, table_of
 
 SECTION = "searches"  # of the tables
 SEARCHES_A_TABLE = 20
 SHARE_OPEN = 0.6  # of the formulas, at least, have both values in timings of their log
 SHARE_SMALL = 0.3  # of the searches have one of these budgets
 SMALL_BUDGETS = (1, 2, 3)
+SHARES = {"model": 0.05, "refuted": 0.01, "inconsistent": 0.005, "spent": 0.0005}  # of the answers, at least
 
 
 class Question(NamedTuple):
@@ -108,6 +109,7 @@ def main():
     count = compare_all(program, questions(arguments.seed, arguments.cases))
     if count is None:
         sys.exit(1)
+    end_if_rare(count, SHARES, arguments.cases)
     shares = ", ".join(f"{count[word]} {word}" for word in sorted(count))
     print(f"{sum(count.values())} searches, no difference: {shares}")
 

@@ -1,7 +1,8 @@
-"""What comparisons over tables share: how one is answered and printed, and the words of the command line."""
+"""What comparisons share: how a table is answered and printed, the words of the command line, and what has to come up."""
 
 import argparse
 import subprocess
+import sys
 
 import generate_logs
 
@@ -30,11 +31,29 @@ def print_table(table):
     print(")", flush=True)
 
 
+def end_if_rare(counts, shares, cases):
+    """Ends with 1 where of so many cases fewer came to some answer than its share of them, which is far less than random
+    cases have: a tenth or below."""
+    for answer, share in shares.items():
+        least = int(share * cases)
+        if counts[answer] < least:
+            print(f"of {cases} random cases {counts[answer]} came to {answer!r}, and {least} is the least")
+            sys.exit(1)
+
+
+def number_of_cases(text):
+    """So many cases as a word of the command line says: one at least, since of none each comparison is right."""
+    number = int(text)
+    if number < 1:
+        raise argparse.ArgumentTypeError(f"{number} is below 1")
+    return number
+
+
 def arguments_of(description, cases, what):
     """What reads the program and the options; cases is the default number of what is named."""
     parser = argparse.ArgumentParser(description=description)
     parser.add_argument("program")
-    parser.add_argument("--cases", type=int, default=cases, help=f"number of {what}")
+    parser.add_argument("--cases", type=number_of_cases, default=cases, help=f"number of {what}")
     parser.add_argument("--seed", type=int, default=1)
     return parser
 

@@ -1,6 +1,8 @@
 """tests/reference/run with scripts that stand in for the comparisons and checks, and what compare_problems.py says of
 answers."""
 
+import contextlib
+import io
 import os
 import shutil
 import signal
@@ -8,15 +10,22 @@ import subprocess
 import sys
 import time
 import unittest
+from collections import Counter
 from pathlib import Path
+from unittest import mock
 
 from room import PATIENCE, ROOT, WithRoom
 
 sys.dont_write_bytecode = True  # leaves no compiled files beside the sources
 sys.path.insert(0, str(ROOT / "tests" / "reference"))
 
+import compare_best
+import compare_json
+import compare_mutated
 import compare_problems
+import compare_search
 import reference
+import tables
 
 OF_PROGRAM = ("compare", "compare_freshness", "compare_json", "compare_mutated", "compare_tolerance", "compare_span")
 OF_TABLES = ("texts", "derivations", "problems", "search", "systems", "graphs")
@@ -127,6 +136,53 @@ class Problems(unittest.TestCase):
                 self.assertIsNone(compare_problems.difference(question, answer_to(question, order)))
             for order in ([*atoms, atoms[0]], [*atoms, ("order", 9, 9, 9)]):
                 self.assertRegex(compare_problems.difference(question, answer_to(question, order)), "^atom ")
+
+
+class Floors(unittest.TestCase):
+    """Comparisons without a difference in which some answer came too seldom."""
+
+    def ended(self, main, *words):
+        """The status of a comparison by these words, and its last line."""
+        said = io.StringIO()
+        with contextlib.redirect_stdout(said), mock.patch("sys.argv", ["compare", "/bin/true", *words]):
+            try:
+                status = main() or 0
+            except SystemExit as end:
+                status = end.code
+        return status, said.getvalue().splitlines()[-1]
+
+    def test_shares(self):
+        for cases, number, is_rare in ((1000, 9, True), (1000, 10, False), (99, 0, False), (100, 0, True), (199, 1, False)):
+            status, said = self.ended(lambda: print(tables.end_if_rare(Counter(few=number), {"few": 0.01}, cases)))
+            with self.subTest(cases=cases, number=number):
+                line = f"of {cases} random cases {number} came to 'few', and {cases // 100} is the least"
+                self.assertEqual((status, said), (1, line) if is_rare else (0, "None"))
+
+    def test_enough_and_too_few(self):
+        for compared in (compare_json, compare_search):
+            enough = Counter({answer: 5 + int(1000 * share) for answer, share in compared.SHARES.items()})
+            with mock.patch.object(compared, "compare_all", lambda *_: enough):
+                self.assertEqual(self.ended(compared.main, "--cases", "1000")[0], 0)
+            with mock.patch.object(compared, "compare_all", lambda *_: Counter(dict.fromkeys(enough, 1))):
+                self.assertEqual(self.ended(compared.main, "--cases", "1000")[0], 1)
+
+    def test_best_answers_by_hand_are_not_counted(self):
+        for answered, status in (((True,), 1), ((False,), 1), ((True, False), 1), ((False, False), 0)):
+            def compared(comparison, *_):
+                for by_hand in answered:
+                    for found in (0, 1, 3, 64):
+                        comparison.told(found, by_hand)
+                return True
+            with self.subTest(answered=answered), mock.patch.object(compare_best, "compare_all", compared):
+                shares = dict.fromkeys(compare_best.SHARES, 0.02) | {"unknown": 0}
+                with mock.patch.object(compare_best, "SHARES", shares):
+                    self.assertEqual(self.ended(lambda: compare_best.main("span"), "--cases", "100")[0], status)
+
+    def test_mutated_reports(self):
+        with mock.patch.object(compare_mutated.Audits, "complaint", return_value=""):
+            self.assertEqual(self.ended(compare_mutated.main, "--cases", "24")[0], 1)
+            with mock.patch.object(compare_mutated, "SHARES", {}):
+                self.assertEqual(self.ended(compare_mutated.main, "--cases", "24")[0], 0)
 
 
 def has_ended(number):
