@@ -35,6 +35,7 @@ import logs
 import program as reading
 import z3
 from families import FAMILIES
+from tables import number_of_cases
 
 ROWS = (24, 64, 256)
 START = 0.03  # seconds that it takes to start a solver
@@ -227,7 +228,7 @@ def read_arguments():
     """The options of the command line."""
     parser = check.parser_for("time check beside z3")
     parser.add_argument("--rows", type=int, nargs="+", default=ROWS, help="take logs of these sizes")
-    parser.add_argument("--cases", type=int, help="compare verdicts on so many small questions instead")
+    parser.add_argument("--cases", type=number_of_cases, help="compare verdicts on so many small questions instead")
     parser.add_argument("--seed", type=int, default=1, help="from which these are made")
     return parser.parse_args()
 

@@ -25,6 +25,7 @@ import check
 import generate_logs
 import logs
 from families import FAMILIES
+from tables import number_of_cases
 
 ROWS = (64, 256)
 AUDIT = check.ROOT / "tests" / "reference" / "audit.py"
@@ -109,7 +110,7 @@ def read_arguments():
     """The options of the command line."""
     parser = check.parser_for("have the second checker judge reports of check", 600)
     parser.add_argument("--rows", type=int, nargs="+", default=ROWS, help="take logs of these sizes")
-    parser.add_argument("--cases", type=int, help="take so many small logs of version 3 instead")
+    parser.add_argument("--cases", type=number_of_cases, help="take so many small logs of version 3 instead")
     parser.add_argument("--seed", type=int, default=1, help="from which these are made")
     return parser.parse_args()
 

@@ -25,6 +25,7 @@ import invent_reports
 import logs
 import meanings
 import reference
+from tables import number_of_cases
 
 TIMINGS_MOST = 250  # ways to give each row a time of its window that are gone through for a question
 DEADLINE_EDGE_SHARE = 0.9  # of questions with no least and no greatest number, in place of which another one is drawn
@@ -383,7 +384,7 @@ def differences(command, cases, seed):
 def main():
     """Prints what differs, and ends with 0 where nothing does."""
     parser = argparse.ArgumentParser(description=__doc__.splitlines()[0])
-    parser.add_argument("--cases", type=int, default=100, metavar="N", help="questions of each command")
+    parser.add_argument("--cases", type=number_of_cases, default=100, metavar="N", help="questions of each command")
     parser.add_argument("--of", nargs="+", choices=list(COMPLAINTS), default=list(COMPLAINTS), metavar="COMMAND")
     parser.add_argument("--seed", type=int, default=38, metavar="N")
     arguments = parser.parse_args()

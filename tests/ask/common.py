@@ -16,6 +16,7 @@ PATIENCE = 60  # seconds that one run may take
 
 from ask.main import main
 from ask.program import find_program
+from tables import number_of_cases
 
 PULSED = b"skewlog2,host,time,name\nhost,a,0,0\npulse,a,10,p\n"
 
@@ -38,6 +39,11 @@ def with_numbers(value):
 def status_of(words, text=b""):
     """The status with which the program ends."""
     return subprocess.run([find_program(None), *words], input=text, capture_output=True, timeout=PATIENCE).returncode
+
+
+def cases_asked(usual):
+    """So many cases as CASES in the environment asks for, or the usual number."""
+    return number_of_cases(os.environ.get("CASES", str(usual)))
 
 
 @contextlib.contextmanager

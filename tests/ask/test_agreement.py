@@ -1,13 +1,13 @@
 """A few questions of agreement.py of each command, or as many as CASES in the environment says."""
 
-import os
 import random
 import unittest
 from collections import Counter
 
 import agreement
+from common import cases_asked
 
-CASES = int(os.environ.get("CASES", "12"))
+CASES = cases_asked(12)
 SEED = 38
 
 

@@ -1,6 +1,5 @@
 """Windows of long logs with clocks and bounds between rows: their bounds, what a window keeps, and what all of them tell."""
 
-import os
 import random
 import time
 import unittest
@@ -267,7 +266,7 @@ class Verdicts(unittest.TestCase):
     """What windows of a log tell, against what the program tells of the whole; of as many cases as CASES says, else 40."""
 
     def test_windows_and_the_whole(self):
-        cases, counts = int(os.environ.get("CASES", "40")), Counter()
+        cases, counts = common.cases_asked(40), Counter()
         for seed in range(cases):
             draw = random.Random(f"verdict {seed}")
             text, _ = clock_logs.some_log(draw, 6, draw.random() < 0.9)
@@ -280,7 +279,7 @@ class Verdicts(unittest.TestCase):
             self.assertGreaterEqual(counts[verdict], max(1, cases // 40), counts)
 
     def test_long_logs(self):
-        cases, counts = int(os.environ.get("CASES", "6")), Counter()
+        cases, counts = common.cases_asked(6), Counter()
         for place in range(cases):
             case = windows_agreement.case_of(f"clocks {place}", FAMILIES, (60, 100))
             with self.subTest(log=case.log, formula=case.formula):

@@ -21,6 +21,7 @@ sys.dont_write_bytecode = True  # leaves no compiled files beside the sources
 
 import common  # sets the path
 import long_logs
+from tables import number_of_cases
 
 from ask.formulas import read_formula
 from ask.program import Program, find_program
@@ -133,7 +134,7 @@ def counts_words(counts):
 def main():
     """Prints a line for each case that differs or isn't known, and the counts."""
     parser = argparse.ArgumentParser(description=__doc__.splitlines()[0])
-    parser.add_argument("--cases", type=int, default=100, metavar="N")
+    parser.add_argument("--cases", type=number_of_cases, default=100, metavar="N")
     parser.add_argument("--seed", type=int, default=60, metavar="N")
     parser.add_argument("--rows", type=int, nargs=2, default=(100, 300), metavar="N")
     parser.add_argument("--family", nargs="+", choices=list(long_logs.FAMILIES), default=list(long_logs.FAMILIES))

@@ -20,6 +20,7 @@ import logs
 import spend
 from derivations import Learn, LineHint, Literal
 from instances import instances
+from tables import number_of_cases
 
 ALONE = b"kind,host,time,name\nhost,a,0,0\nnote,a,10,n\n"
 PAIR = b"kind,host,time,name\nhost,a,5,0\nhost,b,5,0\nset,a,10,p\nset,b,10,q\n"
@@ -135,7 +136,7 @@ def check_searches(draw, cases):
 def main():
     """Runs all checks."""
     parser = argparse.ArgumentParser(description="check freshness.py without the programs")
-    parser.add_argument("--cases", type=int, default=1000, help="number of searches that spend")
+    parser.add_argument("--cases", type=number_of_cases, default=1000, help="number of searches that spend")
     parser.add_argument("--seed", type=int, default=1)
     arguments = parser.parse_args()
     generate_logs.second_share = generate_logs.third_share = 0.4

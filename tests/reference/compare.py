@@ -30,7 +30,7 @@ import judge
 import pulse_cases
 import second_cases
 import third_cases
-from tables import read_with_versions
+from tables import number_of_cases, read_with_versions
 
 PATIENCE = 60  # seconds that one run of the program may take
 
@@ -185,7 +185,7 @@ def read_arguments():
     """The program and the options of the command line."""
     parser = argparse.ArgumentParser(description="compare a built skewcheck with the reference")
     parser.add_argument("program")
-    parser.add_argument("--cases", type=int, default=3000, help="number of random cases")
+    parser.add_argument("--cases", type=number_of_cases, default=3000, help="number of random cases")
     parser.add_argument("--seed", type=int, default=1)
     parser.add_argument("--only", choices=list(KINDS), help="take cases of one kind alone")
     return read_with_versions(parser)

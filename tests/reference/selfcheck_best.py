@@ -22,6 +22,7 @@ import meanings
 import program
 from best_answers import Best, Open, Shut, Widening, answer_text, read_answer, status_of
 from selfcheck import check, check_differences
+from tables import number_of_cases
 
 COMMANDS = ("tolerance", "span")
 ROWS_MANY = 10  # rows of a log from which on no answer is made here
@@ -143,7 +144,7 @@ def main():
     """Runs all checks."""
     parser = argparse.ArgumentParser(description="check the reading of tolerance and span without the programs")
     parser.add_argument("--seed", type=int, default=1)
-    parser.add_argument("--cases", type=int, default=300, help="number of answers of each command")
+    parser.add_argument("--cases", type=number_of_cases, default=300, help="number of answers of each command")
     arguments = parser.parse_args()
     generate_logs.second_share = generate_logs.third_share = 0.5
     draw = random.Random(arguments.seed)

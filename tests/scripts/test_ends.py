@@ -49,6 +49,10 @@ WITHOUT = [
     *(f"tests/reference/{name}" for name in ("check_freshness.py", "long")),
     *(f"tests/reference/selfcheck{name}.py" for name in ("", "_best", "_reports")),
 ]
+OF_CASES = [
+    "benches/beside.py", "benches/second.py", "tests/ask/agreement.py", "tests/ask/windows_agreement.py",
+    *(f"tests/reference/{name}" for name in ("check_freshness.py", "long", "selfcheck_best.py", *COMPARISONS)),
+]  # which take a number of cases
 OTHERS = {"ask/main.py", "tests/reference/audit.py", "tests/reference/reports.py"}  # which end by themselves
 
 
@@ -170,14 +174,15 @@ class Scripts(unittest.TestCase):
             return subprocess.run([sys.executable, str(ROOT / name), *words], cwd=folder, stdin=subprocess.DEVNULL,
                                   capture_output=True, text=True, timeout=PATIENCE, env=environment())
 
-    def refuses(self, name, *words):
-        """Tests that words are refused by a usage text and at most one line."""
+    def refuses(self, name, *words, said=""):
+        """Tests that words are refused by a usage text and at most one line, in which something is said."""
         with self.subTest(name, words=words):
             done = self.outcome(name, *words)
             self.assertEqual((done.returncode, done.stdout), (64, ""), done.stderr)
             self.assertNotIn("Traceback", done.stderr)
-            said = [line for line in done.stderr.splitlines() if not line.startswith(("usage: ", "  "))]
-            self.assertLessEqual(len(said), 1, done.stderr)
+            lines = [line for line in done.stderr.splitlines() if not line.startswith(("usage: ", "  "))]
+            self.assertLessEqual(len(lines), 1, done.stderr)
+            self.assertIn(said, "".join(lines))
             self.assertRegex(done.stderr, "^usage: ")
 
     def test_unknown_options(self):
@@ -197,6 +202,20 @@ class Scripts(unittest.TestCase):
         self.refuses("tests/unittests.py", "no_such_folder")
         self.refuses("tests/wrong/run", "no_such_crate")
         self.refuses("tests/hostile/timed.py", "file")
+
+    def test_no_script_takes_no_case(self):
+        for name in OF_CASES:
+            program = ["/no/program"] if name in WITH_OPERANDS else []
+            self.refuses(name, *program, "--cases", "0", said="--cases: 0 is below 1")
+        for number in ("-1", "many", "1.5"):
+            self.refuses("tests/reference/compare.py", "/no/program", "--cases", number, said=f"{number}")
+
+    def test_each_number_of_cases_is_read_alike(self):
+        for folder in ("benches", "tests/ask", "tests/hostile", "tests/reference"):
+            for path in (ROOT / folder).glob("*"):
+                lines = path.read_text(errors="replace").splitlines() if path.is_file() else []
+                wrong = [line for line in lines if 'add_argument("--cases"' in line and "type=number_of_cases" not in line]
+                self.assertEqual(wrong, [], path)
 
     def test_wrong_words_for_cases_side_by_side(self):
         done = self.outcome("tests/unittests.py", str(ROOT / "tests" / "names"), "--side-by-side", *UNKNOWN)
