@@ -256,6 +256,18 @@ class Output(Rooms):
         self.assertEqual((status, len(written) > 100_000), (1, True))
         return status, written
 
+    def writing(self):
+        """The program that writes a long answer into a pipe which holds little of it, so that most writes are short, and
+        what reads there."""
+        reader, writer = os.pipe()
+        file = open(reader, "rb")
+        self.addCleanup(file.close)
+        fcntl.fcntl(reader, SET_PIPE_SIZE, SMALL_PIPE)
+        try:
+            return self.started(["check", "often", "many.csv"], stdout=writer), file
+        finally:
+            os.close(writer)
+
     def test_outputs_that_fail(self):
         for words in ([], ["times", "l.csv"], ["check", "true", "l.csv"], ["check", "often", "many.csv"], ["what"], ["demo", "7"]):
             for turns in (">&-", ">/dev/full", "<&- >&-", ">&- 2>&-"):
@@ -283,19 +295,17 @@ class Output(Rooms):
 
     def test_a_reader_that_leaves(self):
         _, written = self.whole()
-        process = self.started(["check", "often", "many.csv"], stdout=subprocess.PIPE, bufsize=0)
-        fcntl.fcntl(process.stdout.fileno(), SET_PIPE_SIZE, SMALL_PIPE)
-        self.assertEqual(process.stdout.read(100), written[:100])
-        process.stdout.close()
+        process, reader = self.writing()
+        self.assertEqual(reader.read(100), written[:100])
+        reader.close()
         self.assertEqual(process.wait(PATIENCE), NOT_WRITTEN)
 
     def test_a_slow_reader_gets_all_of_it(self):
         status, written = self.whole()
-        process = self.started(["check", "often", "many.csv"], stdout=subprocess.PIPE, bufsize=0)
-        fcntl.fcntl(process.stdout.fileno(), SET_PIPE_SIZE, SMALL_PIPE)  # so that most writes are short
+        process, reader = self.writing()
         parts = []
         while not parts or parts[-1]:
-            parts.append(process.stdout.read(997))
+            parts.append(os.read(reader.fileno(), 997))
             time.sleep(0.001)
         self.assertEqual((b"".join(parts) == written, process.wait(PATIENCE)), (True, status))
 
