@@ -230,7 +230,8 @@ class GoingOn(WithRoom):
 
     def test_broken_off(self):
         slow = self.room / "slow"
-        slow.write_text(f'#!/bin/sh\nsleep 0.3\nexec "{PROGRAM}" "$@"\n')
+        waits = f"while [ -e {self.room}/first ] && [ ! -e {self.room}/go ]; do sleep 0.05; done; : >{self.room}/first"
+        slow.write_text(f'#!/bin/sh\n{waits}\nexec "{PROGRAM}" "$@"\n')  # only the first one ends before it is let go
         slow.chmod(0o755)
         words = [LOGS, FORMULAS[0], "--to", self.to, "--program", slow, "--bundle", "1", "--jobs", "1"]
         run = subprocess.Popen(
@@ -243,6 +244,7 @@ class GoingOn(WithRoom):
         os.killpg(run.pid, signal.SIGINT)
         _, said = run.communicate(timeout=PATIENCE)
         self.assertEqual(run.returncode, 130, said)
+        (self.room / "go").touch()
         done = asked(words)
         self.assertEqual((done.returncode, done.stdout.splitlines()[1].split()[1:]), (66, ["1", "1", "1", "1", "0", "1"]))
 
