@@ -11,11 +11,11 @@ from pathlib import Path
 from unittest import mock
 
 ROOT = Path(__file__).resolve().parent.parent.parent
-sys.path[:0] = [str(ROOT), str(ROOT / "tests" / "reference")]
+sys.path[:0] = [str(ROOT), str(ROOT / "tests" / "reference"), str(ROOT / "tests")]
 PATIENCE = 60  # seconds that one run may take
 
 from ask.main import main
-from ask.program import find_program
+from ask.program import Stopped, Watch, find_program
 from tables import number_of_cases
 
 PULSED = b"skewlog2,host,time,name\nhost,a,0,0\npulse,a,10,p\n"
@@ -55,6 +55,21 @@ def standing_in(folder):
         yield
     finally:
         os.chdir(before)
+
+
+@contextlib.contextmanager
+def time_over_with(mark):
+    """Has the time of a run be over once it has made a file, which is taken away then; the others have all time."""
+    right = Watch.patience
+
+    def patience(watch):
+        if mark.exists():
+            mark.unlink()
+            raise Stopped
+        return min(0.05, right(watch))
+
+    with mock.patch.object(Watch, "patience", patience):
+        yield
 
 
 def planted(owner, name, wrong):

@@ -9,7 +9,7 @@ from pathlib import Path
 from unittest import mock
 
 import agreement
-from common import ROOT, asked, facts_of_text, status_of
+from common import ROOT, asked, facts_of_text, status_of, time_over_with
 from test_words import Terminal
 
 from ask.decide import Progress
@@ -397,12 +397,14 @@ class Programs(Rooms):
             self.assertIn("a run took longer than --seconds allows", said)
 
     def test_time_that_is_over_behind_the_verdict(self):
-        program = self.program(f'if [ "$1" = check ]; then exec {find_program(None)} "$@"; fi\nexec sleep 20\n')
-        words = ["true", "answered.csv", "--seconds", "2", "--program", program]
-        said = self.decided(words, 0, EXAMPLES)
+        mark = self.room / "mark"
+        program = self.program(f'if [ "$1" = check ]; then exec {find_program(None)} "$@"; fi\n: >{mark}\nexec sleep 60\n')
+        words = ["true", "answered.csv", "--seconds", "100", "--program", program]
+        with time_over_with(mark):
+            said = self.decided(words, 0, EXAMPLES)
+            facts = self.facts(words, 0, EXAMPLES)
         self.assertIn("True already: true is true", said)
         self.assertIn("How much greater skews may be wasn't found in time", said)
-        facts = self.facts(words, 0, EXAMPLES)
         self.assertEqual((facts["wider"], facts["wider_status"]), (None, 124))
 
     def test_a_pool_ends_what_takes_too_long(self):

@@ -14,16 +14,18 @@ from pathlib import Path
 from unittest import mock
 
 from common import PATIENCE, ROOT, asked, facts_of_text
+from gone import left_of
 import schema
 
 from ask import ends, main, texts
-from ask.program import MOST_TO_TELL, Stopped
+from ask.program import Stopped
 from ask.texts import Trouble, make_empty_folder
 
 ASK = [sys.executable, "-B", str(ROOT / "ask" / "ask")]
 EXAMPLES = ROOT / "examples"
 LEASE = ["check", "lease.formula", "lease.csv"]
 SLOW = "#!/bin/bash\necho $$ >begun.new\nmv begun.new begun\nexec sleep 50\n"
+COUNTED = "#!/bin/bash\necho begun >>count\nexec sleep 50\n"
 STUBBORN = "#!/bin/bash\ntrap '' TERM INT HUP\nsleep 50 &\necho $$ $! >begun.new\nmv begun.new begun\nsleep 50\nsleep 50\n"
 
 
@@ -187,15 +189,6 @@ class Signals(unittest.TestCase):
             time.sleep(0.02)
         return [int(number) for number in (self.room / "begun").read_text().split()]
 
-    def assertGone(self, numbers):
-        """Asserts that no process of these numbers goes on."""
-        for number in numbers:
-            try:
-                state = Path("/proc", str(number), "stat").read_text().rpartition(")")[2].split()[0]
-            except OSError:
-                continue
-            self.assertEqual(state, "Z")
-
     def test_a_signal_ends_the_program_with_its_children(self):
         for text in (SLOW, STUBBORN):
             for number in (signal.SIGINT, signal.SIGTERM, signal.SIGHUP):
@@ -207,10 +200,10 @@ class Signals(unittest.TestCase):
                     )
                     numbers = self.begun(process)
                     process.send_signal(number)
-                    _, said = process.communicate(timeout=10)
+                    _, said = process.communicate(timeout=PATIENCE)
                     words = "interrupted" if number == signal.SIGINT else f"ended by {number.name}"
                     self.assertEqual((process.returncode, said.decode()), (128 + number, f"ask: {words}\n"))
-                    self.assertGone(numbers)
+                    self.assertEqual(left_of(numbers), [])
                     (self.room / "begun").unlink()
 
     def test_the_end_of_the_time_ends_the_program_with_its_children(self):
@@ -219,14 +212,13 @@ class Signals(unittest.TestCase):
             ["tolerance", "true", "a.p"], ["deadline", "F[0,?] a.p"], ["deadline", "--windows", "G (a.p -> F[0,?] !a.p)"],
             ["check", "--windows", "G !a.p"],
         ):
-            began = time.monotonic()
             done = subprocess.run(
-                [*ASK, *words, str(EXAMPLES / "set.csv"), "--program", program, "--seconds", "0.5"], cwd=self.room,
+                [*ASK, *words, str(EXAMPLES / "set.csv"), "--program", program, "--seconds", "3"], cwd=self.room,
                 capture_output=True, timeout=PATIENCE,
             )
             self.assertEqual((done.returncode, done.stderr.count(b"\n")), (124, 1), done.stderr)
-            self.assertLess(time.monotonic() - began, 10)
-            self.assertGone(self.begun(mock.Mock(**{"poll.return_value": None})))
+            self.assertEqual(left_of(self.begun(mock.Mock(**{"poll.return_value": None}))), [])
+            (self.room / "begun").unlink()
 
     def test_a_picture_without_time_for_all(self):
         for end in (Stopped, ends.OutOfTime):
@@ -332,27 +324,24 @@ class Signals(unittest.TestCase):
         writer = os.open(self.room / "fifo", os.O_RDWR)  # which never writes
         self.addCleanup(os.close, writer)
         for words in (["check", "a.p", "fifo"], ["log", "fifo"], ["between", "fifo", "0", "1"]):
-            began = time.monotonic()
             ended, _, said = asked([*words, "--seconds", "0.3"], self.room)
             self.assertEqual((ended, said), (124, "ask: stopped, since it took longer than --seconds allows\n"))
-            self.assertLess(time.monotonic() - began, 5)
 
     def test_time_bounds_what_ask_works_out(self):
         pattern = "(a|a)*b.*|(p|p)*x"
         (self.room / "l").write_text("kind,host,time,name\nhost,a,0,0\nset,a,1,%s\n" % ("p" * 32))
-        began = time.monotonic()
         ended, _, said = asked(["each", "F a.{}", "l", "--over", pattern, "--seconds", "0.5"], self.room)
         self.assertEqual((ended, said), (124, "ask: stopped, since it took longer than --seconds allows\n"))
-        self.assertLess(time.monotonic() - began, 10)
 
     def test_all_formulas_share_the_time(self):
         rows = "".join(f"set,a,{row},p{row}\n" for row in range(40))
         (self.room / "l").write_text("kind,host,time,name\nhost,a,0,0\n" + rows)
-        began = time.monotonic()
-        words = ["each", "F a.{}", "l", "--over", "p.*", "--seconds", "0.4", "--program", self.program(SLOW)]
-        ended, text, _ = asked(words, self.room)
+        count = self.room / "count"
+        words = ["each", "F a.{}", "l", "--over", "p.*", "--seconds", "2", "--program", self.program(COUNTED)]
+        with mock.patch("ask.program.MOST_TO_TELL", PATIENCE):
+            ended, text, _ = asked(words, self.room)
         self.assertEqual((ended, len(re.findall("stopped +124", text))), (124, 40))
-        self.assertLess(time.monotonic() - began, 0.4 + MOST_TO_TELL + 5)
+        self.assertEqual(count.read_text(), "begun\n")  # the first one took all of it
 
 
 class Files(unittest.TestCase):
@@ -368,7 +357,8 @@ class Files(unittest.TestCase):
         with tempfile.TemporaryDirectory() as folder:
             os.mkfifo(Path(folder, "fifo"))
             writer = subprocess.Popen(["bash", "-c", 'sleep 0.3; cat "$1" >"$2"', "bash", EXAMPLES / "lease.csv", Path(folder, "fifo")])
-            ended, _, said = asked(["check", str(EXAMPLES / "lease.formula"), "fifo"], folder)
+            with mock.patch.object(texts, "WRITER_PATIENCE", PATIENCE):
+                ended, _, said = asked(["check", str(EXAMPLES / "lease.formula"), "fifo"], folder)
             self.assertEqual((ended, said, writer.wait()), (2, "", 0))
 
     def test_pipes_are_read(self):

@@ -7,7 +7,7 @@ import unittest
 import xml.etree.ElementTree as trees
 from pathlib import Path
 
-from common import ROOT, asked
+from common import ROOT, asked, time_over_with
 from schema import complaint
 
 from ask.junit import Case, junit_text
@@ -95,10 +95,12 @@ class Answers(Room):
 
     def test_one_that_takes_too_long(self):
         slow = self.room / "slow"
-        slow.write_text(f'#!/bin/sh\ngrep -q S "$2" && sleep 30\nexec {find_program(None)} "$@"\n')
+        mark = self.room / "mark"
+        slow.write_text(f'#!/bin/sh\ngrep -q S "$2" && : >{mark} && sleep 60\nexec {find_program(None)} "$@"\n')
         slow.chmod(0o755)
-        words = ["--program", str(slow), "--seconds", "2", "--junit", str(self.room / "j")]
-        status, text, _ = self.asked_of("a: F a.req\nb: a.req S a.req", "answered.csv", *words)
+        words = ["--program", str(slow), "--seconds", "100", "--junit", str(self.room / "j")]
+        with time_over_with(mark):
+            status, text, _ = self.asked_of("a: F a.req\nb: a.req S a.req", "answered.csv", *words)
         self.assertEqual(status, 124)
         self.assertIn("2 properties: 1 holds, 1 stopped.", text)
         self.assertEqual([(kind, verdict) for _, kind, verdict, *_ in cases(self.room / "j")], [("", ""), ("error", "stopped")])

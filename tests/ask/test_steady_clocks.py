@@ -5,7 +5,7 @@ import tempfile
 import unittest
 from pathlib import Path
 
-from common import asked
+from common import asked, time_over_with
 
 from ask.logs import read_log
 from ask.nearer import brought_nearer
@@ -200,9 +200,11 @@ class Steady(Asked):
 
     def test_one_that_takes_too_long(self):
         slow = self.room / "slow"
-        slow.write_text(f'#!/bin/sh\nif grep -q skewlog3 "$3"; then sleep 60; fi\nexec {find_program(None)} "$@"\n')
+        mark = self.room / "mark"
+        slow.write_text(f'#!/bin/sh\nif grep -q skewlog3 "$3"; then : >{mark}; sleep 60; fi\nexec {find_program(None)} "$@"\n')
         slow.chmod(0o755)
-        facts = self.facts(self.LOG, "check", "G (a.req -> F[0,7] a.ack)", "l", "--program", str(slow), "--seconds", "6", status=2)
+        with time_over_with(mark):
+            facts = self.facts(self.LOG, "check", "G (a.req -> F[0,7] a.ack)", "l", "--program", str(slow), "--seconds", "100", status=2)
         self.assertEqual(facts["steady"], {
             "error": 1, "verdict": None, "run": None, "sentence": "Whether clocks that are steady within 1 would tell wasn't found in time.",
         })

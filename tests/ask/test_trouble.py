@@ -8,7 +8,7 @@ import unittest
 from pathlib import Path
 from unittest import mock
 
-from common import PULSED, ROOT, asked, asked_apart
+from common import PULSED, ROOT, asked, asked_apart, time_over_with
 
 HEAD = "kind,host,time,name\nhost,a,2,1\n"
 EXAMPLES = ROOT / "examples"
@@ -94,22 +94,26 @@ class Words(unittest.TestCase):
 
     def test_what_few_conflicts_found_is_shown(self):
         with tempfile.TemporaryDirectory() as folder:
-            slow = Path(folder, "slow")
-            slow.write_text(f'#!/bin/sh\ncase "$*" in *conflicts*|replay*) exec {os.environ["SKEWCHECK"]} "$@";; esac\nexec sleep 20\n')
+            slow, mark = Path(folder, "slow"), Path(folder, "mark")
+            slow.write_text(
+                f'#!/bin/sh\ncase "$*" in *conflicts*|replay*) exec {os.environ["SKEWCHECK"]} "$@";; esac\n: >{mark}\nexec sleep 60\n'
+            )
             slow.chmod(0o755)
-            ended, text, _ = asked(["check", "within_8.formula", "answered.csv", "--program", str(slow), "--seconds", "1"], EXAMPLES)
+            with time_over_with(mark):
+                ended, text, _ = asked(["check", "within_8.formula", "answered.csv", "--program", str(slow), "--seconds", "100"], EXAMPLES)
         self.assertEqual(ended, 2)
-        self.assertIn("stopped after 1 seconds", text)
+        self.assertIn("stopped after 100 seconds", text)
 
     def test_what_could_not_be_asked_is_said(self):
         with tempfile.TemporaryDirectory() as folder:
-            slow = Path(folder, "slow")
+            slow, mark = Path(folder, "slow"), Path(folder, "mark")
             slow.write_text(
-                '#!/bin/sh\nif [ "$1" = check ] && head -c 1 "$2" | grep -q F; then exec sleep 20; fi\n'
+                f'#!/bin/sh\nif [ "$1" = check ] && head -c 1 "$2" | grep -q F; then : >{mark}; exec sleep 60; fi\n'
                 f'exec {os.environ["SKEWCHECK"]} "$@"\n'
             )
             slow.chmod(0o755)
-            ended, text, _ = asked(["check", "within_9.formula", "answered.csv", "--program", str(slow), "--seconds", "1"], EXAMPLES)
+            with time_over_with(mark):
+                ended, text, _ = asked(["check", "within_9.formula", "answered.csv", "--program", str(slow), "--seconds", "100"], EXAMPLES)
         self.assertEqual(ended, 0)
         self.assertIn("Warning (unasked): whether a.req is ever true isn't known: that run was stopped.", text)
 

@@ -25,10 +25,19 @@ COMMANDS = (
 
 
 class Terminal(io.StringIO):
-    """A stream that says it is a terminal."""
+    """A stream that says it is a terminal, and makes a file, where one is named, as soon as something is written."""
+
+    def __init__(self, mark=None):
+        super().__init__()
+        self.mark = mark
 
     def isatty(self):
         return True
+
+    def write(self, text):
+        if self.mark is not None:
+            self.mark.touch()
+        return super().write(text)
 
 
 class Quiet(unittest.TestCase):
@@ -60,21 +69,26 @@ class Quiet(unittest.TestCase):
 
 
 class Progress(unittest.TestCase):
-    def told(self, stream, *words):
-        """What is said on a stream of errors while a run takes longer than a second."""
-        with tempfile.TemporaryDirectory() as folder:
-            slow = Path(folder, "slow")
-            slow.write_text(f'#!/bin/sh\nsleep 1.3\nexec {find_program(None)} "$@"\n')
-            slow.chmod(0o755)
-            with contextlib.redirect_stdout(io.StringIO()), contextlib.redirect_stderr(stream):
-                status = main(["draw", str(EXAMPLES / "circle.csv"), "--program", str(slow), *words])
+    def setUp(self):
+        room = tempfile.TemporaryDirectory()
+        self.addCleanup(room.cleanup)
+        self.room = Path(room.name)
+
+    def told(self, stream, wait, *words):
+        """What is said on a stream of errors while a run takes as long as a wait of the shell."""
+        slow = self.room / "slow"
+        slow.write_text(f'#!/bin/sh\n{wait}\nexec {find_program(None)} "$@"\n')
+        slow.chmod(0o755)
+        with contextlib.redirect_stdout(io.StringIO()), contextlib.redirect_stderr(stream):
+            status = main(["draw", str(EXAMPLES / "circle.csv"), "--program", str(slow), *words])
         self.assertEqual(status, 0)
         return stream.getvalue()
 
     def test_on_a_terminal_alone(self):
-        self.assertIn("ask: 1 s: times", self.told(Terminal()))
-        self.assertEqual(self.told(io.StringIO()), "")
-        self.assertEqual(self.told(Terminal(), "--quiet"), "")
+        mark = self.room / "told"
+        self.assertRegex(self.told(Terminal(mark), f"until [ -e {mark} ]; do sleep 0.05; done"), "ask: [1-9][0-9]* s: times")
+        self.assertEqual(self.told(io.StringIO(), "sleep 1.3"), "")
+        self.assertEqual(self.told(Terminal(mark), "sleep 1.3", "--quiet"), "")
 
 
 class Version(unittest.TestCase):
