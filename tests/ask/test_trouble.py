@@ -89,8 +89,11 @@ class Words(unittest.TestCase):
             slow = Path(folder, "slow")
             slow.write_text("#!/bin/sh\nexec sleep 20\n")
             slow.chmod(0o755)
-            for words in (["check", "a.p", "set.csv"], ["draw", "set.csv"], ["deadline", "F[0,?] a.p", "set.csv"]):
-                self.told([*words, "--program", str(slow), "--seconds", "0.3"], 124, "--seconds")
+            for words, part in (
+                (["check", "a.p", "set.csv"], "--seconds"), (["draw", "set.csv"], "--seconds"),
+                (["deadline", "F[0,?] a.p", "set.csv"], "stopped after 0.3 seconds"),
+            ):
+                self.told([*words, "--program", str(slow), "--seconds", "0.3"], 124, part)
 
     def test_what_few_conflicts_found_is_shown(self):
         with tempfile.TemporaryDirectory() as folder:

@@ -282,8 +282,8 @@ class Ends(WithRoom):
             done = subprocess.run([shell, "-c", job], capture_output=True, timeout=PATIENCE, env={**os.environ, "TMPDIR": str(self.room)})
             self.assertEqual((done.returncode, done.stderr), (0, b""), shell)
             (self.room / "answers").write_bytes(done.stdout)
-            found = many_logs.answers_of(self.room / "answers")
-            self.assertEqual((found[1, 1, "status"], many_logs.verdict_of(found[1, 1, "report"])), (b"0\n", 0), shell)
+            found = {kind: data for _, kind, data in many_logs.answers_in(self.room / "answers")}
+            self.assertEqual((found["status"], many_logs.verdict_of(found["report"])), (b"0\n", 0), shell)
             self.assertEqual(sorted(os.listdir(self.room)), ["answers", "bundle", "logs"], shell)
 
     def test_a_program_that_is_none_by_its_own_status(self):
